@@ -1,0 +1,10 @@
+//! The whole program as one call: words, a tree of files and two sinks in, a status out.
+#![tactic(auto)]
+
+mod console;
+mod lines;
+mod top;
+mod vector;
+mod words;
+
+pub use top::uxn;

@@ -1,0 +1,224 @@
+-- The components of two texts with a slash between, and which such texts are paths.
+use Rattle.std.proofs.Common.{◌≡◌, ℕ, ◌+◌, ◌-◌, ◌<◌, ◌≤◌, ◌↔◌, Bool, true, false, cond, ◌&&◌, ◌||◌, eqb, List, [], ◌∷◌, ◌++◌, take, drop, length, get_or, Option, Some, None, Result, Ok, refl, ap, sym, subst, ◌∙◌, inl, inr, arith, Decides, All}
+use Rattle.std.specs.Result.{result_ok}
+use Rattle.std.specs.List.{onto_first, list_all, starts_with, join_with_byte}
+use Rattle.std.specs.Str.{is_utf8, IsUtf8, bytes_eq}
+use Rattle.std.specs.Prelude.{if◌then◌else◌, nat_lt, nat_eq}
+use Rattle.std.proofs.lemmas.Bool.{lt-ltb, le-ltb, ltb-false}
+use Rattle.std.proofs.lemmas.Bool.Decides.{eqb_tells, Decides-ltb, Decides-and, Decides-like, Decides-eqb, same_from_decides}
+use Rattle.std.proofs.lemmas.List.{length-append, length-take-le, length-drop, length_push, take-append-drop, take_at, drop_more, get_or-drop, get_or_at, append_assoc}
+use Rattle.std.proofs.lemmas.List.Elements.{All-from_get_or}
+use Rattle.std.proofs.lemmas.List.Folds.{list_all-append}
+use Rattle.std.proofs.lemmas.List.Splits.{length-slice_split, slice_split_none, join_with_byte-slice_split}
+use Rattle.std.proofs.lemmas.Slice.Eq.{slice_eq-Decides, bytes_eq-Decides}
+use Rattle.std.proofs.lemmas.Str.{encode_ascii, IsUtf8-append, IsUtf8-from_is_utf8, is_utf8-from_IsUtf8, IsUtf8-take, IsCharBoundary-before_ascii}
+use Rattle.uxn_io.specs.declared.paths.PathFault.{PathFault}
+use Rattle.uxn_io.specs.PathText.{path_of, components, is_component, is_too_long, joined, all_but_last, parent_from, parent_of, is_under, HasNoSlashFrom, IsLastSlash, ContinuesAfter}
+use Rattle.uxn_io.proofs.PathLemmas.{answer_of, path_of-tests}
+
+and_left : (a b : Bool) → (a && b) ≡ true → a ≡ true
+and_left true b e = refl
+and_left false b e = e
+
+and_right : (a b : Bool) → (a && b) ≡ true → b ≡ true
+and_right true b e = e
+and_right false b e = cc
+
+and_both : (a b : Bool) → a ≡ true → b ≡ true → (a && b) ≡ true
+and_both a b e f i = e i && f i
+
+above_zero : (n : ℕ) → 0 < n → false ≡ eqb n 0
+above_zero n some = elim (eqb_tells n 0) [ inl h ↦ absurd (omega (arith, h.1)) | inr h ↦ sym h.0 ]
+
+other_byte : (b : ℕ) → (b ≡ 47 → ⊥) → eqb b 47 ≡ false
+other_byte b other = elim (eqb_tells b 47) [ inl h ↦ absurd (other h.1) | inr h ↦ h.0 ]
+
+-- a text has a component
+pub length-components : (text : List ℕ) → 0 < length (components text)
+length-components text = omega (arith, length-slice_split (λ b. eqb b 47) text)
+
+onto_first-append : (x : ℕ) (front tail : List (List ℕ)) → 0 < length front → onto_first x (front ++ tail) ≡ onto_first x front ++ tail
+onto_first-append x [] tail some = absurd (omega (arith, some))
+onto_first-append x (name ∷ front) tail some = refl
+
+split_step : (b : Bool) (x : ℕ) (whole front tail : List (List ℕ)) → 0 < length front → whole ≡ front ++ tail → cond b ([] ∷ whole) (onto_first x whole) ≡ cond b ([] ∷ front) (onto_first x front) ++ tail
+split_step true x whole front tail some is = ap (λ (z : List (List ℕ)). [] ∷ z) is
+split_step false x whole front tail some is = ap (onto_first x) is ∙ onto_first-append x front tail some
+
+-- a slash parts the components before it from those after it
+pub components-append : (text tail : List ℕ) → components (text ++ 47 ∷ tail) ≡ components text ++ components tail
+components-append [] tail = refl
+components-append (x ∷ text) tail = split_step (eqb x 47) x _ _ _ (length-components text) (components-append text tail)
+
+good_of : (text : List ℕ) (empty good long : Bool) → answer_of text empty good long ≡ Ok text → good ≡ true
+good_of text true good long e = cc
+good_of text false true long e = refl
+good_of text false false long e = cc
+
+short_of : (text : List ℕ) (empty good long : Bool) → answer_of text empty good long ≡ Ok text → long ≡ false
+short_of text true good long e = cc
+short_of text false false long e = cc
+short_of text false true true e = cc
+short_of text false true false e = refl
+
+path_is_good : (text : List ℕ) → path_of text ≡ Ok text → (is_utf8 text && list_all is_component (components text)) ≡ true
+unfolding path_of
+path_is_good text e = good_of text _ _ _ e
+
+path_is_short : (text : List ℕ) → path_of text ≡ Ok text → is_too_long text ≡ false
+unfolding path_of
+path_is_short text e = short_of text _ _ _ e
+
+or_left : (a b : Bool) → (a || b) ≡ false → a ≡ false
+or_left true b e = e
+or_left false b e = refl
+
+or_right : (a b : Bool) → (a || b) ≡ false → b ≡ false
+or_right true b e = cc
+or_right false b e = e
+
+-- a path has at most 255 bytes, and at most 16 components
+pub path_bytes : (text : List ℕ) → path_of text ≡ Ok text → length text ≤ 255
+path_bytes text e = ltb-false 255 (length text) (or_right _ _ (path_is_short text e))
+
+pub path_components : (text : List ℕ) → path_of text ≡ Ok text → length (components text) ≤ 16
+path_components text e = ltb-false 16 (length (components text)) (or_left _ _ (path_is_short text e))
+
+not_long : (text : List ℕ) → length (components text) ≤ 16 → length text ≤ 255 → is_too_long text ≡ false
+not_long text few short i = le-ltb 16 (length (components text)) few i || le-ltb 255 (length text) short i
+
+IsUtf8-slash : IsUtf8 (47 ∷ [])
+IsUtf8-slash = (47 ∷ [], (refl, ap (λ (z : List ℕ). z ++ []) (encode_ascii 47 (omega arith))))
+
+-- two paths with a slash between are well formed
+good_joined : (text tail : List ℕ) → path_of text ≡ Ok text → path_of tail ≡ Ok tail → (is_utf8 (text ++ 47 ∷ tail) && list_all is_component (components (text ++ 47 ∷ tail))) ≡ true
+good_joined text tail a b =
+    let text_good : (is_utf8 text && list_all is_component (components text)) ≡ true = path_is_good text a in
+    let tail_good : (is_utf8 tail && list_all is_component (components tail)) ≡ true = path_is_good tail b in
+    let text_utf8 = IsUtf8-from_is_utf8 text (and_left (is_utf8 text) (list_all is_component (components text)) text_good) in
+    let tail_utf8 = IsUtf8-from_is_utf8 tail (and_left (is_utf8 tail) (list_all is_component (components tail)) tail_good) in
+    let text_names = and_right (is_utf8 text) (list_all is_component (components text)) text_good in
+    let tail_names = and_right (is_utf8 tail) (list_all is_component (components tail)) tail_good in
+    and_both _ _
+    (is_utf8-from_IsUtf8 _ (IsUtf8-append text (47 ∷ tail) text_utf8 (IsUtf8-append (47 ∷ []) tail IsUtf8-slash tail_utf8)))
+    (ap (list_all is_component) (components-append text tail) ∙ list_all-append is_component (components text) (components tail) ∙ and_both _ _ text_names tail_names)
+
+chosen : (whole : List ℕ) (long : Bool) → result_ok (answer_of whole false true long) ≡ (if long then None else Some whole)
+chosen whole true = refl
+chosen whole false = refl
+
+-- reading two paths with a slash between gives the joined path
+pub joined_answer : (text tail : List ℕ) → path_of text ≡ Ok text → path_of tail ≡ Ok tail → result_ok (path_of (text ++ 47 ∷ tail)) ≡ joined text tail
+unfolding joined
+joined_answer text tail a b =
+    ap (λ (r : Result (List ℕ) PathFault). result_ok r)
+    (path_of-tests (text ++ 47 ∷ tail) false true (is_too_long (text ++ 47 ∷ tail)) (above_zero _ (omega (arith, length-append text (47 ∷ tail)))) (sym (good_joined text tail a b)) refl)
+    ∙ chosen (text ++ 47 ∷ tail) _
+
+no_slash_all : (text : List ℕ) (from : ℕ) → HasNoSlashFrom text from → All (λ b. eqb b 47 ≡ false) (drop from text)
+no_slash_all text from none =
+    All-from_get_or (λ b. eqb b 47 ≡ false) (drop from text) 0
+    (λ k lt. other_byte _ (λ e. none (from + k) (omega arith) (omega (arith, length-drop from text)) (sym (get_or-drop from text k 0) ∙ e)))
+
+-- a text without a slash has one component, and no parent
+pub no_parent : (text : List ℕ) → HasNoSlashFrom text 0 → None ≡ parent_of text
+unfolding parent_of
+no_parent text none = sym (ap parent_from (slice_split_none (λ b. eqb b 47) text (no_slash_all text 0 none)))
+
+parent_push : (names : List (List ℕ)) (last : List ℕ) → 0 < length names → parent_from (names ++ last ∷ []) ≡ Some (join_with_byte 47 names)
+parent_push names last some =
+    let n = length_push names last in
+    rw (lt-ltb 1 (length (names ++ last ∷ [])) (omega arith))
+    (ap (λ (z : List (List ℕ)). Some (join_with_byte 47 z)) (take_at names (last ∷ []) _ (omega arith)))
+
+at_slash : (text : List ℕ) (at : ℕ) → IsLastSlash text at → text ≡ take at text ++ 47 ∷ drop (at + 1) text
+at_slash text at is =
+    sym (take-append-drop at text)
+    ∙ ap (λ (z : List ℕ). take at text ++ z) (drop_more text at 0 is.within ∙ ap (λ (b : ℕ). b ∷ drop (at + 1) text) is.slash)
+
+names_at_slash : (text : List ℕ) (at : ℕ) → IsLastSlash text at → components text ≡ components (take at text) ++ drop (at + 1) text ∷ []
+names_at_slash text at is =
+    ap components (at_slash text at is)
+    ∙ components-append (take at text) (drop (at + 1) text)
+    ∙ ap (λ (z : List (List ℕ)). components (take at text) ++ z) (slice_split_none (λ b. eqb b 47) (drop (at + 1) text) (no_slash_all text (at + 1) is.last))
+
+some_byte : (text : List ℕ) → list_all is_component (components text) ≡ true → 0 < length text
+some_byte [] e = cc
+some_byte (x ∷ text) e = omega arith
+
+-- what stands before the last slash of a path is a path
+front_is_path : (text : List ℕ) (at : ℕ) → path_of text ≡ Ok text → IsLastSlash text at → path_of (take at text) ≡ Ok (take at text)
+front_is_path text at path is =
+    let good = path_is_good text path in
+    let names = names_at_slash text at is in
+    let count = ap length names ∙ length_push (components (take at text)) (drop (at + 1) text) in
+    let size = length-take-le at text (omega (arith, is.within)) in
+    let all : list_all is_component (components (take at text)) ≡ true = and_left (list_all is_component (components (take at text))) (list_all is_component (drop (at + 1) text ∷ [])) (sym (list_all-append is_component (components (take at text)) (drop (at + 1) text ∷ [])) ∙ ap (list_all is_component) (sym names) ∙ and_right (is_utf8 text) (list_all is_component (components text)) good) in
+    path_of-tests (take at text) false true false
+    (above_zero _ (some_byte _ all))
+    (sym (and_both _ _ (is_utf8-from_IsUtf8 _ (IsUtf8-take text at (IsUtf8-from_is_utf8 text (and_left (is_utf8 text) (list_all is_component (components text)) good)) (IsCharBoundary-before_ascii text at is.within (omega (arith, is.slash))))) all))
+    (sym (not_long (take at text) (omega (arith, path_components text path)) (omega (arith, path_bytes text path, is.within))))
+
+-- reading what stands before the last slash gives the parent
+pub parent_answer : (text : List ℕ) (at : ℕ) → path_of text ≡ Ok text → IsLastSlash text at → result_ok (path_of (take at text)) ≡ parent_of text
+unfolding parent_of
+parent_answer text at path is =
+    ap (λ (r : Result (List ℕ) PathFault). result_ok r) (front_is_path text at path is)
+    ∙ sym (ap parent_from (names_at_slash text at is) ∙ parent_push (components (take at text)) _ (length-components (take at text)) ∙ ap (λ (z : List ℕ). Some z) (join_with_byte-slice_split 47 (take at text)))
+
+join-append : (xs ys : List (List ℕ)) → 0 < length xs → 0 < length ys → join_with_byte 47 (xs ++ ys) ≡ join_with_byte 47 xs ++ 47 ∷ join_with_byte 47 ys
+join-append [] ys some more = absurd (omega (arith, some))
+join-append (x ∷ []) [] some more = absurd (omega (arith, more))
+join-append (x ∷ []) (y ∷ ys) some more = refl
+join-append (x ∷ w ∷ xs) ys some more =
+    ap (λ (z : List ℕ). x ++ (47 ∷ z)) (join-append (w ∷ xs) ys (omega arith) more)
+    ∙ sym (append_assoc x (47 ∷ join_with_byte 47 (w ∷ xs)) (47 ∷ join_with_byte 47 ys))
+
+under_from : (text other : List ℕ) → (length (components other) < length (components text)) × (components other ≡ take (length (components other)) (components text)) → ContinuesAfter text other
+under_from text other h =
+    let n = length (components other) in
+    let rest = drop n (components text) in
+    let some : 0 < length rest = omega (arith, h.0, length-drop n (components text)) in (
+      join_with_byte 47 rest,
+      sym (join_with_byte-slice_split 47 text)
+          ∙ ap (join_with_byte 47) (sym (take-append-drop n (components text)) ∙ ap (λ (z : List (List ℕ)). z ++ rest) (sym h.1))
+          ∙ join-append (components other) rest (length-components other) some
+          ∙ ap (λ (z : List ℕ). z ++ 47 ∷ join_with_byte 47 rest) (join_with_byte-slice_split 47 other),
+    )
+
+under_to : (text other : List ℕ) → ContinuesAfter text other → (length (components other) < length (components text)) × (components other ≡ take (length (components other)) (components text))
+under_to text other h =
+    let names : components text ≡ components other ++ components h.0 = ap components h.1 ∙ components-append other h.0 in (
+      omega (arith, ap length names, length-append (components other) (components h.0), length-components h.0),
+      sym (ap (take (length (components other))) names ∙ take_at (components other) (components h.0) _ refl),
+    )
+
+is_under-Decides : (text other : List ℕ) → Decides (is_under text other) (ContinuesAfter text other)
+unfolding is_under
+is_under-Decides text other =
+    Decides-like _ (under_from text other) (under_to text other)
+    (Decides-and _ _ (Decides-ltb _ _) (slice_eq-Decides bytes_eq-Decides (components other) (take (length (components other)) (components text)) _ refl))
+
+-- a test of the text decides whether the components are a proper prefix
+pub under_answer : (text other : List ℕ) (b : Bool) → ((b ≡ true) ↔ ContinuesAfter text other) → b ≡ is_under text other
+under_answer text other b h = same_from_decides b (is_under text other) (h.0, h.1) (is_under-Decides text other)
+
+-- the tests by which the text is seen to continue
+pub continues_from : (text other : List ℕ) (b : Bool) → length other < length text → get_or text (length other) 0 ≡ 47 → b ≡ starts_with nat_eq text other → (b ≡ true) ↔ ContinuesAfter text other
+continues_from text other b longer slash is =
+    let D = slice_eq-Decides Decides-eqb other (take (length other) text) b is in (
+      λ e. (
+        drop (length other + 1) text,
+        sym (take-append-drop (length other) text)
+            ∙ (λ i. sym (D.0 e) i ++ drop_more text (length other) 0 longer i)
+            ∙ ap (λ (z : ℕ). other ++ z ∷ drop (length other + 1) text) slash,
+      ),
+      λ h. D.1 (sym (ap (take (length other)) h.1 ∙ take_at other (47 ∷ h.0) _ refl)),
+    )
+
+-- and those by which it is not
+pub continues_not : (text other : List ℕ) → ((length other < length text) → get_or text (length other) 0 ≡ 47 → ⊥) → (false ≡ true) ↔ ContinuesAfter text other
+continues_not text other unlike = (
+  λ e. cc,
+  λ h. absurd (unlike (omega (arith, ap length h.1, length-append other (47 ∷ h.0))) (ap (λ (z : List ℕ). get_or z (length other) 0) h.1 ∙ get_or_at other 47 h.0 0 _ refl)),
+)

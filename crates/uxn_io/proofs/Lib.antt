@@ -1,0 +1,5 @@
+pub mod ComponentLemmas
+pub mod LookupLemmas
+pub mod PathLemmas
+pub mod PutLemmas
+pub mod ReadLemmas

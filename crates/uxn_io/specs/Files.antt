@@ -1,0 +1,47 @@
+-- The files of a tree: a finite map from the text of a path to what is there.
+use Rattle.std.specs.Prelude.{◌≡◌, ℕ, ◌<◌, ◌≤◌, List, [], length, take, drop, Option, Some, None, option_map}
+use Rattle.std.specs.Option.{unwrap_or}
+use Rattle.std.specs.Ordering.{nat_cmp}
+use Rattle.std.specs.Cmp.Lexicographic.{slice_cmp}
+use Rattle.std.specs.FinMap as map
+use Rattle.uxn_io.specs.declared.trees.Kind.{Kind}
+use Rattle.uxn_io.specs.declared.trees.Kind.TheVariants.{Missing, File as FileOf, Folder as FolderThere}
+
+-- a file with its bytes, or a folder
+pub data Node : Type 0 where
+  File : List ℕ → Node
+  Folder : Node
+
+-- from the bytes of a path's text to the node there
+abbrev pub Nodes : Type 0
+Nodes = map.FinMap (slice_cmp nat_cmp) Node
+
+-- the bytes of a node that is a file
+abbrev pub bytes_of : Option Node → Option (List ℕ)
+bytes_of None = None
+bytes_of (Some (File bytes)) = Some bytes
+bytes_of (Some Folder) = None
+
+-- the bytes of the file at a path, where a file is there
+abbrev pub file_at : Nodes → List ℕ → Option (List ℕ)
+file_at nodes path = bytes_of (map.get nodes path)
+
+-- what kind a node is; a file has its length
+abbrev pub kind_of : Option Node → Kind
+kind_of None = Missing
+kind_of (Some (File bytes)) = FileOf (length bytes)
+kind_of (Some Folder) = FolderThere
+
+-- what stands at a path
+abbrev pub kind_at : Nodes → List ℕ → Kind
+kind_at nodes path = kind_of (map.get nodes path)
+
+-- the bytes of the file at a path from a place on: none where no file is there, or it is no longer than that
+abbrev pub bytes_from : Nodes → List ℕ → ℕ → List ℕ
+bytes_from nodes path from = drop from (unwrap_or (file_at nodes path) [])
+
+-- n of these bytes were put at the front of a buffer: some of them, where there are any and the buffer has room
+pub record Reads (bytes before now : List ℕ) (n : ℕ) : Type 0 where
+  pub within : n ≤ length bytes
+  pub front : take n now ≡ take n bytes
+  pub some : 0 < length before → 0 < length bytes → 0 < n

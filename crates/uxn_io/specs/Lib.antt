@@ -1,0 +1,9 @@
+pub mod Cause
+pub mod Told
+pub mod Files
+pub mod PathText
+pub mod WholeFile
+pub mod PathBytes
+pub mod NumberText
+pub mod SinkInMemory
+pub mod TreeInMemory

@@ -1,0 +1,44 @@
+-- A sink in memory, call by call.
+use Rattle.std.specs.Prelude.{ℕ, ◌+◌, ◌-◌, ◌^◌, ◌==◌, ◌&&◌, ◌||◌, Bool, nat_lt, nat_le, min, List, ◌++◌, Option, Some, length, take, Result, Ok, Err, if◌then◌else◌}
+use Rattle.std.specs.List.{list_any}
+use Rattle.uxn_io.specs.declared.sinks.Failed.{Failed}
+
+-- the bytes taken, the room for bytes in all, the numbers of the calls that fail, how many calls there
+-- were and how many of them failed
+pub record SinkInMemory : Type 0 where
+  pub taken : List ℕ
+  pub room : ℕ
+  pub fails : List ℕ
+  pub calls : ℕ
+  pub faults : ℕ
+
+-- it tells what it has taken
+abbrev pub told_by : SinkInMemory → Option (List ℕ)
+told_by sink = Some sink.taken
+
+-- and counts its faults
+abbrev pub faults_of : SinkInMemory → ℕ
+faults_of sink = sink.faults
+
+-- one more, up to the last value of a count
+abbrev pub counted : ℕ → ℕ
+counted n = min (n + 1) (2 ^ 64 - 1)
+
+-- a put fails where its number is listed, or it has bytes and no room is left
+abbrev pub fails_at : SinkInMemory → List ℕ → Bool
+fails_at sink piece =
+    list_any (λ n. n == sink.calls) sink.fails || (nat_lt 0 (length piece) && nat_le sink.room (length sink.taken))
+
+-- how many bytes of a piece fit
+abbrev pub fitting : SinkInMemory → List ℕ → ℕ
+fitting sink piece = min (length piece) (sink.room - length sink.taken)
+
+-- what a put answers
+abbrev pub put_answer : SinkInMemory → List ℕ → Result ℕ Failed
+put_answer sink piece = if fails_at sink piece then Err (record {}) else Ok (fitting sink piece)
+
+-- the sink after a put
+abbrev pub after_put : SinkInMemory → List ℕ → SinkInMemory
+after_put sink piece =
+    if fails_at sink piece then record sink { calls = counted sink.calls; faults = counted sink.faults }
+    else record sink { calls = counted sink.calls; taken = sink.taken ++ take (fitting sink piece) piece }

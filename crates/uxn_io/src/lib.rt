@@ -1,0 +1,21 @@
+//! What the program meets outside itself: sinks that take bytes, trees of files, and paths in them;
+//! and sinks and trees in memory, which tell what they hold and fail on demand.
+#![tactic(auto)]
+
+mod bytes;
+mod memory_sinks;
+mod memory_trees;
+mod paths;
+mod sinks;
+#[cfg(test)]
+mod tests;
+mod texts;
+mod trees;
+
+pub use bytes::Bytes;
+pub use memory_sinks::MemSink;
+pub use memory_trees::{MemTree, Node, TreeCall};
+pub use paths::{Path, PathFault};
+pub use sinks::{Failed, Sink, put_all};
+pub use texts::{decimal, hex_byte, hex_short};
+pub use trees::{FileBytes, Kind, ReadStop, Tree, read_file};

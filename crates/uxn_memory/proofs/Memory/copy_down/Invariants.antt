@@ -1,0 +1,6 @@
+use Rattle.std.proofs.Common.{◌≡◌}
+use Rattle.uxn_memory.specs.Bytes.{copied_down}
+use Rattle.uxn_memory.proofs.Memory.copy_down.Given as goal
+
+abbrev pub invariant-loop-i : goal.invariant-loop-i
+invariant-loop-i l = copied_down l.self l.i l.from l.to ≡ copied_down l.fn.self l.length l.from l.to

@@ -1,0 +1,153 @@
+-- A deterministic model of ports, the instruction over it as a function, and the law that carries an instruction
+-- over any ports which stand for the model to this function.
+use Rattle.std.specs.Prelude.{◌≡◌, ◌≢◌, ℕ, ◌+◌, ◌*◌, ◌/◌, ◌%◌, ◌==◌, ◌⊎◌, Bool, true, false, if◌then◌else◌, List, [], ◌∷◌, ◌++◌, Result, Ok, Err, refl}
+use Rattle.std.proofs.Common.{sym, ◌∙◌, ap, inl, inr, arith}
+use Rattle.std.proofs.lemmas.Bool.Decides.{nat_tests}
+use Rattle.uxn_opcodes.specs.declared.Core.{Core}
+use Rattle.uxn_opcodes.specs.declared.Stop.{Stop}
+use Rattle.uxn_opcodes.specs.declared.Turn.{Turn}
+use Rattle.uxn_opcodes.specs.declared.Turn.TheVariants.{Ran, Broke}
+use Rattle.uxn_opcodes.specs.declared.operation.Width.{Width}
+use Rattle.uxn_opcodes.specs.declared.operation.Width.TheVariants.{Byte, Short}
+use Rattle.uxn_opcodes.specs.declared.operation.Mode.{Mode}
+use Rattle.uxn_opcodes.specs.declared.rows.Access.{Access}
+use Rattle.uxn_opcodes.specs.declared.rows.Access.TheVariants.{Nothing, Read, Write}
+use Rattle.uxn_opcodes.specs.Rule.{opcode_at, past_opcode, begun}
+use Rattle.uxn_opcodes.specs.Instruction.{ReadsWord, writes_of, Written, WriteStops, answered, Finishes, Stops, Instruction}
+
+-- the machine with the state of its ports
+pub record Machine (Q : Type 0) : Type 0 where
+  pub core : Core
+  pub ports : Q
+
+-- what a port reads, and what a write of a byte to a port leaves
+pub record PortModel (Q : Type 0) : Type 0 where
+  pub read : Q → Core → ℕ → ℕ
+  pub write : Q → Core → ℕ → ℕ → Machine Q
+
+-- a word read: a byte, or the high byte at the port and the low byte at the next port modulo 256
+abbrev pub word_read : {Q : Type 0} → PortModel Q → Width → Q → Core → ℕ → ℕ
+word_read model Byte q core port = model.read q core port
+word_read model Short q core port = model.read q core port * 256 + model.read q core ((port + 1) % 256)
+
+-- bytes written one after the other, each from the state that the one before left
+abbrev pub written_by : {Q : Type 0} → PortModel Q → List (ℕ × ℕ) → Machine Q → Machine Q
+written_by model [] machine = machine
+written_by model (write ∷ writes) machine = written_by model writes (model.write machine.ports machine.core write.0 write.1)
+
+-- the bytes that an access writes, with their ports
+abbrev pub writes_in : Access → List (ℕ × ℕ)
+writes_in Nothing = []
+writes_in (Read port mode) = []
+writes_in (Write port width value) = writes_of width port value
+
+-- the port access of an instruction done
+abbrev pub access_done : {Q : Type 0} → PortModel Q → Access → Core → Q → Machine Q
+access_done model Nothing core q = record { core = core; ports = q }
+access_done model (Read port mode) core q = record { core = answered mode core (word_read model mode.width q core port); ports = q }
+access_done model (Write port width value) core q = written_by model (writes_of width port value) (record { core = core; ports = q })
+
+-- the machine after the instruction at `at`; BRK only moves on
+unfoldable pub after_instruction : {Q : Type 0} → PortModel Q → Core → Q → Machine Q
+after_instruction model core q =
+    if opcode_at core == 0 then record { core = past_opcode core; ports = q } else access_done model (begun core).access (begun core).core q
+
+-- a core, and ports which stand for those of a machine of the model
+pub record StandsAt {S Q : Type 0} (stands : S → Q → Type 0) (found : Core) (ports : S) (machine : Machine Q) : Type 0 where
+  pub same_core : found ≡ machine.core
+  pub same_ports : stands ports machine.ports
+
+-- what the ports read and what their writes leave is what the model says, as far as they stand for it
+pub record Carries {S Q : Type 0} (stands : S → Q → Type 0) (reads : S → Core → ℕ → ℕ → Type 0) (wrote : S → Core → ℕ → ℕ → S → Core → Type 0) (model : PortModel Q) : Type 0 where
+  pub reading : (ports : S) (q : Q) (core : Core) (port value : ℕ) → stands ports q → reads ports core port value → value ≡ model.read q core port
+  pub writing : (ports : S) (q : Q) (core : Core) (port byte : ℕ) (ports_new : S) (core_new : Core) → stands ports q → wrote ports core port byte ports_new core_new → StandsAt stands core_new ports_new (model.write q core port byte)
+
+-- where an instruction stopped: at one of its writes, once those before it were done
+pub record StopsAt {S Q : Type 0} (stands : S → Q → Type 0) (stopped : S → Core → ℕ → ℕ → Stop → S → Core → Type 0) (model : PortModel Q) (writes : List (ℕ × ℕ)) (begins : Machine Q) (stop : Stop) (core_new : Core) (ports_new : S) : Type 0 where
+  pub before : List (ℕ × ℕ)
+  pub port : ℕ
+  pub byte : ℕ
+  pub after : List (ℕ × ℕ)
+  pub in_order : writes ≡ before ++ (port, byte) ∷ after
+  pub ports : S
+  pub same_ports : stands ports (written_by model before begins).ports
+  pub stops : stopped ports (written_by model before begins).core port byte stop ports_new core_new
+
+carried-read : {S Q : Type 0} (stands : S → Q → Type 0) (reads : S → Core → ℕ → ℕ → Type 0) (wrote : S → Core → ℕ → ℕ → S → Core → Type 0) (model : PortModel Q) → Carries stands reads wrote model
+    → (width : Width) (core : Core) (ports : S) (q : Q) (port value : ℕ) → stands ports q → ReadsWord (reads ports) width core port value → value ≡ word_read model width q core port
+carried-read stands reads wrote model carries Byte core ports q port value s r = carries.reading ports q core port value s r
+carried-read stands reads wrote model carries Short core ports q port value s r =
+    let high = carries.reading ports q core port (value / 256) s r.0 in
+    let low = carries.reading ports q core ((port + 1) % 256) (value % 256) s r.1 in
+    omega arith
+
+carried-writes : {S Q : Type 0} (stands : S → Q → Type 0) (reads : S → Core → ℕ → ℕ → Type 0) (wrote : S → Core → ℕ → ℕ → S → Core → Type 0) (model : PortModel Q) → Carries stands reads wrote model
+    → (writes : List (ℕ × ℕ)) (core : Core) (ports : S) (machine : Machine Q) (core_new : Core) (ports_new : S) → StandsAt stands core ports machine → Written wrote writes ports core ports_new core_new
+    → StandsAt stands core_new ports_new (written_by model writes machine)
+carried-writes stands reads wrote model carries [] core ports machine core_new ports_new s w =
+    record { same_core = w.1 ∙ s.same_core; same_ports = rw w.0 s.same_ports }
+carried-writes stands reads wrote model carries (write ∷ writes) core ports machine core_new ports_new s w =
+    let next = carries.writing ports machine.ports core write.0 write.1 w.0 w.1.0 s.same_ports w.1.1.0 in
+    let here = (rw s.same_core at next) in
+    carried-writes stands reads wrote model carries writes w.1.0 w.0 (model.write machine.ports machine.core write.0 write.1) core_new ports_new here w.1.1.1
+
+carried-access : {S Q : Type 0} (stands : S → Q → Type 0) (reads : S → Core → ℕ → ℕ → Type 0) (wrote : S → Core → ℕ → ℕ → S → Core → Type 0) (model : PortModel Q) → Carries stands reads wrote model
+    → (access : Access) (core : Core) (ports : S) (q : Q) (core_new : Core) (ports_new : S) → stands ports q → Finishes reads wrote access core ports core_new ports_new
+    → StandsAt stands core_new ports_new (access_done model access core q)
+unfolding Finishes
+carried-access stands reads wrote model carries Nothing core ports q core_new ports_new s f = record { same_core = f.0; same_ports = rw f.1 s }
+carried-access stands reads wrote model carries (Read port mode) core ports q core_new ports_new s f =
+    let e = carried-read stands reads wrote model carries mode.width core ports q port f.1.0 s f.1.1.0 in
+    record { same_core = f.1.1.1 ∙ ap (λ v. answered mode core v) e; same_ports = rw f.0 s }
+carried-access stands reads wrote model carries (Write port width value) core ports q core_new ports_new s f =
+    carried-writes stands reads wrote model carries (writes_of width port value) core ports (record { core = core; ports = q }) core_new ports_new (record { same_core = refl; same_ports = s }) f
+
+-- the law: an instruction that ran over ports which stand for the model is the model's, and the ports then stand for what the model has
+pub carried-ran : {S Q : Type 0} (stands : S → Q → Type 0) (reads : S → Core → ℕ → ℕ → Type 0) (wrote : S → Core → ℕ → ℕ → S → Core → Type 0) (stopped : S → Core → ℕ → ℕ → Stop → S → Core → Type 0) (model : PortModel Q) → Carries stands reads wrote model
+    → (core : Core) (ports : S) (q : Q) (core_new : Core) (ports_new : S) → stands ports q → Instruction reads wrote stopped core ports (Ok Ran) core_new ports_new
+    → StandsAt stands core_new ports_new (after_instruction model core q)
+unfolding Instruction after_instruction
+carried-ran stands reads wrote stopped model carries core ports q core_new ports_new s ran =
+    let done = carried-access stands reads wrote model carries (begun core).access (begun core).core ports q core_new ports_new s ran.1 in
+    let e : (opcode_at core == 0) ≡ false = grind (arith, nat_tests) in
+    rw e done
+
+-- the law for BRK, which only moves on
+pub carried-broke : {S Q : Type 0} (stands : S → Q → Type 0) (reads : S → Core → ℕ → ℕ → Type 0) (wrote : S → Core → ℕ → ℕ → S → Core → Type 0) (stopped : S → Core → ℕ → ℕ → Stop → S → Core → Type 0) (model : PortModel Q)
+    → (core : Core) (ports : S) (q : Q) (core_new : Core) (ports_new : S) → stands ports q → Instruction reads wrote stopped core ports (Ok Broke) core_new ports_new
+    → StandsAt stands core_new ports_new (after_instruction model core q)
+unfolding Instruction after_instruction
+carried-broke stands reads wrote stopped model core ports q core_new ports_new s broke =
+    let e : (opcode_at core == 0) ≡ true = grind (arith, nat_tests) in
+    rw e (record { same_core = broke.1; same_ports = rw broke.2 s })
+
+carried-stop : {S Q : Type 0} (stands : S → Q → Type 0) (reads : S → Core → ℕ → ℕ → Type 0) (wrote : S → Core → ℕ → ℕ → S → Core → Type 0) (stopped : S → Core → ℕ → ℕ → Stop → S → Core → Type 0) (model : PortModel Q) → Carries stands reads wrote model
+    → (writes : List (ℕ × ℕ)) (core : Core) (ports : S) (machine : Machine Q) (stop : Stop) (core_new : Core) (ports_new : S) → StandsAt stands core ports machine → WriteStops wrote stopped writes ports core stop ports_new core_new
+    → StopsAt stands stopped model writes machine stop core_new ports_new
+carried-stop stands reads wrote stopped model carries [] core ports machine stop core_new ports_new s w = absurd w
+carried-stop {S} {Q} stands reads wrote stopped model carries (write ∷ writes) core ports machine stop core_new ports_new s w =
+    elim w [
+      | inl here ↦ record { before = []; port = write.0; byte = write.1; after = writes; in_order = refl; ports = ports; same_ports = s.same_ports; stops = rw s.same_core at here }
+      | inr later ↦
+          let next = carries.writing ports machine.ports core write.0 write.1 later.0 later.1.0 s.same_ports later.1.1.0 in
+          let here = (rw s.same_core at next) in
+          let rest = carried-stop stands reads wrote stopped model carries writes later.1.0 later.0 (model.write machine.ports machine.core write.0 write.1) stop core_new ports_new here later.1.1.1 in
+          record { before = write ∷ rest.before; port = rest.port; byte = rest.byte; after = rest.after; in_order = ap (λ ws. write ∷ ws) rest.in_order; ports = rest.ports; same_ports = rest.same_ports; stops = rest.stops }
+    ]
+
+carried-stop_access : {S Q : Type 0} (stands : S → Q → Type 0) (reads : S → Core → ℕ → ℕ → Type 0) (wrote : S → Core → ℕ → ℕ → S → Core → Type 0) (stopped : S → Core → ℕ → ℕ → Stop → S → Core → Type 0) (model : PortModel Q) → Carries stands reads wrote model
+    → (access : Access) (core : Core) (ports : S) (q : Q) (stop : Stop) (core_new : Core) (ports_new : S) → stands ports q → Stops wrote stopped access core ports stop core_new ports_new
+    → StopsAt stands stopped model (writes_in access) (record { core = core; ports = q }) stop core_new ports_new
+unfolding Stops
+carried-stop_access stands reads wrote stopped model carries Nothing core ports q stop core_new ports_new s w = absurd w
+carried-stop_access stands reads wrote stopped model carries (Read port mode) core ports q stop core_new ports_new s w = absurd w
+carried-stop_access stands reads wrote stopped model carries (Write port width value) core ports q stop core_new ports_new s w =
+    carried-stop stands reads wrote stopped model carries (writes_of width port value) core ports (record { core = core; ports = q }) stop core_new ports_new (record { same_core = refl; same_ports = s }) w
+
+-- the law for a stop: it came at one of the instruction's writes, once those before it left what the model says
+pub carried-stopped : {S Q : Type 0} (stands : S → Q → Type 0) (reads : S → Core → ℕ → ℕ → Type 0) (wrote : S → Core → ℕ → ℕ → S → Core → Type 0) (stopped : S → Core → ℕ → ℕ → Stop → S → Core → Type 0) (model : PortModel Q) → Carries stands reads wrote model
+    → (core : Core) (ports : S) (q : Q) (stop : Stop) (core_new : Core) (ports_new : S) → stands ports q → Instruction reads wrote stopped core ports (Err stop) core_new ports_new
+    → StopsAt stands stopped model (writes_in (begun core).access) (record { core = (begun core).core; ports = q }) stop core_new ports_new
+unfolding Instruction
+carried-stopped stands reads wrote stopped model carries core ports q stop core_new ports_new s w =
+    carried-stop_access stands reads wrote stopped model carries (begun core).access (begun core).core ports q stop core_new ports_new s w.1

@@ -1,0 +1,197 @@
+//! Words of one or two bytes on a ring and in memory, and the taking of operands.
+
+ghost use Rattle.std.specs.Prelude.{◌≡◌, ◌+◌, ◌-◌, ◌*◌, ◌/◌, ◌%◌, ◌^◌};
+ghost use Rattle.uxn_opcodes.specs.declared.operation.Width.TheVariants.{Byte, Short};
+ghost use Rattle.uxn_opcodes.specs.Words.{
+  size_of,
+  word_below,
+  pushed,
+  dropped,
+  word_at,
+  zero_word_at,
+  stored,
+  zero_stored,
+  relative,
+  target,
+};
+
+use crate::operation::{Mode, Width};
+use uxn_memory::Memory;
+use uxn_stacks::Ring;
+
+/// How many bytes a word has.
+pub fn size(width: Width) -> u8
+    ensures { result ≡ size_of width }
+{
+    match width {
+        Width::Byte => 1,
+        Width::Short => 2,
+    }
+}
+
+/// The word with `depth` bytes between it and the pointer.
+#[tactic(auto, unfolding(crate::specs::Words::word_below))]
+pub fn word(ring: &Ring, width: Width, depth: u8) -> u16
+    ensures { result ≡ word_below ring.now width depth }
+{
+    match width {
+        Width::Byte => u16::from(ring.peek1(depth)),
+        Width::Short => ring.peek2(depth),
+    }
+}
+
+/// The byte at the top.
+#[tactic(auto, unfolding(crate::specs::Words::word_below))]
+fn top_byte(ring: &Ring) -> u8
+    ensures { result ≡ word_below ring.now Byte 0 }
+{
+    ring.peek1(0)
+}
+
+/// Lowers the pointer past operands, unless keep mode is set.
+#[tactic(auto, unfolding(crate::specs::Words::dropped))]
+fn drop_operands(ring: &mut Ring, mode: Mode, count: u8)
+    ensures { ring.new ≡ dropped mode.keep ring.old count }
+{
+    if !mode.keep {
+        ring.lower(count);
+    }
+}
+
+/// Takes a byte.
+pub fn take_byte(ring: &mut Ring, mode: Mode) -> u8
+    ensures value { result ≡ word_below ring.old Byte 0 }
+    ensures ring { ring.new ≡ dropped mode.keep ring.old 1 }
+{
+    let value = top_byte(ring);
+    drop_operands(ring, mode, 1);
+    value
+}
+
+/// Takes a word of a width.
+pub fn take_word(ring: &mut Ring, mode: Mode, width: Width) -> u16
+    ensures value { result ≡ word_below ring.old width 0 }
+    ensures ring { ring.new ≡ dropped mode.keep ring.old (size_of width) }
+{
+    let value = word(ring, width, 0);
+    drop_operands(ring, mode, size(width));
+    value
+}
+
+/// Takes two words of these widths, the deeper one first.
+pub fn take_two(ring: &mut Ring, mode: Mode, first: Width, second: Width) -> (u16, u16)
+    ensures deep { result.0 ≡ word_below ring.old first (size_of second) }
+    ensures top { result.1 ≡ word_below ring.old second 0 }
+    ensures ring { ring.new ≡ dropped mode.keep ring.old (size_of first + size_of second) }
+{
+    let deep = word(ring, first, size(second));
+    let top = word(ring, second, 0);
+    drop_operands(ring, mode, size(first) + size(second));
+    (deep, top)
+}
+
+/// Takes three words, the deepest one first.
+pub fn take_three(ring: &mut Ring, mode: Mode) -> (u16, u16, u16)
+    ensures deep { result.0 ≡ word_below ring.old mode.width (size_of mode.width + size_of mode.width) }
+    ensures middle { result.1 ≡ word_below ring.old mode.width (size_of mode.width) }
+    ensures top { result.2 ≡ word_below ring.old mode.width 0 }
+    ensures ring { ring.new ≡ dropped mode.keep ring.old
+        (size_of mode.width + size_of mode.width + size_of mode.width) }
+{
+    let size = size(mode.width);
+    let deep = word(ring, mode.width, size + size);
+    let middle = word(ring, mode.width, size);
+    let top = word(ring, mode.width, 0);
+    drop_operands(ring, mode, size + size + size);
+    (deep, middle, top)
+}
+
+/// Takes a word with a byte above it.
+pub fn take_word_and_byte(ring: &mut Ring, mode: Mode) -> (u16, u8)
+    ensures deep { result.0 ≡ word_below ring.old mode.width 1 }
+    ensures top { result.1 ≡ word_below ring.old Byte 0 }
+    ensures ring { ring.new ≡ dropped mode.keep ring.old (size_of mode.width + 1) }
+{
+    let deep = word(ring, mode.width, 1);
+    let top = top_byte(ring);
+    drop_operands(ring, mode, size(mode.width) + 1);
+    (deep, top)
+}
+
+/// Pushes a word, cut to its width.
+#[tactic(auto, unfolding(crate::specs::Words::pushed))]
+pub fn push(ring: &mut Ring, width: Width, value: u32)
+    ensures { ring.new ≡ pushed ring.old width value }
+{
+    match width {
+        Width::Byte => ring.push1((value % 256) as u8),
+        Width::Short => ring.push2((value % 65536) as u16),
+    }
+}
+
+/// The word of memory at an address.
+#[tactic(auto, unfolding(crate::specs::Words::word_at))]
+pub fn load(memory: &Memory, width: Width, at: u16) -> u16
+    ensures { result ≡ word_at width memory.now at }
+{
+    match width {
+        Width::Byte => u16::from(memory.get(at)),
+        Width::Short => memory.get2(at),
+    }
+}
+
+/// The word of memory at a place of the zero page.
+#[tactic(auto, unfolding(crate::specs::Words::zero_word_at))]
+pub fn load_zero(memory: &Memory, width: Width, place: u8) -> u16
+    ensures { result ≡ zero_word_at width memory.now place }
+{
+    match width {
+        Width::Byte => u16::from(memory.get(u16::from(place))),
+        Width::Short => memory.zero2(place),
+    }
+}
+
+/// Stores a word at an address.
+#[tactic(auto, unfolding(crate::specs::Words::stored))]
+pub fn store(memory: &mut Memory, width: Width, at: u16, value: u16)
+    ensures { memory.new ≡ stored width memory.old at value }
+{
+    match width {
+        Width::Byte => memory.set(at, (value % 256) as u8),
+        Width::Short => memory.set2(at, value),
+    }
+}
+
+/// Stores a word at a place of the zero page.
+#[tactic(auto, unfolding(crate::specs::Words::zero_stored))]
+pub fn store_zero(memory: &mut Memory, width: Width, place: u8, value: u16)
+    ensures { memory.new ≡ zero_stored width memory.old place value }
+{
+    match width {
+        Width::Byte => memory.set(u16::from(place), (value % 256) as u8),
+        Width::Short => memory.set_zero2(place, value),
+    }
+}
+
+/// The address at a signed byte from another address.
+#[tactic(auto, unfolding(crate::specs::Words::relative))]
+pub fn distant(at: u16, offset: u16) -> u16
+    ensures { result ≡ relative at offset }
+{
+    if offset < 128 {
+        at.wrapping_add(offset)
+    } else {
+        at.wrapping_add(offset).wrapping_sub(256)
+    }
+}
+
+/// Where a jump goes.
+#[tactic(auto, unfolding(crate::specs::Words::target))]
+pub fn destination(width: Width, at: u16, place: u16) -> u16
+    ensures { result ≡ target width at place }
+{
+    match width {
+        Width::Byte => distant(at, place),
+        Width::Short => place,
+    }
+}
