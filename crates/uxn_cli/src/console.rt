@@ -57,11 +57,12 @@ impl<'a, O: Sink, E: Sink> Ports for Console<'a, O, E> {
     ghost err_faults = { λ console. E.faults console.err.now };
 
     fn dei(&self, _core: &Core, port: u8) -> u8 {
-        self.page[port as usize]
+        self.page[usize::from(port)]
     }
 
     fn deo(&mut self, _core: &mut Core, port: u8, value: u8) -> Result<(), Stop> {
-        self.page[port as usize] = value;
+        let place = usize::from(port);
+        self.page[place] = value;
         match port {
             0x18 => answer(put_all(self.out, &[value])),
             0x19 => answer(put_all(self.err, &[value])),

@@ -3,6 +3,8 @@
 
 mod console;
 mod lines;
+#[cfg(test)]
+mod tests;
 mod top;
 mod vector;
 mod words;
