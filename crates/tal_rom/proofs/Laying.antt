@@ -1,90 +1,161 @@
-use Rattle.std.proofs.Common.{◌≡◌, ℕ, ◌+◌, ◌<◌, ◌≤◌, Bool, true, false, not, None, Some, List, [], ◌∷◌, ◌++◌, length, take, get_or, inl, inr, refl, sym, ◌∙◌, ap, arith, length-append, ◌||◌}
-use Rattle.std.specs.Prelude.{◌==◌, sum_by}
-use Rattle.std.proofs.Math.Dec.{ltb}
-use Rattle.std.proofs.lemmas.Bool.{lt-ltb, le-ltb, ltb-false, cases_lt}
-use Rattle.std.proofs.lemmas.List.{take_more}
-use Rattle.std.proofs.lemmas.List.Sums.{sum_by-append}
-use Rattle.tal_rom.specs.Words.{word_starts, text_at}
-use Rattle.tal_rom.specs.Forms.{word_bytes, is_built}
-use Rattle.tal_rom.specs.Least.{least, found_or}
-use Rattle.tal_rom.specs.Rom.{byte_at, rom_image, trimmed}
-use Rattle.tal_rom.specs.Assembly.{place_of, word_text, is_refused, is_faulty, fault_at, first_fault, long_source, rom_of}
-use Rattle.tal_rom.specs.Layout.{HoldsFirst}
-use Rattle.tal_rom.proofs.LeastLemmas.{least-suc, least-is}
-use Rattle.tal_rom.proofs.Covering.{byte_at-append}
+-- The loop over the words with their places.
+use Rattle.std.proofs.Common.{◌≡◌, ℕ, zero, suc, ◌+◌, ◌-◌, ◌^◌, ◌<◌, ◌≤◌, Bool, true, false, List, [], ◌∷◌, ◌++◌, length, take, drop, get_or, map, replicate, Option, Some, None, Result, Ok, Err, refl, sym, subst, ◌∙◌, ap, arith, length-append}
+use Rattle.std.specs.Prelude.{unwrap_or}
+use Rattle.std.proofs.lemmas.List.{take_more, take_all, length-replicate}
+use Rattle.std.specs.List.{range_with_len}
+use Rattle.tal_words.specs.declared.span.Expanded.{Expanded}
+use Rattle.tal_words.specs.declared.fault.FaultKind.{FaultKind}
+use Rattle.tal_words.specs.declared.form.Form.{Form}
+use Rattle.tal_words.specs.declared.name.Label.{Label}
+use Rattle.tal_words.specs.Faults.{least, fault_at, first_fault}
+use Rattle.tal_words.specs.Forms.{form, size, encoded}
+use Rattle.tal_labels.specs.declared.placed.PlacedWord.{PlacedWord}
+use Rattle.tal_labels.specs.Order.{each}
+use Rattle.tal_labels.specs.Places.{text_of}
+use Rattle.tal_labels.specs.Labels.{scope_after}
+use Rattle.tal_labels.specs.Placing.{Layout, place_fault, ends_of, ends_above}
+use Rattle.tal_rom.specs.Assembly.{layout}
+use Rattle.tal_words.specs.Expansion.{expanded_of}
+use Rattle.tal_words.specs.Names.{first_scope}
+use Rattle.tal_words.specs.declared.form.Form.TheVariants.{Pad}
+use Rattle.tal_labels.proofs.OrderLemmas.{each-end, each-more, no_word}
+use Rattle.tal_rom.specs.Answers.{scope_next, filled, HasAddress}
+use Rattle.tal_rom.specs.References.{named_target, form_target, reference_kinds, scope_behind, target_of, judged_reference, reference_fault}
+use Rattle.tal_rom.specs.Rom.{Piece, byte_at, piece_given, pieces_of, rom_image, trimmed}
+use Rattle.tal_rom.specs.Layout.{AreBytesOf}
+use Rattle.tal_rom.proofs.FaultLemmas.{fault-here, fault-later}
 use Rattle.tal_rom.proofs.Trimming.{trimmed-image}
+use Rattle.tal_rom.proofs.Covering.{IsLaid, next_laid, nothing_laid}
+use Rattle.tal_rom.proofs.PlacedWords.{ArePlaced, are_placed, IsPlacedAt, placed_at, ends_more, scope_more, length-encoded, address-of}
 
--- what the loop over the words keeps: the first words lie in the bytes, one after the other
-pub record IsLaid (source : List ℕ) (count : ℕ) (rom : List ℕ) : Type 0 where
-  pub holds : HoldsFirst source count rom
-  pub place : 256 + length rom ≡ place_of source count
-  pub before : (j : ℕ) → j < count → place_of source j + length (word_bytes (word_text source j)) ≤ place_of source count
+-- what the loop over the words keeps
+pub record IsLaidSo (source : List ℕ) (expanded : List Expanded) (labels : List Label) (words : List PlacedWord) (k : ℕ) (rom scope : List ℕ) : Type 0 where
+  pub sound : first_fault (each (judged_reference source labels) (take k words) (drop k words)) ≡ reference_fault source labels words
+  pub scoped : scope ≡ scope_behind source (take k words)
+  pub laid : IsLaid (pieces_of source labels (take k words)) rom
+  pub top : (place : ℕ) → 256 ≤ place → ends_above source (take k expanded) place ≡ false → 256 + length rom ≤ place
 
-or_false : (x y : Bool) → (x || y) ≡ false → (x ≡ false) × (y ≡ false)
-or_false true y e = cc
-or_false false y e = (refl, e)
+pub nothing_laid_so : (source : List ℕ) (expanded : List Expanded) (labels : List Label) (words : List PlacedWord) (rom scope : List ℕ)
+    → rom ≡ [] → scope ≡ scope_after source [] → IsLaidSo source expanded labels words 0 rom scope
+unfolding reference_fault scope_behind pieces_of
+nothing_laid_so source expanded labels words rom scope e first = record {
+    sound = refl;
+    scoped = first;
+    laid = nothing_laid rom e;
+    top = λ place from above. omega (arith, ap length e)
+  }
 
-pub place_of-suc : (source : List ℕ) (k : ℕ) → k < length (word_starts source) → place_of source (k + 1) ≡ place_of source k + length (word_bytes (word_text source k))
-unfolding place_of
-place_of-suc source k within =
-    let size : ℕ → ℕ = λ at. length (word_bytes (text_at source at)) in
-    let starts = word_starts source in
-    let e = ap (sum_by size) (take_more starts k 0 within) ∙ sum_by-append size (take k starts) (get_or starts k 0 ∷ []) in
-    omega (arith, e)
+-- the end of the bytes with one more word
+top_filled : (rom : List ℕ) (at : ℕ) (bytes : List ℕ) (place : ℕ) → (0 < length bytes → 256 + length rom ≤ at) → 256 + length rom ≤ place
+    → (0 < length bytes → at + length bytes ≤ place) → 256 + length (filled rom at bytes) ≤ place
+top_filled rom at [] place behind below end = below
+top_filled rom at (byte ∷ bytes) place behind below end =
+    let gap = at - (256 + length rom) in
+    let size : length (replicate gap 0) ≡ gap = length-replicate {A = ℕ} gap 0 in
+    let after : 256 + length rom ≤ at = behind (omega arith) in
+    let top : at + length (byte ∷ bytes) ≤ place = end (omega arith) in
+    omega (arith, length-append rom (replicate gap 0 ++ (byte ∷ bytes)), length-append (replicate gap 0) (byte ∷ bytes), size)
 
-pub nothing_laid : (source rom : List ℕ) → rom ≡ [] → IsLaid source 0 rom
-unfolding least byte_at place_of
-nothing_laid source rom e = rw e record {
-  holds = record { sound = refl; each = λ i. refl; within = omega arith };
-  place = refl;
-  before = λ j below. absurd (omega arith);
-}
+module _ (source : List ℕ) (expanded : List Expanded) (labels : List Label) (words : List PlacedWord) (k : ℕ) (rom scope : List ℕ) (d : PlacedWord)
+    (are : ArePlaced source expanded words) (within : k < length words) (so : IsLaidSo source expanded labels words k rom scope) where
+  at : IsPlacedAt source expanded k (get_or words k d)
+  at = placed_at source expanded words are k d within
 
--- the word after the first ones lies at the end of their bytes
-pub next_laid : (source : List ℕ) (k : ℕ) (rom word more : List ℕ) → k < length (word_starts source) → IsLaid source k rom → word ≡ word_text source k → is_refused (k == 0) (256 + length rom) word ≡ false → more ≡ rom ++ word_bytes word → IsLaid source (k + 1) more
-unfolding is_faulty
-next_laid source k rom word more within laid read accepted appended =
-    let bytes : ℕ → List ℕ = λ j. word_bytes (word_text source j) in
-    let all : more ≡ rom ++ bytes k = appended ∙ ap (λ w. rom ++ word_bytes w) read in
-    let size : length more ≡ length rom + length (bytes k) = ap length all ∙ length-append rom (bytes k) in
-    let next : place_of source (k + 1) ≡ place_of source k + length (bytes k) = place_of-suc source k within in
-    let parts : ((not (is_built (k == 0) word) || ltb 255 (length word)) ≡ false) × (ltb 65536 (256 + length rom + length (word_bytes word)) ≡ false) = or_false _ _ accepted in
-    let short = ltb-false _ _ parts.1 in
-    let same_size : length (word_bytes word) ≡ length (bytes k) = ap (λ w. length (word_bytes w)) read in
-    let passes : is_faulty source k ≡ false = sym (ap (λ p. is_refused (k == 0) p (word_text source k)) laid.place) ∙ sym (ap (is_refused (k == 0) (256 + length rom)) read) ∙ accepted in
-    record {
-      holds = record {
-        sound = least-suc (is_faulty source) k ∙ ap (λ o. found_or o (is_faulty source k) k) laid.holds.sound ∙ ap (λ b. found_or None b k) passes;
-        each = λ i. ap (λ xs. get_or xs i 0) all ∙ byte_at-append (place_of source) bytes k rom laid.place laid.before laid.holds.each i;
-        within = omega (arith, short);
-      };
-      place = omega (arith, laid.place);
-      before = λ j below. elim (cases_lt j k) [
-        | inl earlier ↦ omega (arith, laid.before j earlier)
-        | inr last ↦ (let e : j ≡ k = omega arith in rw e (omega arith))
-      ];
-    }
+  sized : (text : List ℕ) → text ≡ text_of source (get_or words k d).word → (get_or words k d).size ≡ size (get_or words k d).form text
+  sized text read = at.size ∙ ap (λ w. size (get_or words k d).form (text_of source w)) (sym at.word) ∙ ap (size (get_or words k d).form) (sym read)
 
--- the first word that is refused is the first faulty one
-pub refused_next : (source : List ℕ) (k : ℕ) (rom word : List ℕ) → k < length (word_starts source) → IsLaid source k rom → word ≡ word_text source k → is_refused (k == 0) (256 + length rom) word ≡ true → least (is_faulty source) (length (word_starts source)) ≡ Some k
-unfolding is_faulty
-refused_next source k rom word within laid read refused =
-    let fails : is_faulty source k ≡ true = sym (ap (λ p. is_refused (k == 0) p (word_text source k)) laid.place) ∙ sym (ap (is_refused (k == 0) (256 + length rom)) read) ∙ refused in
-    least-is (is_faulty source) (length (word_starts source)) k within fails laid.holds.sound
+  pub word-size : (text : List ℕ) → text ≡ text_of source (get_or words k d).word → (get_or words k d).size ≡ size (get_or words k d).form text
+  word-size text read = sized text read
 
-pub first_fault-long : (source : List ℕ) → 4194304 < length source → first_fault source ≡ Some long_source
-unfolding first_fault
-first_fault-long source long = rw (lt-ltb 4194304 (length source) long) refl
+  pub word-above : 0 < (get_or words k d).size → 256 + length rom ≤ (get_or words k d).address
+  word-above some = so.top (get_or words k d).address (at.start some) (at.above some)
 
-pub first_fault-none : (source : List ℕ) → length source ≤ 4194304 → least (is_faulty source) (length (word_starts source)) ≡ None → first_fault source ≡ None
-unfolding first_fault
-first_fault-none source short none = rw (le-ltb 4194304 (length source) short, none) refl
+  pub word-within : 0 < (get_or words k d).size → (get_or words k d).address + (get_or words k d).size ≤ 65536
+  word-within some = at.end some
 
-pub first_fault-some : (source : List ℕ) (k : ℕ) → length source ≤ 4194304 → least (is_faulty source) (length (word_starts source)) ≡ Some k → first_fault source ≡ Some (fault_at source k)
-unfolding first_fault
-first_fault-some source k short some = rw (le-ltb 4194304 (length source) short, some) refl
+  pub word-address : HasAddress (get_or words k d).form (get_or words k d).address
+  word-address =
+      let text = text_of source (get_or words k d).word in
+      let same = sized text refl in
+      address-of (get_or words k d).form text (get_or words k d).address (λ some. omega (arith, same, at.end (omega (arith, same))))
+
+  target_read : (text : List ℕ) (target : Option ℕ) → text ≡ text_of source (get_or words k d).word
+      → target ≡ form_target (get_or words k d).form (named_target labels scope text (get_or words k d).lambda)
+      → target ≡ target_of source labels (take k words) (get_or words k d)
+  target_read text target read named =
+      named
+      ∙ ap (λ t. form_target (get_or words k d).form (named_target labels scope t (get_or words k d).lambda)) read
+      ∙ ap (λ s. form_target (get_or words k d).form (named_target labels s (text_of source (get_or words k d).word) (get_or words k d).lambda)) so.scoped
+
+  pub faulty_next : (text : List ℕ) (target : Option ℕ) (kind : FaultKind) → text ≡ text_of source (get_or words k d).word
+      → target ≡ form_target (get_or words k d).form (named_target labels scope text (get_or words k d).lambda)
+      → least (reference_kinds (get_or words k d).form (get_or words k d).address target) ≡ Some kind
+      → reference_fault source labels words ≡ Some (fault_at (get_or words k d).word.origin kind)
+  faulty_next text target kind read named some =
+      sym so.sound
+      ∙ fault-here (judged_reference source labels) words k d within kind
+          (ap (λ t. least (reference_kinds (get_or words k d).form (get_or words k d).address t)) (sym (target_read text target read named)) ∙ some)
+
+  pub next_laid_so : (more next text : List ℕ) (target : Option ℕ) → text ≡ text_of source (get_or words k d).word
+      → target ≡ form_target (get_or words k d).form (named_target labels scope text (get_or words k d).lambda)
+      → least (reference_kinds (get_or words k d).form (get_or words k d).address target) ≡ None
+      → more ≡ filled rom (get_or words k d).address (encoded (get_or words k d).form text (get_or words k d).address (unwrap_or target 0))
+      → next ≡ scope_next (get_or words k d).form scope text
+      → IsLaidSo source expanded labels words (k + 1) more next
+  unfolding pieces_of
+  next_laid_so more next text target read named none appended after =
+      let word = get_or words k d in
+      let same = target_read text target read named in
+      let bytes = encoded word.form (text_of source word.word) word.address (unwrap_or (target_of source labels (take k words) word) 0) in
+      let all : more ≡ filled rom word.address bytes =
+          appended
+          ∙ ap (λ t. filled rom word.address (encoded word.form t word.address (unwrap_or target 0))) read
+          ∙ ap (λ o. filled rom word.address (encoded word.form (text_of source word.word) word.address (unwrap_or o 0))) same in
+      let long : length bytes ≡ word.size = length-encoded word.form (text_of source word.word) word.address (unwrap_or (target_of source labels (take k words) word) 0) ∙ sym (sized (text_of source word.word) refl) in
+      let pieces : pieces_of source labels (take (k + 1) words) ≡ pieces_of source labels (take k words) ++ record { place = word.address; bytes = bytes } ∷ [] =
+          ap (pieces_of source labels) (take_more words k d within) ∙ each-more (piece_given source labels) (λ b w a c. refl) [] (take k words) word in
+      let behind : 0 < length bytes → 256 + length rom ≤ word.address = λ some. word-above (omega (arith, long)) in
+      let P : List Piece → Type 0 = λ ps. IsLaid ps more in
+      let Q : List ℕ → Type 0 = λ r. IsLaid (pieces_of source labels (take k words) ++ record { place = word.address; bytes = bytes } ∷ []) r in
+      record {
+        sound = fault-later (judged_reference source labels) words k d within
+            (ap (λ t. least (reference_kinds word.form word.address t)) (sym same) ∙ none) ∙ so.sound;
+        scoped = after
+            ∙ ap (λ t. scope_next word.form scope t) read
+            ∙ ap (λ s. scope_next word.form s (text_of source word.word)) so.scoped
+            ∙ sym (scope_more source expanded words k d are within);
+        laid = subst P (sym pieces) (subst Q (sym all) (next_laid (pieces_of source labels (take k words)) rom word.address bytes so.laid behind (λ some. omega (arith, long, word-within (omega (arith, long))))));
+        top = λ place from above.
+            let parts = ends_more source expanded k word place at above in
+            let low = so.top place from parts.0 in
+            let end = top_filled rom word.address bytes place behind low (λ some. omega (arith, long, parts.1 (omega (arith, long)))) in
+            omega (arith, end, ap length all)
+      }
+
+pub all_laid : (source : List ℕ) (expanded : List Expanded) (labels : List Label) (words : List PlacedWord) (k : ℕ) (rom scope : List ℕ) → length words ≤ k
+    → IsLaidSo source expanded labels words k rom scope → (reference_fault source labels words ≡ None) × AreBytesOf (pieces_of source labels words) rom
+all_laid source expanded labels words k rom scope past so =
+    let P : List PlacedWord → Type 0 = λ ws. IsLaid (pieces_of source labels ws) rom in
+    let laid : IsLaid (pieces_of source labels words) rom = subst P (take_all k words past) so.laid in
+    (sym so.sound ∙ ap first_fault (each-end (judged_reference source labels) words k past),
+     record { each = laid.each; within = laid.within })
 
 -- the bytes of all words, without the zeros at their end, are the ROM
-pub rom_of-held : (source rom : List ℕ) → HoldsFirst source (length (word_starts source)) rom → trimmed rom ≡ rom_of source
-unfolding rom_of rom_image
-rom_of-held source rom held = trimmed-image (λ i. byte_at (place_of source) (λ k. word_bytes (word_text source k)) (length (word_starts source)) (256 + i)) 65280 rom held.within held.each
+pub rom_of-held : (pieces : List Piece) (rom : List ℕ) → AreBytesOf pieces rom → trimmed rom ≡ rom_image pieces
+unfolding rom_image
+rom_of-held pieces rom held = trimmed-image (λ i. byte_at pieces (256 + i)) 65280 rom held.within held.each
+
+-- the place of the word past the end
+abbrev pub no_placed_word : PlacedWord
+no_placed_word = record { word = no_word; form = Pad 0; address = 0; size = 0; lambda = None }
+
+-- the words of the layout of a source are placed
+pub layout_placed : (source : List ℕ) (placed : Layout) → placed ≡ layout source → place_fault source (expanded_of source) ≡ None → (words : List PlacedWord) → words ≡ placed.words
+    → ArePlaced source (expanded_of source) words
+unfolding layout
+layout_placed source placed laid sound words are =
+    are_placed source (expanded_of source) words (are ∙ ap (λ l. l.words) laid) sound
+
+pub start_scope : (source : List ℕ) → first_scope ≡ scope_after source []
+unfolding scope_after
+start_scope source = refl

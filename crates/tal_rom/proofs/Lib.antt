@@ -1,6 +1,7 @@
-pub mod LeastLemmas
+pub mod FaultLemmas
+pub mod ExpansionLemmas
 pub mod Trimming
 pub mod Covering
-pub mod WordLists
+pub mod PlacedWords
 pub mod Laying
-pub mod CallerLemmas
+pub mod AssemblyLemmas

@@ -1,20 +1,19 @@
 use Rattle.std.specs.Prelude.{ℕ, ◌+◌, ◌≡◌, ◌≤◌, List, length, slice_index, None, Some, Result, Ok, Err}
 use Rattle.std.specs.Global.{Vec}
-use Rattle.tal_rom.specs.declared.assembly.Halt.{Halt}
-use Rattle.tal_rom.specs.declared.assembly.Halt.TheVariants.{Faulty, NoMemory}
-use Rattle.tal_rom.specs.Words.{word_starts}
-use Rattle.tal_rom.specs.Assembly.{place_of, word_text, is_faulty}
-use Rattle.tal_rom.specs.Forms.{word_bytes}
-use Rattle.tal_rom.specs.Least.{least}
-use Rattle.tal_rom.specs.Rom.{byte_at}
+use Rattle.tal_words.specs.declared.fault.AsmStop.{AsmStop}
+use Rattle.tal_words.specs.declared.fault.AsmStop.TheVariants.{Refused, NoMemory}
+use Rattle.tal_words.specs.declared.name.Label.{Label}
+use Rattle.tal_labels.specs.declared.placed.PlacedWord.{PlacedWord}
+use Rattle.tal_rom.specs.References.{reference_fault}
+use Rattle.tal_rom.specs.Rom.{Piece, byte_at, pieces_of}
 
--- the first words lie in these bytes, each where its place says, and none of them is faulty
-pub record HoldsFirst (source : List ℕ) (count : ℕ) (bytes : List ℕ) : Type 0 where
-  pub sound : least (is_faulty source) count ≡ None
-  pub each : (i : ℕ) → slice_index bytes i ≡ byte_at (place_of source) (λ k. word_bytes (word_text source k)) count (256 + i)
+-- these bytes, from the address 0100 on, are those at their addresses, and none stands behind them
+pub record AreBytesOf (pieces : List Piece) (bytes : List ℕ) : Type 0 where
+  pub each : (i : ℕ) → slice_index bytes i ≡ byte_at pieces (256 + i)
   pub within : length bytes ≤ 65280
 
-abbrev pub IsLaidOut : List ℕ → Result (Vec ℕ) Halt → Type 0
-IsLaidOut source (Ok rom) = HoldsFirst source (length (word_starts source)) rom.items
-IsLaidOut source (Err (Faulty k)) = least (is_faulty source) (length (word_starts source)) ≡ Some k
-IsLaidOut source (Err NoMemory) = Unit {0}
+-- the answer is the bytes of the words, where their references have no fault
+abbrev pub LaysOut : List ℕ → List Label → List PlacedWord → Result (Vec ℕ) AsmStop → Type 0
+LaysOut source labels words (Ok rom) = (reference_fault source labels words ≡ None) × AreBytesOf (pieces_of source labels words) rom.items
+LaysOut source labels words (Err (Refused fault)) = reference_fault source labels words ≡ Some fault
+LaysOut source labels words (Err NoMemory) = Unit {0}

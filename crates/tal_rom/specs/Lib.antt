@@ -1,8 +1,6 @@
-pub mod Words
-pub mod Forms
-pub mod Least
+pub mod References
 pub mod Rom
-pub mod Faults
 pub mod Program
 pub mod Assembly
+pub mod Answers
 pub mod Layout

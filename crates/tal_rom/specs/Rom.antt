@@ -1,18 +1,29 @@
-use Rattle.std.specs.Prelude.{ℕ, ◌+◌, ◌-◌, ◌==◌, Bool, nat_lt, nat_le, List, [], ◌∷◌, length, map, slice_index, Option, None, Some, ◌&&◌, if◌then◌else◌}
+-- The bytes in memory (Uxntal syntax reference; profile: the ROM ends at its last byte that is not 0).
+use Rattle.std.specs.Prelude.{ℕ, ◌+◌, ◌-◌, ◌==◌, Bool, ◌&&◌, nat_lt, nat_le, if◌then◌else◌, List, [], ◌∷◌, length, map, find, slice_index, Option, Some, None, unwrap_or}
 use Rattle.std.specs.List.{range_with_len}
-use Rattle.tal_rom.specs.Least.{least}
+use Rattle.tal_words.specs.declared.name.Label.{Label}
+use Rattle.tal_words.specs.Forms.{encoded}
+use Rattle.tal_labels.specs.declared.placed.PlacedWord.{PlacedWord}
+use Rattle.tal_labels.specs.Order.{each}
+use Rattle.tal_labels.specs.Places.{text_of}
+use Rattle.tal_rom.specs.References.{target_of}
 
--- word k covers the addresses from its place up to its place plus its size
-abbrev pub covers : (ℕ → ℕ) → (ℕ → List ℕ) → ℕ → ℕ → Bool
-covers place bytes address k = nat_le (place k) address && nat_lt address (place k + length (bytes k))
+-- the bytes of a word, and the address of the first of them
+pub record Piece : Type 0 where
+  pub place : ℕ
+  pub bytes : List ℕ
 
--- the byte of the covering word at an address, and 0 where no word covers it
-abbrev pub byte_of_word : (ℕ → ℕ) → (ℕ → List ℕ) → ℕ → Option ℕ → ℕ
-byte_of_word place bytes address (Some k) = slice_index (bytes k) (address - place k)
-byte_of_word place bytes address None = 0
+-- a word covers the addresses from its place up to its place plus the number of its bytes
+abbrev pub covers : ℕ → Piece → Bool
+covers address piece = nat_le piece.place address && nat_lt address (piece.place + length piece.bytes)
 
-unfoldable pub byte_at : (ℕ → ℕ) → (ℕ → List ℕ) → ℕ → ℕ → ℕ
-byte_at place bytes count address = byte_of_word place bytes address (least (covers place bytes address) count)
+-- the byte at an address is that of the word that covers it, and 0 where none does
+abbrev pub byte_of_piece : ℕ → Option Piece → ℕ
+byte_of_piece address (Some piece) = slice_index piece.bytes (address - piece.place)
+byte_of_piece address None = 0
+
+unfoldable pub byte_at : List Piece → ℕ → ℕ
+byte_at pieces address = byte_of_piece address (find (covers address) pieces)
 
 -- a byte before bytes of which the zeros at the end are gone
 abbrev pub before_trimmed : ℕ → List ℕ → List ℕ
@@ -24,6 +35,18 @@ unfoldable pub trimmed : List ℕ → List ℕ
 trimmed [] = []
 trimmed (byte ∷ rest) = before_trimmed byte (trimmed rest)
 
--- the ROM of words, by their places and bytes: the addresses from 0100 to ffff, up to the last byte that is not 0
-unfoldable pub rom_image : (ℕ → ℕ) → (ℕ → List ℕ) → ℕ → List ℕ
-rom_image place bytes count = trimmed (map (λ i. byte_at place bytes count (256 + i)) (range_with_len 0 65280))
+-- the ROM: the bytes at the addresses 0100 to ffff, up to the last one that is not 0
+unfoldable pub rom_image : List Piece → List ℕ
+rom_image pieces = trimmed (map (λ i. byte_at pieces (256 + i)) (range_with_len 0 65280))
+
+module _ (source : List ℕ) (labels : List Label) where
+  -- a word with its bytes, by the words before it
+  abbrev pub piece_given : List PlacedWord → PlacedWord → List PlacedWord → Piece
+  piece_given before placed after = record {
+    place = placed.address;
+    bytes = encoded placed.form (text_of source placed.word) placed.address (unwrap_or (target_of source labels before placed) 0);
+  }
+
+  -- the words with their bytes
+  unfoldable pub pieces_of : List PlacedWord → List Piece
+  pieces_of words = each piece_given [] words

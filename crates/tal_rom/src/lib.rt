@@ -2,12 +2,12 @@
 #![tactic(auto)]
 
 mod assembly;
-mod faults;
-mod forms;
+mod encoding;
+mod references;
 mod rom;
 #[cfg(test)]
 mod tests;
-mod words;
 
-pub use assembly::{Assembly, SOURCE_LIMIT, assemble};
-pub use faults::{AsmStop, Fault, FaultKind, fault_word};
+pub use assembly::{Assembly, assemble};
+pub use tal_labels::PlacedWord;
+pub use tal_words::{AsmStop, Fault, FaultKind, Label, fault_word};

@@ -4,8 +4,8 @@ use Rattle.uxn_io.specs.declared.paths.PathFault.{PathFault}
 use Rattle.uxn_io.specs.Told.{extended}
 use Rattle.uxn_io.specs.Files.{Nodes, file_at}
 use Rattle.uxn_io.specs.PathText.{path_of}
-use Rattle.tal_rom.specs.declared.faults.Fault.{Fault}
-use Rattle.tal_rom.specs.Faults.{kind_name, fault_text}
+use Rattle.tal_words.specs.declared.fault.Fault.{Fault}
+use Rattle.tal_words.specs.Faults.{kind_name, fault_text}
 use Rattle.tal_rom.specs.Assembly.{first_fault, rom_of}
 use Rattle.uxn_cli.specs.Words.{Asked, ToPlay, settings}
 use Rattle.uxn_cli.specs.Lines.{not_understood, no_path, missing, position, refused}

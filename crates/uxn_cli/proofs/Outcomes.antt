@@ -14,9 +14,9 @@ use Rattle.uxn_io.specs.WholeFile.{whole_file, KeepsLimit}
 use Rattle.uxn_io.specs.PathText.{path_of}
 use Rattle.uxn_opcodes.specs.declared.Stop.{Stop}
 use Rattle.uxn_opcodes.specs.declared.Stop.TheVariants.{SinkFault}
-use Rattle.tal_rom.specs.declared.faults.Fault.{Fault}
-use Rattle.tal_rom.specs.Faults.{fault_text}
+use Rattle.tal_words.specs.declared.fault.Fault.{Fault}
 use Rattle.tal_rom.specs.Assembly.{first_fault, long_source}
+use Rattle.tal_rom.proofs.AssemblyLemmas.{long_source_refused}
 use Rattle.uxn_cli.specs.Words.{Asked, ToPlay, settings}
 use Rattle.uxn_cli.specs.Lines.{not_understood, no_path, refused}
 use Rattle.uxn_cli.specs.Outcome.{Outcome, refusal, outcome, of_source, of_input, of_path, of_command, view_of, input_of, input_at}
@@ -76,13 +76,9 @@ input_long : (tree : Option Nodes) (path : List ℕ) (n : ℕ) → IfSome tree (
 input_long None path n h = let some = long_list 4194304 in record { source = some.0; seen = tt; long = some.1 }
 input_long (Some nodes) path n h = let held = long_in (file_at nodes path) n 4194304 h in record { source = held.0; seen = held.1.0; long = held.1.1 }
 
--- its first fault is its length, whose line has no word
-long_fault : (source : List ℕ) → 4194304 < length source → first_fault source ≡ Some long_source
-unfolding first_fault
-long_fault source h = let e : nat_lt 4194304 (length source) ≡ true = grind (arith, nat_tests) in rw e refl
-
+-- the line of a source that is too long has no word
 long_line : (source other : List ℕ) → refused source long_source ≡ refused other long_source
-unfolding refused fault_text
+unfolding refused
 long_line source other = refl
 
 pub plays_long : (tree : Option Nodes) (path : List ℕ) (n : ℕ) (out err new_err : Option (List ℕ)) (answer : FileBytes) (result : Result ℕ Stop)
@@ -93,7 +89,7 @@ plays_long tree path n out err new_err answer result is found h =
     let P : FileBytes → Type 0 = λ a. IfSome tree (λ nodes. a ≡ whole_file (file_at nodes path) 4194304) in
     let long = input_long tree path n (subst P is found) in
     let line = long_line [] long.source in
-    let fault = long_fault long.source long.long in
+    let fault = long_source_refused long.source long.long in
     IfOk-weaker result _ _ (λ status has. record { view = Some long.source; seen = long.seen; plays = rw fault (rw line at has) }) h
 
 named_outcome : (words : List (List ℕ)) (word path : List ℕ) (view : Option (List ℕ)) → Some (ToPlay word) ≡ settings words → Ok path ≡ path_of word → outcome words view ≡ of_input path view

@@ -1,7 +1,7 @@
 -- The lines on the error output.
 use Rattle.std.specs.Prelude.{ℕ, List, [], ◌∷◌, ◌++◌, codes, decimal}
-use Rattle.tal_rom.specs.declared.faults.Fault.{Fault}
-use Rattle.tal_rom.specs.Faults.{kind_name, fault_text}
+use Rattle.tal_words.specs.declared.fault.Fault.{Fault}
+use Rattle.tal_words.specs.Faults.{kind_name, fault_text}
 
 -- a text and a newline
 abbrev pub line : List ℕ → List ℕ

@@ -1,6 +1,6 @@
 -- What the words and the view of the tree determine: the status and the bytes on both outputs.
 use Rattle.std.specs.Prelude.{ℕ, List, [], Option, Some, None, Result, Ok, Err}
-use Rattle.tal_rom.specs.declared.faults.Fault.{Fault}
+use Rattle.tal_words.specs.declared.fault.Fault.{Fault}
 use Rattle.tal_rom.specs.Assembly.{first_fault, rom_of}
 use Rattle.uxn_io.specs.declared.paths.PathFault.{PathFault}
 use Rattle.uxn_io.specs.PathText.{path_of}

@@ -4,7 +4,7 @@ ghost use Rattle.uxn_io.specs.Cause.{HasCause};
 ghost use Rattle.uxn_io.specs.Told.{extended};
 ghost use Rattle.uxn_cli.specs.Lines.{not_understood, no_path, missing, position, refused};
 
-use tal_rom::{Fault, fault_word};
+use tal_words::{Fault, fault_word};
 use uxn_io::{Failed, Sink, decimal, put_all};
 
 /// Says that the words are not legal.

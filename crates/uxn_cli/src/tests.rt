@@ -68,7 +68,7 @@ fn refuses_with_one_line(rt: HostRuntime) -> Result<(), Fail> {
         (
             ["play", "a.tal"].as_slice(),
             131,
-            b"source 1:5: NotBuilt: ,x\n".as_slice(),
+            b"source 1:5: UnknownName: ,x\n".as_slice(),
         ),
         (
             ["play"].as_slice(),

@@ -13,7 +13,8 @@ use super::lines::{put_missing, put_no_path, put_not_understood, put_refused};
 use super::vector::run_vector;
 use super::words::read_words;
 use std::alloc::Global;
-use tal_rom::{AsmStop, Fault, FaultKind, assemble};
+use tal_rom::assemble;
+use tal_words::{AsmStop, Fault, FaultKind};
 use uxn_io::{Failed, FileBytes, Path, ReadStop, Sink, Tree, read_file};
 use uxn_opcodes::{Core, Stop};
 

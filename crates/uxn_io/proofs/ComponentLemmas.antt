@@ -1,19 +1,19 @@
 -- The components of two texts with a slash between, and which such texts are paths.
-use Rattle.std.proofs.Common.{◌≡◌, ℕ, ◌+◌, ◌-◌, ◌<◌, ◌≤◌, ◌↔◌, Bool, true, false, cond, ◌&&◌, ◌||◌, eqb, List, [], ◌∷◌, ◌++◌, take, drop, length, get_or, Option, Some, None, Result, Ok, refl, ap, sym, subst, ◌∙◌, inl, inr, arith, Decides, All}
+use Rattle.std.proofs.Common.{◌≡◌, ℕ, ◌+◌, ◌<◌, ◌≤◌, ◌↔◌, Bool, true, false, cond, ◌&&◌, ◌||◌, eqb, List, [], ◌∷◌, ◌++◌, take, drop, length, get_or, Some, None, Result, Ok, refl, ap, sym, ◌∙◌, inl, inr, arith, Decides, All}
 use Rattle.std.specs.Result.{result_ok}
 use Rattle.std.specs.List.{onto_first, list_all, starts_with, join_with_byte}
-use Rattle.std.specs.Str.{is_utf8, IsUtf8, bytes_eq}
-use Rattle.std.specs.Prelude.{if◌then◌else◌, nat_lt, nat_eq}
+use Rattle.std.specs.Str.{is_utf8, IsUtf8}
+use Rattle.std.specs.Prelude.{if◌then◌else◌, nat_eq}
 use Rattle.std.proofs.lemmas.Bool.{lt-ltb, le-ltb, ltb-false}
 use Rattle.std.proofs.lemmas.Bool.Decides.{eqb_tells, Decides-ltb, Decides-and, Decides-like, Decides-eqb, same_from_decides}
-use Rattle.std.proofs.lemmas.List.{length-append, length-take-le, length-drop, length_push, take-append-drop, take_at, drop_more, get_or-drop, get_or_at, append_assoc}
+use Rattle.std.proofs.lemmas.List.{length-append, length-take-le, length-drop, length_push, take-append-drop, take_at, drop_more, get_or-drop, append_assoc}
 use Rattle.std.proofs.lemmas.List.Elements.{All-from_get_or}
 use Rattle.std.proofs.lemmas.List.Folds.{list_all-append}
 use Rattle.std.proofs.lemmas.List.Splits.{length-slice_split, slice_split_none, join_with_byte-slice_split}
 use Rattle.std.proofs.lemmas.Slice.Eq.{slice_eq-Decides, bytes_eq-Decides}
 use Rattle.std.proofs.lemmas.Str.{encode_ascii, IsUtf8-append, IsUtf8-from_is_utf8, is_utf8-from_IsUtf8, IsUtf8-take, IsCharBoundary-before_ascii}
 use Rattle.uxn_io.specs.declared.paths.PathFault.{PathFault}
-use Rattle.uxn_io.specs.PathText.{path_of, components, is_component, is_too_long, joined, all_but_last, parent_from, parent_of, is_under, HasNoSlashFrom, IsLastSlash, ContinuesAfter}
+use Rattle.uxn_io.specs.PathText.{path_of, components, is_component, is_too_long, joined, parent_from, parent_of, is_under, HasNoSlashFrom, IsLastSlash, ContinuesAfter}
 use Rattle.uxn_io.proofs.PathLemmas.{answer_of, path_of-tests}
 
 and_left : (a b : Bool) → (a && b) ≡ true → a ≡ true
@@ -215,10 +215,3 @@ continues_from text other b longer slash is =
       ),
       λ h. D.1 (sym (ap (take (length other)) h.1 ∙ take_at other (47 ∷ h.0) _ refl)),
     )
-
--- and those by which it is not
-pub continues_not : (text other : List ℕ) → ((length other < length text) → get_or text (length other) 0 ≡ 47 → ⊥) → (false ≡ true) ↔ ContinuesAfter text other
-continues_not text other unlike = (
-  λ e. cc,
-  λ h. absurd (unlike (omega (arith, ap length h.1, length-append other (47 ∷ h.0))) (ap (λ (z : List ℕ). get_or z (length other) 0) h.1 ∙ get_or_at other 47 h.0 0 _ refl)),
-)

@@ -1,5 +1,5 @@
 -- What `path_of` answers, test by test, and how a path is kept.
-use Rattle.std.proofs.Common.{◌≡◌, ℕ, ◌+◌, ◌-◌, ◌≤◌, Bool, true, false, cond, not, ◌||◌, ◌&&◌, List, ◌++◌, take, drop, length, replicate, Option, Result, Ok, Err, is_ok, refl, ap, sym, ◌∙◌, arith, eqb}
+use Rattle.std.proofs.Common.{◌≡◌, ℕ, ◌-◌, ◌≤◌, Bool, true, false, cond, not, ◌||◌, ◌&&◌, List, ◌++◌, take, drop, length, replicate, Result, Ok, Err, is_ok, refl, ap, sym, ◌∙◌, arith, eqb}
 use Rattle.std.specs.List.{list_all}
 use Rattle.std.specs.Str.{is_utf8}
 use Rattle.std.proofs.lemmas.Bool.{ltb-false}
@@ -27,6 +27,17 @@ answer_is_text text false true false e = refl
 pub path_of_text : (text : List ℕ) → is_ok (path_of text) ≡ true → path_of text ≡ Ok text
 unfolding path_of
 path_of_text text e = answer_is_text text _ _ _ e
+
+same_text : (text path : List ℕ) (empty good long : Bool) → answer_of text empty good long ≡ Ok path → path ≡ text
+same_text text path true good long e = cc
+same_text text path false false long e = cc
+same_text text path false true true e = cc
+same_text text path false true false e = cc
+
+-- a path that is read is its text
+pub path_of_same : (text path : List ℕ) → path_of text ≡ Ok path → path ≡ text
+unfolding path_of
+path_of_same text path e = same_text text path _ _ _ e
 
 -- a text and zeros behind it keep the text
 pub kept : (text bytes : List ℕ) → length text ≤ 255 → bytes ≡ text ++ replicate (255 - length text) 0 → path_of text ≡ Ok text → IsPathBytes bytes (length text)

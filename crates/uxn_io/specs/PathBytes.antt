@@ -1,6 +1,5 @@
 -- How a path is held: its text at the front of 255 bytes, and zeros behind it.
 use Rattle.std.specs.Prelude.{◌≡◌, ℕ, ◌-◌, ◌≤◌, List, ◌++◌, take, drop, length, replicate, IsTrue, is_ok}
-use Rattle.std.proofs.Common.{arith}
 use Rattle.std.proofs.lemmas.List.{length-take-le, take-append-drop}
 use Rattle.uxn_io.specs.PathText.{path_of}
 

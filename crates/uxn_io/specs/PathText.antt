@@ -1,5 +1,5 @@
 -- Paths: which texts are paths (profile).
-use Rattle.std.specs.Prelude.{◌≡◌, ◌≢◌, ℕ, ◌+◌, ◌-◌, ◌<◌, ◌≤◌, [], ◌∷◌, ◌++◌, take, slice_index, Option, Some, None, Bool, not, ◌&&◌, ◌||◌, ◌==◌, nat_lt, List, length, codes, Result, Ok, Err, if◌then◌else◌}
+use Rattle.std.specs.Prelude.{◌≡◌, ◌≢◌, ℕ, ◌+◌, ◌-◌, ◌<◌, ◌≤◌, ◌∷◌, ◌++◌, take, slice_index, Option, Some, None, Bool, not, ◌&&◌, ◌||◌, ◌==◌, nat_lt, List, length, codes, Result, Ok, Err, if◌then◌else◌}
 use Rattle.std.specs.List.{slice_split, list_any, list_all, starts_with, join_with_byte}
 use Rattle.std.specs.Str.{is_utf8, bytes_eq}
 use Rattle.uxn_io.specs.declared.paths.PathFault.{PathFault}

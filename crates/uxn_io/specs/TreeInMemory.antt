@@ -1,8 +1,7 @@
 -- A tree in memory, call by call.
-use Rattle.std.specs.Prelude.{◌≡◌, ℕ, ◌==◌, ◌&&◌, Bool, true, false, nat_le, min, List, [], ◌++◌, length, take, drop, map as list_map, count_by, Option, Some, None, Result, Ok, Err, refl, if◌then◌else◌}
+use Rattle.std.specs.Prelude.{◌≡◌, ℕ, ◌==◌, ◌&&◌, Bool, true, false, nat_le, min, List, ◌++◌, length, take, drop, map as list_map, count_by, Option, Some, None, Result, Ok, Err, refl, if◌then◌else◌}
 use Rattle.std.specs.List.{list_any, list_all}
 use Rattle.std.specs.Str.{bytes_eq}
-use Rattle.std.specs.Ordering.{nat_cmp}
 use Rattle.std.specs.FinMap as map
 use Rattle.std.specs.Coded.{Coded, code_by, coded×, coded_ℕ, coded_list, coded_option, coded_bool}
 use Rattle.uxn_io.specs.declared.sinks.Failed.{Failed}

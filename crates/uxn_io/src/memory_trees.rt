@@ -16,14 +16,18 @@ use std::marker::Model;
 /// The calls of a tree.
 #[derive(Clone, Copy, Debug, PartialEq, Eq)]
 pub enum TreeCall {
+    /// `Tree::kind`.
     Kind,
+    /// `Tree::read`.
     Read,
 }
 
 /// A file with its bytes, or a folder, whose bytes are empty.
 #[derive(Debug, Drop)]
 pub struct Node {
+    /// Whether it is a folder.
     pub folder: bool,
+    /// The bytes of a file.
     pub bytes: Bytes,
 }
 

@@ -2,6 +2,10 @@
 #![tactic(auto)]
 
 ghost use Rattle.std.specs.Prelude.{
+  ℕ,
+  ◌-◌,
+  nat_lt,
+  if◌then◌else◌,
   ◌≡◌,
   ◌+◌,
   ◌*◌,
@@ -156,8 +160,11 @@ impl Memory {
     /// Sets `length` bytes from an address on to a value. Addresses wrap.
     #[tactic(auto, using(crate::proofs::Runs::runs))]
     pub fn fill(&mut self, length: u16, at: u16, value: u8)
-        ensures { self.new ≡ filled self.old length at value }
+        ensures run { self.new ≡ filled self.old length at value }
+        ensures each { (k : ℕ) → k < 65536 → slice_index self.new k
+            ≡ (if nat_lt ((k + 65536 - at) % 65536) length then value else slice_index self.old k) }
     {
+        self.known();
         for i in 0..length {
             self.set(at.wrapping_add(i), value);
         }

@@ -1,7 +1,7 @@
 -- A deterministic model of ports, the instruction over it as a function, and the law that carries an instruction
 -- over any ports which stand for the model to this function.
-use Rattle.std.specs.Prelude.{◌≡◌, ◌≢◌, ℕ, ◌+◌, ◌*◌, ◌/◌, ◌%◌, ◌==◌, ◌⊎◌, Bool, true, false, if◌then◌else◌, List, [], ◌∷◌, ◌++◌, Result, Ok, Err, refl}
-use Rattle.std.proofs.Common.{sym, ◌∙◌, ap, inl, inr, arith}
+use Rattle.std.specs.Prelude.{◌≡◌, ℕ, ◌+◌, ◌*◌, ◌/◌, ◌%◌, ◌==◌, true, false, if◌then◌else◌, List, [], ◌∷◌, ◌++◌, Ok, Err, refl}
+use Rattle.std.proofs.Common.{◌∙◌, ap, inl, inr, arith}
 use Rattle.std.proofs.lemmas.Bool.Decides.{nat_tests}
 use Rattle.uxn_opcodes.specs.declared.Core.{Core}
 use Rattle.uxn_opcodes.specs.declared.Stop.{Stop}
@@ -9,7 +9,6 @@ use Rattle.uxn_opcodes.specs.declared.Turn.{Turn}
 use Rattle.uxn_opcodes.specs.declared.Turn.TheVariants.{Ran, Broke}
 use Rattle.uxn_opcodes.specs.declared.operation.Width.{Width}
 use Rattle.uxn_opcodes.specs.declared.operation.Width.TheVariants.{Byte, Short}
-use Rattle.uxn_opcodes.specs.declared.operation.Mode.{Mode}
 use Rattle.uxn_opcodes.specs.declared.rows.Access.{Access}
 use Rattle.uxn_opcodes.specs.declared.rows.Access.TheVariants.{Nothing, Read, Write}
 use Rattle.uxn_opcodes.specs.Rule.{opcode_at, past_opcode, begun}
@@ -121,6 +120,20 @@ carried-broke stands reads wrote stopped model core ports q core_new ports_new s
     let e : (opcode_at core == 0) ≡ true = grind (arith, nat_tests) in
     rw e (record { same_core = broke.1; same_ports = rw broke.2 s })
 
+-- a stop after a write that was done
+StopsAt-later : {S Q : Type 0} (stands : S → Q → Type 0) (stopped : S → Core → ℕ → ℕ → Stop → S → Core → Type 0) (model : PortModel Q) (write : ℕ × ℕ) (writes : List (ℕ × ℕ)) (machine : Machine Q) (stop : Stop) (core_new : Core) (ports_new : S)
+    → StopsAt stands stopped model writes (model.write machine.ports machine.core write.0 write.1) stop core_new ports_new → StopsAt stands stopped model (write ∷ writes) machine stop core_new ports_new
+StopsAt-later stands stopped model write writes machine stop core_new ports_new rest = record {
+  before = write ∷ rest.before;
+  port = rest.port;
+  byte = rest.byte;
+  after = rest.after;
+  in_order = ap (λ ws. write ∷ ws) rest.in_order;
+  ports = rest.ports;
+  same_ports = rest.same_ports;
+  stops = rest.stops;
+}
+
 carried-stop : {S Q : Type 0} (stands : S → Q → Type 0) (reads : S → Core → ℕ → ℕ → Type 0) (wrote : S → Core → ℕ → ℕ → S → Core → Type 0) (stopped : S → Core → ℕ → ℕ → Stop → S → Core → Type 0) (model : PortModel Q) → Carries stands reads wrote model
     → (writes : List (ℕ × ℕ)) (core : Core) (ports : S) (machine : Machine Q) (stop : Stop) (core_new : Core) (ports_new : S) → StandsAt stands core ports machine → WriteStops wrote stopped writes ports core stop ports_new core_new
     → StopsAt stands stopped model writes machine stop core_new ports_new
@@ -131,8 +144,8 @@ carried-stop {S} {Q} stands reads wrote stopped model carries (write ∷ writes)
       | inr later ↦
           let next = carries.writing ports machine.ports core write.0 write.1 later.0 later.1.0 s.same_ports later.1.1.0 in
           let here = (rw s.same_core at next) in
-          let rest = carried-stop stands reads wrote stopped model carries writes later.1.0 later.0 (model.write machine.ports machine.core write.0 write.1) stop core_new ports_new here later.1.1.1 in
-          record { before = write ∷ rest.before; port = rest.port; byte = rest.byte; after = rest.after; in_order = ap (λ ws. write ∷ ws) rest.in_order; ports = rest.ports; same_ports = rest.same_ports; stops = rest.stops }
+          StopsAt-later stands stopped model write writes machine stop core_new ports_new
+          (carried-stop stands reads wrote stopped model carries writes later.1.0 later.0 (model.write machine.ports machine.core write.0 write.1) stop core_new ports_new here later.1.1.1)
     ]
 
 carried-stop_access : {S Q : Type 0} (stands : S → Q → Type 0) (reads : S → Core → ℕ → ℕ → Type 0) (wrote : S → Core → ℕ → ℕ → S → Core → Type 0) (stopped : S → Core → ℕ → ℕ → Stop → S → Core → Type 0) (model : PortModel Q) → Carries stands reads wrote model
@@ -151,3 +164,19 @@ pub carried-stopped : {S Q : Type 0} (stands : S → Q → Type 0) (reads : S �
 unfolding Instruction
 carried-stopped stands reads wrote stopped model carries core ports q stop core_new ports_new s w =
     carried-stop_access stands reads wrote stopped model carries (begun core).access (begun core).core ports q stop core_new ports_new s w.1
+
+-- the law as a loop uses it: where a machine stood for one of the model, it stands after an instruction for the model's next one
+pub carried : {S Q : Type 0} (stands : S → Q → Type 0) (reads : S → Core → ℕ → ℕ → Type 0) (wrote : S → Core → ℕ → ℕ → S → Core → Type 0) (stopped : S → Core → ℕ → ℕ → Stop → S → Core → Type 0) (model : PortModel Q) → Carries stands reads wrote model
+    → (core : Core) (ports : S) (machine : Machine Q) (turn : Turn) (core_new : Core) (ports_new : S) → StandsAt stands core ports machine → Instruction reads wrote stopped core ports (Ok turn) core_new ports_new
+    → StandsAt stands core_new ports_new (after_instruction model machine.core machine.ports)
+carried stands reads wrote stopped model carries core ports machine Ran core_new ports_new s i =
+    rw (← s.same_core) (carried-ran stands reads wrote stopped model carries core ports machine.ports core_new ports_new s.same_ports i)
+carried stands reads wrote stopped model carries core ports machine Broke core_new ports_new s i =
+    rw (← s.same_core) (carried-broke stands reads wrote stopped model core ports machine.ports core_new ports_new s.same_ports i)
+
+-- the same for a stop
+pub carried-to_stop : {S Q : Type 0} (stands : S → Q → Type 0) (reads : S → Core → ℕ → ℕ → Type 0) (wrote : S → Core → ℕ → ℕ → S → Core → Type 0) (stopped : S → Core → ℕ → ℕ → Stop → S → Core → Type 0) (model : PortModel Q) → Carries stands reads wrote model
+    → (core : Core) (ports : S) (machine : Machine Q) (stop : Stop) (core_new : Core) (ports_new : S) → StandsAt stands core ports machine → Instruction reads wrote stopped core ports (Err stop) core_new ports_new
+    → StopsAt stands stopped model (writes_in (begun machine.core).access) (record { core = (begun machine.core).core; ports = machine.ports }) stop core_new ports_new
+carried-to_stop stands reads wrote stopped model carries core ports machine stop core_new ports_new s i =
+    rw (← s.same_core) (carried-stopped stands reads wrote stopped model carries core ports machine.ports stop core_new ports_new s.same_ports i)

@@ -1,10 +1,9 @@
 -- One rule for short, return and keep mode in four moments, and the instructions with an immediate (Uxntal opcode reference).
-use Rattle.std.specs.Prelude.{◌≡◌, ◌<◌, length, EachIndex, ℕ, ◌+◌, ◌-◌, ◌*◌, ◌/◌, ◌%◌, ◌==◌, Bool, true, false, not, if◌then◌else◌, List, [], ◌∷◌, ◌++◌, Option, Some, None, slice_index}
+use Rattle.std.specs.Prelude.{◌≡◌, ◌<◌, length, EachIndex, ℕ, ◌+◌, ◌%◌, ◌==◌, Bool, true, false, if◌then◌else◌, List, [], Option, Some, None, slice_index}
 use Rattle.uxn_memory.specs.Bytes.{zeros, short_at, with_bytes}
 use Rattle.uxn_stacks.specs.Cells.{Cells, new_ring, byte_below, lowered}
 use Rattle.uxn_opcodes.specs.declared.Core.{Core}
-use Rattle.uxn_opcodes.specs.declared.operation.Width.{Width}
-use Rattle.uxn_opcodes.specs.declared.operation.Width.TheVariants.{Byte, Short}
+use Rattle.uxn_opcodes.specs.declared.operation.Width.TheVariants.{Short}
 use Rattle.uxn_opcodes.specs.declared.operation.Mode.{Mode}
 use Rattle.uxn_opcodes.specs.declared.operation.Op.{Op}
 use Rattle.uxn_opcodes.specs.declared.operation.Op.TheVariants.{Arithmetic, Compare, Stack, Sth, Jump, Load, Store, Dei, Deo}

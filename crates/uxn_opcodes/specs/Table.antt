@@ -1,7 +1,7 @@
 -- The instruction table (Uxntal opcode reference), a line for each operation: the widths that it takes, the
 -- deepest operand first, and what it makes of these operands. `w` is the width that the mode chooses. A result
 -- is cut to the width that it is pushed at.
-use Rattle.std.specs.Prelude.{ℕ, ◌+◌, ◌-◌, ◌*◌, ◌/◌, ◌%◌, ◌^◌, ◌==◌, Bool, true, false, not, nat_lt, if◌then◌else◌, List, [], ◌∷◌, Option, Some, None, slice_index_or, bit_and, bit_or, bit_xor}
+use Rattle.std.specs.Prelude.{ℕ, ◌+◌, ◌-◌, ◌*◌, ◌/◌, ◌%◌, ◌^◌, ◌==◌, Bool, not, nat_lt, if◌then◌else◌, List, [], ◌∷◌, Option, Some, None, slice_index_or, bit_and, bit_or, bit_xor}
 use Rattle.uxn_stacks.specs.Cells.{Cells}
 use Rattle.uxn_opcodes.specs.declared.operation.Width.{Width}
 use Rattle.uxn_opcodes.specs.declared.operation.Width.TheVariants.{Byte, Short}

@@ -1,5 +1,5 @@
 -- Words of one or two bytes on a ring and in memory, high byte first (Uxntal opcode reference).
-use Rattle.std.specs.Prelude.{ℕ, ◌+◌, ◌-◌, ◌*◌, ◌/◌, ◌%◌, ◌==◌, Bool, true, false, not, nat_lt, if◌then◌else◌, List, [], ◌∷◌, slice_index, slice_set, bit_and}
+use Rattle.std.specs.Prelude.{ℕ, ◌+◌, ◌-◌, ◌%◌, Bool, true, false, nat_lt, if◌then◌else◌, List, [], ◌∷◌, slice_index, slice_set}
 use Rattle.uxn_memory.specs.Bytes.{short_at, zero_short_at, with_short, with_zero_short}
 use Rattle.uxn_stacks.specs.Cells.{Cells, byte_below, short_below, lowered, pushed_byte, pushed_short}
 use Rattle.uxn_opcodes.specs.declared.operation.Width.{Width}

@@ -106,7 +106,8 @@ pub trait Ports {
     fn dei(&self, core: &Core, port: u8) -> u8
         ensures { reads self.now core.now port result };
 
-    /// Writes a port.
+    /// Writes a port. A fault of the tree comes only where the tree's count rose in this call, a fault of a sink
+    /// only where the count of an output rose; want of memory may come at any write.
     fn deo(&mut self, core: &mut Core, port: u8, value: u8) -> Result<(), Stop>
         ensures ok { OnOk result (wrote self.old core.old port value self.new core.new) }
         ensures err { IfErr result (λ stop. stopped self.old core.old port value stop self.new core.new) }

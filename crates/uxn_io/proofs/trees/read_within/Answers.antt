@@ -1,4 +1,4 @@
-use Rattle.std.proofs.Common.{arith, length, refl, ◌∙◌}
+use Rattle.std.proofs.Common.{arith, refl, ◌∙◌}
 use Rattle.uxn_io.proofs.ReadLemmas.{reads_on, length_grown, front_grown, front_all}
 use Rattle.uxn_io.proofs.trees.read_within.Goals as goal
 

@@ -1,4 +1,4 @@
-use Rattle.std.proofs.Common.{◌≡◌, ℕ, List, ◌++◌, ◌∷◌, ap, ◌∙◌}
+use Rattle.std.proofs.Common.{◌++◌, ◌∷◌, ap, ◌∙◌}
 use Rattle.std.specs.Result.{result_ok}
 use Rattle.uxn_io.specs.PathText.{path_of}
 use Rattle.uxn_io.proofs.ComponentLemmas.{joined_answer}

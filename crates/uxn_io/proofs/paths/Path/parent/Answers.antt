@@ -1,4 +1,4 @@
-use Rattle.std.proofs.Common.{◌≡◌, ℕ, List, take, ap, subst, ◌∙◌}
+use Rattle.std.proofs.Common.{ℕ, List, take, ap, subst, ◌∙◌}
 use Rattle.std.specs.Result.{result_ok}
 use Rattle.uxn_io.specs.PathText.{path_of, IsLastSlash, HasNoSlashFrom}
 use Rattle.uxn_io.proofs.ComponentLemmas.{parent_answer, no_parent}

@@ -1,5 +1,4 @@
-use Rattle.std.proofs.Common.{◌≡◌, Bool, true, false, Ok, refl, sym, ap, ◌∙◌, arith, length}
-use Rattle.uxn_io.specs.PathText.{path_of}
+use Rattle.std.proofs.Common.{true, false, Ok, refl, sym, ap, ◌∙◌}
 use Rattle.uxn_io.proofs.PathLemmas.{path_of-tests, kept, kept_text, fits_from_short}
 use Rattle.uxn_io.proofs.paths.Path.read.Goals as goal
 

@@ -1,0 +1,85 @@
+use Rattle.std.proofs.Common.{◌≡◌, ℕ, zero, suc, ◌+◌, ◌-◌, ◌<◌, ◌≤◌, Bool, true, false, List, [], ◌∷◌, ◌++◌, length, take, drop, get_or, map, length-take, slice_get, Option, Some, None, cond, inl, inr, ◌&&◌, ◌||◌, refl, sym, ◌∙◌, ap, arith, add-one, add-zero}
+use Rattle.std.specs.Prelude.{◌==◌, is_some}
+use Rattle.std.specs.Option.{option_map}
+use Rattle.std.proofs.lemmas.List.{drop_more}
+use Rattle.std.proofs.lemmas.Bool.{eqb-true, ne_eqb, eq-eqb, and_parts, or_cases, and_right, and_left, cases_Bool}
+use Rattle.tal_words.specs.declared.span.Expanded.{Expanded}
+use Rattle.tal_words.specs.Source.{is_only}
+use Rattle.tal_words.specs.Names.{rune_of}
+use Rattle.tal_words.specs.Braces.{opens, closes, matching_after, matching, one_if}
+use Rattle.tal_labels.specs.Order.{each}
+use Rattle.tal_labels.specs.Places.{text_of}
+use Rattle.tal_labels.specs.Shapes.{closer_of, closing_distance}
+use Rattle.tal_labels.specs.Answers.{waiting_step}
+use Rattle.tal_labels.proofs.OrderLemmas.{each-step}
+
+-- what waits from a word on, where the first word has this index
+abbrev pub waiting_from : List ℕ → ℕ → List Expanded → List ℕ
+waiting_from source at [] = []
+waiting_from source at (word ∷ words) = waiting_step at (opens (text_of source word)) (closes (text_of source word)) (waiting_from source (at + 1) words)
+
+-- no word opens and closes
+opens-closes : (text : List ℕ) → opens text ≡ true → closes text ≡ false
+opens-closes [] e = cc
+opens-closes (first ∷ []) e = elim (or_cases _ _ e) [
+  | inl brace ↦ (let same : first ≡ 123 = eqb-true first 123 brace in ne_eqb first 125 (λ other. omega arith))
+  | inr never ↦ (let none : false ≡ true = (and_parts _ _ never).1 in cc)
+]
+opens-closes (first ∷ second ∷ rest) e = refl
+
+shift : (at : ℕ) (o : Option ℕ) → option_map (λ n. at + n) (option_map suc o) ≡ option_map (λ n. at + 1 + n) o
+shift at None = refl
+shift at (Some n) = ap Some (omega arith)
+
+get-drop : (rest : List ℕ) (d : ℕ) → slice_get rest (d + 1) ≡ slice_get (drop 1 rest) d
+get-drop [] d = refl
+get-drop (first ∷ rest) d = rw add-one refl
+
+-- one step of the search for the matching `}`
+step : (at d c : ℕ) (opening closing : Bool) (rest : List ℕ) (o : ℕ → ℕ → Option ℕ)
+    → (opening ≡ true → closing ≡ false)
+    → ((d c : ℕ) → option_map (λ n. at + 1 + n) (o (c + d) c) ≡ slice_get rest d)
+    → option_map (λ n. at + n) (cond (closing && ((c + d) == c)) (Some 0) (option_map suc (o (c + d + one_if opening) (c + one_if closing)))) ≡ slice_get (waiting_step at opening closing rest) d
+step at d c true true rest o apart h = (let never : true ≡ false = apart refl in cc)
+step at d c true false rest o apart h =
+    shift at (o (c + d + 1) (c + 0))
+    ∙ ap (λ n. option_map (λ n. at + 1 + n) (o n (c + 0))) (let e : c + d + 1 ≡ c + (d + 1) = omega arith in e)
+    ∙ ap (λ n. option_map (λ n. at + 1 + n) (o (c + (d + 1)) n)) (let e : c + 0 ≡ c = omega arith in e)
+    ∙ h (d + 1) c ∙ get-drop rest d
+step at zero c false true rest o apart h =
+    let e : c + 0 ≡ c = omega arith in
+    let f : at + 0 ≡ at = omega arith in
+    rw (e, eq-eqb c c refl, f) refl
+step at (suc d) c false true rest o apart h =
+    let e : ((c + suc d) == c) ≡ false = ne_eqb (c + suc d) c (λ same. omega arith) in
+    let f : c + suc d + 0 ≡ c + 1 + d = omega arith in
+    ap (λ b. option_map (λ n. at + n) (cond b (Some 0) (option_map suc (o (c + suc d + 0) (c + 1))))) e
+    ∙ shift at (o (c + suc d + 0) (c + 1))
+    ∙ ap (λ n. option_map (λ n. at + 1 + n) (o n (c + 1))) f
+    ∙ h d (c + 1)
+step at d c false false rest o apart h =
+    shift at (o (c + d + 0) (c + 0))
+    ∙ ap (λ n. option_map (λ n. at + 1 + n) (o n (c + 0))) (let e : c + d + 0 ≡ c + d = omega arith in e)
+    ∙ ap (λ n. option_map (λ n. at + 1 + n) (o (c + d) n)) (let e : c + 0 ≡ c = omega arith in e)
+    ∙ h d c
+
+-- the matching `}` of an opener with d more open is what waits at d
+pub matching-waiting : (source : List ℕ) (at : ℕ) (words : List Expanded) (d c : ℕ) → option_map (λ n. at + n) (matching_after (c + d) c (map (text_of source) words)) ≡ slice_get (waiting_from source at words) d
+matching-waiting source at [] d c = refl
+matching-waiting source at (word ∷ words) d c =
+    step at d c (opens (text_of source word)) (closes (text_of source word)) (waiting_from source (at + 1) words)
+    (λ opened closed. matching_after opened closed (map (text_of source) words))
+    (opens-closes (text_of source word)) (λ e f. matching-waiting source (at + 1) words e f)
+
+-- what a word adds to what waits after it
+pub waiting-step : (source : List ℕ) (words : List Expanded) (at : ℕ) (d : Expanded) → at < length words → waiting_from source at (drop at words) ≡ waiting_step at (opens (text_of source (get_or words at d))) (closes (text_of source (get_or words at d))) (waiting_from source (at + 1) (drop (at + 1) words))
+waiting-step source words at d h = ap (waiting_from source at) (drop_more words at d h)
+
+-- the closer of a word is the first that waits after it
+pub closer-step : (source : List ℕ) (words : List Expanded) (at : ℕ) (d : Expanded) → at < length words → each (closer_of source) (take at words) (drop at words) ≡ cond (opens (text_of source (get_or words at d))) (slice_get (waiting_from source (at + 1) (drop (at + 1) words)) 0) None ∷ each (closer_of source) (take (at + 1) words) (drop (at + 1) words)
+closer-step source words at d h =
+    let rest = each (closer_of source) (take (at + 1) words) (drop (at + 1) words) in
+    let size : length (take at words) ≡ at = omega (arith, length-take at words) in
+    each-step (closer_of source) words at d h
+    ∙ ap (λ n. cond (opens (text_of source (get_or words at d))) (option_map (λ between. n + 1 + between) (closing_distance source (drop (at + 1) words))) None ∷ rest) size
+    ∙ ap (λ o. cond (opens (text_of source (get_or words at d))) o None ∷ rest) (matching-waiting source (at + 1) (drop (at + 1) words) 0 0)

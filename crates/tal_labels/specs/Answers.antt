@@ -1,0 +1,37 @@
+-- What the steps of the placing answer.
+use Rattle.std.specs.Prelude.{◌≡◌, ℕ, ◌+◌, Bool, true, false, List, [], ◌∷◌, drop, Option, Some, None, Result, Ok, Err}
+use Rattle.tal_words.specs.declared.fault.FaultKind.{FaultKind}
+use Rattle.tal_words.specs.declared.form.Form.{Form}
+use Rattle.tal_words.specs.declared.form.Form.TheVariants.{Pad, LabelDef}
+use Rattle.tal_words.specs.declared.name.Label.{Label}
+use Rattle.tal_words.specs.Faults.{least}
+use Rattle.tal_words.specs.Forms.{form}
+use Rattle.tal_words.specs.Names.{scope_of}
+use Rattle.tal_labels.specs.Places.{form_moves}
+use Rattle.tal_labels.specs.Shapes.{shape_kinds}
+
+-- a word whose shape has no fault has its form, and else the fault of least number is answered
+abbrev pub IsShape : List ℕ → ℕ → Bool → Result Form FaultKind → Type 0
+IsShape text depth is_closed (Ok shape) = (form text ≡ Ok shape) × (least (shape_kinds (form text) text depth is_closed) ≡ None)
+IsShape text depth is_closed (Err kind) = least (shape_kinds (form text) text depth is_closed) ≡ Some kind
+
+-- the place after a word of a form that has this place
+abbrev pub advanced : Form → List ℕ → ℕ → ℕ
+advanced (Pad value) text place = value
+advanced other text place = place + form_moves other text
+
+-- the label of a name at an address
+abbrev pub label_of : Option (List ℕ) → ℕ → List Label
+label_of None address = []
+label_of (Some name) address = record { name = name; address = address } ∷ []
+
+-- the scope after a word
+abbrev pub scope_next : Form → List ℕ → List ℕ → List ℕ
+scope_next LabelDef scope text = scope_of (drop 1 text)
+scope_next other scope text = scope
+
+-- what waits for an opener from a word on: the indices of the `}` that close nothing after it, the next one first
+abbrev pub waiting_step : ℕ → Bool → Bool → List ℕ → List ℕ
+waiting_step at true closing rest = drop 1 rest
+waiting_step at false true rest = at ∷ rest
+waiting_step at false false rest = rest

@@ -1,0 +1,50 @@
+-- Labels, their scopes and their full names (Uxntal syntax reference).
+use Rattle.std.specs.Prelude.{ℕ, List, [], ◌∷◌, drop, find, Option, Some, None, Result, Ok, Err}
+use Rattle.std.specs.Option.{option_map, option_map_or, option_to_list}
+use Rattle.std.specs.Str.{bytes_eq}
+use Rattle.tal_words.specs.declared.span.Expanded.{Expanded}
+use Rattle.tal_words.specs.declared.name.Label.{Label}
+use Rattle.tal_words.specs.declared.fault.FaultKind.{FaultKind}
+use Rattle.tal_words.specs.declared.form.Form.{Form}
+use Rattle.tal_words.specs.declared.form.Form.TheVariants.{LabelDef, SubDef}
+use Rattle.tal_words.specs.Forms.{form}
+use Rattle.tal_words.specs.Names.{first_scope, scope_of, full_name}
+use Rattle.tal_labels.specs.Order.{collected, last_of}
+use Rattle.tal_labels.specs.Places.{text_of, place_after}
+
+-- the name after `@`
+abbrev pub label_name : Result Form FaultKind → List ℕ → Option (List ℕ)
+label_name (Ok LabelDef) text = Some (drop 1 text)
+label_name _ text = None
+
+-- the full name that a word defines in a scope: `@n` defines n, and `&n` defines the scope, `/` and n
+abbrev pub defined_name : Result Form FaultKind → List ℕ → List ℕ → Option (List ℕ)
+defined_name (Ok LabelDef) scope text = Some (drop 1 text)
+defined_name (Ok SubDef) scope text = Some (full_name scope text)
+defined_name _ scope text = None
+
+module _ (source : List ℕ) where
+  -- the name of the last `@` of some words
+  abbrev pub last_label : List Expanded → Option (List ℕ)
+  last_label words = last_of (λ word. label_name (form (text_of source word)) (text_of source word)) words
+
+  -- the scope by the words before: that of the last `@`, or else the first scope
+  unfoldable pub scope_after : List Expanded → List ℕ
+  scope_after before = option_map_or scope_of (last_label before) first_scope
+
+  -- the label that a word defines, at the place of the word
+  abbrev pub label_at : List Expanded → Option (List ℕ) → List Label
+  label_at before None = []
+  label_at before (Some name) = record { name = name; address = place_after source before } ∷ []
+
+  abbrev pub labels_given : List Expanded → Expanded → List Expanded → List Label
+  labels_given before word after =
+      label_at before (defined_name (form (text_of source word)) (scope_after before) (text_of source word))
+
+  -- the labels in order of definition
+  unfoldable pub labels_of : List Expanded → List Label
+  labels_of words = collected labels_given [] words
+
+-- the address of the label of a name
+abbrev pub address_named : List Label → List ℕ → Option ℕ
+address_named labels name = option_map (λ label. label.address) (find (λ label. bytes_eq name label.name) labels)

@@ -1,0 +1,7 @@
+pub mod Order
+pub mod Places
+pub mod Labels
+pub mod Shapes
+pub mod Placing
+pub mod Answers
+pub mod Index

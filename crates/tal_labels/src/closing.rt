@@ -1,0 +1,52 @@
+//! Which `}` closes which lambda.
+
+ghost use Rattle.std.specs.Prelude.{◌≡◌, IfOk, OnOk, None, drop, reverse, slice_get, if◌then◌else◌};
+ghost use Rattle.tal_words.specs.Braces.{opens, closes};
+ghost use Rattle.tal_labels.specs.Answers.{waiting_step};
+ghost use Rattle.tal_labels.specs.Shapes.{closers_of as closers_among};
+
+use std::alloc::{AllocError, Global};
+use tal_words::{Expanded, closes, opens};
+
+/// For each word that opens a lambda the index of the `}` that closes it, where there is one.
+pub fn closers_of(
+    alloc: Global,
+    source: &[u8],
+    words: &[Expanded],
+) -> Result<Vec<Option<usize>>, AllocError>
+    ensures { IfOk result (λ closers. closers.items ≡ closers_among source.now words.now) }
+{
+    let mut waiting = Vec::new(alloc);
+    let mut closers = Vec::new(alloc);
+    let mut at = words.len();
+    while at > 0 {
+        at -= 1;
+        let closer = closer_at(words[at].text.text(source), at, &mut waiting)?;
+        closers.push(closer)?;
+    }
+    closers.reverse();
+    Ok(closers)
+}
+
+/// The index of the `}` that closes the lambda of a word, by the `}` after the word that wait for an
+/// opener, of which the next one stands last.
+fn closer_at(text: &[u8], at: usize, waiting: &mut Vec<usize>) -> Result<Option<usize>, AllocError>
+    ensures value { IfOk result (λ closer. closer ≡ (if opens text.now then slice_get (reverse waiting.old.items) 0 else None)) }
+    ensures rest { OnOk result (reverse waiting.new.items ≡ waiting_step at (opens text.now) (closes text.now) (reverse waiting.old.items)) }
+{
+    if opens(text) {
+        return Ok(next_waiting(waiting));
+    }
+    if closes(text) {
+        waiting.push(at)?;
+    }
+    Ok(None)
+}
+
+/// Takes the next `}` that waits.
+fn next_waiting(waiting: &mut Vec<usize>) -> Option<usize>
+    ensures value { result ≡ slice_get (reverse waiting.old.items) 0 }
+    ensures rest { reverse waiting.new.items ≡ drop 1 (reverse waiting.old.items) }
+{
+    waiting.pop()
+}

@@ -1,0 +1,123 @@
+//! Labels by their full names.
+
+ghost use Rattle.std.specs.Prelude.{◌≡◌, ◌<◌, ◌^◌, ◌++◌, false, Ok, OnOk, IfOk, OnSome};
+ghost use Rattle.std.specs.Option.{option_map};
+ghost use Rattle.tal_words.specs.Names.{scope_of as scope_of_name, full_name as full_name_in};
+ghost use Rattle.tal_labels.specs.Index.{labels_in};
+ghost use Rattle.tal_labels.specs.Answers.{label_of, scope_next};
+ghost use Rattle.tal_labels.specs.Labels.{defined_name as name_defined};
+ghost use Rattle.tal_labels.specs.Placing.{is_defined as is_among};
+
+use indexmap::IndexMap;
+use std::alloc::{AllocError, Global};
+use tal_words::{Form, Label, Name};
+
+/// The scope before the first label.
+pub const FIRST_SCOPE: &[u8] = b"RESET";
+
+/// The byte that parts a scope from the name in it.
+const SLASH: u8 = b'/';
+
+/// The name up to the first `/`.
+fn scope_of(name: &[u8]) -> &[u8]
+    ensures { result.now ≡ scope_of_name name.now }
+{
+    for (length, byte) in name.iter().enumerate() {
+        if *byte == SLASH {
+            return &name[..length];
+        }
+    }
+    name
+}
+
+/// The scope after a word: a label opens one.
+pub fn scope_after<'a>(form: Form, scope: &'a [u8], text: &'a [u8]) -> &'a [u8]
+    ensures { result.now ≡ scope_next form scope.now text.now }
+{
+    match (form, text) {
+        (Form::LabelDef, [_, name @ ..]) => scope_of(name),
+        (Form::LabelDef, []) => scope_of(text),
+        _ => scope,
+    }
+}
+
+/// The full name that a word defines.
+pub fn defined_name(
+    alloc: Global,
+    form: Form,
+    scope: &[u8],
+    text: &[u8],
+) -> Result<Option<Vec<u8>>, AllocError>
+    ensures { IfOk result (λ name. option_map (λ bytes. bytes.items) name ≡ name_defined (Ok form) scope.now text.now) }
+{
+    match form {
+        Form::LabelDef => {
+            let (_, name) = text.split_at(text.len().min(1));
+            Ok(Some(Vec::from_slice(alloc, name)?))
+        }
+        Form::SubDef => Ok(Some(full_name(alloc, scope, text)?)),
+        _ => Ok(None),
+    }
+}
+
+/// The name in its scope where it begins with `&` or `/`, and else the name itself.
+pub fn full_name(alloc: Global, scope: &[u8], name: &[u8]) -> Result<Vec<u8>, AllocError>
+    ensures { IfOk result (λ bytes. bytes.items ≡ full_name_in scope.now name.now) }
+{
+    match name {
+        [b'&' | SLASH, rest @ ..] => {
+            let mut bytes = Vec::from_slice(alloc, scope)?;
+            bytes.push(SLASH)?;
+            bytes.extend_from_slice(rest)?;
+            Ok(bytes)
+        }
+        _ => Vec::from_slice(alloc, name),
+    }
+}
+
+/// Whether a name is that of a label.
+pub fn is_defined(labels: &IndexMap<Vec<u8>, u16>, name: &Option<Vec<u8>>) -> bool
+    ensures { result ≡ is_among (labels_in labels.now) (option_map (λ bytes. bytes.items) name.now) }
+{
+    match name {
+        Some(name) => labels.get(name.as_slice()).is_some(),
+        None => false,
+    }
+}
+
+/// Adds the label of a name that no label has.
+pub fn define(
+    labels: &mut IndexMap<Vec<u8>, u16>,
+    name: Option<Vec<u8>>,
+    address: u64,
+) -> Result<(), AllocError>
+    requires fits { OnSome name (address < 2 ^ 16) }
+    requires new { is_among (labels_in labels.old) (option_map (λ bytes. bytes.items) name) ≡ false }
+    ensures { OnOk result (labels_in labels.new ≡ labels_in labels.old ++ label_of (option_map (λ bytes. bytes.items) name) address) }
+{
+    match name {
+        Some(name) => {
+            labels.insert(name, address as u16)?;
+            Ok(())
+        }
+        None => Ok(()),
+    }
+}
+
+/// The labels in order.
+pub fn listed(alloc: Global, index: &IndexMap<Vec<u8>, u16>) -> Result<Vec<Label>, AllocError>
+    ensures { IfOk result (λ labels. labels.items ≡ labels_in index.now) }
+{
+    let mut labels = Vec::new(alloc);
+    for k in 0..index.len() {
+        let Some((name, address)) = index.get_index(k) else {
+            unreachable!()
+        };
+        let name = Name::new(alloc, name)?;
+        labels.push(Label {
+            name,
+            address: *address,
+        })?;
+    }
+    Ok(labels)
+}

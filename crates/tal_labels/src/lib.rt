@@ -1,0 +1,13 @@
+//! Where the words of a Uxntal source lie, and its labels.
+#![tactic(auto)]
+
+mod closing;
+mod labels;
+mod placed;
+mod placing;
+mod shapes;
+#[cfg(test)]
+mod tests;
+
+pub use placed::{Placed, PlacedWord};
+pub use placing::place;

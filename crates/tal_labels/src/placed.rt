@@ -1,0 +1,84 @@
+//! Words with their places, and labels.
+
+ghost use Rattle.std.specs.Prelude.{◌≡◌};
+
+use indexmap::IndexMap;
+use std::marker::Model;
+use tal_words::{Expanded, Form, Label};
+
+/// A word of the expanded list with its place.
+#[derive(Clone, Copy, Debug, PartialEq, Eq)]
+pub struct PlacedWord {
+    /// The word.
+    pub word: Expanded,
+    /// What it means.
+    pub form: Form,
+    /// Its place: the address of its first byte, if it has bytes.
+    pub address: u64,
+    /// The number of its bytes.
+    pub size: u16,
+    /// For a word that opens a lambda, the place of the `}` that closes it.
+    pub lambda: Option<u16>,
+}
+
+/// The words of a source with their places, and its labels.
+#[derive(Drop)]
+pub struct Placed {
+    words: Vec<PlacedWord>,
+    labels: Vec<Label>,
+    addresses: IndexMap<Vec<u8>, u16>,
+}
+
+impl Model for Placed {
+    ghost use Rattle.std.specs.Prelude.{◌≡◌};
+    ghost use Rattle.tal_labels.specs.Placing.{Layout};
+    ghost use Rattle.tal_labels.specs.Index.{labels_in};
+
+    ghost Value = { Layout };
+
+    ghost view = { λ placed. record { words = placed.words.items; labels = placed.labels.items } };
+
+    ghost invariant = { λ placed. labels_in placed.addresses ≡ placed.labels.items };
+}
+
+impl Placed {
+    ghost use Rattle.tal_labels.specs.Index.{labels_in};
+    ghost use Rattle.tal_labels.specs.Labels.{address_named};
+
+    /// The words and the labels, which the index has by their names.
+    pub(crate) fn new(
+        words: Vec<PlacedWord>,
+        labels: Vec<Label>,
+        addresses: IndexMap<Vec<u8>, u16>,
+    ) -> Placed
+        requires { labels_in addresses ≡ labels.items }
+        ensures { result ≡ record { words = words.items; labels = labels.items } }
+    {
+        Placed {
+            words,
+            labels,
+            addresses,
+        }
+    }
+
+    /// The words in order, each with its place.
+    pub fn words(&self) -> &[PlacedWord]
+        ensures { result.now ≡ self.now.words }
+    {
+        &self.words
+    }
+
+    /// The labels in order of definition.
+    pub fn labels(&self) -> &[Label]
+        ensures { result.now ≡ self.now.labels }
+    {
+        &self.labels
+    }
+
+    /// The address of the label of a full name.
+    pub fn address_of(&self, name: &[u8]) -> Option<u16>
+        ensures { result ≡ address_named self.now.labels name.now }
+    {
+        self.addresses.get(name).copied()
+    }
+}

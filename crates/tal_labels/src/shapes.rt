@@ -1,0 +1,68 @@
+//! What is wrong with words by themselves and with their braces.
+
+ghost use Rattle.std.specs.Prelude.{◌≡◌, map, Ok, ◌+◌, ◌<◌, ◌≤◌, ◌^◌};
+ghost use Rattle.tal_words.specs.Faults.{Gives};
+ghost use Rattle.tal_words.specs.Forms.{form as form_of_text};
+ghost use Rattle.tal_labels.specs.Places.{text_of};
+ghost use Rattle.tal_labels.specs.Shapes.{closers_of, shape_fault, open_after};
+ghost use Rattle.tal_labels.specs.Answers.{IsShape};
+
+use std::alloc::Global;
+use tal_words::{AsmStop, Expanded, Fault, FaultKind, Form, closes, form_of, opens};
+
+/// The forms of the words, or the first fault of their shapes.
+pub fn forms_of(
+    alloc: Global,
+    source: &[u8],
+    words: &[Expanded],
+    closers: &[Option<usize>],
+) -> Result<Vec<Form>, AsmStop>
+    requires { closers.now ≡ closers_of source.now words.now }
+    ensures { Gives (λ forms. map Ok forms.items) result (shape_fault source.now words.now) (map (λ word. form_of_text (text_of source.now word)) words.now) }
+{
+    let mut forms = Vec::new(alloc);
+    let mut depth = 0usize;
+    for (k, word) in words.iter().enumerate() {
+        let text = word.text.text(source);
+        match shape_of(text, depth, closers[k].is_some()) {
+            Ok(form) => forms.push(form)?,
+            Err(kind) => return Err(AsmStop::Refused(Fault::new(&word.origin, kind))),
+        }
+        depth = depth_after(depth, text);
+    }
+    Ok(forms)
+}
+
+/// How many lambdas are open after a word.
+fn depth_after(depth: usize, text: &[u8]) -> usize
+    requires { depth < 2 ^ 63 }
+    ensures value { result ≡ open_after depth text.now }
+    ensures small { result ≤ depth + 1 }
+{
+    if opens(text) {
+        depth + 1
+    } else if closes(text) {
+        depth.saturating_sub(1)
+    } else {
+        depth
+    }
+}
+
+/// The form of a word, or what is wrong with its shape, where so many lambdas are open before it, by
+/// whether its own is closed.
+fn shape_of(text: &[u8], depth: usize, is_closed: bool) -> Result<Form, FaultKind>
+    ensures { IsShape text.now depth is_closed result }
+{
+    match form_of(text) {
+        Err(kind) => Err(kind),
+        Ok(form) => {
+            if closes(text) && depth == 0 {
+                return Err(FaultKind::StrayBrace);
+            }
+            if opens(text) && !is_closed {
+                return Err(FaultKind::OpenBrace);
+            }
+            Ok(form)
+        }
+    }
+}

@@ -1,0 +1,64 @@
+-- Bodies and macros as lists.
+use Rattle.std.proofs.Common.{◌≡◌, ℕ, zero, suc, ◌+◌, ◌-◌, ◌<◌, ◌≤◌, Bool, true, false, cond, List, [], ◌∷◌, ◌++◌, length, take, drop, Option, Some, None, is_some, refl, ap, sym, ◌∙◌, arith}
+use Rattle.std.specs.Prelude.{if◌then◌else◌, Vec}
+use Rattle.std.specs.Option.{option_map}
+use Rattle.std.specs.Map.{lookup}
+use Rattle.std.specs.Str.{bytes_eq}
+use Rattle.std.specs.declared.alloc.Global.{Global}
+use Rattle.std.proofs.lemmas.List.{drop_more}
+use Rattle.indexmap.specs.IndexMap.{insert_entry}
+use Rattle.tal_words.specs.declared.span.Word.{Word}
+use Rattle.tal_words.specs.Expansion.{Macro, body_named}
+use Rattle.tal_macros.specs.declared.body.Body.{Body}
+use Rattle.tal_macros.specs.Bodies.{body_words, known_of, word_at}
+
+-- the first word of a body stands before the others
+pub body_words-more : (words : List Word) (body : Body) → body.from < body.to → body.from < length words
+    → body_words words body ≡ word_at words body.from ∷ body_words words (record { from = body.from + 1; to = body.to })
+body_words-more words body some within =
+    let count : body.to - body.from ≡ suc (body.to - (body.from + 1)) = omega arith in
+    let step = drop_more words body.from (record { span = record { start = 0; end = 0 }; line = 0; column = 0 }) within in
+    rw (count, step) refl
+
+-- the body that a map finds is that of the macro
+pub known-lookup : (words : List Word) (entries : List (Vec ℕ Global × Body)) (name : List ℕ)
+    → option_map (body_words words) (lookup (λ key. bytes_eq name key.items) entries) ≡ body_named (known_of words entries) name
+known-lookup words [] name = refl
+known-lookup words (entry ∷ entries) name =
+    elim (bytes_eq name entry.0.items) as (λ same.
+    option_map (body_words words) (cond same (Some entry.1) (lookup (λ key. bytes_eq name key.items) entries))
+    ≡ (if same then Some (body_words words entry.1) else body_named (known_of words entries) name)) [
+      | true ↦ refl
+      | false ↦ known-lookup words entries name
+    ]
+
+-- what a name that is not known says of the first macro
+not_first : (same : Bool) (body : List Word) (others : Option (List Word)) → (if same then Some body else others) ≡ None → (same ≡ false) × (others ≡ None)
+not_first true body others none = cc
+not_first false body others none = (refl, none)
+
+-- a new macro is known after the others
+pub known-insert : (words : List Word) (eq : Vec ℕ Global → Vec ℕ Global → Bool) (entries : List (Vec ℕ Global × Body)) (key : Vec ℕ Global) (body : Body)
+    → ((one other : Vec ℕ Global) → eq one other ≡ bytes_eq one.items other.items)
+    → body_named (known_of words entries) key.items ≡ None
+    → known_of words (insert_entry eq entries key body) ≡ known_of words entries ++ record { name = key.items; body = body_words words body } ∷ []
+known-insert words eq [] key body same none = refl
+known-insert words eq (entry ∷ entries) key body same none =
+    let other = not_first (bytes_eq key.items entry.0.items) (body_words words entry.1) (body_named (known_of words entries) key.items) none in
+    let differs : eq key entry.0 ≡ false = same key entry.0 ∙ other.0 in
+    rw differs (ap (λ rest. record { name = entry.0.items; body = body_words words entry.1 } ∷ rest) (known-insert words eq entries key body same other.1))
+
+-- the body of one word
+pub word_alone : (words : List Word) (at : ℕ) → at < length words → body_words words (record { from = at; to = at + 1 }) ≡ word_at words at ∷ []
+word_alone words at within =
+    let none : at + 1 - (at + 1) ≡ 0 = omega arith in
+    body_words-more words (record { from = at; to = at + 1 }) (omega arith) within ∙ rw none refl
+
+-- a body that is there
+pub some_body : (found : Option Body) → is_some found ≡ true → (body : Body) × (found ≡ Some body)
+some_body None there = cc
+some_body (Some body) there = (body, refl)
+
+pub no_body : (found : Option Body) → is_some found ≡ false → found ≡ None
+no_body None there = refl
+no_body (Some body) there = cc

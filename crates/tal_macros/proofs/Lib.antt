@@ -1,0 +1,6 @@
+pub mod Expanding
+pub mod HeadLemmas
+pub mod Closing
+pub mod Known
+pub mod Pending
+pub mod Steps

@@ -1,0 +1,60 @@
+-- What references name, and what is wrong with them (Uxntal syntax reference; profile: the kinds).
+use Rattle.std.specs.Prelude.{ℕ, Bool, not, if◌then◌else◌, List, [], ◌∷◌, map, Option, Some, None}
+use Rattle.tal_words.specs.declared.fault.Fault.{Fault}
+use Rattle.tal_words.specs.declared.fault.FaultKind.{FaultKind}
+use Rattle.tal_words.specs.declared.fault.FaultKind.TheVariants.{UnknownName, TooFar}
+use Rattle.tal_words.specs.declared.form.Form.{Form}
+use Rattle.tal_words.specs.declared.form.Form.TheVariants.{Refer}
+use Rattle.tal_words.specs.declared.form.Rune.{Rune}
+use Rattle.tal_words.specs.declared.name.Label.{Label}
+use Rattle.tal_words.specs.Faults.{Judged, when, first_fault}
+use Rattle.tal_words.specs.Forms.{reaches}
+use Rattle.tal_words.specs.Names.{full_name, name_after_rune}
+use Rattle.tal_words.specs.Braces.{opens}
+use Rattle.tal_labels.specs.declared.placed.PlacedWord.{PlacedWord}
+use Rattle.tal_labels.specs.Order.{each}
+use Rattle.tal_labels.specs.Places.{text_of}
+use Rattle.tal_labels.specs.Labels.{scope_after, address_named}
+
+-- what a reference names in a scope: an opener the place of the `}` that closes its lambda, and any other the address of the
+-- label of its full name
+abbrev pub named_target : List Label → List ℕ → List ℕ → Option ℕ → Option ℕ
+named_target labels scope text lambda =
+    if opens text then lambda else address_named labels (full_name scope (name_after_rune text))
+
+-- the target of a word of a form: only a reference has one
+abbrev pub form_target : Form → Option ℕ → Option ℕ
+form_target (Refer rune) target = target
+form_target _ target = None
+
+-- what is wrong with a reference at a place
+abbrev pub target_kinds : Rune → ℕ → Option ℕ → List FaultKind
+target_kinds rune place None = UnknownName ∷ []
+target_kinds rune place (Some target) = when (not (reaches rune place target)) TooFar
+
+-- what is wrong with a word of a form
+abbrev pub reference_kinds : Form → ℕ → Option ℕ → List FaultKind
+reference_kinds (Refer rune) place target = target_kinds rune place target
+reference_kinds _ place target = []
+
+module _ (source : List ℕ) where
+  -- the scope behind some words
+  unfoldable pub scope_behind : List PlacedWord → List ℕ
+  scope_behind before = scope_after source (map (λ placed. placed.word) before)
+
+  module _ (labels : List Label) where
+    -- the target of a word by the words before it, and by the labels of all words
+    abbrev pub target_of : List PlacedWord → PlacedWord → Option ℕ
+    target_of before placed =
+        form_target placed.form (named_target labels (scope_behind before) (text_of source placed.word) placed.lambda)
+
+    -- a word with what is wrong with it as a reference
+    abbrev pub judged_reference : List PlacedWord → PlacedWord → List PlacedWord → Judged
+    judged_reference before placed after = record {
+      origin = placed.word.origin;
+      kinds = reference_kinds placed.form placed.address (target_of before placed);
+    }
+
+    -- the first fault of the references among words
+    unfoldable pub reference_fault : List PlacedWord → Option Fault
+    reference_fault words = first_fault (each judged_reference [] words)

@@ -1,0 +1,104 @@
+//! The bytes that words stand for.
+
+ghost use Rattle.std.specs.Prelude.{◌≡◌, ◌∷◌, ◌++◌, ◌≤◌, OnOk};
+ghost use Rattle.tal_words.specs.Forms.{encoded, encoded_reference, distance as distance_between, short_bytes as bytes_of_short, low_byte as byte_of_short};
+
+use std::alloc::AllocError;
+use tal_words::{Form, Rune};
+
+/// The opcodes that words of their own put before their bytes.
+const LIT: u8 = 0x80;
+const LIT2: u8 = 0xa0;
+const JMI: u8 = 0x40;
+const JCI: u8 = 0x20;
+const JSI: u8 = 0x60;
+
+/// A greatest address that a place may be, and one more.
+const MEMORY_END: u64 = 0x1_0000;
+
+/// The low byte of a number.
+fn low_byte(value: u64) -> u8
+    ensures { result ≡ byte_of_short value }
+{
+    (value % 256) as u8
+}
+
+/// The low two bytes of a number, the higher one first.
+fn short_bytes(value: u64) -> [u8; 2]
+    ensures { result ≡ bytes_of_short value }
+{
+    [(value / 256 % 256) as u8, (value % 256) as u8]
+}
+
+/// The distance from the address of a byte or short to a target, less 2, as a number that is the same
+/// modulo 65536.
+fn distance(address: u64, target: u64) -> u64
+    requires at { address ≤ 65537 }
+    requires to { target ≤ 65535 }
+    ensures { result ≡ distance_between address target }
+{
+    target + 2 * MEMORY_END - (address + 2)
+}
+
+/// Appends an opcode and a short.
+fn append_short(rom: &mut Vec<u8>, opcode: u8, short: u64) -> Result<(), AllocError>
+    ensures { OnOk result (rom.new.items ≡ rom.old.items ++ (opcode ∷ bytes_of_short short)) }
+{
+    let [high, low] = short_bytes(short);
+    rom.extend_from_slice(&[opcode, high, low])
+}
+
+/// Appends the bytes of a reference at a place.
+fn append_reference(
+    rom: &mut Vec<u8>,
+    rune: Rune,
+    place: u64,
+    target: u64,
+) -> Result<(), AllocError>
+    requires at { place ≤ 65536 }
+    requires to { target ≤ 65535 }
+    ensures { OnOk result (rom.new.items ≡ rom.old.items ++ encoded_reference rune place target) }
+{
+    match rune {
+        Rune::LitRel => rom.extend_from_slice(&[LIT, low_byte(distance(place + 1, target))]),
+        Rune::RawRel => rom.extend_from_slice(&[low_byte(distance(place, target))]),
+        Rune::LitZero => rom.extend_from_slice(&[LIT, low_byte(target)]),
+        Rune::RawZero => rom.extend_from_slice(&[low_byte(target)]),
+        Rune::LitAbs => append_short(rom, LIT2, target),
+        Rune::RawAbs => rom.extend_from_slice(&short_bytes(target)),
+        Rune::Jmi => append_short(rom, JMI, distance(place + 1, target)),
+        Rune::Jci => append_short(rom, JCI, distance(place + 1, target)),
+        Rune::Jsi => append_short(rom, JSI, distance(place + 1, target)),
+    }
+}
+
+/// Appends the bytes of a word at a place, with a target if it is a reference.
+pub fn append_word(
+    rom: &mut Vec<u8>,
+    form: Form,
+    text: &[u8],
+    place: u64,
+    target: u64,
+) -> Result<(), AllocError>
+    requires at { place ≤ 65536 }
+    requires to { target ≤ 65535 }
+    ensures { OnOk result (rom.new.items ≡ rom.old.items ++ encoded form text.now place target) }
+{
+    match form {
+        Form::Raw1(byte) | Form::Op(byte) => rom.extend_from_slice(&[byte]),
+        Form::Lit1(byte) => rom.extend_from_slice(&[LIT, byte]),
+        Form::Raw2(short) => rom.extend_from_slice(&short_bytes(short as u64)),
+        Form::Lit2(short) => append_short(rom, LIT2, short as u64),
+        Form::Text => match text {
+            [_, rest @ ..] => rom.extend_from_slice(rest),
+            [] => Ok(()),
+        },
+        Form::Refer(rune) => append_reference(rom, rune, place, target),
+        Form::Pad(_)
+        | Form::Skip(_)
+        | Form::LabelDef
+        | Form::SubDef
+        | Form::LambdaEnd
+        | Form::Ignored => Ok(()),
+    }
+}

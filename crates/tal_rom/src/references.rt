@@ -1,0 +1,134 @@
+//! What references name, and what is wrong with them.
+
+ghost use Rattle.std.specs.Prelude.{◌≡◌, ◌<◌, ◌≤◌, ◌^◌, IfOk};
+ghost use Rattle.tal_words.specs.Faults.{least};
+ghost use Rattle.tal_words.specs.Forms.{is_near as is_near_target, reaches as reaches_target};
+ghost use Rattle.tal_words.specs.Names.{scope_of as scope_of_name, name_after_rune as name_of_reference, full_name};
+ghost use Rattle.tal_labels.specs.Labels.{address_named};
+ghost use Rattle.tal_rom.specs.Answers.{scope_next, HasAddress};
+ghost use Rattle.tal_rom.specs.References.{named_target, form_target, reference_kinds};
+
+use std::alloc::{AllocError, Global};
+use tal_labels::{Placed, PlacedWord};
+use tal_words::{FaultKind, Form, Rune, opens, rune_of};
+
+/// The scope before the first label.
+pub const FIRST_SCOPE: &[u8] = b"RESET";
+
+/// The byte that parts a scope from the name in it.
+const SLASH: u8 = b'/';
+
+/// The name up to the first `/`.
+fn scope_of(name: &[u8]) -> &[u8]
+    ensures { result.now ≡ scope_of_name name.now }
+{
+    for (length, byte) in name.iter().enumerate() {
+        if *byte == SLASH {
+            return &name[..length];
+        }
+    }
+    name
+}
+
+/// The scope after a word: a label opens one.
+pub fn scope_after<'a>(form: Form, scope: &'a [u8], text: &'a [u8]) -> &'a [u8]
+    ensures { result.now ≡ scope_next form scope.now text.now }
+{
+    match (form, text) {
+        (Form::LabelDef, [_, name @ ..]) => scope_of(name),
+        (Form::LabelDef, []) => scope_of(text),
+        _ => scope,
+    }
+}
+
+/// The name of a reference: what stands after its rune, or a bare word itself.
+fn name_after_rune(text: &[u8]) -> &[u8]
+    ensures { result.now ≡ name_of_reference text.now }
+{
+    match text {
+        [first, name @ ..] if rune_of(*first).is_some() => name,
+        _ => text,
+    }
+}
+
+/// The address of the label that a name stands for in a scope.
+fn address_in(
+    alloc: Global,
+    placed: &Placed,
+    scope: &[u8],
+    name: &[u8],
+) -> Result<Option<u16>, AllocError>
+    ensures { IfOk result (λ address. address ≡ address_named placed.now.labels (full_name scope.now name.now)) }
+{
+    match name {
+        [b'&' | SLASH, rest @ ..] => {
+            let mut full = Vec::from_slice(alloc, scope)?;
+            full.push(SLASH)?;
+            full.extend_from_slice(rest)?;
+            Ok(placed.address_of(full.as_slice()))
+        }
+        _ => Ok(placed.address_of(name)),
+    }
+}
+
+/// The target of a word in its scope, where it is a reference that names something.
+pub fn target_of(
+    alloc: Global,
+    placed: &Placed,
+    scope: &[u8],
+    text: &[u8],
+    word: &PlacedWord,
+) -> Result<Option<u16>, AllocError>
+    ensures { IfOk result (λ target. target
+        ≡ form_target word.now.form (named_target placed.now.labels scope.now text.now word.now.lambda)) }
+{
+    match word.form {
+        Form::Refer(_) => {
+            if opens(text) {
+                return Ok(word.lambda);
+            }
+            address_in(alloc, placed, scope, name_after_rune(text))
+        }
+        _ => Ok(None),
+    }
+}
+
+/// What is wrong with a word at a place, by its target.
+pub fn reference_fault(form: Form, place: u64, target: Option<u16>) -> Option<FaultKind>
+    requires { HasAddress form place }
+    ensures { result ≡ least (reference_kinds form place target) }
+{
+    match (form, target) {
+        (Form::Refer(_), None) => Some(FaultKind::UnknownName),
+        (Form::Refer(rune), Some(target)) => {
+            if reaches(rune, place, target as u64) {
+                None
+            } else {
+                Some(FaultKind::TooFar)
+            }
+        }
+        _ => None,
+    }
+}
+
+/// Whether a reference at a place can hold its target.
+fn reaches(rune: Rune, place: u64, target: u64) -> bool
+    requires at { place < 2 ^ 16 }
+    requires to { target < 2 ^ 16 }
+    ensures { result ≡ reaches_target rune place target }
+{
+    match rune {
+        Rune::LitRel => is_near(place + 1, target),
+        Rune::RawRel => is_near(place, target),
+        _ => true,
+    }
+}
+
+/// Whether the distance from a byte to a target, less 2, lies in -128 to 127.
+fn is_near(address: u64, target: u64) -> bool
+    requires at { address ≤ 2 ^ 16 }
+    requires to { target < 2 ^ 16 }
+    ensures { result ≡ is_near_target address target }
+{
+    address + 2 <= target + 128 && target <= address + 129
+}

@@ -1,0 +1,163 @@
+-- What each word means, and the bytes that it stands for (Uxntal syntax reference).
+use Rattle.std.specs.Prelude.{ℕ, ◌+◌, ◌-◌, ◌/◌, ◌%◌, Bool, true, ◌&&◌, ◌||◌, ◌==◌, nat_le, if◌then◌else◌, List, [], ◌∷◌, length, drop, Option, Some, None, Result, Ok, Err}
+use Rattle.tal_words.specs.declared.fault.FaultKind.{FaultKind}
+use Rattle.tal_words.specs.declared.fault.FaultKind.TheVariants.{BadNumber, BadName, NoName, IncludeHere}
+use Rattle.tal_words.specs.declared.form.Form.{Form}
+use Rattle.tal_words.specs.declared.form.Form.TheVariants.{Pad, Skip, Lit1, Lit2, Raw1, Raw2, Op, Text, LabelDef, SubDef, Refer, LambdaEnd, Ignored}
+use Rattle.tal_words.specs.declared.form.Rune.{Rune}
+use Rattle.tal_words.specs.declared.form.Rune.TheVariants.{LitRel, RawRel, LitZero, RawZero, LitAbs, RawAbs, Jmi, Jci, Jsi}
+use Rattle.tal_words.specs.Opcodes.{byte_of_op}
+use Rattle.tal_words.specs.Digits.{number_of, is_byte_number, is_short_number, is_place_number}
+use Rattle.tal_words.specs.Names.{name_fault, rune_of, slash}
+
+-- the form, unless something is wrong with the name
+abbrev pub named : Option FaultKind → Form → Result Form FaultKind
+named None form = Ok form
+named (Some kind) form = Err kind
+
+-- the form of a word that must have more than its first character
+abbrev pub unless_empty : List ℕ → Result Form FaultKind → Result Form FaultKind
+unless_empty [] answer = Err NoName
+unless_empty (first ∷ rest) answer = answer
+
+-- the form of a word that must have its first character alone
+abbrev pub if_alone : List ℕ → Form → Result Form FaultKind
+if_alone [] form = Ok form
+if_alone (first ∷ rest) form = Err BadName
+
+-- `|h` and `$h`
+abbrev pub place_number : List ℕ → Form → Result Form FaultKind
+place_number digits form = if is_place_number digits then Ok form else Err BadNumber
+
+-- `#hh` and `#hhhh`
+abbrev pub literal : List ℕ → Result Form FaultKind
+literal digits =
+    if is_byte_number digits then Ok (Lit1 (number_of digits))
+    else if is_short_number digits then Ok (Lit2 (number_of digits))
+    else Err BadNumber
+
+-- what stands after the rune of a reference: `&c`, `/c`, `{` alone, or a name
+abbrev pub reference : Rune → List ℕ → Result Form FaultKind
+reference rune [] = Err NoName
+reference rune (first ∷ rest) =
+    if first == 38 || first == slash then unless_empty rest (Ok (Refer rune))
+    else if first == 123 then if_alone rest (Refer rune)
+    else Ok (Refer rune)
+
+-- the form of an opcode word, or a call of a name
+abbrev pub op_or_call : Option ℕ → Form
+op_or_call (Some byte) = Op byte
+op_or_call None = Refer Jsi
+
+-- a word without a rune: a number, an opcode word or the name of a subroutine
+abbrev pub bare : List ℕ → Form
+bare word =
+    if is_byte_number word then Raw1 (number_of word)
+    else if is_short_number word then Raw2 (number_of word)
+    else op_or_call (byte_of_op word)
+
+-- a word with the rune of a reference, or without one
+abbrev pub rune_or_bare : Option Rune → List ℕ → List ℕ → Result Form FaultKind
+rune_or_bare (Some rune) rest word = reference rune rest
+rune_or_bare None rest word = Ok (bare word)
+
+-- the form of a word by its first character, in this order: `|` `$` `#` `"` `@` `&` `~` `/` `{` `}` `[` `]`, and others
+unfoldable pub form : List ℕ → Result Form FaultKind
+form [] = Ok (Refer Jsi)
+form (first ∷ rest) =
+    if first == 124 then place_number rest (Pad (number_of rest))
+    else if first == 36 then place_number rest (Skip (number_of rest))
+    else if first == 35 then literal rest
+    else if first == 34 then Ok Text
+    else if first == 64 then named (name_fault rest) LabelDef
+    else if first == 38 then unless_empty rest (Ok SubDef)
+    else if first == 126 then unless_empty rest (Err IncludeHere)
+    else if first == slash then unless_empty rest (Ok (Refer Jsi))
+    else if first == 123 then if_alone rest (Refer Jsi)
+    else if first == 125 then if_alone rest LambdaEnd
+    else if first == 91 then if_alone rest Ignored
+    else if first == 93 then if_alone rest Ignored
+    else rune_or_bare (rune_of first) rest (first ∷ rest)
+
+-- how many bytes a reference has
+abbrev pub reference_size : Rune → ℕ
+reference_size LitRel = 2
+reference_size RawRel = 1
+reference_size LitZero = 2
+reference_size RawZero = 1
+reference_size LitAbs = 3
+reference_size RawAbs = 2
+reference_size Jmi = 3
+reference_size Jci = 3
+reference_size Jsi = 3
+
+-- how many bytes a word of a form stands for
+abbrev pub size : Form → List ℕ → ℕ
+size (Pad n) word = 0
+size (Skip n) word = 0
+size (Lit1 n) word = 2
+size (Lit2 n) word = 3
+size (Raw1 n) word = 1
+size (Raw2 n) word = 2
+size (Op byte) word = 1
+size Text word = length word - 1
+size LabelDef word = 0
+size SubDef word = 0
+size (Refer rune) word = reference_size rune
+size LambdaEnd word = 0
+size Ignored word = 0
+
+abbrev pub low_byte : ℕ → ℕ
+low_byte n = n % 256
+
+-- a short, the high byte first
+abbrev pub short_bytes : ℕ → List ℕ
+short_bytes n = n / 256 % 256 ∷ n % 256 ∷ []
+
+-- the distance from an address to a target, less 2, with 131072 added, which is 0 modulo 65536
+abbrev pub distance : ℕ → ℕ → ℕ
+distance address target = target + 131072 - (address + 2)
+
+-- the distance, less 2, lies in -128 to 127
+abbrev pub is_near : ℕ → ℕ → Bool
+is_near address target = nat_le (address + 2) (target + 128) && nat_le target (address + 129)
+
+-- the bytes of a reference at a place; 128 is LIT, 160 LIT2, 64 JMI, 32 JCI, 96 JSI
+abbrev pub encoded_reference : Rune → ℕ → ℕ → List ℕ
+encoded_reference LitRel place target = 128 ∷ low_byte (distance (place + 1) target) ∷ []
+encoded_reference RawRel place target = low_byte (distance place target) ∷ []
+encoded_reference LitZero place target = 128 ∷ low_byte target ∷ []
+encoded_reference RawZero place target = low_byte target ∷ []
+encoded_reference LitAbs place target = 160 ∷ short_bytes target
+encoded_reference RawAbs place target = short_bytes target
+encoded_reference Jmi place target = 64 ∷ short_bytes (distance (place + 1) target)
+encoded_reference Jci place target = 32 ∷ short_bytes (distance (place + 1) target)
+encoded_reference Jsi place target = 96 ∷ short_bytes (distance (place + 1) target)
+
+-- a reference that holds a byte reaches its target
+abbrev pub reaches : Rune → ℕ → ℕ → Bool
+reaches LitRel place target = is_near (place + 1) target
+reaches RawRel place target = is_near place target
+reaches LitZero place target = true
+reaches RawZero place target = true
+reaches LitAbs place target = true
+reaches RawAbs place target = true
+reaches Jmi place target = true
+reaches Jci place target = true
+reaches Jsi place target = true
+
+-- the bytes of a word of a form, at a place and with a target if it is a reference
+abbrev pub encoded : Form → List ℕ → ℕ → ℕ → List ℕ
+encoded (Pad n) word place target = []
+encoded (Skip n) word place target = []
+encoded (Lit1 n) word place target = 128 ∷ n ∷ []
+encoded (Lit2 n) word place target = 160 ∷ short_bytes n
+encoded (Raw1 n) word place target = n ∷ []
+encoded (Raw2 n) word place target = short_bytes n
+encoded (Op byte) word place target = byte ∷ []
+encoded Text word place target = drop 1 word
+encoded LabelDef word place target = []
+encoded SubDef word place target = []
+encoded (Refer rune) word place target = encoded_reference rune place target
+encoded LambdaEnd word place target = []
+encoded Ignored word place target = []

@@ -1,0 +1,9 @@
+pub mod Source
+pub mod Faults
+pub mod Comments
+pub mod Opcodes
+pub mod Digits
+pub mod Names
+pub mod Forms
+pub mod Braces
+pub mod Expansion

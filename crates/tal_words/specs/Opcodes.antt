@@ -1,0 +1,72 @@
+-- The names of the opcodes (Uxntal opcode reference; profile: JCI, JMI and JSI are words too).
+use Rattle.std.specs.Prelude.{ℕ, ◌+◌, ◌%◌, ◌/◌, Bool, true, not, ◌&&◌, ◌||◌, ◌==◌, if◌then◌else◌, List, [], ◌∷◌, ◌++◌, take, drop, codes, slice_index_or, Option, Some, None}
+use Rattle.std.specs.List.{list_any, position_from}
+use Rattle.std.specs.Str.{bytes_eq}
+
+-- the operations, in order of the low five bits of their bytes
+abbrev pub operations : List (List ℕ)
+operations =
+    codes "LIT" ∷ codes "INC" ∷ codes "POP" ∷ codes "NIP" ∷ codes "SWP" ∷ codes "ROT" ∷ codes "DUP" ∷ codes "OVR"
+    ∷ codes "EQU" ∷ codes "NEQ" ∷ codes "GTH" ∷ codes "LTH" ∷ codes "JMP" ∷ codes "JCN" ∷ codes "JSR" ∷ codes "STH"
+    ∷ codes "LDZ" ∷ codes "STZ" ∷ codes "LDR" ∷ codes "STR" ∷ codes "LDA" ∷ codes "STA" ∷ codes "DEI" ∷ codes "DEO"
+    ∷ codes "ADD" ∷ codes "SUB" ∷ codes "MUL" ∷ codes "DIV" ∷ codes "AND" ∷ codes "ORA" ∷ codes "EOR" ∷ codes "SFT" ∷ []
+
+-- the modes: `2` is short mode, `r` return mode and `k` keep mode
+abbrev pub mode_2 : ℕ
+mode_2 = 50
+
+abbrev pub mode_k : ℕ
+mode_k = 107
+
+abbrev pub mode_r : ℕ
+mode_r = 114
+
+-- a list has this byte
+abbrev pub has : ℕ → List ℕ → Bool
+has byte bytes = list_any (λ other. other == byte) bytes
+
+abbrev pub is_mode : ℕ → Bool
+is_mode byte = byte == mode_2 || byte == mode_k || byte == mode_r
+
+-- each of the bytes is a mode, and none comes twice
+abbrev pub are_modes : List ℕ → Bool
+are_modes [] = true
+are_modes (mode ∷ modes) = is_mode mode && not (has mode modes) && are_modes modes
+
+-- an operation with these modes; LIT always has the bit of keep mode
+abbrev pub with_modes : ℕ → List ℕ → ℕ
+with_modes operation modes =
+    operation
+    + (if has mode_2 modes then 32 else 0)
+    + (if has mode_r modes then 64 else 0)
+    + (if has mode_k modes || operation == 0 then 128 else 0)
+
+-- the byte of an operation's name and modes
+abbrev pub moded_byte : Option ℕ → List ℕ → Option ℕ
+moded_byte None modes = None
+moded_byte (Some operation) modes = if are_modes modes then Some (with_modes operation modes) else None
+
+-- the byte of an opcode word: one of four whole words, or an operation with modes in any order
+unfoldable pub byte_of_op : List ℕ → Option ℕ
+byte_of_op word =
+    if bytes_eq word (codes "BRK") then Some 0
+    else if bytes_eq word (codes "JCI") then Some 32
+    else if bytes_eq word (codes "JMI") then Some 64
+    else if bytes_eq word (codes "JSI") then Some 96
+    else moded_byte (position_from (bytes_eq (take 3 word)) 0 operations) (drop 3 word)
+
+-- the modes of a byte, in the order 2, k, r
+abbrev pub shown_modes : Bool → ℕ → List ℕ
+shown_modes shows_keep byte =
+    (if byte / 32 % 2 == 1 then mode_2 ∷ [] else [])
+    ++ (if shows_keep && byte / 128 % 2 == 1 then mode_k ∷ [] else [])
+    ++ (if byte / 64 % 2 == 1 then mode_r ∷ [] else [])
+
+-- the name of each of the 256 bytes: LIT never shows `k`
+unfoldable pub name_of_op : ℕ → List ℕ
+name_of_op byte =
+    if byte == 0 then codes "BRK"
+    else if byte == 32 then codes "JCI"
+    else if byte == 64 then codes "JMI"
+    else if byte == 96 then codes "JSI"
+    else slice_index_or operations (byte % 32) [] ++ shown_modes (not (byte % 32 == 0)) byte

@@ -1,0 +1,25 @@
+//! Words of a Uxntal source: how it is cut, what each word means, and what can be wrong with it.
+#![tactic(auto)]
+
+mod cutting;
+mod digits;
+mod fault;
+mod form;
+mod name;
+mod naming;
+mod opcode;
+mod reading;
+mod span;
+#[cfg(test)]
+mod tests;
+mod text;
+
+pub use cutting::words;
+pub use fault::{AsmStop, Fault, FaultKind, fault_word};
+pub use form::{Form, Rune};
+pub use name::{Label, Name};
+pub use naming::{closes, name_fault, opens, rune_of};
+pub use opcode::{names_are_read, op_byte, op_name};
+pub use reading::form_of;
+pub use span::{Expanded, Span, Word};
+pub use text::{begins, is_only};
