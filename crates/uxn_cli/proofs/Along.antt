@@ -1,5 +1,5 @@
-use Rattle.std.proofs.Common.{◌≡◌, ◌≢◌, ℕ, zero, suc, ◌+◌, ◌-◌, ◌<◌, ◌≤◌, Bool, true, false, List, [], ◌∷◌, ◌++◌, slice_set, slice_index, refl, ap, sym, ◌∙◌, cond, arith}
-use Rattle.std.specs.Prelude.{Option, Some, None, Ok, Err, ◌==◌}
+use Rattle.std.proofs.Common.{◌≡◌, ◌≢◌, ℕ, zero, suc, true, false, List, [], ◌∷◌, slice_set, slice_index, refl, ap, sym, ◌∙◌, cond, arith}
+use Rattle.std.specs.Prelude.{Option, Ok, Err, ◌==◌}
 use Rattle.std.proofs.lemmas.Bool.Decides.{nat_tests}
 use Rattle.uxn_io.specs.Told.{extended}
 use Rattle.uxn_opcodes.specs.declared.Core.{Core}
@@ -7,9 +7,9 @@ use Rattle.uxn_opcodes.specs.declared.Turn.TheVariants.{Ran, Broke}
 use Rattle.uxn_opcodes.specs.declared.Stop.{Stop}
 use Rattle.uxn_opcodes.specs.Rule.{opcode_at}
 use Rattle.uxn_opcodes.specs.Instruction.{Instruction}
-use Rattle.uxn_opcodes.specs.Model.{Carries, StandsAt, after_instruction, carried-ran, carried-broke, carried-stopped}
+use Rattle.uxn_opcodes.specs.Model.{Carries, after_instruction, carried-ran, carried-broke, carried-stopped}
 use Rattle.uxn_cli.specs.declared.console.Console.{Console}
-use Rattle.uxn_cli.specs.Run.{World, State, fresh, with_write, put_out, put_err, console, next, vector, last_of, vector_end}
+use Rattle.uxn_cli.specs.Run.{World, State, fresh, put_out, put_err, console, next, vector, last_of, vector_end}
 use Rattle.uxn_cli.specs.Console.{SameSinks, Reads, Wrote, Stopped, StandsFor, EndsVector}
 use Rattle.uxn_cli.proofs.Growth.{extended-extended, extended-nothing}
 

@@ -11,8 +11,8 @@ use Rattle.uxn_cli.specs.Words.{Asked, ToPlay, settings}
 use Rattle.uxn_cli.specs.Lines.{not_understood, no_path, missing, position, refused}
 use Rattle.uxn_cli.specs.Run.{reset_world}
 use Rattle.uxn_cli.specs.Outcome.{Outcome, refusal, ended, outcome, of_source, of_input, of_path, of_command, view_of, input_of, input_at}
-use Rattle.uxn_cli.specs.Answer.{IsEarly, HasOutcome, IsViewOf, IsOutcome, Answers}
-use Rattle.uxn_cli.specs.Causes.{IsExactly, AreIllegal, NameNoPath, NamePath, IsMissing, HasSource, IsRefused, IsAccepted, PutsLine}
+use Rattle.uxn_cli.specs.Answer.{IsEarly, IsOutcome, Answers}
+use Rattle.uxn_cli.specs.Causes.{IsExactly, AreIllegal, NameNoPath, NamePath, IsMissing, IsRefused, IsAccepted, PutsLine}
 use Rattle.uxn_cli.proofs.Growth.{extended-nothing}
 
 -- what an outcome is, by its five cases

@@ -1,25 +1,23 @@
-use Rattle.std.proofs.Common.{◌≡◌, ℕ, suc, ◌+◌, ◌<◌, ◌≤◌, Bool, true, false, List, [], ◌∷◌, ◌++◌, length, replicate, map, refl, ap, sym, ◌∙◌, cond, subst, arith}
+use Rattle.std.proofs.Common.{◌≡◌, ℕ, suc, ◌<◌, true, false, List, [], length, replicate, refl, ap, sym, ◌∙◌, cond, subst, arith}
 use Rattle.std.specs.Prelude.{Option, Some, None, Result, Ok, Err, IfOk, IfSome, OnOk, OnErr, nat_lt}
-use Rattle.std.specs.Option.{option_map}
 use Rattle.std.proofs.lemmas.Result.{IfOk-weaker}
 use Rattle.std.proofs.lemmas.List.{length-replicate}
 use Rattle.std.proofs.lemmas.Bool.Decides.{nat_tests}
 use Rattle.uxn_io.specs.declared.sinks.Failed.{Failed}
 use Rattle.uxn_io.specs.declared.paths.PathFault.{PathFault}
 use Rattle.uxn_io.specs.declared.trees.FileBytes.{FileBytes}
-use Rattle.uxn_io.specs.declared.trees.FileBytes.TheVariants.{Found, Missing, TooLong}
+use Rattle.uxn_io.specs.declared.trees.FileBytes.TheVariants.{Found, TooLong}
 use Rattle.uxn_io.specs.Told.{extended}
 use Rattle.uxn_io.specs.Files.{Nodes, file_at}
-use Rattle.uxn_io.specs.WholeFile.{whole_file, KeepsLimit}
+use Rattle.uxn_io.specs.WholeFile.{whole_file}
 use Rattle.uxn_io.specs.PathText.{path_of}
 use Rattle.uxn_opcodes.specs.declared.Stop.{Stop}
 use Rattle.uxn_opcodes.specs.declared.Stop.TheVariants.{SinkFault}
-use Rattle.tal_words.specs.declared.fault.Fault.{Fault}
 use Rattle.tal_rom.specs.Assembly.{first_fault, long_source}
 use Rattle.tal_rom.proofs.AssemblyLemmas.{long_source_refused}
-use Rattle.uxn_cli.specs.Words.{Asked, ToPlay, settings}
+use Rattle.uxn_cli.specs.Words.{ToPlay, settings}
 use Rattle.uxn_cli.specs.Lines.{not_understood, no_path, refused}
-use Rattle.uxn_cli.specs.Outcome.{Outcome, refusal, outcome, of_source, of_input, of_path, of_command, view_of, input_of, input_at}
+use Rattle.uxn_cli.specs.Outcome.{refusal, outcome, of_source, of_input, of_path, of_command, view_of, input_of, input_at}
 use Rattle.uxn_cli.specs.Answer.{HasOutcome, IsInputOf, PlaysInput, IsViewOf, IsOutcome}
 use Rattle.uxn_cli.proofs.Growth.{extended-nothing}
 

@@ -4,7 +4,7 @@ use Rattle.uxn_io.specs.Told.{extended}
 use Rattle.uxn_opcodes.specs.declared.Core.{Core}
 use Rattle.uxn_opcodes.specs.Rule.{new_core}
 use Rattle.uxn_cli.specs.declared.console.Console.{Console}
-use Rattle.uxn_cli.specs.Run.{World, State, fresh, new_page, budget, reset, reset_world, vector_end}
+use Rattle.uxn_cli.specs.Run.{World, State, fresh, new_page, budget, reset_world, vector_end}
 use Rattle.uxn_cli.specs.Console.{EndsVector}
 use Rattle.uxn_cli.specs.Outcome.{ended}
 use Rattle.uxn_cli.specs.Answer.{HasOutcome}

@@ -1,4 +1,4 @@
-use Rattle.std.proofs.Common.{◌≡◌, rules, refl}
+use Rattle.std.proofs.Common.{rules, refl}
 use Rattle.uxn_cli.proofs.Reset.{has_ended}
 use Rattle.uxn_cli.proofs.top.run_rom.Goals as goal
 

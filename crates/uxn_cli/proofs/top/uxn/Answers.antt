@@ -1,4 +1,4 @@
-use Rattle.std.proofs.Common.{◌≡◌, ◌≤◌, ◌⊎◌, inl, inr, arith}
+use Rattle.std.proofs.Common.{inr, arith}
 use Rattle.uxn_cli.proofs.CauseLemmas.{exactly_illegal, exactly_pathless, told_missing, told_refused, told_accepted, completes, is_small, is_quiet, puts_line}
 use Rattle.uxn_cli.proofs.top.uxn.Goals as goal
 

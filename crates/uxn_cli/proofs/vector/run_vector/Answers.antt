@@ -1,4 +1,4 @@
-use Rattle.std.proofs.Common.{◌≡◌, ◌≤◌, ℕ, suc, ◌+◌, ◌-◌, ◌<◌, refl, sym, ◌∙◌, arith}
+use Rattle.std.proofs.Common.{◌≡◌, suc, ◌+◌, ◌-◌, arith}
 use Rattle.uxn_cli.proofs.Along.{along-start, along-ran, along-left, ends-broke, ends-cut, same-stopped}
 use Rattle.uxn_cli.proofs.vector.run_vector.Goals as goal
 

@@ -1,4 +1,4 @@
-use Rattle.std.proofs.Common.{ℕ, ◌-◌, ◌≤◌}
+use Rattle.std.proofs.Common.{◌-◌, ◌≤◌}
 use Rattle.uxn_cli.proofs.Along.{Along}
 use Rattle.uxn_cli.proofs.vector.run_vector.Given as goal
 

@@ -1,4 +1,4 @@
-use Rattle.std.proofs.Common.{◌≡◌, ◌≢◌, ℕ, ◌+◌, ◌<◌, ◌≤◌, map, string_bytes, refl, ap, sym, ◌∙◌, arith, List, ◌∷◌, [], length}
+use Rattle.std.proofs.Common.{map, string_bytes, ap, sym, ◌∙◌}
 use Rattle.uxn_cli.specs.Words.{settings, named}
 use Rattle.uxn_cli.proofs.WordLemmas.{list_of_two, settings-other, settings-two}
 use Rattle.uxn_cli.proofs.words.read_words.Goals as goal
