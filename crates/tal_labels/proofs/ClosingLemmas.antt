@@ -1,12 +1,10 @@
-use Rattle.std.proofs.Common.{◌≡◌, ℕ, zero, suc, ◌+◌, ◌-◌, ◌<◌, ◌≤◌, Bool, true, false, List, [], ◌∷◌, ◌++◌, length, take, drop, get_or, map, length-take, slice_get, Option, Some, None, cond, inl, inr, ◌&&◌, ◌||◌, refl, sym, ◌∙◌, ap, arith, add-one, add-zero}
-use Rattle.std.specs.Prelude.{◌==◌, is_some}
+use Rattle.std.proofs.Common.{◌≡◌, ℕ, zero, suc, ◌+◌, ◌<◌, Bool, true, false, List, [], ◌∷◌, length, take, drop, get_or, map, length-take, slice_get, Option, Some, None, cond, inl, inr, ◌&&◌, refl, ◌∙◌, ap, arith, add-one}
+use Rattle.std.specs.Prelude.{◌==◌}
 use Rattle.std.specs.Option.{option_map}
 use Rattle.std.proofs.lemmas.List.{drop_more}
-use Rattle.std.proofs.lemmas.Bool.{eqb-true, ne_eqb, eq-eqb, and_parts, or_cases, and_right, and_left, cases_Bool}
+use Rattle.std.proofs.lemmas.Bool.{eqb-true, ne_eqb, eq-eqb, and_parts, or_cases}
 use Rattle.tal_words.specs.declared.span.Expanded.{Expanded}
-use Rattle.tal_words.specs.Source.{is_only}
-use Rattle.tal_words.specs.Names.{rune_of}
-use Rattle.tal_words.specs.Braces.{opens, closes, matching_after, matching, one_if}
+use Rattle.tal_words.specs.Braces.{opens, closes, matching_after, one_if}
 use Rattle.tal_labels.specs.Order.{each}
 use Rattle.tal_labels.specs.Places.{text_of}
 use Rattle.tal_labels.specs.Shapes.{closer_of, closing_distance}

@@ -1,9 +1,8 @@
-use Rattle.std.proofs.Common.{◌≡◌, ℕ, zero, suc, ◌+◌, ◌-◌, ◌*◌, ◌<◌, ◌≤◌, Bool, true, false, List, [], ◌∷◌, ◌++◌, length, take, drop, get_or, map, Option, Some, None, Result, Ok, Err, cond, inl, inr, ◌||◌, ◌&&◌, refl, sym, ◌∙◌, ap, arith, append_assoc, append-nil, length-take}
-use Rattle.std.specs.Prelude.{is_some}
+use Rattle.std.proofs.Common.{◌≡◌, ℕ, ◌+◌, ◌<◌, ◌≤◌, Bool, true, false, List, [], ◌∷◌, ◌++◌, length, take, drop, get_or, Option, Some, None, Ok, cond, inl, inr, ◌||◌, ◌&&◌, refl, sym, ◌∙◌, ap, arith}
 use Rattle.std.specs.List.{list_any}
 use Rattle.std.specs.Option.{option_map_or}
 use Rattle.std.proofs.Math.Dec.{ltb}
-use Rattle.std.proofs.lemmas.Bool.{ltb-true, ltb-false, lt-ltb, le-ltb, and_cases, cases_Bool, cases_lt}
+use Rattle.std.proofs.lemmas.Bool.{ltb-true, ltb-false, lt-ltb, le-ltb, cases_lt}
 use Rattle.std.proofs.lemmas.List.{take_more, take_all}
 use Rattle.std.proofs.lemmas.List.Folds.{list_any-append}
 use Rattle.tal_words.specs.declared.span.Expanded.{Expanded}
@@ -12,16 +11,16 @@ use Rattle.tal_words.specs.declared.fault.FaultKind.{FaultKind}
 use Rattle.tal_words.specs.declared.fault.FaultKind.TheVariants.{LabelTwice, ZeroPage, Outside, Rewind}
 use Rattle.tal_words.specs.declared.form.Form.{Form}
 use Rattle.tal_words.specs.declared.form.Form.TheVariants.{Pad, Skip, Lit1, Lit2, Raw1, Raw2, Op, Text, LabelDef, SubDef, Refer, LambdaEnd, Ignored}
-use Rattle.tal_words.specs.Faults.{Judged, when, least, fault_at, first_fault}
+use Rattle.tal_words.specs.Faults.{when, least, fault_at, first_fault}
 use Rattle.tal_words.specs.Forms.{form, size}
 use Rattle.tal_words.specs.Names.{first_scope, scope_of}
-use Rattle.tal_labels.specs.Order.{each, collected, or_earlier, last_of}
+use Rattle.tal_labels.specs.Order.{each, collected, or_earlier}
 use Rattle.tal_labels.specs.Places.{text_of, place_after, places_of}
 use Rattle.tal_labels.specs.Labels.{label_name, defined_name, last_label, scope_after, label_at, labels_given, labels_of}
 use Rattle.tal_labels.specs.Placing.{form_marks, marks, size_of, is_defined, place_kinds, ends_given, ends_of, judged_place, placing_fault}
 use Rattle.tal_labels.specs.Answers.{scope_next, label_of}
-use Rattle.tal_labels.proofs.OrderLemmas.{each-step, each-end, get_or-each, length-each, collected-more, last_of-more, no_word}
-use Rattle.tal_labels.proofs.ShapeLemmas.{formed, forms-get, judged-fault, judged-next}
+use Rattle.tal_labels.proofs.OrderLemmas.{each-end, get_or-each, length-each, collected-more, last_of-more, no_word}
+use Rattle.tal_labels.proofs.ShapeLemmas.{judged-fault, judged-next}
 use Rattle.tal_labels.proofs.PlacingLemmas.{place_given}
 
 none_of_four : (a b c d : Bool) → least (when a LabelTwice ++ when b ZeroPage ++ when c Outside ++ when d Rewind) ≡ None → (a ≡ false) × (b ≡ false) × (c ≡ false) × (d ≡ false)

@@ -6,3 +6,4 @@ pub mod IndexLemmas
 pub mod PlacingLemmas
 pub mod LayingLemmas
 pub mod PlacedLemmas
+pub mod CallerLemmas

@@ -1,14 +1,13 @@
-use Rattle.std.proofs.Common.{◌≡◌, ℕ, zero, suc, ◌+◌, ◌<◌, ◌≤◌, Bool, true, false, List, [], ◌∷◌, ◌++◌, length, Option, Some, None, Result, Ok, Err, cond, refl, sym, ◌∙◌, ap, arith}
+use Rattle.std.proofs.Common.{◌≡◌, ℕ, ◌+◌, Bool, true, false, List, [], ◌∷◌, ◌++◌, length, Option, Some, None, Ok, cond, refl, ◌∙◌, ap, arith}
 use Rattle.std.specs.Prelude.{is_some, unwrap_or}
 use Rattle.tal_words.specs.declared.span.Expanded.{Expanded}
 use Rattle.tal_words.specs.declared.form.Form.{Form}
 use Rattle.tal_words.specs.declared.form.Form.TheVariants.{Pad, Skip, Lit1, Lit2, Raw1, Raw2, Op, Text, LabelDef, SubDef, Refer, LambdaEnd, Ignored}
 use Rattle.tal_words.specs.Forms.{form}
-use Rattle.tal_words.specs.Names.{first_scope, scope_of}
-use Rattle.tal_labels.specs.Order.{or_earlier, last_of}
+use Rattle.tal_labels.specs.Order.{or_earlier}
 use Rattle.tal_labels.specs.Places.{text_of, pad_value, moves, last_pad, moved_since_pad, place_after, first_place}
-use Rattle.tal_labels.specs.Labels.{label_name, last_label, scope_after}
-use Rattle.tal_labels.specs.Answers.{advanced, scope_next}
+use Rattle.tal_labels.specs.Labels.{label_name, last_label}
+use Rattle.tal_labels.specs.Answers.{advanced}
 use Rattle.tal_labels.proofs.OrderLemmas.{last_of-more}
 
 module _ (source : List ℕ) where

@@ -1,9 +1,9 @@
-use Rattle.std.proofs.Common.{◌≡◌, ℕ, zero, suc, ◌+◌, ◌-◌, ◌*◌, ◌^◌, ◌<◌, ◌≤◌, ◌⊎◌, inl, inr, Bool, true, false, List, [], ◌∷◌, ◌++◌, length, take, drop, get_or, map, Option, Some, None, Result, Ok, Err, cond, ◌||◌, ◌&&◌, refl, sym, ◌∙◌, ap, arith, append_assoc, append-nil, length-take, length-drop, add-one}
-use Rattle.std.specs.Prelude.{is_some, ◌==◌, IfSome}
+use Rattle.std.proofs.Common.{◌≡◌, ℕ, zero, suc, ◌+◌, ◌-◌, ◌^◌, ◌<◌, ◌≤◌, Bool, true, false, List, [], ◌∷◌, ◌++◌, length, take, drop, get_or, map, Option, Some, None, Ok, Err, cond, ◌&&◌, refl, sym, ◌∙◌, ap, arith, append_assoc, append-nil, length-drop}
+use Rattle.std.specs.Prelude.{◌==◌, IfSome}
 use Rattle.std.specs.Option.{option_map}
 use Rattle.std.proofs.Math.Seq.{take-add}
-use Rattle.std.proofs.lemmas.Bool.{eqb-true, and_parts, cases_Bool}
-use Rattle.std.proofs.lemmas.List.{take_more, drop_more, get_or-map, length-map, get_or-drop}
+use Rattle.std.proofs.lemmas.Bool.{eqb-true, and_parts}
+use Rattle.std.proofs.lemmas.List.{take_more, get_or-map, length-map, get_or-drop}
 use Rattle.tal_words.specs.declared.span.Expanded.{Expanded}
 use Rattle.tal_words.specs.declared.fault.Fault.{Fault}
 use Rattle.tal_words.specs.declared.fault.FaultKind.{FaultKind}
@@ -13,19 +13,18 @@ use Rattle.tal_words.specs.declared.form.Form.{Form}
 use Rattle.tal_words.specs.declared.form.Form.TheVariants.{LambdaEnd}
 use Rattle.tal_words.specs.Faults.{Judged, least, first_fault, fault_or, or_later, Gives}
 use Rattle.tal_words.specs.Forms.{form, size}
-use Rattle.tal_words.specs.Braces.{opens, closes, matching_after, matching, one_if}
+use Rattle.tal_words.specs.Braces.{opens, closes, matching_after, one_if}
 use Rattle.tal_labels.specs.declared.placed.PlacedWord.{PlacedWord}
 use Rattle.tal_labels.specs.Order.{each, collected}
 use Rattle.tal_labels.specs.Places.{text_of, place_after, places_of}
 use Rattle.tal_labels.specs.Labels.{defined_name, scope_after, labels_of}
-use Rattle.tal_labels.specs.Shapes.{closers_of, closing_distance, shape_fault}
+use Rattle.tal_labels.specs.Shapes.{closing_distance, shape_fault}
 use Rattle.tal_labels.specs.Placing.{form_marks, marks, size_of, is_defined, ends_above, place_kinds, judged_place, placing_fault, place_fault, lambda_place, placed_with, placed_given, placed_of}
 use Rattle.tal_labels.proofs.OrderLemmas.{collected-step, collected-end, get_or-each, length-each, no_word}
-use Rattle.tal_labels.proofs.ShapeLemmas.{closers_of-get}
 use Rattle.tal_labels.proofs.LayingLemmas.{IsWellPlaced, well_placed, place_read, length-places_of}
 
 -- where no word has a fault each has none
-first_fault-none : (judged : List Judged) (k : ℕ) (d : Judged) → first_fault judged ≡ None → k < length judged → least (get_or judged k d).kinds ≡ None
+pub first_fault-none : (judged : List Judged) (k : ℕ) (d : Judged) → first_fault judged ≡ None → k < length judged → least (get_or judged k d).kinds ≡ None
 first_fault-none [] k d e h = absurd (omega arith)
 first_fault-none (word ∷ words) k d e h = by (least word.kinds) refl e k h (λ j later below. first_fault-none words j d later below)
   where

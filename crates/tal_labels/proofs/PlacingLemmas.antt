@@ -1,7 +1,6 @@
-use Rattle.std.proofs.Common.{◌≡◌, ℕ, zero, suc, ◌+◌, ◌-◌, ◌*◌, ◌^◌, ◌<◌, ◌≤◌, Bool, true, false, List, [], ◌∷◌, ◌++◌, length, take, drop, get_or, map, Option, Some, None, Result, Ok, Err, cond, refl, sym, ◌∙◌, ap, arith, append_assoc, append-nil, length-take, length-drop}
+use Rattle.std.proofs.Common.{◌≡◌, ℕ, ◌+◌, ◌-◌, ◌*◌, ◌^◌, ◌<◌, ◌≤◌, List, [], ◌∷◌, ◌++◌, length, take, drop, get_or, map, refl, sym, ◌∙◌, ap, arith, append_assoc, append-nil, length-take, length-drop}
 use Rattle.std.proofs.lemmas.List.{take_more}
 use Rattle.tal_words.specs.declared.span.Expanded.{Expanded}
-use Rattle.tal_words.specs.declared.fault.FaultKind.{FaultKind}
 use Rattle.tal_words.specs.declared.form.Form.{Form}
 use Rattle.tal_words.specs.declared.span.Span.{Span}
 use Rattle.tal_words.specs.Source.{bytes_at}

@@ -1,6 +1,6 @@
 -- Labels, their scopes and their full names (Uxntal syntax reference).
-use Rattle.std.specs.Prelude.{ℕ, List, [], ◌∷◌, drop, find, Option, Some, None, Result, Ok, Err}
-use Rattle.std.specs.Option.{option_map, option_map_or, option_to_list}
+use Rattle.std.specs.Prelude.{ℕ, List, [], ◌∷◌, drop, find, Option, Some, None, Result, Ok}
+use Rattle.std.specs.Option.{option_map, option_map_or}
 use Rattle.std.specs.Str.{bytes_eq}
 use Rattle.tal_words.specs.declared.span.Expanded.{Expanded}
 use Rattle.tal_words.specs.declared.name.Label.{Label}

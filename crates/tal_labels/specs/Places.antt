@@ -3,7 +3,7 @@ use Rattle.std.specs.Prelude.{ℕ, ◌+◌, List, [], ◌∷◌, Option, Some, N
 use Rattle.tal_words.specs.declared.span.Expanded.{Expanded}
 use Rattle.tal_words.specs.declared.fault.FaultKind.{FaultKind}
 use Rattle.tal_words.specs.declared.form.Form.{Form}
-use Rattle.tal_words.specs.declared.form.Form.TheVariants.{Pad, Skip, Lit1, Lit2, Raw1, Raw2, Op, Text, LabelDef, SubDef, Refer, LambdaEnd, Ignored}
+use Rattle.tal_words.specs.declared.form.Form.TheVariants.{Pad, Skip}
 use Rattle.tal_words.specs.Source.{bytes_at}
 use Rattle.tal_words.specs.Forms.{form, size}
 use Rattle.tal_labels.specs.Order.{each, last_of}

@@ -9,5 +9,6 @@ mod shapes;
 #[cfg(test)]
 mod tests;
 
+pub use labels::{FIRST_SCOPE, full_name, scope_after};
 pub use placed::{Placed, PlacedWord};
 pub use placing::place;

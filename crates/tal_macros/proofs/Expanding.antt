@@ -1,9 +1,9 @@
 -- The pass over the words of a source, one word at a time.
-use Rattle.std.proofs.Common.{◌≡◌, ℕ, zero, suc, ◌+◌, ◌-◌, ◌<◌, ◌≤◌, Bool, true, false, List, [], ◌∷◌, ◌++◌, length, take, drop, Option, Some, None, Err, refl, ap, sym, ◌∙◌, arith, add-zero}
+use Rattle.std.proofs.Common.{◌≡◌, ℕ, zero, suc, ◌+◌, ◌-◌, ◌<◌, ◌≤◌, true, false, List, [], ◌∷◌, ◌++◌, length, drop, Option, Some, None, Err, refl, ap, sym, ◌∙◌, arith, add-zero}
 use Rattle.std.specs.Prelude.{Vec}
 use Rattle.std.specs.declared.alloc.Global.{Global}
 use Rattle.std.specs.List.{flat_map}
-use Rattle.std.proofs.lemmas.List.{append_assoc, append-nil, drop_more, drop_all, length-take, length-drop}
+use Rattle.std.proofs.lemmas.List.{append_assoc, append-nil, drop_more, length-take, length-drop}
 use Rattle.tal_words.specs.declared.span.Word.{Word}
 use Rattle.tal_words.specs.declared.span.Expanded.{Expanded}
 use Rattle.tal_words.specs.declared.fault.Fault.{Fault}
@@ -16,7 +16,7 @@ use Rattle.tal_words.specs.Faults.{least, fault_at, first_fault, Gives}
 use Rattle.tal_words.specs.Expansion.{Macro, Part, text_of, body_after, visits, limit_faults, given_by, head_faults, known_after, parts_from, judged_parts, given_by_part, depth_limit, visit_limit}
 use Rattle.tal_macros.specs.declared.body.Body.{Body}
 use Rattle.tal_macros.specs.Bodies.{body_words, word_at}
-use Rattle.tal_macros.specs.Heads.{IsBody, Defines, IsLeast}
+use Rattle.tal_macros.specs.Heads.{Defines, IsLeast}
 use Rattle.tal_macros.specs.Visiting.{Expands}
 
 -- how many words a body has

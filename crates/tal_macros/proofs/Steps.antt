@@ -1,11 +1,11 @@
 -- One turn of the visit.
-use Rattle.std.proofs.Common.{◌≡◌, ◌≢◌, ℕ, zero, suc, ◌+◌, ◌-◌, ◌<◌, ◌≤◌, Bool, true, false, not, ◌&&◌, ◌==◌, List, [], ◌∷◌, ◌++◌, length, Option, Some, None, is_some, refl, ap, sym, ◌∙◌, arith}
+use Rattle.std.proofs.Common.{◌≡◌, ℕ, suc, ◌+◌, ◌-◌, ◌<◌, ◌≤◌, false, ◌&&◌, ◌==◌, List, [], ◌∷◌, ◌++◌, length, Some, None, is_some, refl, arith}
 use Rattle.std.proofs.lemmas.List.{append-nil, length-append}
 use Rattle.std.proofs.lemmas.Bool.{ne_eqb, and_right}
 use Rattle.tal_words.specs.declared.span.Word.{Word}
 use Rattle.tal_words.specs.declared.span.Expanded.{Expanded}
 use Rattle.tal_words.specs.declared.fault.FaultKind.TheVariants.{MacroDeep, ManyWords}
-use Rattle.tal_words.specs.Expansion.{Macro, Visited, body_named, text_of, visited, visits, limit_faults, given_by, depth_limit, visit_limit}
+use Rattle.tal_words.specs.Expansion.{Macro, body_named, text_of, visited, visits, limit_faults, depth_limit, visit_limit}
 use Rattle.tal_macros.specs.declared.body.Body.{Body}
 use Rattle.tal_macros.specs.Bodies.{body_words}
 use Rattle.tal_macros.proofs.Pending.{Visiting, pending, visiting_more, visiting_deep, visiting_many, pending-plain, pending-use, pending-last}

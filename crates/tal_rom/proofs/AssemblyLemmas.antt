@@ -60,7 +60,7 @@ module _ (source : List ℕ) where
       unfolding first_fault
       refused_places view value stop e =
           stopped view value Stops stop (place_fault source expanded)
-              (λ found f. let same : place_fault source (expanded_of source) ≡ Some found = ap (place_fault source) (sym all) ∙ f in rw (words_sound, expansion_sound, same) refl) tt e
+          (λ found f. let same : place_fault source (expanded_of source) ≡ Some found = ap (place_fault source) (sym all) ∙ f in rw (words_sound, expansion_sound, same) refl) tt e
 
       module _ (places_sound : place_fault source expanded ≡ None) (placed : Layout) (laid : placed ≡ layout source) where
         pub refused_references : {X Y : Type 0} (view : X → Y) (value : Y) (stop : AsmStop)
@@ -69,8 +69,8 @@ module _ (source : List ℕ) where
         refused_references view value stop e =
             let before : place_fault source (expanded_of source) ≡ None = ap (place_fault source) (sym all) ∙ places_sound in
             stopped view value Stops stop (reference_fault source placed.labels placed.words)
-                (λ found f. let same : reference_fault source (layout source).labels (layout source).words ≡ Some found = ap (λ (l : Layout). reference_fault source l.labels l.words) (sym laid) ∙ f in
-                    rw (words_sound, expansion_sound, before, same) refl) tt e
+            (λ found f. let same : reference_fault source (layout source).labels (layout source).words ≡ Some found = ap (λ (l : Layout). reference_fault source l.labels l.words) (sym laid) ∙ f in
+            rw (words_sound, expansion_sound, before, same) refl) tt e
 
         pub accepted : reference_fault source placed.labels placed.words ≡ None → first_fault source ≡ None
         unfolding first_fault

@@ -47,10 +47,10 @@ bare_found pieces place address =
 bare_laid : (pieces : List Piece) (rom : List ℕ) (place : ℕ) → IsLaid pieces rom → IsLaid (pieces ++ record { place = place; bytes = [] } ∷ []) rom
 unfolding byte_at
 bare_laid pieces rom place laid = record {
-    each = λ i. laid.each i ∙ ap (byte_of_piece (256 + i)) (sym (bare_found pieces place (256 + i)));
-    above = λ address behind. bare_found pieces place address ∙ laid.above address behind;
-    within = laid.within
-  }
+  each = λ i. laid.each i ∙ ap (byte_of_piece (256 + i)) (sym (bare_found pieces place (256 + i)));
+  above = λ address behind. bare_found pieces place address ∙ laid.above address behind;
+  within = laid.within;
+}
 
 -- the bytes of the next word behind a gap of zeros
 module _ (rom bytes : List ℕ) (place : ℕ) (behind : 256 + length rom ≤ place) where
@@ -126,7 +126,7 @@ next_laid pieces rom place (byte ∷ bytes) laid behind room =
           found_more pieces piece address
           ∙ ap (λ o. option_or o (cond (covers address piece) (Some piece) None)) (laid.above address (omega (arith, size)))
           ∙ ap (λ b. cond b (Some piece) None) none;
-      within = omega (arith, size)
+      within = omega (arith, size);
     }
 
 pub nothing_laid : (rom : List ℕ) → rom ≡ [] → IsLaid [] rom

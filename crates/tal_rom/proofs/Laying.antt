@@ -39,11 +39,11 @@ pub nothing_laid_so : (source : List ℕ) (expanded : List Expanded) (labels : L
     → rom ≡ [] → scope ≡ scope_after source [] → IsLaidSo source expanded labels words 0 rom scope
 unfolding reference_fault scope_behind pieces_of
 nothing_laid_so source expanded labels words rom scope e first = record {
-    sound = refl;
-    scoped = first;
-    laid = nothing_laid rom e;
-    top = λ place from above. omega (arith, ap length e)
-  }
+  sound = refl;
+  scoped = first;
+  laid = nothing_laid rom e;
+  top = λ place from above. omega (arith, ap length e);
+}
 
 -- the end of the bytes with one more word
 top_filled : (rom : List ℕ) (at : ℕ) (bytes : List ℕ) (place : ℕ) → (0 < length bytes → 256 + length rom ≤ at) → 256 + length rom ≤ place
@@ -94,7 +94,7 @@ module _ (source : List ℕ) (expanded : List Expanded) (labels : List Label) (w
   faulty_next text target kind read named some =
       sym so.sound
       ∙ fault-here (judged_reference source labels) words k d within kind
-          (ap (λ t. least (reference_kinds (get_or words k d).form (get_or words k d).address t)) (sym (target_read text target read named)) ∙ some)
+      (ap (λ t. least (reference_kinds (get_or words k d).form (get_or words k d).address t)) (sym (target_read text target read named)) ∙ some)
 
   pub next_laid_so : (more next text : List ℕ) (target : Option ℕ) → text ≡ text_of source (get_or words k d).word
       → target ≡ form_target (get_or words k d).form (named_target labels scope text (get_or words k d).lambda)
@@ -108,12 +108,12 @@ module _ (source : List ℕ) (expanded : List Expanded) (labels : List Label) (w
       let same = target_read text target read named in
       let bytes = encoded word.form (text_of source word.word) word.address (unwrap_or (target_of source labels (take k words) word) 0) in
       let all : more ≡ filled rom word.address bytes =
-          appended
-          ∙ ap (λ t. filled rom word.address (encoded word.form t word.address (unwrap_or target 0))) read
-          ∙ ap (λ o. filled rom word.address (encoded word.form (text_of source word.word) word.address (unwrap_or o 0))) same in
+      appended
+      ∙ ap (λ t. filled rom word.address (encoded word.form t word.address (unwrap_or target 0))) read
+      ∙ ap (λ o. filled rom word.address (encoded word.form (text_of source word.word) word.address (unwrap_or o 0))) same in
       let long : length bytes ≡ word.size = length-encoded word.form (text_of source word.word) word.address (unwrap_or (target_of source labels (take k words) word) 0) ∙ sym (sized (text_of source word.word) refl) in
       let pieces : pieces_of source labels (take (k + 1) words) ≡ pieces_of source labels (take k words) ++ record { place = word.address; bytes = bytes } ∷ [] =
-          ap (pieces_of source labels) (take_more words k d within) ∙ each-more (piece_given source labels) (λ b w a c. refl) [] (take k words) word in
+      ap (pieces_of source labels) (take_more words k d within) ∙ each-more (piece_given source labels) (λ b w a c. refl) [] (take k words) word in
       let behind : 0 < length bytes → 256 + length rom ≤ word.address = λ some. word-above (omega (arith, long)) in
       let P : List Piece → Type 0 = λ ps. IsLaid ps more in
       let Q : List ℕ → Type 0 = λ r. IsLaid (pieces_of source labels (take k words) ++ record { place = word.address; bytes = bytes } ∷ []) r in
@@ -129,16 +129,17 @@ module _ (source : List ℕ) (expanded : List Expanded) (labels : List Label) (w
             let parts = ends_more source expanded k word place at above in
             let low = so.top place from parts.0 in
             let end = top_filled rom word.address bytes place behind low (λ some. omega (arith, long, parts.1 (omega (arith, long)))) in
-            omega (arith, end, ap length all)
+            omega (arith, end, ap length all);
       }
 
 pub all_laid : (source : List ℕ) (expanded : List Expanded) (labels : List Label) (words : List PlacedWord) (k : ℕ) (rom scope : List ℕ) → length words ≤ k
     → IsLaidSo source expanded labels words k rom scope → (reference_fault source labels words ≡ None) × AreBytesOf (pieces_of source labels words) rom
 all_laid source expanded labels words k rom scope past so =
     let P : List PlacedWord → Type 0 = λ ws. IsLaid (pieces_of source labels ws) rom in
-    let laid : IsLaid (pieces_of source labels words) rom = subst P (take_all k words past) so.laid in
-    (sym so.sound ∙ ap first_fault (each-end (judged_reference source labels) words k past),
-     record { each = laid.each; within = laid.within })
+    let laid : IsLaid (pieces_of source labels words) rom = subst P (take_all k words past) so.laid in (
+      sym so.sound ∙ ap first_fault (each-end (judged_reference source labels) words k past),
+      record { each = laid.each; within = laid.within },
+    )
 
 -- the bytes of all words, without the zeros at their end, are the ROM
 pub rom_of-held : (pieces : List Piece) (rom : List ℕ) → AreBytesOf pieces rom → trimmed rom ≡ rom_image pieces

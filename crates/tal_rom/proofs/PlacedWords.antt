@@ -85,12 +85,12 @@ address-of Ignored text place h = tt
 -- the word that an expanded word of a form gives
 abbrev pub one_with : List ℕ → List Expanded → Expanded → List Expanded → Result Form FaultKind → PlacedWord
 one_with source before word after (Ok shape) = record {
-    word = word;
-    form = shape;
-    address = place_after source before;
-    size = size shape (text_of source word);
-    lambda = lambda_place source before word after
-  }
+  word = word;
+  form = shape;
+  address = place_after source before;
+  size = size shape (text_of source word);
+  lambda = lambda_place source before word after;
+}
 one_with source before word after (Err kind) = record { word = word; form = Ignored; address = place_after source before; size = 0; lambda = None }
 
 abbrev pub one : List ℕ → List Expanded → Expanded → List Expanded → PlacedWord
@@ -139,7 +139,7 @@ module _ (source : List ℕ) where
   unfolding scope_after
   scope_after-more before last shape e =
       ap (λ o. option_map_or scope_of o first_scope) (last_of-more (λ word. label_name (form (text_of source word)) (text_of source word)) before last
-        ∙ ap (λ f. or_earlier (label_name f (text_of source last)) (last_label source before)) e)
+      ∙ ap (λ f. or_earlier (label_name f (text_of source last)) (last_label source before)) e)
       ∙ by shape (text_of source last) (last_label source before)
     where
       by : (shape : Form) (text : List ℕ) (earlier : Option (List ℕ)) → option_map_or scope_of (or_earlier (label_name (Ok shape) text) earlier) first_scope ≡ scope_next shape (option_map_or scope_of earlier first_scope) text
@@ -202,10 +202,11 @@ module _ (source : List ℕ) (expanded : List Expanded) (words : List PlacedWord
       let has : nat_lt 0 length ≡ true = lt-ltb 0 length some in
       let low = when-none (nat_lt 0 length && nat_lt place 256) ZeroPage second.1 in
       let high = when-none ((nat_lt 0 length && nat_lt 65536 (place + length)) || (is_mark && nat_lt 65535 place)) Outside third.1 in
-      let rewound = when-none (nat_lt 0 length && below) Rewind last.1 in
-      (ltb-false place 256 (sym (ap (λ b. b && nat_lt place 256) has) ∙ low),
-       ltb-false 65536 (place + length) (or_left (nat_lt 65536 (place + length)) (is_mark && nat_lt 65535 place) (sym (ap (λ b. (b && nat_lt 65536 (place + length)) || (is_mark && nat_lt 65535 place)) has) ∙ high)),
-       sym (ap (λ b. b && below) has) ∙ rewound)
+      let rewound = when-none (nat_lt 0 length && below) Rewind last.1 in (
+        ltb-false place 256 (sym (ap (λ b. b && nat_lt place 256) has) ∙ low),
+        ltb-false 65536 (place + length) (or_left (nat_lt 65536 (place + length)) (is_mark && nat_lt 65535 place) (sym (ap (λ b. (b && nat_lt 65536 (place + length)) || (is_mark && nat_lt 65535 place)) has) ∙ high)),
+        sym (ap (λ b. b && below) has) ∙ rewound,
+      )
     where
       or_left : (x y : Bool) → (x || y) ≡ false → x ≡ false
       or_left true y e = cc
@@ -222,9 +223,9 @@ module _ (source : List ℕ) (expanded : List Expanded) (words : List PlacedWord
       let p = one source (take k expanded) word (drop (k + 1) expanded) in
       let found : get_or words k d ≡ p = ap (λ ws. get_or ws k d) all_each ∙ get_or-each (one source) [] expanded k no_word d inside in
       let shaped = ap (λ j. least j.kinds) (sym (get_or-each (judged_shape source) [] expanded k no_word nobody inside))
-          ∙ none-at (each (judged_shape source) [] expanded) k nobody are.shaped (omega (arith, length-each (judged_shape source) [] expanded)) in
+      ∙ none-at (each (judged_shape source) [] expanded) k nobody are.shaped (omega (arith, length-each (judged_shape source) [] expanded)) in
       let placed = ap (λ j. least j.kinds) (sym (get_or-each (judged_place source) [] expanded k no_word nobody inside))
-          ∙ none-at (each (judged_place source) [] expanded) k nobody are.placed (omega (arith, length-each (judged_place source) [] expanded)) in
+      ∙ none-at (each (judged_place source) [] expanded) k nobody are.placed (omega (arith, length-each (judged_place source) [] expanded)) in
       let named : f ≡ Ok p.form = form_one source (take k expanded) word (drop (k + 1) expanded) text (open_count source (take k expanded)) (is_some (closing_distance source (drop (k + 1) expanded))) f shaped in
       let sized : p.size ≡ size_of f text = size_one source (take k expanded) word (drop (k + 1) expanded) f in
       let addressed : p.address ≡ place_after source (take k expanded) = address_one source (take k expanded) word (drop (k + 1) expanded) f in
@@ -238,7 +239,7 @@ module _ (source : List ℕ) (expanded : List Expanded) (words : List PlacedWord
         size = sized ∙ ap (λ g. size_of g text) named;
         start = λ some. omega (arith, addressed, (parts (omega (arith, sized))).0);
         end = λ some. omega (arith, addressed, sized, (parts (omega (arith, sized))).1);
-        above = λ some. ap (ends_above source (take k expanded)) addressed ∙ (parts (omega (arith, sized))).2
+        above = λ some. ap (ends_above source (take k expanded)) addressed ∙ (parts (omega (arith, sized))).2;
       }
 
 -- a place above the ends of one more word is above those before it, and above the end of the word
@@ -252,7 +253,7 @@ ends_more source expanded k placed place at e =
     let length_here = size_of (form (text_of source word)) (text_of source word) in
     let split = ap (ends_of source) (take_more expanded k no_word at.within) ∙ collected-more (ends_given source) (λ b w a c. refl) [] before word in
     let both = sym (list_any-append (λ end. nat_lt place end) (ends_of source before) (ends_given source before word []))
-        ∙ sym (ap (list_any (λ end. nat_lt place end)) split) ∙ e in
+    ∙ sym (ap (list_any (λ end. nat_lt place end)) split) ∙ e in
     let parts = or_false (list_any (λ end. nat_lt place end) (ends_of source before)) (list_any (λ end. nat_lt place end) (ends_given source before word [])) both in
     let sized : placed.size ≡ length_here = at.size ∙ sym (ap (λ f. size_of f (text_of source word)) at.shape) in
     (parts.0, λ some. omega (arith, sized, at.address, here (place_after source before) length_here (omega (arith, sized)) parts.1))
@@ -260,6 +261,7 @@ ends_more source expanded k placed place at e =
     or_false : (x y : Bool) → (x || y) ≡ false → (x ≡ false) × (y ≡ false)
     or_false true y e = cc
     or_false false y e = (refl, e)
+
     here : (at length : ℕ) → 0 < length → list_any (λ end. nat_lt place end) (cond (nat_lt 0 length) ((at + length) ∷ []) []) ≡ false → at + length ≤ place
     here at length some e =
         let has : nat_lt 0 length ≡ true = lt-ltb 0 length some in

@@ -1,6 +1,5 @@
 -- What the steps of the assembling answer.
 use Rattle.std.specs.Prelude.{ℕ, ◌+◌, ◌-◌, ◌^◌, ◌<◌, List, [], ◌∷◌, ◌++◌, length, drop, replicate}
-
 use Rattle.tal_words.specs.declared.form.Form.{Form}
 use Rattle.tal_words.specs.declared.form.Form.TheVariants.{LabelDef, Refer}
 use Rattle.tal_words.specs.Names.{scope_of}

@@ -8,9 +8,13 @@ use tal_words::{Form, Rune};
 
 /// The opcodes that words of their own put before their bytes.
 const LIT: u8 = 0x80;
+
 const LIT2: u8 = 0xa0;
+
 const JMI: u8 = 0x40;
+
 const JCI: u8 = 0x20;
+
 const JSI: u8 = 0x60;
 
 /// A greatest address that a place may be, and one more.

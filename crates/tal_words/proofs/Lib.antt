@@ -1,4 +1,5 @@
 pub mod Cut
+pub mod FirstLemmas
 pub mod FormLemmas
 pub mod Modes
 pub mod Numbers

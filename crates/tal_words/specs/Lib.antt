@@ -1,5 +1,6 @@
 pub mod Source
 pub mod Faults
+pub mod FirstFault
 pub mod Comments
 pub mod Opcodes
 pub mod Digits

@@ -1,7 +1,8 @@
 //! What can be wrong with a source.
 
-ghost use Rattle.std.specs.Prelude.{◌≡◌};
-ghost use Rattle.tal_words.specs.Faults.{kind_name, fault_at, fault_text};
+ghost use Rattle.std.specs.Prelude.{◌≡◌, List};
+ghost use Rattle.tal_words.specs.Faults.{Judged, kind_name, fault_at, fault_text};
+ghost use Rattle.tal_words.specs.FirstFault.{IsFirst};
 ghost use Rattle.tal_words.specs.declared.fault.AsmStop.TheVariants.{NoMemory};
 
 use crate::span::Word;
@@ -120,6 +121,11 @@ pub fn fault_word<'a>(source: &'a [u8], fault: &Fault) -> &'a [u8]
     let end = run_end(source, start);
     &source[start..end]
 }
+
+/// The first fault is the first: no word before it has one, and its word has none of a lesser number.
+pub fn first_fault_is_first()
+    ensures { (words : List Judged) → IsFirst words }
+{}
 
 /// Why a source is not assembled.
 #[derive(Debug, Drop, Error)]

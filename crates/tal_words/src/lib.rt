@@ -15,7 +15,7 @@ mod tests;
 mod text;
 
 pub use cutting::words;
-pub use fault::{AsmStop, Fault, FaultKind, fault_word};
+pub use fault::{AsmStop, Fault, FaultKind, fault_word, first_fault_is_first};
 pub use form::{Form, Rune};
 pub use name::{Label, Name};
 pub use naming::{closes, name_fault, opens, rune_of};

@@ -210,6 +210,8 @@ fn tells_names_and_braces(rt: HostRuntime) -> Result<(), Fail> {
     assert!(rt; closes(b"}") && !closes(b"}}"));
     let name = Name::new(rt.alloc(), b"on-reset")?;
     assert_eq!(rt; name.bytes(), b"on-reset".as_slice());
+    let again = Name::from_vec(name.into_vec());
+    assert_eq!(rt; again.bytes(), b"on-reset".as_slice());
     assert_eq!(rt; FaultKind::OpenComment.name(), "OpenComment");
     Ok(())
 }

@@ -1,4 +1,4 @@
-use Rattle.std.proofs.Common.{arith, ◌≡◌, ◌∙◌, ap, sym, get_or, ◌+◌, ◌<◌, ◌++◌, length, map, cond, refl, Some, Ok}
+use Rattle.std.proofs.Common.{arith, ◌∙◌, ap, sym, get_or, ◌+◌, ◌<◌, ◌++◌, length, map, cond, refl, Some}
 use Rattle.std.proofs.Math.Dec.{ltb}
 use Rattle.tal_words.specs.declared.form.Form.TheVariants.{Pad}
 use Rattle.tal_labels.specs.Index.{labels_in}

@@ -3,7 +3,6 @@ use Rattle.std.specs.Global.{Vec}
 use Rattle.tal_words.specs.declared.form.Form.{Form}
 use Rattle.tal_words.specs.declared.name.Label.{Label}
 use Rattle.tal_labels.specs.declared.placed.PlacedWord.{PlacedWord}
-use Rattle.tal_labels.specs.Labels.{labels_of}
 use Rattle.tal_labels.specs.Placing.{Layout}
 use Rattle.tal_labels.specs.Index.{labels_in}
 use Rattle.tal_labels.proofs.IndexLemmas.{Index}

@@ -1,4 +1,4 @@
-use Rattle.std.proofs.Common.{arith, ◌≡◌, ◌∙◌, ap, sym, subst, get_or, ◌+◌, ◌<◌, ◌^◌, length, drop, refl, ℕ, Option, None, cond}
+use Rattle.std.proofs.Common.{arith, ◌≡◌, ◌∙◌, ap, sym, subst, get_or, ◌+◌, ◌<◌, ◌^◌, length, drop, refl, ℕ, Option, None}
 use Rattle.std.specs.Prelude.{IfSome, slice_index}
 use Rattle.std.specs.Option.{option_map}
 use Rattle.tal_words.specs.Forms.{size}

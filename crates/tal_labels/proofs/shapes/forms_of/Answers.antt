@@ -1,4 +1,4 @@
-use Rattle.std.proofs.Common.{arith, ◌≡◌, ◌∙◌, ap, sym, get_or, ◌+◌, ◌<◌, length, refl, None, Some}
+use Rattle.std.proofs.Common.{arith, ◌∙◌, ap, sym, length, None, Some}
 use Rattle.tal_labels.proofs.ShapeLemmas.{length-closers_of, nothing_shaped, next_shaped, faulty_shape, all_shaped}
 use Rattle.tal_labels.proofs.shapes.forms_of.Goals as goal
 

@@ -1,8 +1,8 @@
-use Rattle.std.proofs.Common.{◌≡◌, [], ap, sym, ◌∙◌, true, false, Some, drop, arith}
+use Rattle.std.proofs.Common.{◌≡◌, ap, sym, ◌∙◌, true, false, Some, arith}
 use Rattle.std.proofs.lemmas.List.{drop_all}
 use Rattle.tal_words.specs.Source.{begins}
 use Rattle.tal_words.specs.Expansion.{text_of}
-use Rattle.tal_macros.specs.Bodies.{known_of, word_at}
+use Rattle.tal_macros.specs.Bodies.{word_at}
 use Rattle.tal_macros.proofs.Expanding.{expanding_start, expanding_end, turn_inside, turn_head, turn_plain, fault_inside, fault_head, fault_plain, gives_least}
 use Rattle.std.proofs.lemmas.Result.{err_from_is_err_and}
 use Rattle.tal_macros.proofs.expansion.expand_words.Goals as goal

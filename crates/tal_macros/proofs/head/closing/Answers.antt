@@ -1,6 +1,6 @@
-use Rattle.std.proofs.Common.{◌≡◌, ◌&&◌, ◌==◌, ap, sym, ◌∙◌, false, true}
+use Rattle.std.proofs.Common.{◌≡◌, ◌&&◌, ◌==◌, sym, ◌∙◌, false}
 use Rattle.std.proofs.lemmas.Bool.{eq-eqb, ne_eqb, and_from, and_left, and_right}
-use Rattle.tal_words.specs.Braces.{opens, closes, one_if}
+use Rattle.tal_words.specs.Braces.{closes}
 use Rattle.tal_macros.proofs.Closing.{searches_start, searches_found, searches_more, searches_end}
 use Rattle.tal_macros.proofs.head.closing.Goals as goal
 use Rattle.tal_macros.proofs.head.closing.Goals.{else-closes-via-then-closes+else-opened-closed, else-closes-via-else-closes}

@@ -1,13 +1,13 @@
-use Rattle.std.proofs.Common.{◌≡◌, ℕ, ◌+◌, ◌-◌, ◌<◌, ◌≤◌, true, false, is_some, [], ◌∷◌, List, Option, Some, None, take, drop, length, refl, ap, sym, ◌∙◌, arith}
+use Rattle.std.proofs.Common.{◌≡◌, ℕ, ◌+◌, ◌<◌, ◌≤◌, is_some, [], List, Option, Some, None, length, ap, sym, ◌∙◌, arith}
 use Rattle.std.specs.Option.{option_map}
 use Rattle.tal_words.specs.declared.span.Word.{Word}
 use Rattle.tal_words.specs.Expansion.{body_named, text_of, depth_limit, visit_limit}
 use Rattle.std.specs.Prelude.{Vec}
 use Rattle.std.specs.declared.alloc.Global.{Global}
-use Rattle.tal_words.specs.Faults.{least, fault_at}
+use Rattle.tal_words.specs.Faults.{least}
 use Rattle.tal_words.specs.declared.fault.FaultKind.TheVariants.{MacroDeep, ManyWords}
 use Rattle.tal_macros.specs.declared.body.Body.{Body}
-use Rattle.tal_macros.specs.Bodies.{body_words, known_of, word_at}
+use Rattle.tal_macros.specs.Bodies.{body_words, known_of}
 use Rattle.tal_macros.proofs.Known.{word_alone, some_body, no_body}
 use Rattle.tal_macros.proofs.Pending.{visiting_start, visiting_skip, visiting_end}
 use Rattle.tal_macros.proofs.Steps.{step_plain, step_use, step_deep, step_many_plain, step_many_use}

@@ -1,4 +1,4 @@
-use Rattle.std.proofs.Common.{◌+◌, ◌-◌, ◌*◌, vec_len, length}
+use Rattle.std.proofs.Common.{◌+◌, ◌-◌, ◌*◌, vec_len}
 use Rattle.tal_macros.specs.Bodies.{known_of}
 use Rattle.tal_macros.proofs.Pending.{Visiting}
 use Rattle.tal_macros.proofs.visit.visit.Given as goal

@@ -33,7 +33,7 @@ returns-in_err-placed c =
     let p = err_from_is_err_and c.from_residual-in_err-placed.result c.from_residual-in_err-placed.ensures.1 in
     let listed = c.deref-2.ensures.value ∙ c.in_ok-expanded.ensures.1 in
     rw (p.1, p.2) (refused_places c.args.source.now c.in_ok-words.ensures.0 c.in_ok-expanded.ensures.0 c.deref-2.result.now listed
-        {X = Layout} {Y = Layout} (λ placed. placed) (layout_of c.args.source.now c.deref-2.result.now) c.in_err-placed.field-0.0 c.in_err-placed.ensures)
+    {X = Layout} {Y = Layout} (λ placed. placed) (layout_of c.args.source.now c.deref-2.result.now) c.in_err-placed.field-0.0 c.in_err-placed.ensures)
 
 pub rom_of-requires-clause-layout : goal.rom_of-requires-clause-layout
 rom_of-requires-clause-layout c =
@@ -45,12 +45,15 @@ returns-in_err-rom c =
     let listed = c.deref-2.ensures.value ∙ c.in_ok-expanded.ensures.1 in
     let laid = layout_is c.args.source.now c.deref-2.result.now listed c.in_ok-placed.placed c.in_ok-placed.ensures.1 in
     rw (p.1, p.2) (refused_references c.args.source.now c.in_ok-words.ensures.0 c.in_ok-expanded.ensures.0 c.deref-2.result.now listed
-        c.in_ok-placed.ensures.0 c.in_ok-placed.placed laid
-        {X = Vec ℕ} {Y = List ℕ} (λ v. v.items) (rom_of c.args.source.now) c.in_err-rom.field-0.0 c.in_err-rom.ensures.value)
+    c.in_ok-placed.ensures.0 c.in_ok-placed.placed laid
+    {X = Vec ℕ} {Y = List ℕ} (λ v. v.items) (rom_of c.args.source.now) c.in_err-rom.field-0.0 c.in_err-rom.ensures.value)
 
 pub returns : goal.returns
 returns c =
     let listed = c.deref-2.ensures.value ∙ c.in_ok-expanded.ensures.1 in
-    let laid = layout_is c.args.source.now c.deref-2.result.now listed c.in_ok-placed.placed c.in_ok-placed.ensures.1 in
-    (accepted c.args.source.now c.in_ok-words.ensures.0 c.in_ok-expanded.ensures.0 c.deref-2.result.now listed c.in_ok-placed.ensures.0 c.in_ok-placed.placed laid c.in_ok-rom.ensures.value.0,
-     c.in_ok-rom.ensures.value.1, ap (λ l. l.words) laid, ap (λ l. l.labels) laid)
+    let laid = layout_is c.args.source.now c.deref-2.result.now listed c.in_ok-placed.placed c.in_ok-placed.ensures.1 in (
+      accepted c.args.source.now c.in_ok-words.ensures.0 c.in_ok-expanded.ensures.0 c.deref-2.result.now listed c.in_ok-placed.ensures.0 c.in_ok-placed.placed laid c.in_ok-rom.ensures.value.0,
+      c.in_ok-rom.ensures.value.1,
+      ap (λ l. l.words) laid,
+      ap (λ l. l.labels) laid,
+    )

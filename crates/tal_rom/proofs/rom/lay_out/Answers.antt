@@ -35,7 +35,7 @@ put_word-requires c =
       size = word-size source (expanded_of source) labels words k rom scope no_placed_word are within c.loop-word.invariant c.text-text.result.now c.text-text.ensures;
       above = word-above source (expanded_of source) labels words k rom scope no_placed_word are within c.loop-word.invariant;
       within = word-within source (expanded_of source) labels words k rom scope no_placed_word are within c.loop-word.invariant;
-      to = omega (arith, c.unwrap_or.type_inv)
+      to = omega (arith, c.unwrap_or.type_inv);
     }
 
 pub returns-in-Some : goal.returns-in-Some
@@ -46,7 +46,7 @@ returns-in-Some c =
     let are = layout_placed source c.args.placed.now c.requires.layout c.requires.sound words c.words-words.ensures in
     ap (reference_fault source c.args.placed.now.labels) (sym c.words-words.ensures)
     ∙ faulty_next source (expanded_of source) c.args.placed.now.labels words c.loop-word.word-index c.loop-word.rom.items c.loop-word.scope.now no_placed_word are within c.loop-word.invariant
-        c.text-text.result.now c.in_ok-target.target c.in-Some.kind c.text-text.ensures c.in_ok-target.ensures (sym c.reference_fault.ensures ∙ c.in-Some.is)
+    c.text-text.result.now c.in_ok-target.target c.in-Some.kind c.text-text.ensures c.in_ok-target.ensures (sym c.reference_fault.ensures ∙ c.in-Some.is)
     ∙ sym (ap Some c.new.ensures)
 
 pub loop-word-preserved : goal.loop-word-preserved
@@ -58,10 +58,10 @@ loop-word-preserved c =
     let are = layout_placed source c.args.placed.now c.requires.layout c.requires.sound words c.words-words.ensures in
     let none : c.reference_fault.result ≡ None = search rules in
     next_laid_so source (expanded_of source) c.args.placed.now.labels words c.loop-word.word-index c.loop-word.rom.items c.loop-word.scope.now no_placed_word are within c.loop-word.invariant
-        c.put_word.new.rom.items c.scope_after-scope.result.now c.text-text.result.now c.in_ok-target.target c.text-text.ensures c.in_ok-target.ensures
-        (sym c.reference_fault.ensures ∙ none)
-        (c.in_ok-put_word.ensures ∙ ap (λ n. filled c.loop-word.rom.items word.address (encoded word.form c.text-text.result.now word.address n)) c.unwrap_or.ensures)
-        c.scope_after-scope.ensures
+    c.put_word.new.rom.items c.scope_after-scope.result.now c.text-text.result.now c.in_ok-target.target c.text-text.ensures c.in_ok-target.ensures
+    (sym c.reference_fault.ensures ∙ none)
+    (c.in_ok-put_word.ensures ∙ ap (λ n. filled c.loop-word.rom.items word.address (encoded word.form c.text-text.result.now word.address n)) c.unwrap_or.ensures)
+    c.scope_after-scope.ensures
 
 pub returns : goal.returns
 returns c =

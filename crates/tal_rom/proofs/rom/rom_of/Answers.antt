@@ -10,9 +10,11 @@ unfolding rom_of
 returns c =
     let held = c.in_ok-rom.ensures in
     record {
-      value = (held.0,
+      value = (
+        held.0,
         c.trim.ensures.value
-        ∙ rom_of-held (pieces_of c.args.source.now c.args.placed.now.labels c.args.placed.now.words) c.in_ok-rom.rom.items held.1
-        ∙ ap (λ (l : Layout). rom_image (pieces_of c.args.source.now l.labels l.words)) c.requires.layout);
-      room = omega (arith, c.trim.ensures.shorter, held.1.within)
+            ∙ rom_of-held (pieces_of c.args.source.now c.args.placed.now.labels c.args.placed.now.words) c.in_ok-rom.rom.items held.1
+            ∙ ap (λ (l : Layout). rom_image (pieces_of c.args.source.now l.labels l.words)) c.requires.layout,
+      );
+      room = omega (arith, c.trim.ensures.shorter, held.1.within);
     }
