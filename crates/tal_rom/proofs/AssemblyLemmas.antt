@@ -1,19 +1,18 @@
 -- The phases of a source.
-use Rattle.std.proofs.Common.{◌≡◌, ℕ, ◌+◌, ◌<◌, ◌≤◌, List, length, Option, Some, None, Result, Ok, Err, refl, sym, ◌∙◌, ap, arith, map}
+use Rattle.std.proofs.Common.{◌≡◌, ℕ, ◌+◌, ◌<◌, ◌≤◌, List, length, Option, Some, None, Err, refl, sym, ◌∙◌, ap, arith, map}
 use Rattle.std.specs.List.{range_with_len}
 use Rattle.std.proofs.lemmas.Bool.{lt-ltb}
 use Rattle.std.proofs.lemmas.List.FromFn.{length-map-range_with_len}
 use Rattle.tal_words.specs.declared.fault.Fault.{Fault}
 use Rattle.tal_words.specs.declared.fault.AsmStop.{AsmStop}
 use Rattle.tal_words.specs.declared.fault.AsmStop.TheVariants.{Refused, NoMemory}
-use Rattle.tal_words.specs.Faults.{Gives, or_later}
-use Rattle.tal_words.specs.Comments.{word_fault, source_limit, long_source}
+use Rattle.tal_words.specs.Faults.{Gives}
+use Rattle.tal_words.specs.Comments.{word_fault, long_source}
 use Rattle.tal_labels.specs.Placing.{Layout, place_fault, layout_of}
 use Rattle.tal_words.specs.declared.span.Expanded.{Expanded}
 use Rattle.tal_words.specs.Expansion.{expanded_of, expansion_fault}
 use Rattle.tal_rom.specs.References.{reference_fault}
 use Rattle.tal_rom.specs.Rom.{Piece, byte_at, rom_image, pieces_of}
-use Rattle.tal_rom.specs.Program.{Program}
 use Rattle.tal_rom.specs.Assembly.{first_fault, rom_of, layout, IsAssembled}
 use Rattle.tal_rom.proofs.Trimming.{length-trimmed}
 

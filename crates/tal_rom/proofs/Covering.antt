@@ -1,9 +1,8 @@
 -- The bytes of words that lie one behind the other.
-use Rattle.std.proofs.Common.{◌≡◌, ℕ, zero, suc, ◌+◌, ◌-◌, ◌<◌, ◌≤◌, Bool, true, false, Option, None, Some, List, [], ◌∷◌, ◌++◌, length, get_or, replicate, cond, ◌⊎◌, inl, inr, refl, sym, ◌∙◌, ap, arith, length-append, find}
-use Rattle.std.specs.Prelude.{nat_le, nat_lt, ◌&&◌}
+use Rattle.std.proofs.Common.{◌≡◌, ℕ, ◌+◌, ◌-◌, ◌<◌, ◌≤◌, Bool, true, false, Option, None, Some, List, [], ◌∷◌, ◌++◌, length, get_or, replicate, cond, ◌⊎◌, inl, inr, refl, sym, ◌∙◌, ap, arith, length-append, find}
 use Rattle.std.specs.Option.{option_or}
-use Rattle.std.proofs.lemmas.Bool.{ltb-true, ltb-false, leb-true, leb-false, and_parts, and_cases, cases_lt, lt-ltb, le-ltb}
-use Rattle.std.proofs.lemmas.List.{get_or_append_left, get_or-append_right, get_or_past, get_or-replicate, length-replicate, append-nil}
+use Rattle.std.proofs.lemmas.Bool.{ltb-true, ltb-false, leb-true, leb-false, and_parts, and_cases, cases_lt}
+use Rattle.std.proofs.lemmas.List.{get_or_append_left, get_or-append_right, get_or_past, get_or-replicate, length-replicate}
 use Rattle.std.proofs.lemmas.List.Folds.{find-append}
 use Rattle.tal_rom.specs.Rom.{Piece, covers, byte_of_piece, byte_at}
 use Rattle.tal_rom.specs.Answers.{filled}
@@ -67,7 +66,7 @@ module _ (rom bytes : List ℕ) (place : ℕ) (behind : 256 + length rom ≤ pla
   read_gap : (i : ℕ) → length rom ≤ i → 256 + i < place → get_or more i 0 ≡ 0
   read_gap i h below =
       let gap = place - (256 + length rom) in
-      let size : length (replicate gap 0) ≡ gap = length-replicate {A = ℕ} gap 0 in
+      let size : length (replicate {A = ℕ} gap 0) ≡ gap = length-replicate {A = ℕ} gap 0 in
       get_or-append_right rom (replicate gap 0 ++ bytes) (length rom) i 0 refl h
       ∙ get_or_append_left (replicate gap 0) bytes 0 (i - length rom) (omega (arith, size))
       ∙ get_or-replicate gap (i - length rom) 0 0 (omega arith)
@@ -75,7 +74,7 @@ module _ (rom bytes : List ℕ) (place : ℕ) (behind : 256 + length rom ≤ pla
   read_word : (i : ℕ) → place ≤ 256 + i → get_or more i 0 ≡ get_or bytes (256 + i - place) 0
   read_word i h =
       let gap = place - (256 + length rom) in
-      let size : length (replicate gap 0) ≡ gap = length-replicate {A = ℕ} gap 0 in
+      let size : length (replicate {A = ℕ} gap 0) ≡ gap = length-replicate {A = ℕ} gap 0 in
       let at : i - length rom - gap ≡ 256 + i - place = omega arith in
       get_or-append_right rom (replicate gap 0 ++ bytes) (length rom) i 0 refl (omega arith)
       ∙ get_or-append_right (replicate gap 0) bytes gap (i - length rom) 0 size (omega arith)

@@ -1,17 +1,16 @@
 -- How long the expanded list of a source is.
-use Rattle.std.proofs.Common.{◌≡◌, ℕ, zero, suc, ◌+◌, ◌<◌, ◌≤◌, Bool, true, false, List, [], ◌∷◌, ◌++◌, length, map, Option, Some, None, cond, refl, sym, ◌∙◌, ap, arith, length-append}
+use Rattle.std.proofs.Common.{◌≡◌, ℕ, suc, ◌+◌, ◌<◌, ◌≤◌, Bool, true, false, List, [], ◌∷◌, length, map, Some, None, cond, refl, arith, length-append}
 use Rattle.std.specs.Prelude.{nat_lt, nat_le, not, filter, ◌&&◌, ◌==◌}
 use Rattle.std.specs.List.{flat_map}
 use Rattle.std.proofs.lemmas.Bool.{ltb-false, leb-false}
 use Rattle.std.proofs.lemmas.List.{length-map}
 use Rattle.tal_words.specs.declared.span.Word.{Word}
 use Rattle.tal_words.specs.declared.span.Expanded.{Expanded}
-use Rattle.tal_words.specs.declared.fault.FaultKind.{FaultKind}
 use Rattle.tal_words.specs.declared.fault.FaultKind.TheVariants.{MacroDeep, ManyWords}
 use Rattle.tal_words.specs.Source.{tokens_of}
 use Rattle.tal_words.specs.Faults.{least, first_fault}
 use Rattle.tal_words.specs.Comments.{words_of, word_fault, source_limit, judged_tokens, long_source}
-use Rattle.tal_words.specs.Expansion.{Macro, Visited, Part, Plain, Head, Inside, visits, depth_limit, visit_limit, limit_faults, given_by, given_by_part, part_visits, judged_part, judged_parts, parts_from, expanded_of, expansion_fault}
+use Rattle.tal_words.specs.Expansion.{Visited, Part, Plain, Head, Inside, visits, depth_limit, visit_limit, limit_faults, given_by, given_by_part, judged_part, judged_parts, parts_from, expanded_of, expansion_fault}
 use Rattle.tal_rom.proofs.FaultLemmas.{fault_or-none, least-none}
 
 -- a source without a fault of its words is short

@@ -1,19 +1,17 @@
 -- The loop over the words with their places.
-use Rattle.std.proofs.Common.{◌≡◌, ℕ, zero, suc, ◌+◌, ◌-◌, ◌^◌, ◌<◌, ◌≤◌, Bool, true, false, List, [], ◌∷◌, ◌++◌, length, take, drop, get_or, map, replicate, Option, Some, None, Result, Ok, Err, refl, sym, subst, ◌∙◌, ap, arith, length-append}
+use Rattle.std.proofs.Common.{◌≡◌, ℕ, ◌+◌, ◌-◌, ◌<◌, ◌≤◌, false, List, [], ◌∷◌, ◌++◌, length, take, drop, get_or, replicate, Option, Some, None, refl, sym, subst, ◌∙◌, ap, arith, length-append}
 use Rattle.std.specs.Prelude.{unwrap_or}
 use Rattle.std.proofs.lemmas.List.{take_more, take_all, length-replicate}
-use Rattle.std.specs.List.{range_with_len}
 use Rattle.tal_words.specs.declared.span.Expanded.{Expanded}
 use Rattle.tal_words.specs.declared.fault.FaultKind.{FaultKind}
-use Rattle.tal_words.specs.declared.form.Form.{Form}
 use Rattle.tal_words.specs.declared.name.Label.{Label}
 use Rattle.tal_words.specs.Faults.{least, fault_at, first_fault}
-use Rattle.tal_words.specs.Forms.{form, size, encoded}
+use Rattle.tal_words.specs.Forms.{size, encoded}
 use Rattle.tal_labels.specs.declared.placed.PlacedWord.{PlacedWord}
 use Rattle.tal_labels.specs.Order.{each}
 use Rattle.tal_labels.specs.Places.{text_of}
 use Rattle.tal_labels.specs.Labels.{scope_after}
-use Rattle.tal_labels.specs.Placing.{Layout, place_fault, ends_of, ends_above}
+use Rattle.tal_labels.specs.Placing.{Layout, place_fault, ends_above}
 use Rattle.tal_rom.specs.Assembly.{layout}
 use Rattle.tal_words.specs.Expansion.{expanded_of}
 use Rattle.tal_words.specs.Names.{first_scope}
@@ -22,7 +20,7 @@ use Rattle.tal_labels.proofs.OrderLemmas.{each-end, each-more, no_word}
 use Rattle.tal_rom.specs.Answers.{scope_next, filled, HasAddress}
 use Rattle.tal_rom.specs.References.{named_target, form_target, reference_kinds, scope_behind, target_of, judged_reference, reference_fault}
 use Rattle.tal_rom.specs.Rom.{Piece, byte_at, piece_given, pieces_of, rom_image, trimmed}
-use Rattle.tal_rom.specs.Layout.{AreBytesOf}
+use Rattle.tal_rom.specs.Answers.{AreBytesOf}
 use Rattle.tal_rom.proofs.FaultLemmas.{fault-here, fault-later}
 use Rattle.tal_rom.proofs.Trimming.{trimmed-image}
 use Rattle.tal_rom.proofs.Covering.{IsLaid, next_laid, nothing_laid}
@@ -51,7 +49,7 @@ top_filled : (rom : List ℕ) (at : ℕ) (bytes : List ℕ) (place : ℕ) → (0
 top_filled rom at [] place behind below end = below
 top_filled rom at (byte ∷ bytes) place behind below end =
     let gap = at - (256 + length rom) in
-    let size : length (replicate gap 0) ≡ gap = length-replicate {A = ℕ} gap 0 in
+    let size : length (replicate {A = ℕ} gap 0) ≡ gap = length-replicate {A = ℕ} gap 0 in
     let after : 256 + length rom ≤ at = behind (omega arith) in
     let top : at + length (byte ∷ bytes) ≤ place = end (omega arith) in
     omega (arith, length-append rom (replicate gap 0 ++ (byte ∷ bytes)), length-append (replicate gap 0) (byte ∷ bytes), size)

@@ -1,10 +1,10 @@
 -- The words with their places, one at a time.
-use Rattle.std.proofs.Common.{◌≡◌, ℕ, zero, suc, ◌+◌, ◌-◌, ◌^◌, ◌<◌, ◌≤◌, Bool, true, false, List, [], ◌∷◌, ◌++◌, length, take, drop, get_or, map, Option, Some, None, Result, Ok, Err, cond, refl, sym, subst, ◌∙◌, ap, arith, length-drop}
+use Rattle.std.proofs.Common.{◌≡◌, ℕ, ◌+◌, ◌<◌, ◌≤◌, Bool, true, false, List, [], ◌∷◌, ◌++◌, length, take, drop, get_or, map, Option, None, Result, Ok, Err, cond, refl, sym, subst, ◌∙◌, ap, arith, length-drop}
 use Rattle.std.specs.Prelude.{nat_lt, ◌&&◌, ◌||◌, is_some}
 use Rattle.std.specs.Option.{option_map_or}
 use Rattle.std.specs.List.{list_any}
-use Rattle.std.proofs.lemmas.Bool.{ltb-true, ltb-false, leb-true, leb-false, lt-ltb, and_right}
-use Rattle.std.proofs.lemmas.List.{take_more, take-map, map-append, nil_from_length}
+use Rattle.std.proofs.lemmas.Bool.{ltb-false, lt-ltb}
+use Rattle.std.proofs.lemmas.List.{take_more, take-map}
 use Rattle.std.proofs.lemmas.List.Folds.{list_any-append}
 use Rattle.tal_words.specs.declared.span.Expanded.{Expanded}
 use Rattle.tal_words.specs.declared.fault.FaultKind.{FaultKind}
@@ -13,12 +13,11 @@ use Rattle.tal_words.specs.declared.form.Form.{Form}
 use Rattle.tal_words.specs.declared.form.Form.TheVariants.{Pad, Skip, Lit1, Lit2, Raw1, Raw2, Op, Text, LabelDef, SubDef, Refer, LambdaEnd, Ignored}
 use Rattle.tal_words.specs.declared.form.Rune.{Rune}
 use Rattle.tal_words.specs.declared.form.Rune.TheVariants.{LitRel, RawRel, LitZero, RawZero, LitAbs, RawAbs, Jmi, Jci, Jsi}
-use Rattle.tal_words.specs.declared.name.Label.{Label}
 use Rattle.tal_words.specs.Faults.{Judged, when, least, first_fault}
 use Rattle.tal_words.specs.Forms.{form, size, reference_size, encoded, encoded_reference}
 use Rattle.tal_words.specs.Names.{first_scope, scope_of}
 use Rattle.tal_labels.specs.declared.placed.PlacedWord.{PlacedWord}
-use Rattle.tal_labels.specs.Order.{each, collected, or_earlier, last_of}
+use Rattle.tal_labels.specs.Order.{each, collected, or_earlier}
 use Rattle.tal_labels.specs.Places.{text_of, place_after}
 use Rattle.tal_labels.specs.Labels.{label_name, last_label, scope_after, labels_of, defined_name}
 use Rattle.tal_labels.specs.Shapes.{shape_kinds, open_count, closing_distance, judged_shape, shape_fault}

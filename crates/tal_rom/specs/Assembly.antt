@@ -17,7 +17,7 @@ unfoldable pub layout : List ℕ → Layout
 layout source = layout_of source (expanded_of source)
 
 -- the first fault of a source: that of the first phase that has one. The phases are the cutting into words, the macros, the
--- forms and braces with the labels and places, and the references
+-- forms and braces of words and then their labels and places, and the references
 unfoldable pub first_fault : List ℕ → Option Fault
 first_fault source =
     or_later (word_fault source)
@@ -29,11 +29,8 @@ first_fault source =
 unfoldable pub rom_of : List ℕ → List ℕ
 rom_of source = rom_image (pieces_of source (layout source).labels (layout source).words)
 
--- the assembly of a source
-abbrev pub program_of : List ℕ → Program
-program_of source = record { rom = rom_of source; places = (layout source).words; labels = (layout source).labels }
-
--- the answer is the assembly of a source that has no fault, or its first fault; want of memory is free
+-- the answer is the assembly of a source that has no fault, which is its ROM, its words with their places and its labels, or the
+-- first fault; want of memory is free
 abbrev pub IsAssembled : List ℕ → Result Program AsmStop → Type 0
 IsAssembled source (Ok program) =
     (first_fault source ≡ None)

@@ -3,4 +3,3 @@ pub mod Rom
 pub mod Program
 pub mod Assembly
 pub mod Answers
-pub mod Layout

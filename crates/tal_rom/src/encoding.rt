@@ -6,18 +6,22 @@ ghost use Rattle.tal_words.specs.Forms.{encoded, encoded_reference, distance as 
 use std::alloc::AllocError;
 use tal_words::{Form, Rune};
 
-/// The opcodes that words of their own put before their bytes.
+/// The opcode that puts the byte after it on the stack.
 const LIT: u8 = 0x80;
 
+/// The opcode that puts the short after it on the stack.
 const LIT2: u8 = 0xa0;
 
+/// The opcode that jumps by the short after it.
 const JMI: u8 = 0x40;
 
+/// The opcode that jumps by the short after it where a byte of the stack is not 0.
 const JCI: u8 = 0x20;
 
+/// The opcode that calls by the short after it.
 const JSI: u8 = 0x60;
 
-/// A greatest address that a place may be, and one more.
+/// The address after the last one.
 const MEMORY_END: u64 = 0x1_0000;
 
 /// The low byte of a number.

@@ -4,10 +4,9 @@ ghost use Rattle.std.specs.Prelude.{◌≡◌, ◌+◌, ◌++◌, ◌-◌, ◌<�
 ghost use Rattle.tal_words.specs.Faults.{Gives};
 ghost use Rattle.tal_words.specs.Forms.{encoded, size};
 ghost use Rattle.tal_labels.specs.Placing.{place_fault};
-ghost use Rattle.tal_rom.specs.Answers.{filled};
+ghost use Rattle.tal_rom.specs.Answers.{filled, LaysOut};
 ghost use Rattle.tal_rom.specs.Assembly.{layout, rom_of as rom_of_source};
 ghost use Rattle.tal_words.specs.Expansion.{expanded_of};
-ghost use Rattle.tal_rom.specs.Layout.{LaysOut};
 ghost use Rattle.tal_rom.specs.References.{reference_fault as fault_of_references};
 ghost use Rattle.tal_rom.specs.Rom.{trimmed};
 

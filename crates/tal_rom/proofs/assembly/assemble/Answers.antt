@@ -1,4 +1,4 @@
-use Rattle.std.proofs.Common.{◌≡◌, ℕ, List, arith, ap, sym, ◌∙◌, ◌<◌, length}
+use Rattle.std.proofs.Common.{ℕ, List, arith, ap, ◌∙◌, length}
 use Rattle.std.proofs.lemmas.Result.{err_from_is_err_and}
 use Rattle.std.specs.Global.{Vec}
 use Rattle.tal_words.specs.declared.span.Word.{Word}
@@ -6,7 +6,7 @@ use Rattle.tal_words.specs.declared.span.Expanded.{Expanded}
 use Rattle.tal_words.specs.Comments.{words_of}
 use Rattle.tal_labels.specs.Placing.{Layout, layout_of}
 use Rattle.tal_words.specs.Expansion.{expanded_of}
-use Rattle.tal_rom.specs.Assembly.{layout, rom_of}
+use Rattle.tal_rom.specs.Assembly.{rom_of}
 use Rattle.tal_rom.proofs.ExpansionLemmas.{short_source, few_expanded}
 use Rattle.tal_rom.proofs.AssemblyLemmas.{layout_is, refused_words, refused_expansion, refused_places, refused_references, accepted}
 use Rattle.tal_rom.proofs.assembly.assemble.Goals as goal

@@ -1,4 +1,4 @@
-use Rattle.std.proofs.Common.{arith, ap, sym, take, ◌∙◌, ◌≤◌, ◌<◌, length, not, ◌≡◌}
+use Rattle.std.proofs.Common.{arith, ap, sym, take, ◌∙◌, not}
 use Rattle.std.specs.Prelude.{◌==◌}
 use Rattle.std.proofs.lemmas.Bool.{eq-eqb}
 use Rattle.std.proofs.lemmas.List.Sums.{prefix_len_is}

@@ -4,7 +4,7 @@ use Rattle.tal_rom.specs.Answers.{filled}
 use Rattle.tal_words.specs.Expansion.{expanded_of}
 use Rattle.tal_rom.specs.References.{reference_fault}
 use Rattle.tal_labels.specs.declared.placed.PlacedWord.{PlacedWord}
-use Rattle.tal_rom.specs.Layout.{AreBytesOf}
+use Rattle.tal_rom.specs.Answers.{AreBytesOf}
 use Rattle.tal_rom.specs.Rom.{pieces_of}
 use Rattle.tal_rom.proofs.Laying.{no_placed_word, layout_placed, start_scope, nothing_laid_so, next_laid_so, faulty_next, all_laid, word-size, word-above, word-within, word-address}
 use Rattle.tal_rom.proofs.rom.lay_out.Goals as goal

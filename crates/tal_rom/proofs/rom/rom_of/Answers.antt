@@ -1,4 +1,4 @@
-use Rattle.std.proofs.Common.{◌≡◌, arith, ap, sym, ◌∙◌, length}
+use Rattle.std.proofs.Common.{arith, ap, ◌∙◌}
 use Rattle.tal_labels.specs.Placing.{Layout}
 use Rattle.tal_rom.specs.Assembly.{rom_of}
 use Rattle.tal_rom.specs.Rom.{rom_image, pieces_of}
