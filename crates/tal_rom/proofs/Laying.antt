@@ -17,7 +17,8 @@ use Rattle.tal_words.specs.Expansion.{expanded_of}
 use Rattle.tal_words.specs.Names.{first_scope}
 use Rattle.tal_words.specs.declared.form.Form.TheVariants.{Pad}
 use Rattle.tal_labels.proofs.OrderLemmas.{each-end, each-more, no_word}
-use Rattle.tal_rom.specs.Answers.{scope_next, filled, HasAddress}
+use Rattle.tal_labels.specs.Answers.{scope_next}
+use Rattle.tal_rom.specs.Answers.{filled, HasAddress}
 use Rattle.tal_rom.specs.References.{named_target, form_target, reference_kinds, scope_behind, target_of, judged_reference, reference_fault}
 use Rattle.tal_rom.specs.Rom.{Piece, byte_at, piece_given, pieces_of, rom_image, trimmed}
 use Rattle.tal_rom.specs.Answers.{AreBytesOf}

@@ -23,7 +23,8 @@ use Rattle.tal_labels.specs.Labels.{label_name, last_label, scope_after, labels_
 use Rattle.tal_labels.specs.Shapes.{shape_kinds, open_count, closing_distance, judged_shape, shape_fault}
 use Rattle.tal_labels.specs.Placing.{placed_with, placed_given, placed_of, lambda_place, placing_fault, place_fault, judged_place, place_kinds, size_of, marks, is_defined, ends_given, ends_of, ends_above}
 use Rattle.tal_labels.proofs.OrderLemmas.{get_or-each, length-each, collected-more, last_of-more, no_word}
-use Rattle.tal_rom.specs.Answers.{scope_next, HasAddress}
+use Rattle.tal_labels.specs.Answers.{scope_next}
+use Rattle.tal_rom.specs.Answers.{HasAddress}
 use Rattle.tal_rom.specs.References.{scope_behind}
 use Rattle.tal_rom.proofs.FaultLemmas.{fault_or-none, or_later-none, least-none, append-none, when-none, none-at}
 

@@ -1,20 +1,14 @@
 -- What the steps of the assembling answer.
-use Rattle.std.specs.Prelude.{ℕ, ◌+◌, ◌-◌, ◌^◌, ◌≡◌, ◌<◌, ◌≤◌, List, [], ◌∷◌, ◌++◌, length, drop, replicate, slice_index, None, Some, Result, Ok, Err}
+use Rattle.std.specs.Prelude.{ℕ, ◌+◌, ◌-◌, ◌^◌, ◌≡◌, ◌<◌, ◌≤◌, List, [], ◌∷◌, ◌++◌, length, replicate, slice_index, None, Some, Result, Ok, Err}
 use Rattle.std.specs.Global.{Vec}
 use Rattle.tal_words.specs.declared.fault.AsmStop.{AsmStop}
 use Rattle.tal_words.specs.declared.fault.AsmStop.TheVariants.{Refused, NoMemory}
 use Rattle.tal_words.specs.declared.form.Form.{Form}
-use Rattle.tal_words.specs.declared.form.Form.TheVariants.{LabelDef, Refer}
+use Rattle.tal_words.specs.declared.form.Form.TheVariants.{Refer}
 use Rattle.tal_words.specs.declared.name.Label.{Label}
-use Rattle.tal_words.specs.Names.{scope_of}
 use Rattle.tal_labels.specs.declared.placed.PlacedWord.{PlacedWord}
 use Rattle.tal_rom.specs.References.{reference_fault}
 use Rattle.tal_rom.specs.Rom.{Piece, byte_at, pieces_of}
-
--- the scope after a word
-abbrev pub scope_next : Form → List ℕ → List ℕ → List ℕ
-scope_next LabelDef scope text = scope_of (drop 1 text)
-scope_next _ scope text = scope
 
 -- the place of a reference is an address
 abbrev pub HasAddress : Form → ℕ → Type 0

@@ -3,43 +3,14 @@
 ghost use Rattle.std.specs.Prelude.{◌≡◌, ◌<◌, ◌≤◌, ◌^◌, IfOk};
 ghost use Rattle.tal_words.specs.Faults.{least};
 ghost use Rattle.tal_words.specs.Forms.{is_near as is_near_target, reaches as reaches_target};
-ghost use Rattle.tal_words.specs.Names.{scope_of as scope_of_name, name_after_rune as name_of_reference, full_name};
+ghost use Rattle.tal_words.specs.Names.{name_after_rune as name_of_reference, full_name as full_name_in};
 ghost use Rattle.tal_labels.specs.Labels.{address_named};
-ghost use Rattle.tal_rom.specs.Answers.{scope_next, HasAddress};
+ghost use Rattle.tal_rom.specs.Answers.{HasAddress};
 ghost use Rattle.tal_rom.specs.References.{named_target, form_target, reference_kinds};
 
 use std::alloc::{AllocError, Global};
-use tal_labels::{Placed, PlacedWord};
+use tal_labels::{Placed, PlacedWord, full_name};
 use tal_words::{FaultKind, Form, Rune, opens, rune_of};
-
-/// The scope before the first label.
-pub const FIRST_SCOPE: &[u8] = b"RESET";
-
-/// The byte that parts a scope from the name in it.
-const SLASH: u8 = b'/';
-
-/// The name up to the first `/`.
-fn scope_of(name: &[u8]) -> &[u8]
-    ensures { result.now ≡ scope_of_name name.now }
-{
-    for (length, byte) in name.iter().enumerate() {
-        if *byte == SLASH {
-            return &name[..length];
-        }
-    }
-    name
-}
-
-/// The scope after a word: a label opens one.
-pub fn scope_after<'a>(form: Form, scope: &'a [u8], text: &'a [u8]) -> &'a [u8]
-    ensures { result.now ≡ scope_next form scope.now text.now }
-{
-    match (form, text) {
-        (Form::LabelDef, [_, name @ ..]) => scope_of(name),
-        (Form::LabelDef, []) => scope_of(text),
-        _ => scope,
-    }
-}
 
 /// The name of a reference: what stands after its rune, or a bare word itself.
 fn name_after_rune(text: &[u8]) -> &[u8]
@@ -58,17 +29,10 @@ fn address_in(
     scope: &[u8],
     name: &[u8],
 ) -> Result<Option<u16>, AllocError>
-    ensures { IfOk result (λ address. address ≡ address_named placed.now.labels (full_name scope.now name.now)) }
+    ensures { IfOk result (λ address. address ≡ address_named placed.now.labels (full_name_in scope.now name.now)) }
 {
-    match name {
-        [b'&' | SLASH, rest @ ..] => {
-            let mut full = Vec::from_slice(alloc, scope)?;
-            full.push(SLASH)?;
-            full.extend_from_slice(rest)?;
-            Ok(placed.address_of(full.as_slice()))
-        }
-        _ => Ok(placed.address_of(name)),
-    }
+    let full = full_name(alloc, scope, name)?;
+    Ok(placed.address_of(full.as_slice()))
 }
 
 /// The target of a word in its scope, where it is a reference that names something.

@@ -11,9 +11,9 @@ ghost use Rattle.tal_rom.specs.References.{reference_fault as fault_of_reference
 ghost use Rattle.tal_rom.specs.Rom.{trimmed};
 
 use crate::encoding::append_word;
-use crate::references::{FIRST_SCOPE, reference_fault, scope_after, target_of};
+use crate::references::{reference_fault, target_of};
 use std::alloc::{AllocError, Global};
-use tal_labels::{Placed, PlacedWord};
+use tal_labels::{FIRST_SCOPE, Placed, PlacedWord, scope_after};
 use tal_words::{AsmStop, Fault};
 
 /// The address of the first byte of a ROM.
