@@ -25,7 +25,8 @@ use Rattle.tal_rom.specs.Answers.{AreBytesOf}
 use Rattle.tal_rom.proofs.FaultLemmas.{fault-here, fault-later}
 use Rattle.tal_rom.proofs.Trimming.{trimmed-image}
 use Rattle.tal_rom.proofs.Covering.{IsLaid, next_laid, nothing_laid}
-use Rattle.tal_rom.proofs.PlacedWords.{ArePlaced, are_placed, IsPlacedAt, placed_at, ends_more, scope_more, length-encoded, address-of}
+use Rattle.tal_words.proofs.FormLemmas.{length-encoded}
+use Rattle.tal_rom.proofs.PlacedWords.{ArePlaced, are_placed, IsPlacedAt, placed_at, ends_more, scope_more, address-of}
 
 -- what the loop over the words keeps
 pub record IsLaidSo (source : List ℕ) (expanded : List Expanded) (labels : List Label) (words : List PlacedWord) (k : ℕ) (rom scope : List ℕ) : Type 0 where

@@ -1,7 +1,6 @@
 -- The words with their places, one at a time.
-use Rattle.std.proofs.Common.{◌≡◌, ℕ, ◌+◌, ◌<◌, ◌≤◌, Bool, true, false, List, [], ◌∷◌, ◌++◌, length, take, drop, get_or, map, Option, None, Result, Ok, Err, cond, refl, sym, subst, ◌∙◌, ap, arith, length-drop}
+use Rattle.std.proofs.Common.{◌≡◌, ℕ, ◌+◌, ◌<◌, ◌≤◌, Bool, true, false, List, [], ◌∷◌, ◌++◌, length, take, drop, get_or, map, None, Result, Ok, Err, cond, refl, sym, subst, ◌∙◌, ap, arith}
 use Rattle.std.specs.Prelude.{nat_lt, ◌&&◌, ◌||◌, is_some}
-use Rattle.std.specs.Option.{option_map_or}
 use Rattle.std.specs.List.{list_any}
 use Rattle.std.proofs.lemmas.Bool.{ltb-false, lt-ltb}
 use Rattle.std.proofs.lemmas.List.{take_more, take-map}
@@ -14,46 +13,19 @@ use Rattle.tal_words.specs.declared.form.Form.TheVariants.{Pad, Skip, Lit1, Lit2
 use Rattle.tal_words.specs.declared.form.Rune.{Rune}
 use Rattle.tal_words.specs.declared.form.Rune.TheVariants.{LitRel, RawRel, LitZero, RawZero, LitAbs, RawAbs, Jmi, Jci, Jsi}
 use Rattle.tal_words.specs.Faults.{Judged, when, least, first_fault}
-use Rattle.tal_words.specs.Forms.{form, size, reference_size, encoded, encoded_reference}
-use Rattle.tal_words.specs.Names.{first_scope, scope_of}
+use Rattle.tal_words.specs.Forms.{form, size, reference_size}
 use Rattle.tal_labels.specs.declared.placed.PlacedWord.{PlacedWord}
-use Rattle.tal_labels.specs.Order.{each, collected, or_earlier}
+use Rattle.tal_labels.specs.Order.{each, collected}
 use Rattle.tal_labels.specs.Places.{text_of, place_after}
-use Rattle.tal_labels.specs.Labels.{label_name, last_label, scope_after, labels_of, defined_name}
+use Rattle.tal_labels.specs.Labels.{scope_after, labels_of, defined_name}
 use Rattle.tal_labels.specs.Shapes.{shape_kinds, open_count, closing_distance, judged_shape, shape_fault}
 use Rattle.tal_labels.specs.Placing.{placed_with, placed_given, placed_of, lambda_place, placing_fault, place_fault, judged_place, place_kinds, size_of, marks, is_defined, ends_given, ends_of, ends_above}
-use Rattle.tal_labels.proofs.OrderLemmas.{get_or-each, length-each, collected-more, last_of-more, no_word}
+use Rattle.tal_labels.proofs.LayingLemmas.{scope_after-more}
+use Rattle.tal_labels.proofs.OrderLemmas.{get_or-each, length-each, collected-more, no_word}
 use Rattle.tal_labels.specs.Answers.{scope_next}
 use Rattle.tal_rom.specs.Answers.{HasAddress}
 use Rattle.tal_rom.specs.References.{scope_behind}
 use Rattle.tal_rom.proofs.FaultLemmas.{fault_or-none, or_later-none, least-none, append-none, when-none, none-at}
-
--- a word has as many bytes as its size says
-length-reference : (rune : Rune) (place target : ℕ) → length (encoded_reference rune place target) ≡ reference_size rune
-length-reference LitRel place target = refl
-length-reference RawRel place target = refl
-length-reference LitZero place target = refl
-length-reference RawZero place target = refl
-length-reference LitAbs place target = refl
-length-reference RawAbs place target = refl
-length-reference Jmi place target = refl
-length-reference Jci place target = refl
-length-reference Jsi place target = refl
-
-pub length-encoded : (shape : Form) (text : List ℕ) (place target : ℕ) → length (encoded shape text place target) ≡ size shape text
-length-encoded (Pad n) text place target = refl
-length-encoded (Skip n) text place target = refl
-length-encoded (Lit1 n) text place target = refl
-length-encoded (Lit2 n) text place target = refl
-length-encoded (Raw1 n) text place target = refl
-length-encoded (Raw2 n) text place target = refl
-length-encoded (Op n) text place target = refl
-length-encoded Text text place target = length-drop 1 text
-length-encoded LabelDef text place target = refl
-length-encoded SubDef text place target = refl
-length-encoded (Refer rune) text place target = length-reference rune place target
-length-encoded LambdaEnd text place target = refl
-length-encoded Ignored text place target = refl
 
 some_bytes : (rune : Rune) → 0 < reference_size rune
 some_bytes LitRel = omega arith
@@ -132,30 +104,6 @@ module _ (source : List ℕ) where
   word-each before (word ∷ after) =
       ap (λ w. w ∷ map (λ placed. placed.word) (each (one source) (before ++ word ∷ []) after)) (word_one before word after (form (text_of source word)))
       ∙ ap (λ ws. word ∷ ws) (word-each (before ++ word ∷ []) after)
-
-  -- the scope after one more word
-  scope_after-more : (before : List Expanded) (last : Expanded) (shape : Form) → form (text_of source last) ≡ Ok shape
-      → scope_after source (before ++ last ∷ []) ≡ scope_next shape (scope_after source before) (text_of source last)
-  unfolding scope_after
-  scope_after-more before last shape e =
-      ap (λ o. option_map_or scope_of o first_scope) (last_of-more (λ word. label_name (form (text_of source word)) (text_of source word)) before last
-      ∙ ap (λ f. or_earlier (label_name f (text_of source last)) (last_label source before)) e)
-      ∙ by shape (text_of source last) (last_label source before)
-    where
-      by : (shape : Form) (text : List ℕ) (earlier : Option (List ℕ)) → option_map_or scope_of (or_earlier (label_name (Ok shape) text) earlier) first_scope ≡ scope_next shape (option_map_or scope_of earlier first_scope) text
-      by (Pad n) text earlier = refl
-      by (Skip n) text earlier = refl
-      by (Lit1 n) text earlier = refl
-      by (Lit2 n) text earlier = refl
-      by (Raw1 n) text earlier = refl
-      by (Raw2 n) text earlier = refl
-      by (Op n) text earlier = refl
-      by Text text earlier = refl
-      by LabelDef text earlier = refl
-      by SubDef text earlier = refl
-      by (Refer rune) text earlier = refl
-      by LambdaEnd text earlier = refl
-      by Ignored text earlier = refl
 
 -- words that have their places without a fault
 pub record ArePlaced (source : List ℕ) (expanded : List Expanded) (words : List PlacedWord) : Type 0 where
@@ -275,7 +223,7 @@ unfolding scope_behind
 scope_more source expanded words k d are within =
     let at = placed_at source expanded words are k d within in
     let word = get_or expanded k no_word in
-    ap (scope_after source) (words-behind source expanded words are (k + 1) ∙ take_more expanded k no_word at.within)
-    ∙ scope_after-more source (take k expanded) word (get_or words k d).form at.shape
+    ap (scope_after source) (words-behind source expanded words are (k + 1))
+    ∙ scope_after-more source expanded k at.within (get_or words k d).form at.shape
     ∙ ap (λ ws. scope_next (get_or words k d).form (scope_after source ws) (text_of source word)) (sym (words-behind source expanded words are k))
     ∙ ap (λ w. scope_next (get_or words k d).form (scope_after source (map (λ placed. placed.word) (take k words))) (text_of source w)) (sym at.word)

@@ -1,5 +1,5 @@
 use Rattle.std.proofs.Common.{◌≡◌, ℕ, ◌≤◌, ◌⊎◌, List, [], ◌∷◌, ◌++◌, refl, ap, sym, ◌∙◌, inl, inr, arith}
-use Rattle.std.specs.Prelude.{Option, Some, None, Result, Ok, Err, IsErr, IsSome, IfSome, is_err, is_some, codes}
+use Rattle.std.specs.Prelude.{Option, Some, None, Result, Ok, Err, IsErr, IsSome, IfSome, codes}
 use Rattle.uxn_io.specs.declared.paths.PathFault.{PathFault}
 use Rattle.uxn_io.specs.Told.{extended}
 use Rattle.uxn_io.specs.Files.{Nodes, file_at}
@@ -14,6 +14,7 @@ use Rattle.uxn_cli.specs.Outcome.{Outcome, refusal, ended, outcome, of_source, o
 use Rattle.uxn_cli.specs.Answer.{IsEarly, IsOutcome, Answers}
 use Rattle.uxn_cli.specs.Causes.{IsExactly, AreIllegal, NameNoPath, NamePath, IsMissing, IsRefused, IsAccepted, PutsLine}
 use Rattle.uxn_cli.proofs.Growth.{extended-nothing}
+use Rattle.uxn_cli.proofs.Outcomes.{not_legal, worded_outcome, named_outcome}
 
 -- what an outcome is, by its five cases
 data Case (words : List (List ℕ)) (view : Option (List ℕ)) : Type 0 where
@@ -48,14 +49,6 @@ view_named : (words : List (List ℕ)) (nodes : Nodes) (path : List ℕ) → Nam
 unfolding view_of
 view_named words nodes path named = ap (λ s. input_of nodes s) named.legal ∙ ap (λ p. input_at nodes p) named.read
 
--- only one path is named
-one_path : (words : List (List ℕ)) (a b : List ℕ) → NamePath words a → NamePath words b → a ≡ b
-one_path words a b p q =
-    let same : Some (ToPlay p.word) ≡ Some (ToPlay q.word) = sym p.legal ∙ q.legal in
-    let word : p.word ≡ q.word = cc in
-    let read = sym p.read ∙ ap path_of word ∙ q.read in
-    cc
-
 early_is : (answer : ℕ) → IsEarly answer → 136 ≤ answer
 early_is answer (inl e) = omega arith
 early_is answer (inr (inl e)) = omega arith
@@ -79,152 +72,90 @@ status_in words view answer e (sound path source named v f o) = is_sound path so
 status_of : (words : List (List ℕ)) (view : Option (List ℕ)) (answer : ℕ) → answer ≡ (outcome words view).status → Status words view answer
 status_of words view answer e = status_in words view answer e (case_of words view)
 
--- words that name a path name no word that is none
-no_path_named : {words : List (List ℕ)} (path : List ℕ) → NameNoPath words → NamePath words path → ⊥
-no_path_named path p n =
-    let same : Some (ToPlay p.word) ≡ Some (ToPlay n.word) = sym p.legal ∙ n.legal in
-    let word : p.word ≡ n.word = cc in
-    let e = sym p.no_path ∙ ap (λ w. is_err (path_of w)) word ∙ ap is_err n.read in
-    absurd cc
+-- the status of words that name no path, and of a source with a fault
+pathless_status : (word : List ℕ) (read : Result (List ℕ) PathFault) (view : Option (List ℕ)) → IsErr read → (of_path word read view).status ≡ 129
+pathless_status word (Err fault) view e = refl
+pathless_status word (Ok path) view e = absurd cc
 
--- a source is not both faulty and sound
-unsound : (a b : List ℕ) → Some a ≡ Some b → first_fault a ≡ None → IsSome (first_fault b) → ⊥
-unsound a b same none some =
-    let e : a ≡ b = cc in
-    let n = sym some ∙ ap (λ s. is_some (first_fault s)) (sym e) ∙ ap is_some none in
-    absurd cc
+faulty_status : (source : List ℕ) (fault : Option Fault) → IsSome fault → (of_source source fault).status ≡ 131
+faulty_status source None e = absurd cc
+faulty_status source (Some fault) e = refl
 
--- a status of two numbers
-clash : {P : Type 0} (answer a b : ℕ) → answer ≡ a → answer ≡ b → (a ≡ b → ⊥) → P
-clash answer a b p q differ = absurd (differ (sym p ∙ q))
+module _ (words : List (List ℕ)) (tree : Option Nodes) (out err new_out new_err : Option (List ℕ)) (answer : ℕ) where
+  -- a status comes exactly with a fact, where an outcome has that status exactly with it
+  exactly : (status : ℕ) (P : Type 0) → status ≤ 131 → (IsOutcome words tree out err new_out new_err answer → answer ≡ status → P)
+      → (IsOutcome words tree out err new_out new_err answer → P → answer ≡ status) → Answers words tree out err new_out new_err answer → IsExactly answer status P
+  exactly status P small only whenever (inl early) = record {
+    only = λ e. (let large = early_is answer early in absurd (omega arith));
+    whenever = λ p. inr early;
+  }
+  exactly status P small only whenever (inr i) = record { only = λ e. only i e; whenever = λ p. inl (whenever i p) }
 
-module _ (words : List (List ℕ)) (tree : Option Nodes) (out err new_out new_err : Option (List ℕ)) (answer : ℕ) (h : Answers words tree out err new_out new_err answer) where
-  -- an early answer is no status of an outcome
-  not_early : {P : Type 0} (status : ℕ) → answer ≡ status → status ≤ 131 → IsEarly answer → P
-  not_early status e small early = let large = early_is answer early in absurd (omega arith)
-
-  pub exactly_illegal : IsExactly answer 128 (AreIllegal words)
-  exactly_illegal = record { only = λ e. only h e; whenever = λ p. whenever h p }
-    where
-      only : Answers words tree out err new_out new_err answer → answer ≡ 128 → AreIllegal words
-      only (inl early) e = not_early 128 e (omega arith) early
-      only (inr i) e = elim (status_of words i.view answer i.has.status) [
+  pub exactly_illegal : Answers words tree out err new_out new_err answer → IsExactly answer 128 (AreIllegal words)
+  exactly_illegal = exactly 128 (AreIllegal words) (omega arith)
+      (λ i e. elim (status_of words i.view answer i.has.status) [
         | is_illegal s a ↦ s
-        | is_pathless p a ↦ clash answer 128 129 e a (λ d. omega arith)
-        | is_absent path n v a ↦ clash answer 128 130 e a (λ d. omega arith)
-        | is_faulty path source n v f a ↦ clash answer 128 131 e a (λ d. omega arith)
-        | is_sound path source n v f a ↦ clash answer 128 0 e a (λ d. omega arith)
-      ]
+        | is_pathless p a ↦ absurd (omega arith)
+        | is_absent path n v a ↦ absurd (omega arith)
+        | is_faulty path source n v f a ↦ absurd (omega arith)
+        | is_sound path source n v f a ↦ absurd (omega arith)
+      ])
+      (λ i p. i.has.status ∙ ap (λ (o : Outcome). o.status) (not_legal words (sym p) i.view))
 
-      whenever : Answers words tree out err new_out new_err answer → AreIllegal words → (answer ≡ 128) ⊎ IsEarly answer
-      whenever (inl early) p = inr early
-      whenever (inr i) p = elim (status_of words i.view answer i.has.status) [
-        | is_illegal s a ↦ inl a
-        | is_pathless q a ↦ absurd (cc (p, q.legal))
-        | is_absent path n v a ↦ absurd (cc (p, n.legal))
-        | is_faulty path source n v f a ↦ absurd (cc (p, n.legal))
-        | is_sound path source n v f a ↦ absurd (cc (p, n.legal))
-      ]
-
-  pub exactly_pathless : IsExactly answer 129 (NameNoPath words)
-  exactly_pathless = record { only = λ e. only h e; whenever = λ p. whenever h p }
-    where
-      only : Answers words tree out err new_out new_err answer → answer ≡ 129 → NameNoPath words
-      only (inl early) e = not_early 129 e (omega arith) early
-      only (inr i) e = elim (status_of words i.view answer i.has.status) [
-        | is_illegal s a ↦ clash answer 129 128 e a (λ d. omega arith)
+  pub exactly_pathless : Answers words tree out err new_out new_err answer → IsExactly answer 129 (NameNoPath words)
+  exactly_pathless = exactly 129 (NameNoPath words) (omega arith)
+      (λ i e. elim (status_of words i.view answer i.has.status) [
+        | is_illegal s a ↦ absurd (omega arith)
         | is_pathless p a ↦ p
-        | is_absent path n v a ↦ clash answer 129 130 e a (λ d. omega arith)
-        | is_faulty path source n v f a ↦ clash answer 129 131 e a (λ d. omega arith)
-        | is_sound path source n v f a ↦ clash answer 129 0 e a (λ d. omega arith)
-      ]
+        | is_absent path n v a ↦ absurd (omega arith)
+        | is_faulty path source n v f a ↦ absurd (omega arith)
+        | is_sound path source n v f a ↦ absurd (omega arith)
+      ])
+      (λ i p. i.has.status ∙ ap (λ (o : Outcome). o.status) (worded_outcome words p.word i.view (sym p.legal)) ∙ pathless_status p.word (path_of p.word) i.view p.no_path)
 
-      whenever : Answers words tree out err new_out new_err answer → NameNoPath words → (answer ≡ 129) ⊎ IsEarly answer
-      whenever (inl early) p = inr early
-      whenever (inr i) p = elim (status_of words i.view answer i.has.status) [
-        | is_illegal s a ↦ absurd (cc (s, p.legal))
-        | is_pathless q a ↦ inl a
-        | is_absent path n v a ↦ absurd (no_path_named path p n)
-        | is_faulty path source n v f a ↦ absurd (no_path_named path p n)
-        | is_sound path source n v f a ↦ absurd (no_path_named path p n)
-      ]
-
-module _ (words : List (List ℕ)) (nodes : Nodes) (out err new_out new_err : Option (List ℕ)) (answer : ℕ) (h : Answers words (Some nodes) out err new_out new_err answer) where
-  not_early_told : {P : Type 0} (status : ℕ) → answer ≡ status → status ≤ 131 → IsEarly answer → P
-  not_early_told status e small early = let large = early_is answer early in absurd (omega arith)
-
+module _ (words : List (List ℕ)) (nodes : Nodes) (out err new_out new_err : Option (List ℕ)) (answer : ℕ) where
   -- what the file at a named path holds is the view
   held : (i : IsOutcome words (Some nodes) out err new_out new_err answer) (path : List ℕ) → NamePath words path → i.view ≡ file_at nodes path
   held i path named = i.seen ∙ view_named words nodes path named
 
-  pub exactly_missing : IsExactly answer 130 (IsMissing words nodes)
-  exactly_missing = record { only = λ e. only h e; whenever = λ p. whenever h p }
-    where
-      only : Answers words (Some nodes) out err new_out new_err answer → answer ≡ 130 → IsMissing words nodes
-      only (inl early) e = not_early_told 130 e (omega arith) early
-      only (inr i) e = elim (status_of words i.view answer i.has.status) [
-        | is_illegal s a ↦ clash answer 130 128 e a (λ d. omega arith)
-        | is_pathless p a ↦ clash answer 130 129 e a (λ d. omega arith)
+  -- the status of a named path by what its file holds
+  status_by : (i : IsOutcome words (Some nodes) out err new_out new_err answer) (path : List ℕ) → NamePath words path → (file : Option (List ℕ)) → file_at nodes path ≡ file
+      → answer ≡ (of_input path file).status
+  status_by i path named file holds =
+      i.has.status ∙ ap (λ (o : Outcome). o.status) (named_outcome words named.word path i.view (sym named.legal) (sym named.read)) ∙ ap (λ f. (of_input path f).status) (held i path named ∙ holds)
+
+  pub exactly_missing : Answers words (Some nodes) out err new_out new_err answer → IsExactly answer 130 (IsMissing words nodes)
+  exactly_missing = exactly words (Some nodes) out err new_out new_err answer 130 (IsMissing words nodes) (omega arith)
+      (λ i e. elim (status_of words i.view answer i.has.status) [
+        | is_illegal s a ↦ absurd (omega arith)
+        | is_pathless p a ↦ absurd (omega arith)
         | is_absent path n v a ↦ record { path = path; named = n; no_file = sym (held i path n) ∙ v }
-        | is_faulty path source n v f a ↦ clash answer 130 131 e a (λ d. omega arith)
-        | is_sound path source n v f a ↦ clash answer 130 0 e a (λ d. omega arith)
-      ]
+        | is_faulty path source n v f a ↦ absurd (omega arith)
+        | is_sound path source n v f a ↦ absurd (omega arith)
+      ])
+      (λ i p. status_by i p.path p.named None p.no_file)
 
-      whenever : Answers words (Some nodes) out err new_out new_err answer → IsMissing words nodes → (answer ≡ 130) ⊎ IsEarly answer
-      whenever (inl early) p = inr early
-      whenever (inr i) p = elim (status_of words i.view answer i.has.status) [
-        | is_illegal s a ↦ absurd (cc (s, p.named.legal))
-        | is_pathless q a ↦ absurd (no_path_named p.path q p.named)
-        | is_absent path n v a ↦ inl a
-        | is_faulty path source n v f a ↦ absurd (let e = held i p.path p.named ∙ p.no_file in cc (e, v))
-        | is_sound path source n v f a ↦ absurd (let e = held i p.path p.named ∙ p.no_file in cc (e, v))
-      ]
-
-  pub exactly_refused : IsExactly answer 131 (IsRefused words nodes)
-  exactly_refused = record { only = λ e. only h e; whenever = λ p. whenever h p }
-    where
-      only : Answers words (Some nodes) out err new_out new_err answer → answer ≡ 131 → IsRefused words nodes
-      only (inl early) e = not_early_told 131 e (omega arith) early
-      only (inr i) e = elim (status_of words i.view answer i.has.status) [
-        | is_illegal s a ↦ clash answer 131 128 e a (λ d. omega arith)
-        | is_pathless p a ↦ clash answer 131 129 e a (λ d. omega arith)
-        | is_absent path n v a ↦ clash answer 131 130 e a (λ d. omega arith)
+  pub exactly_refused : Answers words (Some nodes) out err new_out new_err answer → IsExactly answer 131 (IsRefused words nodes)
+  exactly_refused = exactly words (Some nodes) out err new_out new_err answer 131 (IsRefused words nodes) (omega arith)
+      (λ i e. elim (status_of words i.view answer i.has.status) [
+        | is_illegal s a ↦ absurd (omega arith)
+        | is_pathless p a ↦ absurd (omega arith)
+        | is_absent path n v a ↦ absurd (omega arith)
         | is_faulty path source n v f a ↦ record { source = source; input = record { path = path; named = n; holds = sym (held i path n) ∙ v }; faulty = f }
-        | is_sound path source n v f a ↦ clash answer 131 0 e a (λ d. omega arith)
-      ]
+        | is_sound path source n v f a ↦ absurd (omega arith)
+      ])
+      (λ i p. status_by i p.input.path p.input.named (Some p.source) p.input.holds ∙ faulty_status p.source (first_fault p.source) p.faulty)
 
-      whenever : Answers words (Some nodes) out err new_out new_err answer → IsRefused words nodes → (answer ≡ 131) ⊎ IsEarly answer
-      whenever (inl early) p = inr early
-      whenever (inr i) p = elim (status_of words i.view answer i.has.status) [
-        | is_illegal s a ↦ absurd (cc (s, p.input.named.legal))
-        | is_pathless q a ↦ absurd (no_path_named p.input.path q p.input.named)
-        | is_absent path n v a ↦ absurd (let e = held i p.input.path p.input.named ∙ p.input.holds in cc (e, v))
-        | is_faulty path source n v f a ↦ inl a
-        | is_sound path source n v f a ↦ absurd (let e = held i p.input.path p.input.named ∙ p.input.holds in unsound source p.source (sym v ∙ e) f p.faulty)
-      ]
-
-  pub exactly_accepted : IsExactly answer 0 (IsAccepted words nodes)
-  exactly_accepted = record { only = λ e. only h e; whenever = λ p. whenever h p }
-    where
-      only : Answers words (Some nodes) out err new_out new_err answer → answer ≡ 0 → IsAccepted words nodes
-      only (inl early) e = not_early_told 0 e (omega arith) early
-      only (inr i) e = elim (status_of words i.view answer i.has.status) [
-        | is_illegal s a ↦ clash answer 0 128 e a (λ d. omega arith)
-        | is_pathless p a ↦ clash answer 0 129 e a (λ d. omega arith)
-        | is_absent path n v a ↦ clash answer 0 130 e a (λ d. omega arith)
-        | is_faulty path source n v f a ↦ clash answer 0 131 e a (λ d. omega arith)
+  pub exactly_accepted : Answers words (Some nodes) out err new_out new_err answer → IsExactly answer 0 (IsAccepted words nodes)
+  exactly_accepted = exactly words (Some nodes) out err new_out new_err answer 0 (IsAccepted words nodes) (omega arith)
+      (λ i e. elim (status_of words i.view answer i.has.status) [
+        | is_illegal s a ↦ absurd (omega arith)
+        | is_pathless p a ↦ absurd (omega arith)
+        | is_absent path n v a ↦ absurd (omega arith)
+        | is_faulty path source n v f a ↦ absurd (omega arith)
         | is_sound path source n v f a ↦ record { source = source; input = record { path = path; named = n; holds = sym (held i path n) ∙ v }; sound = f }
-      ]
-
-      whenever : Answers words (Some nodes) out err new_out new_err answer → IsAccepted words nodes → (answer ≡ 0) ⊎ IsEarly answer
-      whenever (inl early) p = inr early
-      whenever (inr i) p = elim (status_of words i.view answer i.has.status) [
-        | is_illegal s a ↦ absurd (cc (s, p.input.named.legal))
-        | is_pathless q a ↦ absurd (no_path_named p.input.path q p.input.named)
-        | is_absent path n v a ↦ absurd (let e = held i p.input.path p.input.named ∙ p.input.holds in cc (e, v))
-        | is_faulty path source n v f a ↦ absurd (let e = held i p.input.path p.input.named ∙ p.input.holds in unsound p.source source (sym e ∙ v) p.sound f)
-        | is_sound path source n v f a ↦ inl a
-      ]
+      ])
+      (λ i p. status_by i p.input.path p.input.named (Some p.source) p.input.holds ∙ ap (λ f. (of_source p.source f).status) p.sound)
 
 fault_line : List ℕ → Fault → List ℕ
 fault_line source fault = codes "source " ++ position fault ++ codes ": " ++ kind_name fault.kind ++ codes ": " ++ fault_text source fault

@@ -90,9 +90,13 @@ plays_long tree path n out err new_err answer result is found h =
     let fault = long_source_refused long.source long.long in
     IfOk-weaker result _ _ (λ status has. record { view = Some long.source; seen = long.seen; plays = rw fault (rw line at has) }) h
 
-named_outcome : (words : List (List ℕ)) (word path : List ℕ) (view : Option (List ℕ)) → Some (ToPlay word) ≡ settings words → Ok path ≡ path_of word → outcome words view ≡ of_input path view
+-- the outcome of words that name a word, and of words that name a path
+pub worded_outcome : (words : List (List ℕ)) (word : List ℕ) (view : Option (List ℕ)) → Some (ToPlay word) ≡ settings words → outcome words view ≡ of_path word (path_of word) view
 unfolding outcome
-named_outcome words word path view asked read = ap (λ s. of_command s view) (sym asked) ∙ ap (λ p. of_path word p view) (sym read)
+worded_outcome words word view asked = ap (λ s. of_command s view) (sym asked)
+
+pub named_outcome : (words : List (List ℕ)) (word path : List ℕ) (view : Option (List ℕ)) → Some (ToPlay word) ≡ settings words → Ok path ≡ path_of word → outcome words view ≡ of_input path view
+named_outcome words word path view asked read = worded_outcome words word view asked ∙ ap (λ p. of_path word p view) (sym read)
 
 named_view : (nodes : Nodes) (words : List (List ℕ)) (word path : List ℕ) → Some (ToPlay word) ≡ settings words → Ok path ≡ path_of word → view_of nodes words ≡ file_at nodes path
 unfolding view_of
@@ -131,5 +135,4 @@ unfolding outcome
 not_legal words h view = ap (λ s. of_command s view) (sym h)
 
 pub not_path : (words : List (List ℕ)) (word : List ℕ) (fault : PathFault) → Some (ToPlay word) ≡ settings words → Err fault ≡ path_of word → (view : Option (List ℕ)) → outcome words view ≡ refusal 129 (no_path word)
-unfolding outcome
-not_path words word fault asked read view = ap (λ s. of_command s view) (sym asked) ∙ ap (λ p. of_path word p view) (sym read)
+not_path words word fault asked read view = worded_outcome words word view asked ∙ ap (λ p. of_path word p view) (sym read)

@@ -1,5 +1,5 @@
 //! The files beneath the current folder as a tree.
-ghost use Rattle.std.specs.Prelude.{◌≡◌, ◌≤◌, None, IfOk, length, drop};
+ghost use Rattle.std.specs.Prelude.{◌≡◌, ◌≤◌, None, IfOk, length, drop, take, min};
 
 use std::fs::File;
 use std::io::{ErrorKind, Read, Seek, SeekFrom};
@@ -60,7 +60,8 @@ impl<R: Files> CurrentFolder<'_, R> {
 
 /// Puts bytes at the front of `into`, as many as it has room for, and says how many.
 fn copy_front(bytes: &[u8], into: &mut [u8]) -> usize
-    ensures count { result ≤ length into.old }
+    ensures count { result ≡ min (length bytes.now) (length into.old) }
+    ensures front { take result into.new ≡ take result bytes.now }
     ensures rest { drop result into.new ≡ drop result into.old }
 {
     let taken = bytes.len().min(into.len());
