@@ -1,8 +1,9 @@
 -- The components of two texts with a slash between, and which such texts are paths.
-use Rattle.std.proofs.Common.{◌≡◌, ℕ, ◌+◌, ◌<◌, ◌≤◌, ◌↔◌, Bool, true, false, cond, ◌&&◌, ◌||◌, eqb, List, [], ◌∷◌, ◌++◌, take, drop, length, get_or, Some, None, Result, Ok, refl, ap, sym, ◌∙◌, inl, inr, arith, Decides, All}
+use Rattle.std.proofs.Common.{◌≡◌, ℕ, ◌+◌, ◌<◌, ◌≤◌, ◌↔◌, Bool, true, false, cond, ◌&&◌, ◌||◌, eqb, List, [], ◌∷◌, ◌++◌, take, drop, length, get_or, Option, Some, None, IfSome, Result, Ok, refl, ap, sym, subst, ◌∙◌, inl, inr, arith, Decides, All}
 use Rattle.std.specs.Result.{result_ok}
 use Rattle.std.specs.List.{onto_first, list_all, starts_with, join_with_byte}
-use Rattle.std.specs.Str.{is_utf8, IsUtf8}
+use Rattle.std.specs.Option.{option_eq}
+use Rattle.std.specs.Str.{is_utf8, IsUtf8, bytes_eq}
 use Rattle.std.specs.Prelude.{if◌then◌else◌, nat_eq}
 use Rattle.std.proofs.lemmas.Bool.{lt-ltb, le-ltb, ltb-false}
 use Rattle.std.proofs.lemmas.Bool.Decides.{eqb_tells, Decides-ltb, Decides-and, Decides-like, Decides-eqb, same_from_decides}
@@ -11,9 +12,9 @@ use Rattle.std.proofs.lemmas.List.Elements.{All-from_get_or}
 use Rattle.std.proofs.lemmas.List.Folds.{list_all-append}
 use Rattle.std.proofs.lemmas.List.Splits.{length-slice_split, slice_split_none, join_with_byte-slice_split}
 use Rattle.std.proofs.lemmas.Slice.Eq.{slice_eq-Decides, bytes_eq-Decides}
-use Rattle.std.proofs.lemmas.Str.{encode_ascii, IsUtf8-append, IsUtf8-from_is_utf8, is_utf8-from_IsUtf8, IsUtf8-take, IsCharBoundary-before_ascii}
+use Rattle.std.proofs.lemmas.Str.{encode_ascii, IsUtf8-append, IsUtf8-from_is_utf8, is_utf8-from_IsUtf8, IsUtf8-take, IsUtf8-drop, IsCharBoundary-before_ascii, IsCharBoundary-after_ascii}
 use Rattle.uxn_io.specs.declared.paths.PathFault.{PathFault}
-use Rattle.uxn_io.specs.PathText.{path_of, components, is_component, is_too_long, joined, parent_from, parent_of, is_under, HasNoSlashFrom, IsLastSlash, ContinuesAfter}
+use Rattle.uxn_io.specs.PathText.{path_of, components, is_component, is_too_long, joined, parent_from, parent_of, child_name, is_under, HasNoSlashFrom, IsLastSlash, ContinuesAfter}
 use Rattle.uxn_io.proofs.PathLemmas.{answer_of, path_of-tests}
 
 and_left : (a b : Bool) → (a && b) ≡ true → a ≡ true
@@ -215,3 +216,48 @@ continues_from text other b longer slash is =
       ),
       λ h. D.1 (sym (ap (take (length other)) h.1 ∙ take_at other (47 ∷ h.0) _ refl)),
     )
+
+-- what stands behind the last slash of a path is a path of one component
+pub tail_is_path : (text : List ℕ) (at : ℕ) → path_of text ≡ Ok text → IsLastSlash text at → path_of (drop (at + 1) text) ≡ Ok (drop (at + 1) text)
+tail_is_path text at path is =
+    let good = path_is_good text path in
+    let names = names_at_slash text at is in
+    let one : components (drop (at + 1) text) ≡ drop (at + 1) text ∷ [] = slice_split_none (λ b. eqb b 47) (drop (at + 1) text) (no_slash_all text (at + 1) is.last) in
+    let all : list_all is_component (components (drop (at + 1) text)) ≡ true = ap (list_all is_component) one ∙ and_right (list_all is_component (components (take at text))) (list_all is_component (drop (at + 1) text ∷ [])) (sym (list_all-append is_component (components (take at text)) (drop (at + 1) text ∷ [])) ∙ ap (list_all is_component) (sym names) ∙ and_right (is_utf8 text) (list_all is_component (components text)) good) in
+    let utf8 = IsUtf8-from_is_utf8 text (and_left (is_utf8 text) (list_all is_component (components text)) good) in
+    path_of-tests (drop (at + 1) text) false true false
+    (above_zero _ (some_byte _ all))
+    (sym (and_both _ _ (is_utf8-from_IsUtf8 _ (IsUtf8-drop text (at + 1) utf8 (IsCharBoundary-after_ascii text at utf8 is.within (omega (arith, is.slash))))) all))
+    (sym (not_long (drop (at + 1) text) (omega (arith, ap length one)) (omega (arith, path_bytes text path, length-drop (at + 1) text))))
+
+parent_at : (text : List ℕ) (at : ℕ) → path_of text ≡ Ok text → IsLastSlash text at → parent_of text ≡ Some (take at text)
+parent_at text at path is = sym (parent_answer text at path is) ∙ ap (λ (r : Result (List ℕ) PathFault). result_ok r) (front_is_path text at path is)
+
+-- the name of a path in its folder
+pub name_there : (folder text : List ℕ) (at : ℕ) → path_of text ≡ Ok text → IsLastSlash text at → true ≡ bytes_eq (take at text) folder → result_ok (path_of (drop (at + 1) text)) ≡ child_name folder text
+name_there folder text at path is same =
+    let whole : take at text ≡ folder = (bytes_eq-Decides (take at text) folder).0 (sym same) in
+    let size : at ≡ length folder = sym (length-take-le at text (omega (arith, is.within))) ∙ ap length whole in
+    ap (λ (r : Result (List ℕ) PathFault). result_ok r) (tail_is_path text at path is)
+    ∙ ap (λ (k : ℕ). Some (drop (k + 1) text)) size
+    ∙ ap (λ (b : Bool). if b then Some (drop (length folder + 1) text) else None) same
+    ∙ ap (λ (o : Option (List ℕ)). if option_eq bytes_eq o (Some folder) then Some (drop (length folder + 1) text) else None) (sym (parent_at text at path is))
+
+pub name_elsewhere : (folder text : List ℕ) (at : ℕ) → path_of text ≡ Ok text → IsLastSlash text at → false ≡ bytes_eq (take at text) folder → None ≡ child_name folder text
+name_elsewhere folder text at path is other =
+    ap (λ (b : Bool). if b then Some (drop (length folder + 1) text) else None) other
+    ∙ ap (λ (o : Option (List ℕ)). if option_eq bytes_eq o (Some folder) then Some (drop (length folder + 1) text) else None) (sym (parent_at text at path is))
+
+pub name_nowhere : (folder text : List ℕ) → HasNoSlashFrom text 0 → None ≡ child_name folder text
+name_nowhere folder text none =
+    ap (λ (o : Option (List ℕ)). if option_eq bytes_eq o (Some folder) then Some (drop (length folder + 1) text) else None) (no_parent text none)
+
+one_parent : (text : List ℕ) (at : ℕ) → IsLastSlash text at → parent_of (drop (at + 1) text) ≡ None
+unfolding parent_of
+one_parent text at is = ap parent_from (slice_split_none (λ b. eqb b 47) (drop (at + 1) text) (no_slash_all text (at + 1) is.last))
+
+-- and has one component
+pub one_name : (text : List ℕ) (at : ℕ) (name : Option (List ℕ)) → path_of text ≡ Ok text → IsLastSlash text at → name ≡ result_ok (path_of (drop (at + 1) text)) → IfSome name (λ one. parent_of one ≡ None)
+one_name text at name path is read =
+    let P : Option (List ℕ) → Type 0 = λ o. IfSome o (λ one. parent_of one ≡ None) in
+    subst P (sym (read ∙ ap (λ (r : Result (List ℕ) PathFault). result_ok r) (tail_is_path text at path is))) (one_parent text at is)

@@ -8,7 +8,7 @@ use Rattle.std.specs.FinMap as map
 use Rattle.std.proofs.lemmas.List.{drop_more, drop_all}
 use Rattle.uxn_io.specs.declared.memory_trees.Node.{Node as HeldNode}
 use Rattle.uxn_io.specs.Files.{Node}
-use Rattle.uxn_io.specs.TreeInMemory.{node_of, entry_of, nodes_of}
+use Rattle.uxn_io.specs.Places.{node_of, entry_of, nodes_of}
 
 -- what the first entry with this path stands for
 abbrev pub first_at : List ℕ → List (List ℕ × HeldNode) → Option Node
@@ -23,7 +23,3 @@ pub first_at_more : (path : List ℕ) (held : List (List ℕ × HeldNode)) (i : 
 first_at_more path held i entry b lt is tested =
     ap (first_at path) (drop_more held i entry lt ∙ ap (λ e. e ∷ drop (i + 1) held) (sym is))
     ∙ ap (λ (t : Bool). cond t (Some (node_of entry.1)) (first_at path (drop (i + 1) held))) (sym (tested ∙ lists_ties nat_cmp unsigned_ties path entry.0))
-
--- no entry is left
-pub first_at_end : (path : List ℕ) (held : List (List ℕ × HeldNode)) (n : ℕ) → length held ≤ n → first_at path (drop n held) ≡ None
-first_at_end path held n all = ap (first_at path) (drop_all n held all)

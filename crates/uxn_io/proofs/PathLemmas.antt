@@ -28,17 +28,6 @@ pub path_of_text : (text : List ℕ) → is_ok (path_of text) ≡ true → path_
 unfolding path_of
 path_of_text text e = answer_is_text text _ _ _ e
 
-same_text : (text path : List ℕ) (empty good long : Bool) → answer_of text empty good long ≡ Ok path → path ≡ text
-same_text text path true good long e = cc
-same_text text path false false long e = cc
-same_text text path false true true e = cc
-same_text text path false true false e = cc
-
--- a path that is read is its text
-pub path_of_same : (text path : List ℕ) → path_of text ≡ Ok path → path ≡ text
-unfolding path_of
-path_of_same text path e = same_text text path _ _ _ e
-
 -- a text and zeros behind it keep the text
 pub kept : (text bytes : List ℕ) → length text ≤ 255 → bytes ≡ text ++ replicate (255 - length text) 0 → path_of text ≡ Ok text → IsPathBytes bytes (length text)
 kept text bytes short is path =

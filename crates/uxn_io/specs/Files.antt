@@ -1,9 +1,11 @@
 -- The files of a tree: a finite map from the text of a path to what is there.
-use Rattle.std.specs.Prelude.{◌≡◌, ℕ, ◌<◌, ◌≤◌, List, [], length, take, drop, Option, Some, None}
+use Rattle.std.specs.Prelude.{◌≡◌, ℕ, ◌<◌, ◌≤◌, Bool, true, false, IsTrue, IsSome, List, [], length, take, drop}
+use Rattle.std.specs.Prelude.{Option, Some, None, Ok}
 use Rattle.std.specs.Option.{unwrap_or}
 use Rattle.std.specs.Ordering.{nat_cmp}
 use Rattle.std.specs.Cmp.Lexicographic.{slice_cmp}
 use Rattle.std.specs.FinMap as map
+use Rattle.uxn_io.specs.PathText.{path_of, parent_of}
 use Rattle.uxn_io.specs.declared.trees.Kind.{Kind}
 use Rattle.uxn_io.specs.declared.trees.Kind.TheVariants.{Missing, File as FileOf, Folder as FolderThere}
 
@@ -36,9 +38,33 @@ kind_of (Some Folder) = FolderThere
 abbrev pub kind_at : Nodes → List ℕ → Kind
 kind_at nodes path = kind_of (map.get nodes path)
 
+-- the bytes of the file at a path: none where no file is there
+abbrev pub bytes_at : Nodes → List ℕ → List ℕ
+bytes_at nodes path = unwrap_or (file_at nodes path) []
+
+-- a folder is there
+abbrev pub is_folder : Option Node → Bool
+is_folder None = false
+is_folder (Some (File bytes)) = false
+is_folder (Some Folder) = true
+
+-- a folder is at the path, or no path is given: the current folder is always there
+abbrev pub is_folder_at : Nodes → Option (List ℕ) → Bool
+is_folder_at nodes None = true
+is_folder_at nodes (Some path) = is_folder (map.get nodes path)
+
+-- the parent of the path is a folder
+abbrev pub has_parent : Nodes → List ℕ → Bool
+has_parent nodes path = is_folder_at nodes (parent_of path)
+
+-- what a tree tells: something stands only at a path, and in a folder
+pub record IsTree (nodes : Nodes) : Type 0 where
+  pub paths : (path : List ℕ) → IsSome (map.get nodes path) → path_of path ≡ Ok path
+  pub parents : (path : List ℕ) → IsSome (map.get nodes path) → IsTrue (has_parent nodes path)
+
 -- the bytes of the file at a path from a place on: none where no file is there, or it is no longer than that
 abbrev pub bytes_from : Nodes → List ℕ → ℕ → List ℕ
-bytes_from nodes path from = drop from (unwrap_or (file_at nodes path) [])
+bytes_from nodes path from = drop from (bytes_at nodes path)
 
 -- n of these bytes were put at the front of a buffer: some of them, where there are any and the buffer has room
 pub record Reads (bytes before now : List ℕ) (n : ℕ) : Type 0 where

@@ -13,5 +13,6 @@ pub length_again : (bytes : List ℕ) (len : ℕ) → IsPathBytes bytes len → 
 length_again bytes len h = length-take-le len bytes h.within
 
 -- the text and zeros are the bytes that are kept
-pub bytes_again : (bytes : List ℕ) (len : ℕ) → IsPathBytes bytes len → take len bytes ++ replicate (255 - length (take len bytes)) 0 ≡ bytes
+pub bytes_again : (bytes : List ℕ) (len : ℕ) → IsPathBytes bytes len
+    → take len bytes ++ replicate (255 - length (take len bytes)) 0 ≡ bytes
 bytes_again bytes len h = rw (length_again bytes len h, ← h.zeros) (take-append-drop len bytes)

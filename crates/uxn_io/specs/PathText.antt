@@ -1,6 +1,9 @@
 -- Paths: which texts are paths (profile).
-use Rattle.std.specs.Prelude.{◌≡◌, ◌≢◌, ℕ, ◌+◌, ◌-◌, ◌<◌, ◌≤◌, ◌∷◌, ◌++◌, take, slice_index, Option, Some, None, Bool, not, ◌&&◌, ◌||◌, ◌==◌, nat_lt, List, length, codes, Result, Ok, Err, if◌then◌else◌}
+use Rattle.std.specs.Prelude.{◌≡◌, ◌≢◌, ℕ, ◌+◌, ◌-◌, ◌<◌, ◌≤◌, ◌∷◌, ◌++◌, take, drop}
+use Rattle.std.specs.Prelude.{slice_index, Option, Some, None}
+use Rattle.std.specs.Prelude.{Bool, not, ◌&&◌, ◌||◌, ◌==◌, nat_lt, List, length, codes, Result, Ok, Err, if◌then◌else◌}
 use Rattle.std.specs.List.{slice_split, list_any, list_all, starts_with, join_with_byte}
+use Rattle.std.specs.Option.{option_eq}
 use Rattle.std.specs.Str.{is_utf8, bytes_eq}
 use Rattle.uxn_io.specs.declared.paths.PathFault.{PathFault}
 use Rattle.uxn_io.specs.declared.paths.PathFault.TheVariants.{Empty, BadComponent, TooLong}
@@ -43,6 +46,10 @@ parent_from names = if nat_lt 1 (length names) then Some (all_but_last names) el
 
 unfoldable pub parent_of : List ℕ → Option (List ℕ)
 parent_of text = parent_from (components text)
+
+-- the name of a path in a folder that is its parent
+abbrev pub child_name : List ℕ → List ℕ → Option (List ℕ)
+child_name folder path = if option_eq bytes_eq (parent_of path) (Some folder) then Some (drop (length folder + 1) path) else None
 
 -- the components of the other are a proper prefix of this one's
 unfoldable pub is_under : List ℕ → List ℕ → Bool

@@ -1,5 +1,7 @@
 -- A sink in memory, call by call.
-use Rattle.std.specs.Prelude.{ℕ, ◌+◌, ◌-◌, ◌^◌, ◌==◌, ◌&&◌, ◌||◌, Bool, nat_lt, nat_le, min, List, ◌++◌, Option, Some, length, take, Result, Ok, Err, if◌then◌else◌}
+use Rattle.std.specs.Prelude.{ℕ, ◌+◌, ◌-◌, ◌^◌, ◌==◌, ◌&&◌, ◌||◌, Bool, nat_lt, nat_le, min, List}
+use Rattle.std.specs.Prelude.{◌++◌, Option, Some}
+use Rattle.std.specs.Prelude.{length, take, Result, Ok, Err, if◌then◌else◌}
 use Rattle.std.specs.List.{list_any}
 use Rattle.uxn_io.specs.declared.sinks.Failed.{Failed}
 
@@ -19,6 +21,10 @@ told_by sink = Some sink.taken
 -- and counts its faults
 abbrev pub faults_of : SinkInMemory → ℕ
 faults_of sink = sink.faults
+
+-- where no later call is listed, none fails while room is there
+abbrev pub sure_of : SinkInMemory → ℕ
+sure_of sink = if list_any (λ n. nat_le sink.calls n) sink.fails then 0 else sink.room - length sink.taken + 1
 
 -- one more, up to the last value of a count
 abbrev pub counted : ℕ → ℕ

@@ -6,6 +6,7 @@ mod bytes;
 mod memory_sinks;
 mod memory_trees;
 mod paths;
+mod places;
 mod sinks;
 #[cfg(test)]
 mod tests;
@@ -18,4 +19,4 @@ pub use memory_trees::{MemTree, Node, TreeCall};
 pub use paths::{Path, PathFault};
 pub use sinks::{Failed, Sink, put_all};
 pub use texts::{decimal, hex_byte, hex_short};
-pub use trees::{FileBytes, Kind, ReadStop, Tree, read_file};
+pub use trees::{Entry, FileBytes, Kind, NamesStop, ReadStop, Tree, append_all, read_file};

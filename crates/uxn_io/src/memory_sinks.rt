@@ -1,9 +1,9 @@
 //! A sink in memory, which fails on demand.
-ghost use Rattle.std.specs.Prelude.{◌≡◌, ◌<◌, ◌≤◌, ◌==◌, [], length, take, IfOk, OnErr};
+ghost use Rattle.std.specs.Prelude.{◌≡◌, ◌+◌, ◌<◌, ◌≤◌, ◌==◌, [], length, take, IfOk, IsOk, OnErr, is_err};
 ghost use Rattle.std.specs.List.{list_any};
-ghost use Rattle.uxn_io.specs.Cause.{HasCause};
+ghost use Rattle.uxn_io.specs.Faults.{Counted};
 ghost use Rattle.uxn_io.specs.Told.{extended};
-ghost use Rattle.uxn_io.specs.SinkInMemory.{told_by, faults_of, put_answer, after_put};
+ghost use Rattle.uxn_io.specs.SinkInMemory.{told_by, faults_of, sure_of, fails_at, put_answer, after_put};
 
 use super::{Failed, Sink};
 use std::alloc::{AllocError, Global};
@@ -51,12 +51,22 @@ impl MemSink {
     {
         self.taken.as_slice()
     }
+
+    /// Whether the next `put` of this piece fails.
+    fn fails_at(&self, piece: &[u8]) -> bool
+        ensures { result ≡ fails_at self.now piece.now }
+    {
+        let is_full = self.taken.len() == self.room;
+        is_listed(&self.fails, self.calls) || (!piece.is_empty() && is_full)
+    }
 }
 
 impl Sink for MemSink {
     ghost told = { told_by };
 
     ghost faults = { faults_of };
+
+    ghost sure = { sure_of };
 
     /// Takes as much as fits. It fails exactly where the number of the call is listed, or the piece is
     /// not empty and no room is left.
@@ -65,13 +75,14 @@ impl Sink for MemSink {
         ensures some { IfOk result (λ n. 0 < length piece.now → 0 < n) }
         ensures ok { IfOk result (λ n. told_by self.new ≡ extended (told_by self.old) (take n piece.now)) }
         ensures err { OnErr result (told_by self.new ≡ told_by self.old) }
-        ensures cause { HasCause (faults_of self.old) (faults_of self.new) result }
+        ensures ledger { Counted (faults_of self.old) (faults_of self.new) (is_err result) }
+        ensures sure { length piece.now < sure_of self.old → IsOk result }
+        ensures left { IfOk result (λ n. sure_of self.old ≤ sure_of self.new + n) }
 
         ensures answer { result ≡ put_answer self.old piece.now }
         ensures after { self.new ≡ after_put self.old piece.now }
     {
-        let is_full = self.taken.len() == self.room;
-        let fails = is_listed(self.fails.as_slice(), self.calls) || (!piece.is_empty() && is_full);
+        let fails = self.fails_at(piece);
         self.calls = self.calls.saturating_add(1);
         if fails {
             self.faults = self.faults.saturating_add(1);

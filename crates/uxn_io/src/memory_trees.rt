@@ -1,15 +1,44 @@
 //! A tree in memory, which fails on demand.
-ghost use Rattle.std.specs.Prelude.{◌≡◌, ℕ, ◌+◌, ◌≤◌, ◌==◌, ◌&&◌, ◌++◌, min, count_by, length, take, drop, vec_len, unwrap_or, option_map, IsTrue, IfOk, IfSome, OnErr, [], if◌then◌else◌};
-ghost use Rattle.std.specs.List.{list_any};
+ghost use Rattle.std.specs.Prelude.{◌≡◌, ℕ, ◌+◌, ◌<◌, ◌≤◌, ◌==◌, ◌&&◌, ◌||◌, ◌⊎◌, ◌++◌, false, min, count_by, length, take, drop, option_map, is_err, is_some, IsTrue, IsSome, IsOk, IfOk, IfSome, OnOk, OnErr, if◌then◌else◌};
+ghost use Rattle.std.specs.List.{All, list_any};
 ghost use Rattle.std.specs.Str.{bytes_eq};
 ghost use Rattle.std.specs.Option.{option_copied};
 ghost use Rattle.std.specs.FinMap as map;
-ghost use Rattle.uxn_io.specs.Cause.{HasCause};
-ghost use Rattle.uxn_io.specs.Files.{kind_at, file_at, bytes_from, Reads};
-ghost use Rattle.uxn_io.specs.PathText.{parent_of};
-ghost use Rattle.uxn_io.specs.TreeInMemory.{node_of, nodes_of, told_by, faults_of, same_call, is_failing, kind_answer, after_kind, read_answer, read_into, after_read, has_folder, fits, is_sound, can_hold};
+ghost use Rattle.uxn_io.specs.Faults.{Counted};
+ghost use Rattle.uxn_io.specs.Files.{IsTree, kind_at, file_at, bytes_at, bytes_from, is_folder, Reads};
+ghost use Rattle.uxn_io.specs.Changes.{can_create, with_created, new_files, with_appended, HasAppendedFront, with_removed};
+ghost use Rattle.uxn_io.specs.Children.{children, IsEntry, has_failed as names_failed};
+ghost use Rattle.uxn_io.specs.Room.{Leaves};
+ghost use Rattle.uxn_io.specs.Places.{node_of, nodes_of};
+ghost use Rattle.uxn_io.specs.declared.memory_trees.TreeCall.{TreeCall};
+ghost use Rattle.uxn_io.specs.SinkInMemory.{counted};
+ghost use Rattle.uxn_io.specs.TreeInMemory.{
+  no_calls,
+  number_of,
+  with_call,
+  told_by,
+  faults_of,
+  sure_of,
+  same_call,
+  is_listed,
+  is_listed_later,
+  answer_of,
+  after,
+  read_count,
+  read_into,
+  lacks_place,
+  created,
+  fitting,
+  lacks_room,
+  appended,
+  removed,
+  fits,
+  is_sound,
+  can_hold,
+};
 
-use super::{Bytes, Failed, Kind, Path, Tree};
+use super::places::{Places, has_parent};
+use super::{Bytes, Entry, Failed, Kind, NamesStop, Path, Tree};
 use std::alloc::{AllocError, Global};
 use std::marker::Model;
 
@@ -20,6 +49,14 @@ pub enum TreeCall {
     Kind,
     /// `Tree::read`.
     Read,
+    /// `Tree::create`.
+    Create,
+    /// `Tree::append`.
+    Append,
+    /// `Tree::remove`.
+    Remove,
+    /// `Tree::names`.
+    Names,
 }
 
 /// A file with its bytes, or a folder, whose bytes are empty.
@@ -31,33 +68,101 @@ pub struct Node {
     pub bytes: Bytes,
 }
 
+/// How many calls of each variant there were.
+#[derive(Debug, Drop)]
+struct Calls {
+    kind: u64,
+    read: u64,
+    create: u64,
+    append: u64,
+    remove: u64,
+    names: u64,
+}
+
+impl Model for Calls {
+    ghost use Rattle.uxn_io.specs.TreeInMemory.{Calls};
+
+    ghost Value = { Calls };
+
+    ghost view = { λ c. record { kind = c.kind; read = c.read; create = c.create; append = c.append; remove = c.remove; names = c.names } };
+}
+
+impl Calls {
+    /// No calls so far.
+    fn new() -> Calls
+        ensures { result ≡ no_calls }
+    {
+        Calls {
+            kind: 0,
+            read: 0,
+            create: 0,
+            append: 0,
+            remove: 0,
+            names: 0,
+        }
+    }
+
+    /// The number of the next call of a variant, from 0.
+    fn number_of(&self, call: TreeCall) -> u64
+        ensures { result ≡ number_of call self.now }
+    {
+        match call {
+            TreeCall::Kind => self.kind,
+            TreeCall::Read => self.read,
+            TreeCall::Create => self.create,
+            TreeCall::Append => self.append,
+            TreeCall::Remove => self.remove,
+            TreeCall::Names => self.names,
+        }
+    }
+
+    /// Counts a call.
+    fn count(&mut self, call: TreeCall)
+        ensures after { self.new ≡ with_call call self.old }
+        ensures later { (other : TreeCall) → number_of other self.old ≤ number_of other self.new }
+    {
+        match call {
+            TreeCall::Kind => add_one(&mut self.kind),
+            TreeCall::Read => add_one(&mut self.read),
+            TreeCall::Create => add_one(&mut self.create),
+            TreeCall::Append => add_one(&mut self.append),
+            TreeCall::Remove => add_one(&mut self.remove),
+            TreeCall::Names => add_one(&mut self.names),
+        }
+    }
+}
+
+/// Counts one more.
+fn add_one(count: &mut u64)
+    ensures after { count.new ≡ counted count.old }
+    ensures later { count.old ≤ count.new }
+{
+    *count = count.saturating_add(1);
+}
+
 /// A tree that is kept in memory.
 #[derive(Debug, Drop)]
 pub struct MemTree {
-    places: Vec<(Path, Node)>,
-    spare: Vec<Bytes>,
-    room: usize,
+    held: Places,
     fails: Vec<(TreeCall, u32)>,
-    kinds: u64,
-    reads: u64,
+    calls: Calls,
     faults: u64,
 }
 
 impl Model for MemTree {
-    ghost use Rattle.std.specs.Prelude.{vec_len};
-    ghost use Rattle.uxn_io.specs.TreeInMemory.{TreeInMemory, tree_code, nodes_of};
+    ghost use Rattle.uxn_io.specs.TreeInMemory.{TreeInMemory, tree_code};
 
     ghost Value = { TreeInMemory };
 
     ghost coded = { tree_code };
 
-    ghost view = { λ t. record { nodes = nodes_of t.places.items; free = vec_len t.spare; room = t.room; fails = t.fails.items; kinds = t.kinds; reads = t.reads; faults = t.faults } };
+    ghost view = { λ t. record { held = t.held; fails = t.fails.items; calls = t.calls; faults = t.faults } };
 }
 
 impl MemTree {
-    /// A tree of these nodes, with places for so many more and room for so many bytes in each file. The
-    /// calls with a listed variant and number, from 0, fail. It takes all its memory now. Errors with want
-    /// of memory.
+    /// A tree of these nodes, with places for so many more files and room for so many bytes in each file.
+    /// The calls with a listed variant and number, from 0, fail. It takes all its memory now, and its
+    /// further calls none, but for the list that `names` gives. Errors with want of memory.
     pub fn new(
         alloc: Global,
         nodes: &[(Path, Node)],
@@ -66,15 +171,17 @@ impl MemTree {
         fails: &[(TreeCall, u32)],
     ) -> Result<MemTree, AllocError>
         requires { IsTrue (can_hold nodes.now room) }
-        ensures { IfOk result (λ tree. tree ≡ record { nodes = nodes_of nodes.now; free = more; room = room; fails = fails.now; kinds = 0; reads = 0; faults = 0 }) }
+        ensures { IfOk result (λ tree. tree ≡ record {
+          held = record { nodes = nodes_of nodes.now; free = more; room = room };
+          fails = fails.now;
+          calls = no_calls;
+          faults = 0;
+        }) }
     {
         Ok(MemTree {
-            places: copies(alloc, nodes, more, room)?,
-            spare: spare_bytes(alloc, more, room)?,
-            room,
+            held: Places::new(alloc, nodes, more, room)?,
             fails: Vec::from_slice(alloc, fails)?,
-            kinds: 0,
-            reads: 0,
+            calls: Calls::new(),
             faults: 0,
         })
     }
@@ -89,100 +196,156 @@ impl MemTree {
 
     /// The node at a path.
     pub fn node(&self, path: &Path) -> Option<&Node>
-        ensures { option_map node_of (option_copied result) ≡ map.get self.now.nodes path.now }
+        ensures { option_map node_of (option_copied result) ≡ map.get self.now.held.nodes path.now }
     {
-        lookup(self.places.as_slice(), path)
+        self.held.node(path)
+    }
+
+    /// Counts a call, and a fault where something is lacking for it or it is listed. Whether it fails.
+    fn begin(&mut self, call: TreeCall, lacking: bool) -> bool
+        ensures fails { result ≡ (lacking || is_listed self.old call) }
+        ensures after { self.new ≡ after call self.old lacking self.old.held }
+        ensures ledger { Counted (faults_of self.old) (faults_of self.new) result }
+        ensures sure { is_listed_later self.old ≡ false → result ≡ lacking }
+        ensures later { is_listed_later self.old ≡ false → is_listed_later self.new ≡ false }
+    {
+        let listed = is_listed(&self.fails, call, self.calls.number_of(call));
+        let fails = lacking || listed;
+        self.calls.count(call);
+        if fails {
+            add_one(&mut self.faults);
+        }
+        fails
     }
 }
 
+/// A call fails exactly where its variant and number are listed, where `create` would make a file that is
+/// not there and no place is free, and where `append` has a piece that is not empty and the file has no
+/// room. It then changes nothing.
 impl Tree for MemTree {
     ghost told = { told_by };
 
     ghost faults = { faults_of };
 
-    /// It fails exactly where the variant and the number of the call are listed, and then only counts.
+    ghost sure = { sure_of };
+
+    /// Tells what is there.
     fn kind(&mut self, path: &Path) -> Result<Kind, Failed>
         ensures ok { IfOk result (λ kind. IfSome (told_by self.old) (λ nodes. kind ≡ kind_at nodes path.now)) }
         ensures same { told_by self.new ≡ told_by self.old }
-        ensures cause { HasCause (faults_of self.old) (faults_of self.new) result }
+        ensures shape { OnOk result (IfSome (told_by self.old) IsTree) }
+        ensures ledger { Counted (faults_of self.old) (faults_of self.new) (is_err result) }
+        ensures sure { 0 < (sure_of self.old).files → IsOk result }
+        ensures left { OnOk result (Leaves (sure_of self.old) (sure_of self.new) 0 0) }
 
-        ensures answer { result ≡ kind_answer self.old path.now }
-        ensures after { self.new ≡ after_kind self.old }
+        ensures answer { result ≡ answer_of TreeCall.Kind self.old false (kind_at self.old.held.nodes path.now) }
+        ensures after { self.new ≡ after TreeCall.Kind self.old false self.old.held }
     {
-        let fails = is_failing(self.fails.as_slice(), TreeCall::Kind, self.kinds);
-        self.kinds = self.kinds.saturating_add(1);
-        if fails {
-            self.faults = self.faults.saturating_add(1);
+        if self.begin(TreeCall::Kind, false) {
             return Err(Failed);
         }
-        Ok(kind_there(self.places.as_slice(), path))
+        Ok(self.held.kind(path))
     }
 
-    /// It puts as many bytes as there are and fit. It fails exactly where the variant and the number of the
-    /// call are listed, and then only counts.
+    /// Puts as many bytes as there are and fit.
     fn read(&mut self, path: &Path, from: u64, into: &mut [u8]) -> Result<usize, Failed>
         ensures count { IfOk result (λ n. n ≤ length into.old) }
         ensures rest { IfOk result (λ n. drop n into.new ≡ drop n into.old) }
         ensures ok { IfOk result (λ n. IfSome (told_by self.old) (λ nodes. Reads (bytes_from nodes path.now from) into.old into.new n)) }
         ensures same { told_by self.new ≡ told_by self.old }
-        ensures cause { HasCause (faults_of self.old) (faults_of self.new) result }
+        ensures ledger { Counted (faults_of self.old) (faults_of self.new) (is_err result) }
+        ensures sure { 0 < (sure_of self.old).files → IsOk result }
+        ensures left { OnOk result (Leaves (sure_of self.old) (sure_of self.new) 0 0) }
 
-        ensures answer { result ≡ read_answer self.old path.now from into.old }
-        ensures into { into.new ≡ read_into self.old path.now from into.old }
-        ensures after { self.new ≡ after_read self.old }
+        ensures answer { result ≡ answer_of TreeCall.Read self.old false (read_count self.old.held.nodes path.now from into.old) }
+        ensures into { into.new ≡ (if is_listed self.old TreeCall.Read then into.old else read_into self.old.held.nodes path.now from into.old) }
+        ensures after { self.new ≡ after TreeCall.Read self.old false self.old.held }
     {
-        let fails = is_failing(self.fails.as_slice(), TreeCall::Read, self.reads);
-        self.reads = self.reads.saturating_add(1);
-        if fails {
-            self.faults = self.faults.saturating_add(1);
+        if self.begin(TreeCall::Read, false) {
             return Err(Failed);
         }
-        let bytes = bytes_there(self.places.as_slice(), path);
-        Ok(copy_from(bytes, from, into))
+        Ok(copy_from(self.held.bytes(path), from, into))
     }
-}
 
-/// The node at a path: the first that stands there.
-fn lookup<'a>(places: &'a [(Path, Node)], path: &Path) -> Option<&'a Node>
-    ensures { option_map node_of (option_copied result) ≡ map.get (nodes_of places.now) path.now }
-{
-    for entry in places {
-        if path.bytes() == entry.0.bytes() {
-            return Some(&entry.1);
+    /// Makes an empty file, in a free place where nothing was.
+    fn create(&mut self, path: &Path) -> Result<bool, Failed>
+        ensures answer { IfOk result (λ made. IfSome (told_by self.old) (λ nodes. made ≡ can_create nodes path.now)) }
+        ensures ok { OnOk result (told_by self.new ≡ option_map (with_created path.now) (told_by self.old)) }
+        ensures err { OnErr result ((told_by self.new ≡ told_by self.old) ⊎ (told_by self.new ≡ option_map (with_created path.now) (told_by self.old))) }
+        ensures ledger { Counted (faults_of self.old) (faults_of self.new) (is_err result) }
+        ensures sure { IfSome (told_by self.old) (λ nodes. new_files nodes path.now < (sure_of self.old).files → IsOk result) }
+        ensures left { OnOk result (IfSome (told_by self.old) (λ nodes. Leaves (sure_of self.old) (sure_of self.new) (new_files nodes path.now) 0)) }
+
+        ensures exact { result ≡ answer_of TreeCall.Create self.old (lacks_place self.old.held path.now) (can_create self.old.held.nodes path.now) }
+        ensures after { self.new ≡ after TreeCall.Create self.old (lacks_place self.old.held path.now) (created self.old.held path.now) }
+    {
+        let lacking = self.held.lacks_place(path);
+        if self.begin(TreeCall::Create, lacking) {
+            return Err(Failed);
         }
+        Ok(self.held.create(path))
     }
-    None
-}
 
-/// What stands at a path.
-fn kind_there(places: &[(Path, Node)], path: &Path) -> Kind
-    ensures { result ≡ kind_at (nodes_of places.now) path.now }
-{
-    match lookup(places, path) {
-        Some(node) => {
-            if node.folder {
-                Kind::Folder
-            } else {
-                Kind::File(node.bytes.as_slice().len() as u64)
-            }
+    /// Takes as much of the piece as the room has.
+    fn append(&mut self, path: &Path, piece: &[u8]) -> Result<usize, Failed>
+        requires { IfSome (told_by self.old) (λ nodes. IsSome (file_at nodes path.now)) }
+        ensures count { IfOk result (λ n. n ≤ length piece.now) }
+        ensures some { IfOk result (λ n. 0 < length piece.now → 0 < n) }
+        ensures ok { IfOk result (λ n. told_by self.new ≡ option_map (with_appended path.now (take n piece.now)) (told_by self.old)) }
+        ensures err { OnErr result (HasAppendedFront path.now (told_by self.old) (told_by self.new) piece.now) }
+        ensures ledger { Counted (faults_of self.old) (faults_of self.new) (is_err result) }
+        ensures sure { IfSome (told_by self.old) (λ nodes. 0 < (sure_of self.old).files
+            → length (bytes_at nodes path.now) + length piece.now ≤ (sure_of self.old).bytes → IsOk result) }
+        ensures left { OnOk result (Leaves (sure_of self.old) (sure_of self.new) 0 0) }
+
+        ensures exact { result ≡ answer_of TreeCall.Append self.old (lacks_room self.old.held path.now piece.now) (fitting self.old.held path.now piece.now) }
+        ensures after { self.new ≡ after TreeCall.Append self.old (lacks_room self.old.held path.now piece.now) (appended self.old.held path.now piece.now) }
+    {
+        let lacking = !piece.is_empty() && self.held.is_full(path);
+        if self.begin(TreeCall::Append, lacking) {
+            return Err(Failed);
         }
-        None => Kind::Missing,
+        Ok(self.held.append(path, piece))
     }
-}
 
-/// The bytes of the file at a path: none where no file is there.
-fn bytes_there<'a>(places: &'a [(Path, Node)], path: &Path) -> &'a [u8]
-    ensures { result.now ≡ unwrap_or (file_at (nodes_of places.now) path.now) [] }
-{
-    match lookup(places, path) {
-        Some(node) => {
-            if node.folder {
-                &[]
-            } else {
-                node.bytes.as_slice()
-            }
+    /// Takes a file away, and frees its place.
+    fn remove(&mut self, path: &Path) -> Result<bool, Failed>
+        ensures answer { IfOk result (λ gone. IfSome (told_by self.old) (λ nodes. gone ≡ is_some (file_at nodes path.now))) }
+        ensures ok { OnOk result (told_by self.new ≡ option_map (with_removed path.now) (told_by self.old)) }
+        ensures err { OnErr result ((told_by self.new ≡ told_by self.old) ⊎ (told_by self.new ≡ option_map (with_removed path.now) (told_by self.old))) }
+        ensures ledger { Counted (faults_of self.old) (faults_of self.new) (is_err result) }
+        ensures sure { 0 < (sure_of self.old).files → IsOk result }
+        ensures left { IfOk result (λ gone. Leaves (sure_of self.old) (sure_of self.new) 0 (if gone then 1 else 0)) }
+
+        ensures exact { result ≡ answer_of TreeCall.Remove self.old false (is_some (file_at self.old.held.nodes path.now)) }
+        ensures after { self.new ≡ after TreeCall.Remove self.old false (removed self.old.held path.now) }
+    {
+        if self.begin(TreeCall::Remove, false) {
+            return Err(Failed);
         }
-        None => &[],
+        Ok(self.held.remove(path))
+    }
+
+    /// Lists the children. Want of memory is no fault.
+    fn names(&mut self, alloc: Global, folder: &Path) -> Result<Vec<Entry>, NamesStop>
+        requires { IfSome (told_by self.old) (λ nodes. IsTrue (is_folder (map.get nodes folder.now))) }
+        ensures ok { IfOk result (λ entries. IfSome (told_by self.old) (λ nodes. entries.items ≡ children nodes folder.now)) }
+        ensures entries { IfOk result (λ entries. All IsEntry entries.items) }
+        ensures same { told_by self.new ≡ told_by self.old }
+        ensures ledger { Counted (faults_of self.old) (faults_of self.new) (names_failed result) }
+        ensures sure { 0 < (sure_of self.old).files → names_failed result ≡ false }
+        ensures left { names_failed result ≡ false → Leaves (sure_of self.old) (sure_of self.new) 0 0 }
+
+        ensures fails { names_failed result ≡ is_listed self.old TreeCall.Names }
+        ensures after { self.new ≡ after TreeCall.Names self.old false self.old.held }
+    {
+        if self.begin(TreeCall::Names, false) {
+            return Err(NamesStop::Failed);
+        }
+        match self.held.children(alloc, folder) {
+            Ok(entries) => Ok(entries),
+            Err(_) => Err(NamesStop::NoMemory),
+        }
     }
 }
 
@@ -202,52 +365,24 @@ fn copy_from(bytes: &[u8], from: u64, into: &mut [u8]) -> usize
 }
 
 /// Whether the call of this variant and number is among those that fail.
-fn is_failing(fails: &[(TreeCall, u32)], call: TreeCall, number: u64) -> bool
-    ensures { result ≡ is_failing fails.now call number }
+fn is_listed(fails: &[(TreeCall, u32)], call: TreeCall, number: u64) -> bool
+    ensures { result ≡ list_any (λ e. same_call e.0 call && e.1 == number) fails.now }
 {
     fails.iter().any(|(listed, n)| is_same_call(*listed, call) && u64::from(*n) == number)
 }
 
+/// Whether two calls are of one variant.
 fn is_same_call(listed: TreeCall, call: TreeCall) -> bool
     ensures { result ≡ same_call listed call }
 {
     match listed {
         TreeCall::Kind => matches!(call, TreeCall::Kind),
         TreeCall::Read => matches!(call, TreeCall::Read),
+        TreeCall::Create => matches!(call, TreeCall::Create),
+        TreeCall::Append => matches!(call, TreeCall::Append),
+        TreeCall::Remove => matches!(call, TreeCall::Remove),
+        TreeCall::Names => matches!(call, TreeCall::Names),
     }
-}
-
-/// Copies of the nodes, each with room for more bytes, and places for so many more.
-fn copies(
-    alloc: Global,
-    nodes: &[(Path, Node)],
-    more: usize,
-    room: usize,
-) -> Result<Vec<(Path, Node)>, AllocError>
-    ensures { IfOk result (λ places. places.items ≡ nodes.now) }
-{
-    let mut places = Vec::with_capacity(alloc, nodes.len().saturating_add(more))?;
-    for entry in nodes {
-        let bytes = Bytes::with_room(alloc, entry.1.bytes.as_slice(), room)?;
-        let node = Node {
-            folder: entry.1.folder,
-            bytes,
-        };
-        places.push((entry.0, node))?;
-    }
-    Ok(places)
-}
-
-/// So many empty lists of bytes, each with the room.
-fn spare_bytes(alloc: Global, more: usize, room: usize) -> Result<Vec<Bytes>, AllocError>
-    ensures { IfOk result (λ spare. vec_len spare ≡ more) }
-{
-    let mut spare = Vec::with_capacity(alloc, more)?;
-    for _i in 0..more {
-        let bytes = Bytes::with_room(alloc, &[], room)?;
-        spare.push(bytes)?;
-    }
-    Ok(spare)
 }
 
 /// Whether the entry's path stands once, its parent is there as a folder, and its node fits.
@@ -257,35 +392,21 @@ fn is_sound(nodes: &[(Path, Node)], room: usize, entry: &(Path, Node)) -> bool
     stands_once(nodes, &entry.0) && has_parent(nodes, &entry.0) && fits(room, &entry.1)
 }
 
+/// Whether one entry has the path.
 fn stands_once(nodes: &[(Path, Node)], path: &Path) -> bool
     ensures { result ≡ (count_by (λ e. bytes_eq e.0 path.now) nodes.now == 1) }
 {
     nodes.iter().filter(|entry| is_at(entry, path)).count() == 1
 }
 
-fn has_parent(nodes: &[(Path, Node)], path: &Path) -> bool
-    ensures { result ≡ has_folder nodes.now (parent_of path.now) }
-{
-    match path.parent() {
-        Some(parent) => is_folder(nodes, &parent),
-        None => true,
-    }
-}
-
-fn is_folder(nodes: &[(Path, Node)], path: &Path) -> bool
-    ensures { result ≡ list_any (λ e. bytes_eq e.0 path.now && e.1.folder) nodes.now }
-{
-    nodes
-        .iter()
-        .any(|entry| is_at(entry, path) && entry.1.folder)
-}
-
+/// Whether the entry has the path.
 fn is_at(entry: &(Path, Node), path: &Path) -> bool
     ensures { result ≡ bytes_eq entry.now.0 path.now }
 {
     entry.0.bytes() == path.bytes()
 }
 
+/// Whether a file has no more bytes than the room, and a folder none.
 fn fits(room: usize, node: &Node) -> bool
     ensures { result ≡ fits room node.now }
 {

@@ -1,8 +1,8 @@
 //! Paths: texts of 1 to 16 components that name places beneath the current folder.
-ghost use Rattle.std.specs.Prelude.{◌≡◌, ℕ, ◌-◌, ◌≤◌, ◌∷◌, ◌++◌, ◌&&◌, ◌↔◌, length, replicate, IsTrue, Ok, MatchOption};
+ghost use Rattle.std.specs.Prelude.{◌≡◌, ℕ, ◌-◌, ◌≤◌, ◌∷◌, ◌++◌, ◌&&◌, ◌↔◌, length, replicate, IsTrue, IfSome, Ok, None, MatchOption};
 ghost use Rattle.std.specs.List.{list_all, list_any};
 ghost use Rattle.std.specs.Str.{is_utf8};
-ghost use Rattle.uxn_io.specs.PathText.{path_of, components, is_component, is_bad_byte, is_too_long, joined, parent_of, is_under, HasNoSlashFrom, IsLastSlash, ContinuesAfter};
+ghost use Rattle.uxn_io.specs.PathText.{path_of, components, is_component, is_bad_byte, is_too_long, joined, parent_of, child_name, is_under, HasNoSlashFrom, IsLastSlash, ContinuesAfter};
 
 use arrayvec::ArrayVec;
 use std::marker::Model;
@@ -91,6 +91,25 @@ impl Path {
         let text = self.bytes();
         match last_slash(text) {
             Some(at) => Path::read(&text[..at]).ok(),
+            None => None,
+        }
+    }
+
+    /// The last component, where the others are this folder's. None exactly where the folder is not the
+    /// parent.
+    pub(crate) fn name_in(&self, folder: &Path) -> Option<Path>
+        ensures name { result ≡ child_name folder.now self.now }
+        ensures one { IfSome result (λ name. parent_of name ≡ None) }
+    {
+        let text = self.bytes();
+        match last_slash(text) {
+            Some(at) => {
+                if &text[..at] == folder.bytes() {
+                    Path::read(&text[at + 1..]).ok()
+                } else {
+                    None
+                }
+            }
             None => None,
         }
     }

@@ -1,4 +1,4 @@
-use Rattle.std.proofs.Common.{arith, length}
+use Rattle.std.proofs.Common.{arith, length, ◌∙◌}
 use Rattle.std.proofs.lemmas.List.{length-drop}
 use Rattle.std.proofs.lemmas.Slice.{between_to_end}
 use Rattle.uxn_io.proofs.PutLemmas.{extended_more}
@@ -11,5 +11,6 @@ loop-at-preserved g c =
     record {
       within = omega (arith, simp (rest, length-drop) at c.in_ok-at.ensures.count);
       told = extended_more _ _ _ piece _ _ _ rest c.loop-at.invariant.told c.in_ok-at.ensures.ok;
-      later = omega (arith, c.put.ensures.cause.later, c.loop-at.invariant.later);
+      sure = omega (arith, c.loop-at.invariant.sure, c.in_ok-at.ensures.left);
+      same = c.in_ok-at.ensures.ledger ∙ c.loop-at.invariant.same;
     }

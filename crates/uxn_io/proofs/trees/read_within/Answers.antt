@@ -11,7 +11,11 @@ returns-then-taken-eq0-clause-answer g c =
 pub loop-bytes-preserved : goal.loop-bytes-preserved
 loop-bytes-preserved g c = record {
   same = c.read.ensures.same ∙ c.loop-bytes.invariant.same;
-  later = omega (arith, c.loop-bytes.invariant.later, c.read.ensures.cause.later);
+  faults = c.in_ok-taken.ensures.ledger ∙ c.loop-bytes.invariant.faults;
+  left = record {
+    files = λ some. omega (arith, c.loop-bytes.invariant.left.files some, c.in_ok-taken.ensures.left.files);
+    bytes = λ some. omega (arith, c.loop-bytes.invariant.left.files some, c.loop-bytes.invariant.left.bytes some, c.in_ok-taken.ensures.left.bytes);
+  };
   within =
       let grown = length_grown c.loop-bytes.bytes.items c.read.new.into c.extend_from_slice.new.self.items c.in_ok-taken.taken (omega (arith, c.in_ok-taken.ensures.count)) c.in_ok-extend_from_slice.ensures.items in
       omega (arith, grown, c.extend_from_slice.new.self.ok.0, c.loop-bytes.bytes.ok.0);
