@@ -1,6 +1,7 @@
--- An instruction over any ports, as a relation: what is read of a port, what a write does, and what a stop
--- leaves are relations of the ports (Uxntal opcode reference, Varvara device reference).
-use Rattle.std.specs.Prelude.{◌≡◌, ◌≢◌, ℕ, ◌+◌, ◌/◌, ◌%◌, ◌⊎◌, List, [], ◌∷◌, Result, Ok, Err}
+-- An instruction over any ports, as a relation by the rules of these ports (Uxntal opcode reference, Varvara device reference).
+use Rattle.std.specs.Prelude.{◌≡◌, ◌≢◌, ◌↔◌, ℕ, ◌+◌, ◌/◌, ◌%◌, ◌⊎◌, List, [], ◌∷◌}
+use Rattle.std.specs.Prelude.{Result, Ok, Err}
+use Rattle.uxn_io.specs.Faults.{Counts, Ledger}
 use Rattle.uxn_opcodes.specs.declared.Core.{Core}
 use Rattle.uxn_opcodes.specs.declared.Stop.{Stop}
 use Rattle.uxn_opcodes.specs.declared.Turn.{Turn}
@@ -10,51 +11,68 @@ use Rattle.uxn_opcodes.specs.declared.operation.Width.TheVariants.{Byte, Short}
 use Rattle.uxn_opcodes.specs.declared.operation.Mode.{Mode}
 use Rattle.uxn_opcodes.specs.declared.rows.Access.{Access}
 use Rattle.uxn_opcodes.specs.declared.rows.Access.TheVariants.{Nothing, Read, Write}
+use Rattle.uxn_opcodes.specs.Ports.{Rules, blame_of}
 use Rattle.uxn_opcodes.specs.Words.{pushed}
 use Rattle.uxn_opcodes.specs.Rule.{sides_of, core_of, opcode_at, past_opcode, begun}
-
--- a word is read at a port: a byte there, or the high byte there and the low byte at the next port modulo 256
-abbrev pub ReadsWord : (Core → ℕ → ℕ → Type 0) → Width → Core → ℕ → ℕ → Type 0
-ReadsWord reads Byte core port value = reads core port value
-ReadsWord reads Short core port value = reads core port (value / 256) × reads core ((port + 1) % 256) (value % 256)
 
 -- the bytes of a word with the ports that they are written to, in order
 abbrev pub writes_of : Width → ℕ → ℕ → List (ℕ × ℕ)
 writes_of Byte port value = (port, value % 256) ∷ []
 writes_of Short port value = (port, value / 256) ∷ ((port + 1) % 256, value % 256) ∷ []
 
--- bytes are written one after the other, each from the state that the one before left
-abbrev pub Written : {S : Type 0} → (S → Core → ℕ → ℕ → S → Core → Type 0) → List (ℕ × ℕ) → S → Core → S → Core → Type 0
-Written wrote [] ports core ports_new core_new = (ports_new ≡ ports) × (core_new ≡ core)
-Written {S} wrote (write ∷ writes) ports core ports_new core_new =
-    (between : S) × ((middle : Core) × (wrote ports core write.0 write.1 between middle × Written wrote writes between middle ports_new core_new))
-
--- a write of these bytes stops at one of them, after those before it were written
-abbrev pub WriteStops : {S : Type 0} → (S → Core → ℕ → ℕ → S → Core → Type 0) → (S → Core → ℕ → ℕ → Stop → S → Core → Type 0) → List (ℕ × ℕ) → S → Core → Stop → S → Core → Type 0
-WriteStops wrote stopped [] ports core stop ports_new core_new = ⊥
-WriteStops {S} wrote stopped (write ∷ writes) ports core stop ports_new core_new =
-    stopped ports core write.0 write.1 stop ports_new core_new
-    ⊎ ((between : S) × ((middle : Core) × (wrote ports core write.0 write.1 between middle × WriteStops wrote stopped writes between middle stop ports_new core_new)))
-
 -- what was read is pushed on this ring
 abbrev pub answered : Mode → Core → ℕ → Core
 answered mode core value = let s = sides_of mode.returns core in core_of mode.returns (record s { this = pushed s.this mode.width value })
 
+-- a word is read at a port: a byte there, or the high byte there and the low byte at the next port modulo 256
+abbrev pub ReadsWord : {S : Type 0} → Rules S → Width → S → Core → ℕ → ℕ → Type 0
+ReadsWord rules Byte ports core port value = rules.reads ports core port value
+ReadsWord rules Short ports core port value =
+    rules.reads ports core port (value / 256) × rules.reads ports core ((port + 1) % 256) (value % 256)
+
+-- bytes are written one after the other, each from the state that the one before left
+abbrev pub Written : {S : Type 0} → Rules S → List (ℕ × ℕ) → S → Core → S → Core → Type 0
+Written rules [] ports core ports_new core_new = (ports_new ≡ ports) × (core_new ≡ core)
+Written {S} rules (write ∷ writes) ports core ports_new core_new =
+    (between : S) × ((middle : Core) × (rules.wrote ports core write.0 write.1 between middle
+    × Written rules writes between middle ports_new core_new))
+
+-- a write of these bytes stops at one of them, after those before it were written
+abbrev pub WriteStops : {S : Type 0} → Rules S → List (ℕ × ℕ) → S → Core → Stop → S → Core → Type 0
+WriteStops rules [] ports core stop ports_new core_new = ⊥
+WriteStops {S} rules (write ∷ writes) ports core stop ports_new core_new =
+    rules.stopped ports core write.0 write.1 stop ports_new core_new
+    ⊎ ((between : S) × ((middle : Core) × (rules.wrote ports core write.0 write.1 between middle
+    × WriteStops rules writes between middle stop ports_new core_new)))
+
 -- the port access of an instruction is done
-unfoldable pub Finishes : {S : Type 0} → (S → Core → ℕ → ℕ → Type 0) → (S → Core → ℕ → ℕ → S → Core → Type 0) → Access → Core → S → Core → S → Type 0
-Finishes reads wrote Nothing core ports core_new ports_new = (core_new ≡ core) × (ports_new ≡ ports)
-Finishes reads wrote (Read port mode) core ports core_new ports_new =
-    (ports_new ≡ ports) × ((value : ℕ) × (ReadsWord (reads ports) mode.width core port value × (core_new ≡ answered mode core value)))
-Finishes reads wrote (Write port width value) core ports core_new ports_new = Written wrote (writes_of width port value) ports core ports_new core_new
+unfoldable pub Finishes : {S : Type 0} → Rules S → Access → Core → S → Core → S → Type 0
+Finishes rules Nothing core ports core_new ports_new = (core_new ≡ core) × (ports_new ≡ ports)
+Finishes rules (Read port mode) core ports core_new ports_new =
+    (ports_new ≡ ports)
+    × ((value : ℕ) × (ReadsWord rules mode.width ports core port value × (core_new ≡ answered mode core value)))
+Finishes rules (Write port width value) core ports core_new ports_new =
+    Written rules (writes_of width port value) ports core ports_new core_new
 
 -- the port access of an instruction stops
-unfoldable pub Stops : {S : Type 0} → (S → Core → ℕ → ℕ → S → Core → Type 0) → (S → Core → ℕ → ℕ → Stop → S → Core → Type 0) → Access → Core → S → Stop → Core → S → Type 0
-Stops wrote stopped Nothing core ports stop core_new ports_new = ⊥
-Stops wrote stopped (Read port mode) core ports stop core_new ports_new = ⊥
-Stops wrote stopped (Write port width value) core ports stop core_new ports_new = WriteStops wrote stopped (writes_of width port value) ports core stop ports_new core_new
+unfoldable pub Stops : {S : Type 0} → Rules S → Access → Core → S → Stop → Core → S → Type 0
+Stops rules Nothing core ports stop core_new ports_new = ⊥
+Stops rules (Read port mode) core ports stop core_new ports_new = ⊥
+Stops rules (Write port width value) core ports stop core_new ports_new =
+    WriteStops rules (writes_of width port value) ports core stop ports_new core_new
 
 -- the instruction at `at`: BRK, which ends the vector; or one that runs to its end; or one whose port access stops
-unfoldable pub Instruction : {S : Type 0} → (S → Core → ℕ → ℕ → Type 0) → (S → Core → ℕ → ℕ → S → Core → Type 0) → (S → Core → ℕ → ℕ → Stop → S → Core → Type 0) → Core → S → Result Turn Stop → Core → S → Type 0
-Instruction reads wrote stopped core ports (Ok Broke) core_new ports_new = (opcode_at core ≡ 0) × (core_new ≡ past_opcode core) × (ports_new ≡ ports)
-Instruction reads wrote stopped core ports (Ok Ran) core_new ports_new = (opcode_at core ≢ 0) × Finishes reads wrote (begun core).access (begun core).core ports core_new ports_new
-Instruction reads wrote stopped core ports (Err stop) core_new ports_new = (opcode_at core ≢ 0) × Stops wrote stopped (begun core).access (begun core).core ports stop core_new ports_new
+unfoldable pub Instruction : {S : Type 0} → Rules S → Core → S → Result Turn Stop → Core → S → Type 0
+Instruction rules core ports (Ok Broke) core_new ports_new =
+    (opcode_at core ≡ 0) × (core_new ≡ past_opcode core) × (ports_new ≡ ports)
+Instruction rules core ports (Ok Ran) core_new ports_new =
+    (opcode_at core ≢ 0) × Finishes rules (begun core).access (begun core).core ports core_new ports_new
+Instruction rules core ports (Err stop) core_new ports_new =
+    (opcode_at core ≢ 0) × Stops rules (begun core).access (begun core).core ports stop core_new ports_new
+
+-- an instruction, what its answer says, and who is to blame for how it ended
+pub record Turns {S : Type 0} (rules : Rules S) (faults : S → Counts)
+    (core : Core) (ports : S) (result : Result Turn Stop) (core_new : Core) (ports_new : S) : Type 0 where
+  pub instruction : Instruction rules core ports result core_new ports_new
+  pub broke : (result ≡ Ok Broke) ↔ (opcode_at core ≡ 0)
+  pub ledger : Ledger (faults ports) (faults ports_new) (blame_of result)

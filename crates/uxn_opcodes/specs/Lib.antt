@@ -1,6 +1,6 @@
 pub mod Words
 pub mod Table
 pub mod Rule
-pub mod Cause
+pub mod Ports
 pub mod Instruction
 pub mod Model

@@ -1,16 +1,17 @@
--- A deterministic model of ports, the instruction over it as a function, and the law that carries an instruction
+-- A deterministic model of ports, the instruction over it as a function, and the laws that carry an instruction
 -- over any ports which stand for the model to this function.
-use Rattle.std.specs.Prelude.{◌≡◌, ℕ, ◌+◌, ◌*◌, ◌/◌, ◌%◌, ◌==◌, true, false, if◌then◌else◌, List, [], ◌∷◌, ◌++◌, Ok, Err, refl}
+use Rattle.std.specs.Prelude.{◌≡◌, ℕ, ◌+◌, ◌*◌, ◌/◌, ◌%◌, ◌==◌, true, false, if◌then◌else◌}
+use Rattle.std.specs.Prelude.{List, [], ◌∷◌, ◌++◌, Ok, Err, refl}
 use Rattle.std.proofs.Common.{◌∙◌, ap, inl, inr, arith}
 use Rattle.std.proofs.lemmas.Bool.Decides.{nat_tests}
 use Rattle.uxn_opcodes.specs.declared.Core.{Core}
 use Rattle.uxn_opcodes.specs.declared.Stop.{Stop}
-use Rattle.uxn_opcodes.specs.declared.Turn.{Turn}
 use Rattle.uxn_opcodes.specs.declared.Turn.TheVariants.{Ran, Broke}
 use Rattle.uxn_opcodes.specs.declared.operation.Width.{Width}
 use Rattle.uxn_opcodes.specs.declared.operation.Width.TheVariants.{Byte, Short}
 use Rattle.uxn_opcodes.specs.declared.rows.Access.{Access}
 use Rattle.uxn_opcodes.specs.declared.rows.Access.TheVariants.{Nothing, Read, Write}
+use Rattle.uxn_opcodes.specs.Ports.{Rules}
 use Rattle.uxn_opcodes.specs.Rule.{opcode_at, past_opcode, begun}
 use Rattle.uxn_opcodes.specs.Instruction.{ReadsWord, writes_of, Written, WriteStops, answered, Finishes, Stops, Instruction}
 
@@ -48,135 +49,144 @@ access_done model (Write port width value) core q = written_by model (writes_of 
 
 -- the machine after the instruction at `at`; BRK only moves on
 unfoldable pub after_instruction : {Q : Type 0} → PortModel Q → Core → Q → Machine Q
-after_instruction model core q =
-    if opcode_at core == 0 then record { core = past_opcode core; ports = q } else access_done model (begun core).access (begun core).core q
+after_instruction model core q = if opcode_at core == 0
+    then record { core = past_opcode core; ports = q }
+    else access_done model (begun core).access (begun core).core q
 
--- a core, and ports which stand for those of a machine of the model
-pub record StandsAt {S Q : Type 0} (stands : S → Q → Type 0) (found : Core) (ports : S) (machine : Machine Q) : Type 0 where
-  pub same_core : found ≡ machine.core
-  pub same_ports : stands ports machine.ports
+module _ {S Q : Type 0} (rules : Rules S) (stands : S → Q → Type 0) (model : PortModel Q) where
+  -- a core, and ports which stand for those of a machine of the model
+  pub record StandsAt (core : Core) (ports : S) (machine : Machine Q) : Type 0 where
+    pub same_core : core ≡ machine.core
+    pub same_ports : stands ports machine.ports
 
--- what the ports read and what their writes leave is what the model says, as far as they stand for it
-pub record Carries {S Q : Type 0} (stands : S → Q → Type 0) (reads : S → Core → ℕ → ℕ → Type 0) (wrote : S → Core → ℕ → ℕ → S → Core → Type 0) (model : PortModel Q) : Type 0 where
-  pub reading : (ports : S) (q : Q) (core : Core) (port value : ℕ) → stands ports q → reads ports core port value → value ≡ model.read q core port
-  pub writing : (ports : S) (q : Q) (core : Core) (port byte : ℕ) (ports_new : S) (core_new : Core) → stands ports q → wrote ports core port byte ports_new core_new → StandsAt stands core_new ports_new (model.write q core port byte)
+  -- what the ports read and what their writes leave is what the model says, as far as they stand for it
+  pub record Carries : Type 0 where
+    pub reading : (ports : S) (q : Q) (core : Core) (port value : ℕ)
+        → stands ports q → rules.reads ports core port value → value ≡ model.read q core port
+    pub writing : (ports : S) (q : Q) (core : Core) (port byte : ℕ) (ports_new : S) (core_new : Core)
+        → stands ports q → rules.wrote ports core port byte ports_new core_new
+        → StandsAt core_new ports_new (model.write q core port byte)
 
--- where an instruction stopped: at one of its writes, once those before it were done
-pub record StopsAt {S Q : Type 0} (stands : S → Q → Type 0) (stopped : S → Core → ℕ → ℕ → Stop → S → Core → Type 0) (model : PortModel Q) (writes : List (ℕ × ℕ)) (begins : Machine Q) (stop : Stop) (core_new : Core) (ports_new : S) : Type 0 where
-  pub before : List (ℕ × ℕ)
-  pub port : ℕ
-  pub byte : ℕ
-  pub after : List (ℕ × ℕ)
-  pub in_order : writes ≡ before ++ (port, byte) ∷ after
-  pub ports : S
-  pub same_ports : stands ports (written_by model before begins).ports
-  pub stops : stopped ports (written_by model before begins).core port byte stop ports_new core_new
+  -- where an instruction stopped: at one of its writes, once those before it were done
+  pub record StopsAt (writes : List (ℕ × ℕ)) (begins : Machine Q) (stop : Stop) (core_new : Core) (ports_new : S) : Type 0 where
+    pub before : List (ℕ × ℕ)
+    pub port : ℕ
+    pub byte : ℕ
+    pub after : List (ℕ × ℕ)
+    pub in_order : writes ≡ before ++ (port, byte) ∷ after
+    pub ports : S
+    pub same_ports : stands ports (written_by model before begins).ports
+    pub stops : rules.stopped ports (written_by model before begins).core port byte stop ports_new core_new
 
-carried-read : {S Q : Type 0} (stands : S → Q → Type 0) (reads : S → Core → ℕ → ℕ → Type 0) (wrote : S → Core → ℕ → ℕ → S → Core → Type 0) (model : PortModel Q) → Carries stands reads wrote model
-    → (width : Width) (core : Core) (ports : S) (q : Q) (port value : ℕ) → stands ports q → ReadsWord (reads ports) width core port value → value ≡ word_read model width q core port
-carried-read stands reads wrote model carries Byte core ports q port value s r = carries.reading ports q core port value s r
-carried-read stands reads wrote model carries Short core ports q port value s r =
-    let high = carries.reading ports q core port (value / 256) s r.0 in
-    let low = carries.reading ports q core ((port + 1) % 256) (value % 256) s r.1 in
-    omega arith
+  carried-read : Carries → (width : Width) (core : Core) (ports : S) (q : Q) (port value : ℕ)
+      → stands ports q → ReadsWord rules width ports core port value → value ≡ word_read model width q core port
+  carried-read carries Byte core ports q port value s r = carries.reading ports q core port value s r
+  carried-read carries Short core ports q port value s r =
+      let high = carries.reading ports q core port (value / 256) s r.0 in
+      let low = carries.reading ports q core ((port + 1) % 256) (value % 256) s r.1 in
+      omega arith
 
-carried-writes : {S Q : Type 0} (stands : S → Q → Type 0) (reads : S → Core → ℕ → ℕ → Type 0) (wrote : S → Core → ℕ → ℕ → S → Core → Type 0) (model : PortModel Q) → Carries stands reads wrote model
-    → (writes : List (ℕ × ℕ)) (core : Core) (ports : S) (machine : Machine Q) (core_new : Core) (ports_new : S) → StandsAt stands core ports machine → Written wrote writes ports core ports_new core_new
-    → StandsAt stands core_new ports_new (written_by model writes machine)
-carried-writes stands reads wrote model carries [] core ports machine core_new ports_new s w =
-    record { same_core = w.1 ∙ s.same_core; same_ports = rw w.0 s.same_ports }
-carried-writes stands reads wrote model carries (write ∷ writes) core ports machine core_new ports_new s w =
-    let next = carries.writing ports machine.ports core write.0 write.1 w.0 w.1.0 s.same_ports w.1.1.0 in
-    let here = (rw s.same_core at next) in
-    carried-writes stands reads wrote model carries writes w.1.0 w.0 (model.write machine.ports machine.core write.0 write.1) core_new ports_new here w.1.1.1
+  carried-writes : Carries
+      → (writes : List (ℕ × ℕ)) (core : Core) (ports : S) (machine : Machine Q) (core_new : Core) (ports_new : S)
+      → StandsAt core ports machine → Written rules writes ports core ports_new core_new
+      → StandsAt core_new ports_new (written_by model writes machine)
+  carried-writes carries [] core ports machine core_new ports_new s w =
+      record { same_core = w.1 ∙ s.same_core; same_ports = rw w.0 s.same_ports }
+  carried-writes carries (write ∷ writes) core ports machine core_new ports_new s w =
+      let next = carries.writing ports machine.ports core write.0 write.1 w.0 w.1.0 s.same_ports w.1.1.0 in
+      let here = (rw s.same_core at next) in
+      carried-writes carries writes w.1.0 w.0 (model.write machine.ports machine.core write.0 write.1) core_new ports_new here w.1.1.1
 
-carried-access : {S Q : Type 0} (stands : S → Q → Type 0) (reads : S → Core → ℕ → ℕ → Type 0) (wrote : S → Core → ℕ → ℕ → S → Core → Type 0) (model : PortModel Q) → Carries stands reads wrote model
-    → (access : Access) (core : Core) (ports : S) (q : Q) (core_new : Core) (ports_new : S) → stands ports q → Finishes reads wrote access core ports core_new ports_new
-    → StandsAt stands core_new ports_new (access_done model access core q)
-unfolding Finishes
-carried-access stands reads wrote model carries Nothing core ports q core_new ports_new s f = record { same_core = f.0; same_ports = rw f.1 s }
-carried-access stands reads wrote model carries (Read port mode) core ports q core_new ports_new s f =
-    let e = carried-read stands reads wrote model carries mode.width core ports q port f.1.0 s f.1.1.0 in
-    record { same_core = f.1.1.1 ∙ ap (λ v. answered mode core v) e; same_ports = rw f.0 s }
-carried-access stands reads wrote model carries (Write port width value) core ports q core_new ports_new s f =
-    carried-writes stands reads wrote model carries (writes_of width port value) core ports (record { core = core; ports = q }) core_new ports_new (record { same_core = refl; same_ports = s }) f
+  carried-access : Carries
+      → (access : Access) (core : Core) (ports : S) (q : Q) (core_new : Core) (ports_new : S)
+      → stands ports q → Finishes rules access core ports core_new ports_new
+      → StandsAt core_new ports_new (access_done model access core q)
+  unfolding Finishes
+  carried-access carries Nothing core ports q core_new ports_new s f = record { same_core = f.0; same_ports = rw f.1 s }
+  carried-access carries (Read port mode) core ports q core_new ports_new s f =
+      let e = carried-read carries mode.width core ports q port f.1.0 s f.1.1.0 in
+      record { same_core = f.1.1.1 ∙ ap (λ v. answered mode core v) e; same_ports = rw f.0 s }
+  carried-access carries (Write port width value) core ports q core_new ports_new s f =
+      let begins : Machine Q = record { core = core; ports = q } in
+      carried-writes carries (writes_of width port value) core ports begins core_new ports_new
+      (record { same_core = refl; same_ports = s }) f
 
--- the law: an instruction that ran over ports which stand for the model is the model's, and the ports then stand for what the model has
-pub carried-ran : {S Q : Type 0} (stands : S → Q → Type 0) (reads : S → Core → ℕ → ℕ → Type 0) (wrote : S → Core → ℕ → ℕ → S → Core → Type 0) (stopped : S → Core → ℕ → ℕ → Stop → S → Core → Type 0) (model : PortModel Q) → Carries stands reads wrote model
-    → (core : Core) (ports : S) (q : Q) (core_new : Core) (ports_new : S) → stands ports q → Instruction reads wrote stopped core ports (Ok Ran) core_new ports_new
-    → StandsAt stands core_new ports_new (after_instruction model core q)
-unfolding Instruction after_instruction
-carried-ran stands reads wrote stopped model carries core ports q core_new ports_new s ran =
-    let done = carried-access stands reads wrote model carries (begun core).access (begun core).core ports q core_new ports_new s ran.1 in
-    let e : (opcode_at core == 0) ≡ false = grind (arith, nat_tests) in
-    rw e done
+  -- the law: an instruction that ran over ports which stand for the model is the model's, and the ports then stand
+  -- for what the model has
+  pub carried-ran : Carries → (core : Core) (ports : S) (q : Q) (core_new : Core) (ports_new : S)
+      → stands ports q → Instruction rules core ports (Ok Ran) core_new ports_new
+      → StandsAt core_new ports_new (after_instruction model core q)
+  unfolding Instruction after_instruction
+  carried-ran carries core ports q core_new ports_new s ran =
+      let done = carried-access carries (begun core).access (begun core).core ports q core_new ports_new s ran.1 in
+      let e : (opcode_at core == 0) ≡ false = grind (arith, nat_tests) in
+      rw e done
 
--- the law for BRK, which only moves on
-pub carried-broke : {S Q : Type 0} (stands : S → Q → Type 0) (reads : S → Core → ℕ → ℕ → Type 0) (wrote : S → Core → ℕ → ℕ → S → Core → Type 0) (stopped : S → Core → ℕ → ℕ → Stop → S → Core → Type 0) (model : PortModel Q)
-    → (core : Core) (ports : S) (q : Q) (core_new : Core) (ports_new : S) → stands ports q → Instruction reads wrote stopped core ports (Ok Broke) core_new ports_new
-    → StandsAt stands core_new ports_new (after_instruction model core q)
-unfolding Instruction after_instruction
-carried-broke stands reads wrote stopped model core ports q core_new ports_new s broke =
-    let e : (opcode_at core == 0) ≡ true = grind (arith, nat_tests) in
-    rw e (record { same_core = broke.1; same_ports = rw broke.2 s })
+  -- the law for BRK, which only moves on
+  pub carried-broke : (core : Core) (ports : S) (q : Q) (core_new : Core) (ports_new : S)
+      → stands ports q → Instruction rules core ports (Ok Broke) core_new ports_new
+      → StandsAt core_new ports_new (after_instruction model core q)
+  unfolding Instruction after_instruction
+  carried-broke core ports q core_new ports_new s broke =
+      let e : (opcode_at core == 0) ≡ true = grind (arith, nat_tests) in
+      rw e (record { same_core = broke.1; same_ports = rw broke.2 s })
 
--- a stop after a write that was done
-StopsAt-later : {S Q : Type 0} (stands : S → Q → Type 0) (stopped : S → Core → ℕ → ℕ → Stop → S → Core → Type 0) (model : PortModel Q) (write : ℕ × ℕ) (writes : List (ℕ × ℕ)) (machine : Machine Q) (stop : Stop) (core_new : Core) (ports_new : S)
-    → StopsAt stands stopped model writes (model.write machine.ports machine.core write.0 write.1) stop core_new ports_new → StopsAt stands stopped model (write ∷ writes) machine stop core_new ports_new
-StopsAt-later stands stopped model write writes machine stop core_new ports_new rest = record {
-  before = write ∷ rest.before;
-  port = rest.port;
-  byte = rest.byte;
-  after = rest.after;
-  in_order = ap (λ ws. write ∷ ws) rest.in_order;
-  ports = rest.ports;
-  same_ports = rest.same_ports;
-  stops = rest.stops;
-}
+  -- a stop after a write that was done
+  stops-later : (write : ℕ × ℕ) (writes : List (ℕ × ℕ)) (machine : Machine Q) (stop : Stop) (core_new : Core) (ports_new : S)
+      → StopsAt writes (model.write machine.ports machine.core write.0 write.1) stop core_new ports_new
+      → StopsAt (write ∷ writes) machine stop core_new ports_new
+  stops-later write writes machine stop core_new ports_new rest = record {
+    before = write ∷ rest.before;
+    port = rest.port;
+    byte = rest.byte;
+    after = rest.after;
+    in_order = ap (λ ws. write ∷ ws) rest.in_order;
+    ports = rest.ports;
+    same_ports = rest.same_ports;
+    stops = rest.stops;
+  }
 
-carried-stop : {S Q : Type 0} (stands : S → Q → Type 0) (reads : S → Core → ℕ → ℕ → Type 0) (wrote : S → Core → ℕ → ℕ → S → Core → Type 0) (stopped : S → Core → ℕ → ℕ → Stop → S → Core → Type 0) (model : PortModel Q) → Carries stands reads wrote model
-    → (writes : List (ℕ × ℕ)) (core : Core) (ports : S) (machine : Machine Q) (stop : Stop) (core_new : Core) (ports_new : S) → StandsAt stands core ports machine → WriteStops wrote stopped writes ports core stop ports_new core_new
-    → StopsAt stands stopped model writes machine stop core_new ports_new
-carried-stop stands reads wrote stopped model carries [] core ports machine stop core_new ports_new s w = absurd w
-carried-stop {S} {Q} stands reads wrote stopped model carries (write ∷ writes) core ports machine stop core_new ports_new s w =
-    elim w [
-      | inl here ↦ record { before = []; port = write.0; byte = write.1; after = writes; in_order = refl; ports = ports; same_ports = s.same_ports; stops = rw s.same_core at here }
-      | inr later ↦
-          let next = carries.writing ports machine.ports core write.0 write.1 later.0 later.1.0 s.same_ports later.1.1.0 in
-          let here = (rw s.same_core at next) in
-          StopsAt-later stands stopped model write writes machine stop core_new ports_new
-          (carried-stop stands reads wrote stopped model carries writes later.1.0 later.0 (model.write machine.ports machine.core write.0 write.1) stop core_new ports_new here later.1.1.1)
-    ]
+  carried-stop : Carries
+      → (writes : List (ℕ × ℕ)) (core : Core) (ports : S) (machine : Machine Q) (stop : Stop) (core_new : Core) (ports_new : S)
+      → StandsAt core ports machine → WriteStops rules writes ports core stop ports_new core_new
+      → StopsAt writes machine stop core_new ports_new
+  carried-stop carries [] core ports machine stop core_new ports_new s w = absurd w
+  carried-stop carries (write ∷ writes) core ports machine stop core_new ports_new s w =
+      elim w [
+        | inl here ↦ record {
+          before = [];
+          port = write.0;
+          byte = write.1;
+          after = writes;
+          in_order = refl;
+          ports = ports;
+          same_ports = s.same_ports;
+          stops = rw s.same_core at here;
+        }
+        | inr later ↦
+            let next = carries.writing ports machine.ports core write.0 write.1 later.0 later.1.0 s.same_ports later.1.1.0 in
+            let here = (rw s.same_core at next) in
+            let after : Machine Q = model.write machine.ports machine.core write.0 write.1 in
+            stops-later write writes machine stop core_new ports_new
+            (carried-stop carries writes later.1.0 later.0 after stop core_new ports_new here later.1.1.1)
+      ]
 
-carried-stop_access : {S Q : Type 0} (stands : S → Q → Type 0) (reads : S → Core → ℕ → ℕ → Type 0) (wrote : S → Core → ℕ → ℕ → S → Core → Type 0) (stopped : S → Core → ℕ → ℕ → Stop → S → Core → Type 0) (model : PortModel Q) → Carries stands reads wrote model
-    → (access : Access) (core : Core) (ports : S) (q : Q) (stop : Stop) (core_new : Core) (ports_new : S) → stands ports q → Stops wrote stopped access core ports stop core_new ports_new
-    → StopsAt stands stopped model (writes_in access) (record { core = core; ports = q }) stop core_new ports_new
-unfolding Stops
-carried-stop_access stands reads wrote stopped model carries Nothing core ports q stop core_new ports_new s w = absurd w
-carried-stop_access stands reads wrote stopped model carries (Read port mode) core ports q stop core_new ports_new s w = absurd w
-carried-stop_access stands reads wrote stopped model carries (Write port width value) core ports q stop core_new ports_new s w =
-    carried-stop stands reads wrote stopped model carries (writes_of width port value) core ports (record { core = core; ports = q }) stop core_new ports_new (record { same_core = refl; same_ports = s }) w
+  carried-stop_access : Carries
+      → (access : Access) (core : Core) (ports : S) (q : Q) (stop : Stop) (core_new : Core) (ports_new : S)
+      → stands ports q → Stops rules access core ports stop core_new ports_new
+      → StopsAt (writes_in access) (record { core = core; ports = q }) stop core_new ports_new
+  unfolding Stops
+  carried-stop_access carries Nothing core ports q stop core_new ports_new s w = absurd w
+  carried-stop_access carries (Read port mode) core ports q stop core_new ports_new s w = absurd w
+  carried-stop_access carries (Write port width value) core ports q stop core_new ports_new s w =
+      let begins : Machine Q = record { core = core; ports = q } in
+      carried-stop carries (writes_of width port value) core ports begins stop core_new ports_new
+      (record { same_core = refl; same_ports = s }) w
 
--- the law for a stop: it came at one of the instruction's writes, once those before it left what the model says
-pub carried-stopped : {S Q : Type 0} (stands : S → Q → Type 0) (reads : S → Core → ℕ → ℕ → Type 0) (wrote : S → Core → ℕ → ℕ → S → Core → Type 0) (stopped : S → Core → ℕ → ℕ → Stop → S → Core → Type 0) (model : PortModel Q) → Carries stands reads wrote model
-    → (core : Core) (ports : S) (q : Q) (stop : Stop) (core_new : Core) (ports_new : S) → stands ports q → Instruction reads wrote stopped core ports (Err stop) core_new ports_new
-    → StopsAt stands stopped model (writes_in (begun core).access) (record { core = (begun core).core; ports = q }) stop core_new ports_new
-unfolding Instruction
-carried-stopped stands reads wrote stopped model carries core ports q stop core_new ports_new s w =
-    carried-stop_access stands reads wrote stopped model carries (begun core).access (begun core).core ports q stop core_new ports_new s w.1
-
--- the law as a loop uses it: where a machine stood for one of the model, it stands after an instruction for the model's next one
-pub carried : {S Q : Type 0} (stands : S → Q → Type 0) (reads : S → Core → ℕ → ℕ → Type 0) (wrote : S → Core → ℕ → ℕ → S → Core → Type 0) (stopped : S → Core → ℕ → ℕ → Stop → S → Core → Type 0) (model : PortModel Q) → Carries stands reads wrote model
-    → (core : Core) (ports : S) (machine : Machine Q) (turn : Turn) (core_new : Core) (ports_new : S) → StandsAt stands core ports machine → Instruction reads wrote stopped core ports (Ok turn) core_new ports_new
-    → StandsAt stands core_new ports_new (after_instruction model machine.core machine.ports)
-carried stands reads wrote stopped model carries core ports machine Ran core_new ports_new s i =
-    rw (← s.same_core) (carried-ran stands reads wrote stopped model carries core ports machine.ports core_new ports_new s.same_ports i)
-carried stands reads wrote stopped model carries core ports machine Broke core_new ports_new s i =
-    rw (← s.same_core) (carried-broke stands reads wrote stopped model core ports machine.ports core_new ports_new s.same_ports i)
-
--- the same for a stop
-pub carried-to_stop : {S Q : Type 0} (stands : S → Q → Type 0) (reads : S → Core → ℕ → ℕ → Type 0) (wrote : S → Core → ℕ → ℕ → S → Core → Type 0) (stopped : S → Core → ℕ → ℕ → Stop → S → Core → Type 0) (model : PortModel Q) → Carries stands reads wrote model
-    → (core : Core) (ports : S) (machine : Machine Q) (stop : Stop) (core_new : Core) (ports_new : S) → StandsAt stands core ports machine → Instruction reads wrote stopped core ports (Err stop) core_new ports_new
-    → StopsAt stands stopped model (writes_in (begun machine.core).access) (record { core = (begun machine.core).core; ports = machine.ports }) stop core_new ports_new
-carried-to_stop stands reads wrote stopped model carries core ports machine stop core_new ports_new s i =
-    rw (← s.same_core) (carried-stopped stands reads wrote stopped model carries core ports machine.ports stop core_new ports_new s.same_ports i)
+  -- the law for a stop: it came at one of the instruction's writes, once those before it left what the model says
+  pub carried-stopped : Carries → (core : Core) (ports : S) (q : Q) (stop : Stop) (core_new : Core) (ports_new : S)
+      → stands ports q → Instruction rules core ports (Err stop) core_new ports_new
+      → StopsAt (writes_in (begun core).access) (record { core = (begun core).core; ports = q }) stop core_new ports_new
+  unfolding Instruction
+  carried-stopped carries core ports q stop core_new ports_new s w =
+      carried-stop_access carries (begun core).access (begun core).core ports q stop core_new ports_new s w.1

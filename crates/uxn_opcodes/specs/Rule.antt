@@ -1,32 +1,23 @@
 -- One rule for short, return and keep mode in four moments, and the instructions with an immediate (Uxntal opcode reference).
-use Rattle.std.specs.Prelude.{◌≡◌, ◌<◌, length, EachIndex, ℕ, ◌+◌, ◌%◌, ◌==◌, Bool, true, false, if◌then◌else◌, List, [], Option, Some, None, slice_index}
+use Rattle.std.specs.Prelude.{ℕ, ◌+◌, ◌%◌, ◌==◌, Bool, true, false, if◌then◌else◌, List, [], Option, Some}
+use Rattle.std.specs.Prelude.{None, slice_index}
 use Rattle.uxn_memory.specs.Bytes.{zeros, short_at, with_bytes}
 use Rattle.uxn_stacks.specs.Cells.{Cells, new_ring, byte_below, lowered}
 use Rattle.uxn_opcodes.specs.declared.Core.{Core}
 use Rattle.uxn_opcodes.specs.declared.operation.Width.TheVariants.{Short}
 use Rattle.uxn_opcodes.specs.declared.operation.Mode.{Mode}
 use Rattle.uxn_opcodes.specs.declared.operation.Op.{Op}
-use Rattle.uxn_opcodes.specs.declared.operation.Op.TheVariants.{Arithmetic, Compare, Stack, Sth, Jump, Load, Store, Dei, Deo}
+use Rattle.uxn_opcodes.specs.declared.operation.Op.TheVariants.{Inc, Sft, Arithmetic, Compare, Stack, Sth, Jump, Load, Store, Dei, Deo}
 use Rattle.uxn_opcodes.specs.declared.rows.Access.{Access}
 use Rattle.uxn_opcodes.specs.declared.rows.Access.TheVariants.{Nothing, Read, Write}
-use Rattle.uxn_opcodes.specs.Words.{size_of, pushed, pushed_all, dropped, word_at}
-use Rattle.uxn_opcodes.specs.Table.{op_of, mode_of, Row, taken, made, Pushes, arithmetic_row, stack_row, compare_row, jump_row, stash_row, load_row, store_row, read_row, write_row}
+use Rattle.uxn_opcodes.specs.Words.{size_of, pushed, pushed_all, dropped, word_loaded}
+use Rattle.uxn_opcodes.specs.Table.{op_of, mode_of, Row, taken, made, Pushes}
+use Rattle.uxn_opcodes.specs.Table.{increment_row, shift_row, arithmetic_row, stack_row, compare_row}
+use Rattle.uxn_opcodes.specs.Table.{jump_row, stash_row, load_row, store_row, read_row, write_row}
 
 -- the machine at the start: memory 0 but for the program at 0100, new rings, at 0100
 unfoldable pub new_core : List ℕ → Core
 new_core rom = record { memory = with_bytes (zeros 65536) 256 rom; working = new_ring; returns = new_ring; at = 256 }
-
--- memory has 65,536 bytes, each ring has 256, and every value is in its range
-pub record IsInRange (core : Core) : Type 0 where
-  pub memory_size : length core.memory ≡ 65536
-  pub memory_bytes : EachIndex core.memory (λ k. slice_index core.memory k < 256)
-  pub working_size : length core.working.bytes ≡ 256
-  pub working_bytes : EachIndex core.working.bytes (λ k. slice_index core.working.bytes k < 256)
-  pub working_pointer : core.working.pointer < 256
-  pub returns_size : length core.returns.bytes ≡ 256
-  pub returns_bytes : EachIndex core.returns.bytes (λ k. slice_index core.returns.bytes k < 256)
-  pub returns_pointer : core.returns.pointer < 256
-  pub address : core.at < 65536
 
 -- memory, the address after the opcode, this ring and the other ring
 pub record Sides : Type 0 where
@@ -63,15 +54,19 @@ takes row sides = record { count = taken row; memory = sides.memory; next = side
 
 -- each kind of row: its operands are those of this ring as the instruction finds it
 unfoldable pub deed_of : Op → Mode → Sides → Deed
+deed_of Inc mode s = let row = increment_row mode.width in record (takes row s) { results = made row s.this }
+deed_of Sft mode s = let row = shift_row mode.width in record (takes row s) { results = made row s.this }
 deed_of (Arithmetic op) mode s = let row = arithmetic_row op mode.width in record (takes row s) { results = made row s.this }
 deed_of (Stack op) mode s = let row = stack_row op mode.width in record (takes row s) { results = made row s.this }
 deed_of (Compare op) mode s = let row = compare_row op mode.width in record (takes row s) { results = made row s.this }
-deed_of (Jump op) mode s = let row = jump_row op mode.width s.at in record (takes row s) { next = (made row s.this).next; passes = (made row s.this).passes }
+deed_of (Jump op) mode s = let row = jump_row op mode.width s.at in
+    record (takes row s) { next = (made row s.this).next; passes = (made row s.this).passes }
 deed_of Sth mode s = let row = stash_row mode.width in record (takes row s) { passes = made row s.this }
 deed_of (Load op) mode s = let row = load_row op mode.width s.memory s.at in record (takes row s) { results = made row s.this }
 deed_of (Store op) mode s = let row = store_row op mode.width s.memory s.at in record (takes row s) { memory = made row s.this }
 deed_of Dei mode s = record (takes read_row s) { access = Read (made read_row s.this) mode }
-deed_of Deo mode s = let row = write_row mode.width in record (takes row s) { access = Write (made row s.this).0 mode.width (made row s.this).1 }
+deed_of Deo mode s = let row = write_row mode.width in
+    record (takes row s) { access = Write (made row s.this).0 mode.width (made row s.this).1 }
 
 -- the machine where nothing but a port access is left of an instruction, and this access
 pub record Begun : Type 0 where
@@ -99,6 +94,10 @@ past_opcode core = record core { at = (core.at + 1) % 65536 }
 abbrev pub immediate_of : Core → ℕ
 immediate_of core = short_at core.memory core.at
 
+-- the machine with another address
+abbrev pub moved : Core → ℕ → Core
+moved core at = record core { at = at }
+
 -- JMI: on from the address after the immediate by the immediate
 abbrev pub jumped : Core → Core
 jumped core = record core { at = (core.at + 2 + immediate_of core) % 65536 }
@@ -116,14 +115,15 @@ called core = record (jumped core) { returns = pushed core.returns Short ((core.
 -- LIT: pushes the word that follows on this ring, and goes on after it
 abbrev pub literal : Mode → Core → Core
 literal mode core = let s = sides_of mode.returns core in core_of mode.returns (record s {
-  this = pushed s.this mode.width (word_at mode.width s.memory s.at);
+  this = pushed s.this mode.width (word_loaded mode.width s.memory s.at);
   at = (s.at + size_of mode.width) % 65536;
 })
 
 -- the instructions whose low five bits are 0: 20 is JCI, 40 is JMI, 60 is JSI, and 80, a0, c0, e0 are LIT
 abbrev pub immediate : ℕ → Core → Core
 immediate code core =
-    if code == 0x20 then jumped_if core else (if code == 0x40 then jumped core else (if code == 0x60 then called core else literal (mode_of code) core))
+    if code == 0x20 then jumped_if core
+    else (if code == 0x40 then jumped core else (if code == 0x60 then called core else literal (mode_of code) core))
 
 -- a row's instruction, from the machine past the opcode, up to its port access
 abbrev pub row_begun : Op → Mode → Core → Begun

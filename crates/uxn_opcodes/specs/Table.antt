@@ -1,15 +1,16 @@
 -- The instruction table (Uxntal opcode reference), a line for each operation: the widths that it takes, the
 -- deepest operand first, and what it makes of these operands. `w` is the width that the mode chooses. A result
 -- is cut to the width that it is pushed at.
-use Rattle.std.specs.Prelude.{ℕ, ◌+◌, ◌-◌, ◌*◌, ◌/◌, ◌%◌, ◌^◌, ◌==◌, Bool, not, nat_lt, if◌then◌else◌, List, [], ◌∷◌, Option, Some, None, slice_index_or, bit_and, bit_or, bit_xor}
+use Rattle.std.specs.Prelude.{ℕ, ◌+◌, ◌-◌, ◌*◌, ◌/◌, ◌%◌, ◌^◌, ◌==◌, Bool, not, nat_lt}
+use Rattle.std.specs.Prelude.{if◌then◌else◌, List, [], ◌∷◌, Option, Some, None, slice_index_or, bit_and, bit_or, bit_xor}
 use Rattle.uxn_stacks.specs.Cells.{Cells}
 use Rattle.uxn_opcodes.specs.declared.operation.Width.{Width}
 use Rattle.uxn_opcodes.specs.declared.operation.Width.TheVariants.{Byte, Short}
 use Rattle.uxn_opcodes.specs.declared.operation.Mode.{Mode}
 use Rattle.uxn_opcodes.specs.declared.operation.Op.{Op}
-use Rattle.uxn_opcodes.specs.declared.operation.Op.TheVariants.{Arithmetic, Compare, Stack, Sth, Jump, Load, Store, Dei, Deo}
+use Rattle.uxn_opcodes.specs.declared.operation.Op.TheVariants.{Inc, Sft, Arithmetic, Compare, Stack, Sth, Jump, Load, Store, Dei, Deo}
 use Rattle.uxn_opcodes.specs.declared.operation.ArithmeticOp.{ArithmeticOp}
-use Rattle.uxn_opcodes.specs.declared.operation.ArithmeticOp.TheVariants.{Inc, Add, Sub, Mul, Div, And, Ora, Eor, Sft}
+use Rattle.uxn_opcodes.specs.declared.operation.ArithmeticOp.TheVariants.{Add, Sub, Mul, Div, And, Ora, Eor}
 use Rattle.uxn_opcodes.specs.declared.operation.CompareOp.{CompareOp}
 use Rattle.uxn_opcodes.specs.declared.operation.CompareOp.TheVariants.{Equ, Neq, Gth, Lth}
 use Rattle.uxn_opcodes.specs.declared.operation.StackOp.{StackOp}
@@ -20,19 +21,20 @@ use Rattle.uxn_opcodes.specs.declared.operation.LoadOp.{LoadOp}
 use Rattle.uxn_opcodes.specs.declared.operation.LoadOp.TheVariants.{Ldz, Ldr, Lda}
 use Rattle.uxn_opcodes.specs.declared.operation.StoreOp.{StoreOp}
 use Rattle.uxn_opcodes.specs.declared.operation.StoreOp.TheVariants.{Stz, Str, Sta}
-use Rattle.uxn_opcodes.specs.Words.{size_of, word_below, pushed_all, dropped, word_at, zero_word_at, stored, zero_stored, relative, target}
+use Rattle.uxn_opcodes.specs.Words.{size_of, word_below, pushed_all, dropped, relative, target}
+use Rattle.uxn_opcodes.specs.Words.{word_loaded, zero_word_loaded, with_word, with_zero_word}
 
 -- the operations in the order of their codes 00 to 1f; 00 has none
 abbrev pub operations : List (Option Op)
 operations =
-    None ∷ Some (Arithmetic Inc) ∷ Some (Stack Pop) ∷ Some (Stack Nip)
+    None ∷ Some Inc ∷ Some (Stack Pop) ∷ Some (Stack Nip)
     ∷ Some (Stack Swp) ∷ Some (Stack Rot) ∷ Some (Stack Dup) ∷ Some (Stack Ovr)
     ∷ Some (Compare Equ) ∷ Some (Compare Neq) ∷ Some (Compare Gth) ∷ Some (Compare Lth)
     ∷ Some (Jump Jmp) ∷ Some (Jump Jcn) ∷ Some (Jump Jsr) ∷ Some Sth
     ∷ Some (Load Ldz) ∷ Some (Store Stz) ∷ Some (Load Ldr) ∷ Some (Store Str)
     ∷ Some (Load Lda) ∷ Some (Store Sta) ∷ Some Dei ∷ Some Deo
     ∷ Some (Arithmetic Add) ∷ Some (Arithmetic Sub) ∷ Some (Arithmetic Mul) ∷ Some (Arithmetic Div)
-    ∷ Some (Arithmetic And) ∷ Some (Arithmetic Ora) ∷ Some (Arithmetic Eor) ∷ Some (Arithmetic Sft) ∷ []
+    ∷ Some (Arithmetic And) ∷ Some (Arithmetic Ora) ∷ Some (Arithmetic Eor) ∷ Some Sft ∷ []
 
 -- the operation that the low five bits of an instruction choose
 unfoldable pub op_of : ℕ → Option Op
@@ -72,9 +74,12 @@ Pushes = List (Width × ℕ)
 abbrev pub yielded : Mode → Row Pushes → Cells → Cells
 yielded mode row ring = pushed_all (dropped mode.keep ring (taken row)) (made row ring)
 
--- 01 and 18 to 1f: arithmetic modulo 256 or 65536, by the width
+-- 01: the word and one more
+abbrev pub increment_row : Width → Row Pushes
+increment_row w = one w (λ a. (w, a + 1) ∷ [])
+
+-- 18 to 1e: arithmetic modulo 256 or 65536, by the width
 abbrev pub arithmetic_row : ArithmeticOp → Width → Row Pushes
-arithmetic_row Inc w = one w (λ a. (w, a + 1) ∷ [])
 arithmetic_row Add w = two w w (λ a b. (w, a + b) ∷ [])
 arithmetic_row Sub w = two w w (λ a b. (w, a + 65536 - b) ∷ [])
 arithmetic_row Mul w = two w w (λ a b. (w, a * b) ∷ [])
@@ -82,7 +87,10 @@ arithmetic_row Div w = two w w (λ a b. (w, if b == 0 then 0 else a / b) ∷ [])
 arithmetic_row And w = two w w (λ a b. (w, bit_and a b) ∷ [])
 arithmetic_row Ora w = two w w (λ a b. (w, bit_or a b) ∷ [])
 arithmetic_row Eor w = two w w (λ a b. (w, bit_xor a b) ∷ [])
-arithmetic_row Sft w = two w Byte (λ a s. (w, a / 2 ^ (s % 16) * 2 ^ (s / 16)) ∷ [])
+
+-- 1f: to the right by the low four bits of a byte, then to the left by its high four bits
+abbrev pub shift_row : Width → Row Pushes
+shift_row w = two w Byte (λ a s. (w, a / 2 ^ (s % 16) * 2 ^ (s / 16)) ∷ [])
 
 -- 02 to 07: the order of the words on this ring
 abbrev pub stack_row : StackOp → Width → Row Pushes
@@ -121,15 +129,15 @@ stash_row w = one w (λ a. (w, a) ∷ [])
 
 -- 10, 12 and 14: the word of memory at a place of the zero page, at a signed distance, or at an address
 abbrev pub load_row : LoadOp → Width → List ℕ → ℕ → Row Pushes
-load_row Ldz w memory at = one Byte (λ z. (w, zero_word_at w memory z) ∷ [])
-load_row Ldr w memory at = one Byte (λ o. (w, word_at w memory (relative at o)) ∷ [])
-load_row Lda w memory at = one Short (λ a. (w, word_at w memory a) ∷ [])
+load_row Ldz w memory at = one Byte (λ z. (w, zero_word_loaded w memory z) ∷ [])
+load_row Ldr w memory at = one Byte (λ o. (w, word_loaded w memory (relative at o)) ∷ [])
+load_row Lda w memory at = one Short (λ a. (w, word_loaded w memory a) ∷ [])
 
 -- 11, 13 and 15: memory after the word is stored there
 abbrev pub store_row : StoreOp → Width → List ℕ → ℕ → Row (List ℕ)
-store_row Stz w memory at = two w Byte (λ v z. zero_stored w memory z v)
-store_row Str w memory at = two w Byte (λ v o. stored w memory (relative at o) v)
-store_row Sta w memory at = two w Short (λ v a. stored w memory a v)
+store_row Stz w memory at = two w Byte (λ v z. with_zero_word w memory z v)
+store_row Str w memory at = two w Byte (λ v o. with_word w memory (relative at o) v)
+store_row Sta w memory at = two w Short (λ v a. with_word w memory a v)
 
 -- 16: the port that is read
 abbrev pub read_row : Row ℕ

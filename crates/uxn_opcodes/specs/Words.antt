@@ -1,5 +1,6 @@
 -- Words of one or two bytes on a ring and in memory, high byte first (Uxntal opcode reference).
-use Rattle.std.specs.Prelude.{ℕ, ◌+◌, ◌-◌, ◌%◌, Bool, true, false, nat_lt, if◌then◌else◌, List, [], ◌∷◌, slice_index, slice_set}
+use Rattle.std.specs.Prelude.{ℕ, ◌+◌, ◌-◌, ◌%◌, Bool, true, false, nat_lt, if◌then◌else◌, List, [], ◌∷◌}
+use Rattle.std.specs.Prelude.{slice_index, slice_set}
 use Rattle.uxn_memory.specs.Bytes.{short_at, zero_short_at, with_short, with_zero_short}
 use Rattle.uxn_stacks.specs.Cells.{Cells, byte_below, short_below, lowered, pushed_byte, pushed_short}
 use Rattle.uxn_opcodes.specs.declared.operation.Width.{Width}
@@ -31,24 +32,24 @@ dropped true ring count = ring
 dropped false ring count = lowered ring count
 
 -- the word of memory at an address
-unfoldable pub word_at : Width → List ℕ → ℕ → ℕ
-word_at Byte memory at = slice_index memory at
-word_at Short memory at = short_at memory at
+unfoldable pub word_loaded : Width → List ℕ → ℕ → ℕ
+word_loaded Byte memory at = slice_index memory at
+word_loaded Short memory at = short_at memory at
 
 -- the word of memory at a place of the zero page
-unfoldable pub zero_word_at : Width → List ℕ → ℕ → ℕ
-zero_word_at Byte memory place = slice_index memory place
-zero_word_at Short memory place = zero_short_at memory place
+unfoldable pub zero_word_loaded : Width → List ℕ → ℕ → ℕ
+zero_word_loaded Byte memory place = slice_index memory place
+zero_word_loaded Short memory place = zero_short_at memory place
 
 -- memory with a word stored at an address, cut to its width
-unfoldable pub stored : Width → List ℕ → ℕ → ℕ → List ℕ
-stored Byte memory at value = slice_set memory at (value % 256)
-stored Short memory at value = with_short memory at value
+unfoldable pub with_word : Width → List ℕ → ℕ → ℕ → List ℕ
+with_word Byte memory at value = slice_set memory at (value % 256)
+with_word Short memory at value = with_short memory at value
 
 -- memory with a word stored at a place of the zero page, cut to its width
-unfoldable pub zero_stored : Width → List ℕ → ℕ → ℕ → List ℕ
-zero_stored Byte memory place value = slice_set memory place (value % 256)
-zero_stored Short memory place value = with_zero_short memory place value
+unfoldable pub with_zero_word : Width → List ℕ → ℕ → ℕ → List ℕ
+with_zero_word Byte memory place value = slice_set memory place (value % 256)
+with_zero_word Short memory place value = with_zero_short memory place value
 
 -- the address at a signed byte from another address
 unfoldable pub relative : ℕ → ℕ → ℕ

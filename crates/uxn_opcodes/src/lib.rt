@@ -1,10 +1,9 @@
 //! The instructions of the machine, over any ports.
 #![tactic(auto)]
 
-ghost use Rattle.std.specs.Prelude.{◌≡◌, ◌↔◌, ℕ, ◌+◌, ◌≤◌, ◌%◌, ◌*◌, ◌/◌, length, Result, IfOk, OnOk, IfErr};
+ghost use Rattle.std.specs.Prelude.{◌≡◌, ◌≢◌, ◌↔◌, ℕ, ◌+◌, ◌≤◌, ◌%◌, ◌*◌, ◌/◌, length, Result, IfOk, OnOk, IfErr};
 ghost use Rattle.uxn_opcodes.specs.Words.{pushed};
 ghost use Rattle.uxn_opcodes.specs.Rule.{
-  IsInRange,
   new_core,
   opcode_at,
   past_opcode,
@@ -16,10 +15,11 @@ ghost use Rattle.uxn_opcodes.specs.Rule.{
   called,
   literal,
   begun_by,
-  immediate_of,
+  moved,
 };
 ghost use Rattle.uxn_opcodes.specs.Table.{op_of, mode_of};
-ghost use Rattle.uxn_opcodes.specs.Cause.{HasNotFallen, IsCaused, Counts, counts};
+ghost use Rattle.uxn_io.specs.Faults.{Ledger};
+ghost use Rattle.uxn_opcodes.specs.Ports.{blame_of};
 ghost use Rattle.uxn_opcodes.specs.Instruction.{
   ReadsWord,
   Written,
@@ -29,12 +29,11 @@ ghost use Rattle.uxn_opcodes.specs.Instruction.{
   Finishes,
   Stops,
   Instruction,
+  Turns,
 };
 
 mod operation;
 mod rows;
-#[cfg(test)]
-mod tests;
 mod words;
 
 use crate::operation::{Mode, Op, Width};
@@ -79,45 +78,28 @@ pub enum Turn {
 
 /// The ports of the machine: what is read at them, and what writing them does.
 pub trait Ports {
-    ghost use Rattle.std.specs.Prelude.{◌≡◌, ◌↔◌, ℕ, OnOk, IfErr, IfOk};
+    ghost use Rattle.std.specs.Prelude.{ℕ, OnOk, IfErr};
+    ghost use Rattle.uxn_io.specs.Faults.{Counts, Ledger};
     ghost use Rattle.uxn_opcodes.specs.declared.Core.{Core};
     ghost use Rattle.uxn_opcodes.specs.declared.Stop.{Stop};
-    ghost use Rattle.uxn_opcodes.specs.Cause.{HasNotFallen, IsCaused, counts};
+    ghost use Rattle.uxn_opcodes.specs.Ports.{Rules, blame_of};
 
-    /// A port may read this byte, in this state of the ports and the machine.
-    ghost reads: { Self → Core → ℕ → ℕ → Type 0 };
+    /// What is read, what a write does, and what a write that stops leaves.
+    ghost rules: { Rules Self };
 
-    /// A write of a byte to a port may leave the ports and the machine so.
-    ghost wrote: { Self → Core → ℕ → ℕ → Self → Core → Type 0 };
-
-    /// A write of a byte to a port that stops may leave the ports and the machine so.
-    ghost stopped: { Self → Core → ℕ → ℕ → Stop → Self → Core → Type 0 };
-
-    /// How many faults the tree counted.
-    ghost tree_faults: { Self → ℕ };
-
-    /// How many faults the standard output counted.
-    ghost out_faults: { Self → ℕ };
-
-    /// How many faults the error output counted.
-    ghost err_faults: { Self → ℕ };
+    /// How many faults were counted of the tree, of the standard output and of the error output.
+    ghost faults: { Self → Counts };
 
     /// Reads a port.
     fn dei(&self, core: &Core, port: u8) -> u8
-        ensures { reads self.now core.now port result };
+        ensures { rules.reads self.now core.now port result };
 
-    /// Writes a port. A fault of the tree comes only where the tree's count rose in this call, a fault of a sink
-    /// only where the count of an output rose; want of memory may come at any write.
+    /// Writes a port. A fault is answered only where the count of the object to blame rose in this call; no other
+    /// count changes. Want of memory may come at any write.
     fn deo(&mut self, core: &mut Core, port: u8, value: u8) -> Result<(), Stop>
-        ensures ok { OnOk result (wrote self.old core.old port value self.new core.new) }
-        ensures err { IfErr result (λ stop. stopped self.old core.old port value stop self.new core.new) }
-        ensures counted { HasNotFallen
-            (counts (tree_faults self.old) (out_faults self.old) (err_faults self.old))
-            (counts (tree_faults self.new) (out_faults self.new) (err_faults self.new)) }
-        ensures cause { IsCaused
-            (counts (tree_faults self.old) (out_faults self.old) (err_faults self.old))
-            (counts (tree_faults self.new) (out_faults self.new) (err_faults self.new))
-            result };
+        ensures ok { OnOk result (rules.wrote self.old core.old port value self.new core.new) }
+        ensures err { IfErr result (λ stop. rules.stopped self.old core.old port value stop self.new core.new) }
+        ensures ledger { Ledger (faults self.old) (faults self.new) (blame_of result) };
 }
 
 impl Core {
@@ -136,121 +118,114 @@ impl Core {
             at: uxn_memory::START,
         })
     }
-
-    /// Tells contracts what holds of every machine: how long its lists are, and that their values are in range.
-    pub fn known(&self)
-        ensures { IsInRange self.now }
-    {
-        self.memory.known();
-        self.working.known();
-        self.returns.known();
-        let _at = self.at;
-    }
 }
 
+/// The instruction byte.
+#[inline(always)]
 fn opcode(core: &Core) -> u8
     ensures { result ≡ opcode_at core.now }
 {
     core.memory.get(core.at)
 }
 
-fn immediate_short(core: &Core) -> u16
-    ensures { result ≡ immediate_of core.now }
+/// JMI: goes on from the address after the immediate by the immediate.
+#[inline(always)]
+fn jump_on(core: &Core, at: &mut u16)
+    ensures { at.new ≡ (jumped (moved core.now at.old)).at }
 {
-    core.memory.get2(core.at)
+    let distance = core.memory.get2(*at);
+    *at = at.wrapping_add(2).wrapping_add(distance);
 }
 
-fn jump_on(core: &mut Core)
-    ensures { core.new ≡ jumped core.old }
-{
-    let distance = immediate_short(core);
-    core.at = core.at.wrapping_add(2).wrapping_add(distance);
-}
-
-fn jump_on_if(core: &mut Core)
-    ensures { core.new ≡ jumped_if core.old }
+/// JCI: takes a byte of the working ring, and jumps where it is not 0.
+#[inline(always)]
+fn jump_on_if(core: &mut Core, at: &mut u16)
+    ensures { moved core.new at.new ≡ jumped_if (moved core.old at.old) }
 {
     if core.working.take1() == 0 {
-        core.at = core.at.wrapping_add(2);
+        *at = at.wrapping_add(2);
     } else {
-        jump_on(core);
+        jump_on(core, at);
     }
 }
 
-fn call(core: &mut Core)
-    ensures { core.new ≡ called core.old }
+/// JSI: pushes the address after the immediate on the return ring, and jumps.
+#[inline(always)]
+fn call(core: &mut Core, at: &mut u16)
+    ensures { moved core.new at.new ≡ called (moved core.old at.old) }
 {
     push(
         &mut core.returns,
         Width::Short,
-        u32::from(core.at.wrapping_add(2)),
+        u32::from(at.wrapping_add(2)),
     );
-    jump_on(core);
+    jump_on(core, at);
 }
 
-fn push_literal(core: &mut Core, mode: Mode)
-    ensures { core.new ≡ literal mode core.old }
+/// LIT: pushes the word that follows, and goes on after it.
+#[inline(always)]
+fn push_literal(core: &mut Core, at: &mut u16, mode: Mode)
+    ensures { moved core.new at.new ≡ literal mode (moved core.old at.old) }
 {
-    let value = u32::from(load(&core.memory, mode.width, core.at));
+    let value = u32::from(load(&core.memory, mode.width, *at));
     if mode.returns {
         push(&mut core.returns, mode.width, value);
     } else {
         push(&mut core.working, mode.width, value);
     }
-    core.at = core.at.wrapping_add(u16::from(size(mode.width)));
+    *at = at.wrapping_add(u16::from(size(mode.width)));
 }
 
-fn run_immediate(core: &mut Core, code: u8)
-    ensures { core.new ≡ immediate code core.old }
+/// Runs an instruction whose low five bits are 0.
+#[inline(always)]
+fn run_immediate(core: &mut Core, at: &mut u16, code: u8)
+    ensures { moved core.new at.new ≡ immediate code (moved core.old at.old) }
 {
     match code {
-        0x20 => jump_on_if(core),
-        0x40 => jump_on(core),
-        0x60 => call(core),
-        _ => push_literal(core, Mode::of(code)),
+        0x20 => jump_on_if(core, at),
+        0x40 => jump_on(core, at),
+        0x60 => call(core, at),
+        _ => push_literal(core, at, Mode::of(code)),
     }
 }
 
-fn run_row(core: &mut Core, op: Op, mode: Mode) -> Access
-    ensures core { core.new ≡ (row_begun op mode core.old).core }
-    ensures access { result ≡ (row_begun op mode core.old).access }
+/// Runs the instruction of a code up to its port access.
+fn begin<const CODE: u8>(core: &mut Core, at: &mut u16) -> Access
+    ensures core { moved core.new at.new ≡ (begun_by (op_of CODE) CODE (moved core.old at.old)).core }
+    ensures access { result ≡ (begun_by (op_of CODE) CODE (moved core.old at.old)).access }
 {
-    if mode.returns {
-        perform(
-            op,
-            mode,
-            &mut core.memory,
-            &mut core.at,
-            &mut core.returns,
-            &mut core.working,
-        )
-    } else {
-        perform(
-            op,
-            mode,
-            &mut core.memory,
-            &mut core.at,
-            &mut core.working,
-            &mut core.returns,
-        )
-    }
-}
-
-fn begin(core: &mut Core, code: u8) -> Access
-    ensures core { core.new ≡ (begun_by (op_of code) code core.old).core }
-    ensures access { result ≡ (begun_by (op_of code) code core.old).access }
-{
-    match Op::of(code) {
-        Some(op) => run_row(core, op, Mode::of(code)),
+    let mode = Mode::of(CODE);
+    match Op::of(CODE) {
         None => {
-            run_immediate(core, code);
+            run_immediate(core, at, CODE);
             Access::Nothing
+        }
+        Some(op) => if mode.returns {
+            perform(
+                op,
+                mode,
+                &mut core.memory,
+                at,
+                &mut core.returns,
+                &mut core.working,
+            )
+        } else {
+            perform(
+                op,
+                mode,
+                &mut core.memory,
+                at,
+                &mut core.working,
+                &mut core.returns,
+            )
         }
     }
 }
 
+/// Reads a word at a port: a byte, or the high byte there and the low byte at the next port.
+#[inline(always)]
 fn read_word<P: Ports>(core: &Core, ports: &P, port: u8, width: Width) -> u16
-    ensures { ReadsWord (P.reads ports.now) width core.now port result }
+    ensures { ReadsWord P.rules width ports.now core.now port result }
 {
     match width {
         Width::Byte => u16::from(ports.dei(core, port)),
@@ -262,6 +237,8 @@ fn read_word<P: Ports>(core: &Core, ports: &P, port: u8, width: Width) -> u16
     }
 }
 
+/// Writes a word to a port, the high byte first; a stop ends it. It is rare and large, and so it stays out of the loop.
+#[inline(never)]
 fn write_word<P: Ports>(
     core: &mut Core,
     ports: &mut P,
@@ -269,16 +246,10 @@ fn write_word<P: Ports>(
     width: Width,
     value: u16,
 ) -> Result<(), Stop>
-    ensures ok { OnOk result (Written P.wrote (writes_of width port value) ports.old core.old ports.new core.new) }
-    ensures err { IfErr result (λ stop. WriteStops P.wrote P.stopped (writes_of width port value)
+    ensures ok { OnOk result (Written P.rules (writes_of width port value) ports.old core.old ports.new core.new) }
+    ensures err { IfErr result (λ stop. WriteStops P.rules (writes_of width port value)
         ports.old core.old stop ports.new core.new) }
-    ensures counted { HasNotFallen
-        (counts (P.tree_faults ports.old) (P.out_faults ports.old) (P.err_faults ports.old))
-        (counts (P.tree_faults ports.new) (P.out_faults ports.new) (P.err_faults ports.new)) }
-    ensures cause { IsCaused
-        (counts (P.tree_faults ports.old) (P.out_faults ports.old) (P.err_faults ports.old))
-        (counts (P.tree_faults ports.new) (P.out_faults ports.new) (P.err_faults ports.new))
-        result }
+    ensures ledger { Ledger (P.faults ports.old) (P.faults ports.new) (blame_of result) }
 {
     match width {
         Width::Byte => ports.deo(core, port, (value % 256) as u8),
@@ -290,6 +261,8 @@ fn write_word<P: Ports>(
     }
 }
 
+/// Pushes the word that was read at a port.
+#[inline(always)]
 fn answer(core: &mut Core, mode: Mode, value: u16)
     ensures { core.new ≡ answered mode core.old value }
 {
@@ -300,17 +273,13 @@ fn answer(core: &mut Core, mode: Mode, value: u16)
     }
 }
 
+/// Does the port access of an instruction.
+#[inline(always)]
 #[tactic(auto, unfolding(crate::specs::Instruction::Finishes, crate::specs::Instruction::Stops))]
 fn finish<P: Ports>(core: &mut Core, ports: &mut P, access: Access) -> Result<(), Stop>
-    ensures ok { OnOk result (Finishes P.reads P.wrote access core.old ports.old core.new ports.new) }
-    ensures err { IfErr result (λ stop. Stops P.wrote P.stopped access core.old ports.old stop core.new ports.new) }
-    ensures counted { HasNotFallen
-        (counts (P.tree_faults ports.old) (P.out_faults ports.old) (P.err_faults ports.old))
-        (counts (P.tree_faults ports.new) (P.out_faults ports.new) (P.err_faults ports.new)) }
-    ensures cause { IsCaused
-        (counts (P.tree_faults ports.old) (P.out_faults ports.old) (P.err_faults ports.old))
-        (counts (P.tree_faults ports.new) (P.out_faults ports.new) (P.err_faults ports.new))
-        result }
+    ensures ok { OnOk result (Finishes P.rules access core.old ports.old core.new ports.new) }
+    ensures err { IfErr result (λ stop. Stops P.rules access core.old ports.old stop core.new ports.new) }
+    ensures ledger { Ledger (P.faults ports.old) (P.faults ports.new) (blame_of result) }
 {
     match access {
         Access::Nothing => Ok(()),
@@ -323,26 +292,67 @@ fn finish<P: Ports>(core: &mut Core, ports: &mut P, access: Access) -> Result<()
     }
 }
 
-/// Runs the instruction at `core.at`. A stop comes exactly where a write to a port of this instruction gave it;
-/// a write that would follow is then not done. No memory is taken but what the ports take.
+/// Runs the instruction of a code that is a constant, and so are its operation and its mode.
 #[tactic(auto, unfolding(crate::specs::Instruction::Instruction, crate::specs::Rule::begun))]
-pub fn step<P: Ports>(core: &mut Core, ports: &mut P) -> Result<Turn, Stop>
-    ensures instruction { Instruction P.reads P.wrote P.stopped core.old ports.old result core.new ports.new }
-    ensures broke { (result ≡ Ok Turn.Broke) ↔ (opcode_at core.old ≡ 0) }
-    ensures counted { HasNotFallen
-        (counts (P.tree_faults ports.old) (P.out_faults ports.old) (P.err_faults ports.old))
-        (counts (P.tree_faults ports.new) (P.out_faults ports.new) (P.err_faults ports.new)) }
-    ensures cause { IsCaused
-        (counts (P.tree_faults ports.old) (P.out_faults ports.old) (P.err_faults ports.old))
-        (counts (P.tree_faults ports.new) (P.out_faults ports.new) (P.err_faults ports.new))
-        result }
+fn run<const CODE: u8, P: Ports>(core: &mut Core, ports: &mut P) -> Result<Turn, Stop>
+    requires { opcode_at core.old ≡ CODE }
+    ensures { Turns P.rules P.faults core.old ports.old result core.new ports.new }
 {
-    let code = opcode(core);
-    core.at = core.at.wrapping_add(1);
-    if code == 0 {
+    if CODE == 0 {
+        core.at = core.at.wrapping_add(1);
         return Ok(Turn::Broke);
     }
-    let access = begin(core, code);
+    let mut at = core.at.wrapping_add(1);
+    let access = begin::<CODE>(core, &mut at);
+    core.at = at;
     finish(core, ports, access)?;
     Ok(Turn::Ran)
+}
+
+/// Runs the instruction of a code: each byte has an arm of its own.
+macro_rules! run_code {
+    ($code:expr, $core:expr, $ports:expr, $($byte:literal)*) => {
+        match $code {
+            $($byte => run::<$byte, P>($core, $ports),)*
+            _ => run::<0xff, P>($core, $ports),
+        }
+    };
+}
+
+/// Runs the instruction of a code.
+#[inline(always)]
+fn run_any<P: Ports>(core: &mut Core, ports: &mut P, code: u8) -> Result<Turn, Stop>
+    requires { opcode_at core.old ≡ code }
+    ensures { Turns P.rules P.faults core.old ports.old result core.new ports.new }
+{
+    run_code!(code, core, ports,
+        0x00 0x01 0x02 0x03 0x04 0x05 0x06 0x07 0x08 0x09 0x0a 0x0b 0x0c 0x0d 0x0e 0x0f
+        0x10 0x11 0x12 0x13 0x14 0x15 0x16 0x17 0x18 0x19 0x1a 0x1b 0x1c 0x1d 0x1e 0x1f
+        0x20 0x21 0x22 0x23 0x24 0x25 0x26 0x27 0x28 0x29 0x2a 0x2b 0x2c 0x2d 0x2e 0x2f
+        0x30 0x31 0x32 0x33 0x34 0x35 0x36 0x37 0x38 0x39 0x3a 0x3b 0x3c 0x3d 0x3e 0x3f
+        0x40 0x41 0x42 0x43 0x44 0x45 0x46 0x47 0x48 0x49 0x4a 0x4b 0x4c 0x4d 0x4e 0x4f
+        0x50 0x51 0x52 0x53 0x54 0x55 0x56 0x57 0x58 0x59 0x5a 0x5b 0x5c 0x5d 0x5e 0x5f
+        0x60 0x61 0x62 0x63 0x64 0x65 0x66 0x67 0x68 0x69 0x6a 0x6b 0x6c 0x6d 0x6e 0x6f
+        0x70 0x71 0x72 0x73 0x74 0x75 0x76 0x77 0x78 0x79 0x7a 0x7b 0x7c 0x7d 0x7e 0x7f
+        0x80 0x81 0x82 0x83 0x84 0x85 0x86 0x87 0x88 0x89 0x8a 0x8b 0x8c 0x8d 0x8e 0x8f
+        0x90 0x91 0x92 0x93 0x94 0x95 0x96 0x97 0x98 0x99 0x9a 0x9b 0x9c 0x9d 0x9e 0x9f
+        0xa0 0xa1 0xa2 0xa3 0xa4 0xa5 0xa6 0xa7 0xa8 0xa9 0xaa 0xab 0xac 0xad 0xae 0xaf
+        0xb0 0xb1 0xb2 0xb3 0xb4 0xb5 0xb6 0xb7 0xb8 0xb9 0xba 0xbb 0xbc 0xbd 0xbe 0xbf
+        0xc0 0xc1 0xc2 0xc3 0xc4 0xc5 0xc6 0xc7 0xc8 0xc9 0xca 0xcb 0xcc 0xcd 0xce 0xcf
+        0xd0 0xd1 0xd2 0xd3 0xd4 0xd5 0xd6 0xd7 0xd8 0xd9 0xda 0xdb 0xdc 0xdd 0xde 0xdf
+        0xe0 0xe1 0xe2 0xe3 0xe4 0xe5 0xe6 0xe7 0xe8 0xe9 0xea 0xeb 0xec 0xed 0xee 0xef
+        0xf0 0xf1 0xf2 0xf3 0xf4 0xf5 0xf6 0xf7 0xf8 0xf9 0xfa 0xfb 0xfc 0xfd 0xfe
+    )
+}
+
+/// Runs the instruction at `core.at`. A stop comes exactly where a write to a port of this instruction gave it;
+/// a write that would follow is then not done. No memory is taken but what the ports take.
+#[inline(always)]
+pub fn step<P: Ports>(core: &mut Core, ports: &mut P) -> Result<Turn, Stop>
+    ensures instruction { Instruction P.rules core.old ports.old result core.new ports.new }
+    ensures broke { (result ≡ Ok Turn.Broke) ↔ (opcode_at core.old ≡ 0) }
+    ensures ledger { Ledger (P.faults ports.old) (P.faults ports.new) (blame_of result) }
+{
+    let code = opcode(core);
+    run_any(core, ports, code)
 }

@@ -23,10 +23,9 @@ pub struct Mode {
     pub keep: bool,
 }
 
-/// Arithmetic.
+/// Arithmetic on two words of one width.
 #[derive(Clone, Copy)]
 pub enum ArithmeticOp {
-    Inc,
     Add,
     Sub,
     Mul,
@@ -34,7 +33,6 @@ pub enum ArithmeticOp {
     And,
     Ora,
     Eor,
-    Sft,
 }
 
 /// Comparisons of unsigned words.
@@ -84,6 +82,10 @@ pub enum StoreOp {
 /// The 31 operations, by kind.
 #[derive(Clone, Copy)]
 pub enum Op {
+    /// Adds one to a word.
+    Inc,
+    /// Shifts a word to the right and then to the left.
+    Sft,
     Arithmetic(ArithmeticOp),
     Compare(CompareOp),
     Stack(StackOp),
@@ -98,53 +100,53 @@ pub enum Op {
     Deo,
 }
 
-const OPERATIONS: [Option<Op>; 32] = [
-    None,
-    Some(Op::Arithmetic(ArithmeticOp::Inc)),
-    Some(Op::Stack(StackOp::Pop)),
-    Some(Op::Stack(StackOp::Nip)),
-    Some(Op::Stack(StackOp::Swp)),
-    Some(Op::Stack(StackOp::Rot)),
-    Some(Op::Stack(StackOp::Dup)),
-    Some(Op::Stack(StackOp::Ovr)),
-    Some(Op::Compare(CompareOp::Equ)),
-    Some(Op::Compare(CompareOp::Neq)),
-    Some(Op::Compare(CompareOp::Gth)),
-    Some(Op::Compare(CompareOp::Lth)),
-    Some(Op::Jump(JumpOp::Jmp)),
-    Some(Op::Jump(JumpOp::Jcn)),
-    Some(Op::Jump(JumpOp::Jsr)),
-    Some(Op::Sth),
-    Some(Op::Load(LoadOp::Ldz)),
-    Some(Op::Store(StoreOp::Stz)),
-    Some(Op::Load(LoadOp::Ldr)),
-    Some(Op::Store(StoreOp::Str)),
-    Some(Op::Load(LoadOp::Lda)),
-    Some(Op::Store(StoreOp::Sta)),
-    Some(Op::Dei),
-    Some(Op::Deo),
-    Some(Op::Arithmetic(ArithmeticOp::Add)),
-    Some(Op::Arithmetic(ArithmeticOp::Sub)),
-    Some(Op::Arithmetic(ArithmeticOp::Mul)),
-    Some(Op::Arithmetic(ArithmeticOp::Div)),
-    Some(Op::Arithmetic(ArithmeticOp::And)),
-    Some(Op::Arithmetic(ArithmeticOp::Ora)),
-    Some(Op::Arithmetic(ArithmeticOp::Eor)),
-    Some(Op::Arithmetic(ArithmeticOp::Sft)),
-];
-
 impl Op {
     /// The operation that the low five bits of an instruction byte choose; none where they are 0.
+    #[inline(always)]
     #[tactic(auto, unfolding(crate::specs::Table::op_of))]
     pub fn of(code: u8) -> Option<Op>
         ensures { result ≡ op_of code }
     {
-        OPERATIONS[usize::from(code % 32)]
+        Some(match code % 32 {
+            0x00 => return None,
+            0x01 => Op::Inc,
+            0x02 => Op::Stack(StackOp::Pop),
+            0x03 => Op::Stack(StackOp::Nip),
+            0x04 => Op::Stack(StackOp::Swp),
+            0x05 => Op::Stack(StackOp::Rot),
+            0x06 => Op::Stack(StackOp::Dup),
+            0x07 => Op::Stack(StackOp::Ovr),
+            0x08 => Op::Compare(CompareOp::Equ),
+            0x09 => Op::Compare(CompareOp::Neq),
+            0x0a => Op::Compare(CompareOp::Gth),
+            0x0b => Op::Compare(CompareOp::Lth),
+            0x0c => Op::Jump(JumpOp::Jmp),
+            0x0d => Op::Jump(JumpOp::Jcn),
+            0x0e => Op::Jump(JumpOp::Jsr),
+            0x0f => Op::Sth,
+            0x10 => Op::Load(LoadOp::Ldz),
+            0x11 => Op::Store(StoreOp::Stz),
+            0x12 => Op::Load(LoadOp::Ldr),
+            0x13 => Op::Store(StoreOp::Str),
+            0x14 => Op::Load(LoadOp::Lda),
+            0x15 => Op::Store(StoreOp::Sta),
+            0x16 => Op::Dei,
+            0x17 => Op::Deo,
+            0x18 => Op::Arithmetic(ArithmeticOp::Add),
+            0x19 => Op::Arithmetic(ArithmeticOp::Sub),
+            0x1a => Op::Arithmetic(ArithmeticOp::Mul),
+            0x1b => Op::Arithmetic(ArithmeticOp::Div),
+            0x1c => Op::Arithmetic(ArithmeticOp::And),
+            0x1d => Op::Arithmetic(ArithmeticOp::Ora),
+            0x1e => Op::Arithmetic(ArithmeticOp::Eor),
+            _ => Op::Sft,
+        })
     }
 }
 
 impl Mode {
     /// The mode of an instruction byte: `20` is short, `40` is return and `80` is keep mode.
+    #[inline(always)]
     #[tactic(auto, unfolding(crate::specs::Table::mode_of))]
     pub fn of(code: u8) -> Mode
         ensures { result ≡ mode_of code }

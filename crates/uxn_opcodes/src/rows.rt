@@ -19,8 +19,8 @@ use crate::operation::{
     ArithmeticOp, CompareOp, JumpOp, LoadOp, Mode, Op, StackOp, StoreOp, Width,
 };
 use crate::words::{
-    destination, distant, load, load_zero, push, store, store_zero, take_byte, take_three,
-    take_two, take_word, take_word_and_byte,
+    load, load_zero, push, relative, store, store_zero, take_byte, take_three, take_two, take_word,
+    take_word_and_byte, target,
 };
 use uxn_memory::Memory;
 use uxn_stacks::Ring;
@@ -37,12 +37,15 @@ pub enum Access {
 }
 
 /// `(value >> (shift & 0f)) << (shift >> 4)`.
+#[inline(always)]
 fn shifted(value: u16, shift: u8) -> u32
     ensures { result ≡ value / 2 ^ (shift % 16) * 2 ^ (shift / 16) }
 {
     u32::from(value >> (shift % 16)) << (shift / 16)
 }
 
+/// The product.
+#[inline(always)]
 fn product(a: u16, b: u16) -> u32
     ensures { result ≡ a * b }
 {
@@ -50,56 +53,33 @@ fn product(a: u16, b: u16) -> u32
 }
 
 /// The quotient, cut off; 0 where the divisor is 0.
+#[inline(always)]
 fn quotient(a: u16, b: u16) -> u32
     ensures { result ≡ (if b == 0 then 0 else a / b) }
 {
     if b == 0 { 0 } else { u32::from(a / b) }
 }
 
+/// The row of arithmetic on two words.
+#[inline(always)]
 fn calculate(op: ArithmeticOp, mode: Mode, this: &mut Ring)
     ensures { this.new ≡ yielded mode (arithmetic_row op mode.width) this.old }
 {
-    let width = mode.width;
-    match op {
-        ArithmeticOp::Inc => {
-            let a = take_word(this, mode, width);
-            push(this, width, u32::from(a) + 1);
-        }
-        ArithmeticOp::Sft => {
-            let (a, shift) = take_word_and_byte(this, mode);
-            push(this, width, shifted(a, shift));
-        }
-        ArithmeticOp::Add => {
-            let (a, b) = take_two(this, mode, width, width);
-            push(this, width, u32::from(a) + u32::from(b));
-        }
-        ArithmeticOp::Sub => {
-            let (a, b) = take_two(this, mode, width, width);
-            push(this, width, u32::from(a) + 65536 - u32::from(b));
-        }
-        ArithmeticOp::Mul => {
-            let (a, b) = take_two(this, mode, width, width);
-            push(this, width, product(a, b));
-        }
-        ArithmeticOp::Div => {
-            let (a, b) = take_two(this, mode, width, width);
-            push(this, width, quotient(a, b));
-        }
-        ArithmeticOp::And => {
-            let (a, b) = take_two(this, mode, width, width);
-            push(this, width, u32::from(a & b));
-        }
-        ArithmeticOp::Ora => {
-            let (a, b) = take_two(this, mode, width, width);
-            push(this, width, u32::from(a | b));
-        }
-        ArithmeticOp::Eor => {
-            let (a, b) = take_two(this, mode, width, width);
-            push(this, width, u32::from(a ^ b));
-        }
-    }
+    let (a, b) = take_two(this, mode, mode.width, mode.width);
+    let value = match op {
+        ArithmeticOp::Add => u32::from(a) + u32::from(b),
+        ArithmeticOp::Sub => u32::from(a) + 65536 - u32::from(b),
+        ArithmeticOp::Mul => product(a, b),
+        ArithmeticOp::Div => quotient(a, b),
+        ArithmeticOp::And => u32::from(a & b),
+        ArithmeticOp::Ora => u32::from(a | b),
+        ArithmeticOp::Eor => u32::from(a ^ b),
+    };
+    push(this, mode.width, value);
 }
 
+/// The row of comparisons, which push 1 or 0 as one byte.
+#[inline(always)]
 fn compare(op: CompareOp, mode: Mode, this: &mut Ring)
     ensures { this.new ≡ yielded mode (compare_row op mode.width) this.old }
 {
@@ -112,6 +92,8 @@ fn compare(op: CompareOp, mode: Mode, this: &mut Ring)
     }
 }
 
+/// The row of the orders of words.
+#[inline(always)]
 fn arrange(op: StackOp, mode: Mode, this: &mut Ring)
     ensures { this.new ≡ yielded mode (stack_row op mode.width) this.old }
 {
@@ -149,6 +131,8 @@ fn arrange(op: StackOp, mode: Mode, this: &mut Ring)
     }
 }
 
+/// The row of jumps, which tells the next address.
+#[inline(always)]
 fn jump(op: JumpOp, mode: Mode, at: u16, this: &mut Ring, other: &mut Ring) -> u16
     ensures next { result ≡ (made (jump_row op mode.width at) this.old).next }
     ensures this { this.new ≡ dropped mode.keep this.old (taken (jump_row op mode.width at)) }
@@ -158,24 +142,26 @@ fn jump(op: JumpOp, mode: Mode, at: u16, this: &mut Ring, other: &mut Ring) -> u
     match op {
         JumpOp::Jmp => {
             let place = take_word(this, mode, width);
-            destination(width, at, place)
+            target(width, at, place)
         }
         JumpOp::Jcn => {
             let (test, place) = take_two(this, mode, Width::Byte, width);
             if test == 0 {
                 at
             } else {
-                destination(width, at, place)
+                target(width, at, place)
             }
         }
         JumpOp::Jsr => {
             let place = take_word(this, mode, width);
             push(other, Width::Short, u32::from(at));
-            destination(width, at, place)
+            target(width, at, place)
         }
     }
 }
 
+/// The row of loads.
+#[inline(always)]
 fn load_word(op: LoadOp, mode: Mode, memory: &Memory, at: u16, this: &mut Ring)
     ensures { this.new ≡ yielded mode (load_row op mode.width memory.now at) this.old }
 {
@@ -187,7 +173,7 @@ fn load_word(op: LoadOp, mode: Mode, memory: &Memory, at: u16, this: &mut Ring)
         }
         LoadOp::Ldr => {
             let offset = take_byte(this, mode);
-            let place = distant(at, u16::from(offset));
+            let place = relative(at, u16::from(offset));
             push(this, width, u32::from(load(memory, width, place)));
         }
         LoadOp::Lda => {
@@ -197,6 +183,8 @@ fn load_word(op: LoadOp, mode: Mode, memory: &Memory, at: u16, this: &mut Ring)
     }
 }
 
+/// The row of stores.
+#[inline(always)]
 fn store_word(op: StoreOp, mode: Mode, memory: &mut Memory, at: u16, this: &mut Ring)
     ensures memory { memory.new ≡ made (store_row op mode.width memory.old at) this.old }
     ensures this { this.new ≡ dropped mode.keep this.old (taken (store_row op mode.width memory.old at)) }
@@ -209,7 +197,7 @@ fn store_word(op: StoreOp, mode: Mode, memory: &mut Memory, at: u16, this: &mut 
         }
         StoreOp::Str => {
             let (value, offset) = take_word_and_byte(this, mode);
-            store(memory, width, distant(at, u16::from(offset)), value);
+            store(memory, width, relative(at, u16::from(offset)), value);
         }
         StoreOp::Sta => {
             let (value, place) = take_two(this, mode, width, Width::Short);
@@ -220,6 +208,7 @@ fn store_word(op: StoreOp, mode: Mode, memory: &mut Memory, at: u16, this: &mut 
 
 /// Runs a row on memory, the address after the opcode, this ring and the other ring, and tells what is left to do
 /// at the ports.
+#[inline(always)]
 #[tactic(auto, unfolding(crate::specs::Rule::deed_of))]
 pub fn perform(
     op: Op,
@@ -229,15 +218,21 @@ pub fn perform(
     this: &mut Ring,
     other: &mut Ring,
 ) -> Access
-    ensures memory { memory.new ≡ (deed_of op mode (found memory.old at.old this.old other.old)).memory }
-    ensures at { at.new ≡ (deed_of op mode (found memory.old at.old this.old other.old)).next }
-    ensures this { this.new ≡ (ruled mode (found memory.old at.old this.old other.old)
-        (deed_of op mode (found memory.old at.old this.old other.old))).this }
-    ensures other { other.new ≡ (ruled mode (found memory.old at.old this.old other.old)
-        (deed_of op mode (found memory.old at.old this.old other.old))).other }
+    ensures sides { found memory.new at.new this.new other.new
+        ≡ ruled mode (found memory.old at.old this.old other.old) (deed_of op mode (found memory.old at.old this.old other.old)) }
     ensures access { result ≡ (deed_of op mode (found memory.old at.old this.old other.old)).access }
 {
     match op {
+        Op::Inc => {
+            let a = take_word(this, mode, mode.width);
+            push(this, mode.width, u32::from(a) + 1);
+            Access::Nothing
+        }
+        Op::Sft => {
+            let (a, shift) = take_word_and_byte(this, mode);
+            push(this, mode.width, shifted(a, shift));
+            Access::Nothing
+        }
         Op::Arithmetic(op) => {
             calculate(op, mode, this);
             Access::Nothing

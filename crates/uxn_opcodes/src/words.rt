@@ -7,10 +7,10 @@ ghost use Rattle.uxn_opcodes.specs.Words.{
   word_below,
   pushed,
   dropped,
-  word_at,
-  zero_word_at,
-  stored,
-  zero_stored,
+  word_loaded,
+  zero_word_loaded,
+  with_word,
+  with_zero_word,
   relative,
   target,
 };
@@ -20,6 +20,7 @@ use uxn_memory::Memory;
 use uxn_stacks::Ring;
 
 /// How many bytes a word has.
+#[inline(always)]
 pub fn size(width: Width) -> u8
     ensures { result ≡ size_of width }
 {
@@ -30,6 +31,7 @@ pub fn size(width: Width) -> u8
 }
 
 /// The word with `depth` bytes between it and the pointer.
+#[inline(always)]
 #[tactic(auto, unfolding(crate::specs::Words::word_below))]
 pub fn word(ring: &Ring, width: Width, depth: u8) -> u16
     ensures { result ≡ word_below ring.now width depth }
@@ -41,6 +43,7 @@ pub fn word(ring: &Ring, width: Width, depth: u8) -> u16
 }
 
 /// The byte at the top.
+#[inline(always)]
 #[tactic(auto, unfolding(crate::specs::Words::word_below))]
 fn top_byte(ring: &Ring) -> u8
     ensures { result ≡ word_below ring.now Byte 0 }
@@ -49,6 +52,7 @@ fn top_byte(ring: &Ring) -> u8
 }
 
 /// Lowers the pointer past operands, unless keep mode is set.
+#[inline(always)]
 #[tactic(auto, unfolding(crate::specs::Words::dropped))]
 fn drop_operands(ring: &mut Ring, mode: Mode, count: u8)
     ensures { ring.new ≡ dropped mode.keep ring.old count }
@@ -59,6 +63,7 @@ fn drop_operands(ring: &mut Ring, mode: Mode, count: u8)
 }
 
 /// Takes a byte.
+#[inline(always)]
 pub fn take_byte(ring: &mut Ring, mode: Mode) -> u8
     ensures value { result ≡ word_below ring.old Byte 0 }
     ensures ring { ring.new ≡ dropped mode.keep ring.old 1 }
@@ -69,6 +74,7 @@ pub fn take_byte(ring: &mut Ring, mode: Mode) -> u8
 }
 
 /// Takes a word of a width.
+#[inline(always)]
 pub fn take_word(ring: &mut Ring, mode: Mode, width: Width) -> u16
     ensures value { result ≡ word_below ring.old width 0 }
     ensures ring { ring.new ≡ dropped mode.keep ring.old (size_of width) }
@@ -79,6 +85,7 @@ pub fn take_word(ring: &mut Ring, mode: Mode, width: Width) -> u16
 }
 
 /// Takes two words of these widths, the deeper one first.
+#[inline(always)]
 pub fn take_two(ring: &mut Ring, mode: Mode, first: Width, second: Width) -> (u16, u16)
     ensures deep { result.0 ≡ word_below ring.old first (size_of second) }
     ensures top { result.1 ≡ word_below ring.old second 0 }
@@ -91,6 +98,7 @@ pub fn take_two(ring: &mut Ring, mode: Mode, first: Width, second: Width) -> (u1
 }
 
 /// Takes three words, the deepest one first.
+#[inline(always)]
 pub fn take_three(ring: &mut Ring, mode: Mode) -> (u16, u16, u16)
     ensures deep { result.0 ≡ word_below ring.old mode.width (size_of mode.width + size_of mode.width) }
     ensures middle { result.1 ≡ word_below ring.old mode.width (size_of mode.width) }
@@ -107,6 +115,7 @@ pub fn take_three(ring: &mut Ring, mode: Mode) -> (u16, u16, u16)
 }
 
 /// Takes a word with a byte above it.
+#[inline(always)]
 pub fn take_word_and_byte(ring: &mut Ring, mode: Mode) -> (u16, u8)
     ensures deep { result.0 ≡ word_below ring.old mode.width 1 }
     ensures top { result.1 ≡ word_below ring.old Byte 0 }
@@ -119,6 +128,7 @@ pub fn take_word_and_byte(ring: &mut Ring, mode: Mode) -> (u16, u8)
 }
 
 /// Pushes a word, cut to its width.
+#[inline(always)]
 #[tactic(auto, unfolding(crate::specs::Words::pushed))]
 pub fn push(ring: &mut Ring, width: Width, value: u32)
     ensures { ring.new ≡ pushed ring.old width value }
@@ -130,9 +140,10 @@ pub fn push(ring: &mut Ring, width: Width, value: u32)
 }
 
 /// The word of memory at an address.
-#[tactic(auto, unfolding(crate::specs::Words::word_at))]
+#[inline(always)]
+#[tactic(auto, unfolding(crate::specs::Words::word_loaded))]
 pub fn load(memory: &Memory, width: Width, at: u16) -> u16
-    ensures { result ≡ word_at width memory.now at }
+    ensures { result ≡ word_loaded width memory.now at }
 {
     match width {
         Width::Byte => u16::from(memory.get(at)),
@@ -141,9 +152,10 @@ pub fn load(memory: &Memory, width: Width, at: u16) -> u16
 }
 
 /// The word of memory at a place of the zero page.
-#[tactic(auto, unfolding(crate::specs::Words::zero_word_at))]
+#[inline(always)]
+#[tactic(auto, unfolding(crate::specs::Words::zero_word_loaded))]
 pub fn load_zero(memory: &Memory, width: Width, place: u8) -> u16
-    ensures { result ≡ zero_word_at width memory.now place }
+    ensures { result ≡ zero_word_loaded width memory.now place }
 {
     match width {
         Width::Byte => u16::from(memory.get(u16::from(place))),
@@ -152,9 +164,10 @@ pub fn load_zero(memory: &Memory, width: Width, place: u8) -> u16
 }
 
 /// Stores a word at an address.
-#[tactic(auto, unfolding(crate::specs::Words::stored))]
+#[inline(always)]
+#[tactic(auto, unfolding(crate::specs::Words::with_word))]
 pub fn store(memory: &mut Memory, width: Width, at: u16, value: u16)
-    ensures { memory.new ≡ stored width memory.old at value }
+    ensures { memory.new ≡ with_word width memory.old at value }
 {
     match width {
         Width::Byte => memory.set(at, (value % 256) as u8),
@@ -163,9 +176,10 @@ pub fn store(memory: &mut Memory, width: Width, at: u16, value: u16)
 }
 
 /// Stores a word at a place of the zero page.
-#[tactic(auto, unfolding(crate::specs::Words::zero_stored))]
+#[inline(always)]
+#[tactic(auto, unfolding(crate::specs::Words::with_zero_word))]
 pub fn store_zero(memory: &mut Memory, width: Width, place: u8, value: u16)
-    ensures { memory.new ≡ zero_stored width memory.old place value }
+    ensures { memory.new ≡ with_zero_word width memory.old place value }
 {
     match width {
         Width::Byte => memory.set(u16::from(place), (value % 256) as u8),
@@ -174,8 +188,9 @@ pub fn store_zero(memory: &mut Memory, width: Width, place: u8, value: u16)
 }
 
 /// The address at a signed byte from another address.
+#[inline(always)]
 #[tactic(auto, unfolding(crate::specs::Words::relative))]
-pub fn distant(at: u16, offset: u16) -> u16
+pub fn relative(at: u16, offset: u16) -> u16
     ensures { result ≡ relative at offset }
 {
     if offset < 128 {
@@ -186,12 +201,13 @@ pub fn distant(at: u16, offset: u16) -> u16
 }
 
 /// Where a jump goes.
+#[inline(always)]
 #[tactic(auto, unfolding(crate::specs::Words::target))]
-pub fn destination(width: Width, at: u16, place: u16) -> u16
+pub fn target(width: Width, at: u16, place: u16) -> u16
     ensures { result ≡ target width at place }
 {
     match width {
-        Width::Byte => distant(at, place),
+        Width::Byte => relative(at, place),
         Width::Short => place,
     }
 }
