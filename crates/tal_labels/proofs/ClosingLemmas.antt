@@ -5,19 +5,19 @@ use Rattle.std.proofs.lemmas.List.{drop_more}
 use Rattle.std.proofs.lemmas.Bool.{eqb-true, ne_eqb, eq-eqb, and_parts, or_cases}
 use Rattle.tal_words.specs.declared.span.Expanded.{Expanded}
 use Rattle.tal_words.specs.Braces.{opens, closes, matching_after, one_if}
-use Rattle.tal_labels.specs.Order.{each}
-use Rattle.tal_labels.specs.Places.{text_of}
+use Rattle.tal_words.specs.Order.{each}
+use Rattle.tal_words.specs.Source.{expanded_text}
 use Rattle.tal_labels.specs.Shapes.{closer_of, closing_distance}
 use Rattle.tal_labels.specs.Answers.{waiting_step}
-use Rattle.tal_labels.proofs.OrderLemmas.{each-step}
+use Rattle.tal_words.proofs.OrderLemmas.{each-step}
 
 -- what waits from a word on, where the first word has this index
 abbrev pub waiting_from : List ℕ → ℕ → List Expanded → List ℕ
 waiting_from source at [] = []
-waiting_from source at (word ∷ words) = waiting_step at (opens (text_of source word)) (closes (text_of source word)) (waiting_from source (at + 1) words)
+waiting_from source at (word ∷ words) = waiting_step at (opens (expanded_text source word)) (closes (expanded_text source word)) (waiting_from source (at + 1) words)
 
 -- no word opens and closes
-opens-closes : (text : List ℕ) → opens text ≡ true → closes text ≡ false
+pub opens-closes : (text : List ℕ) → opens text ≡ true → closes text ≡ false
 opens-closes [] e = cc
 opens-closes (first ∷ []) e = elim (or_cases _ _ e) [
   | inl brace ↦ (let same : first ≡ 123 = eqb-true first 123 brace in ne_eqb first 125 (λ other. omega arith))
@@ -62,22 +62,22 @@ step at d c false false rest o apart h =
     ∙ h d c
 
 -- the matching `}` of an opener with d more open is what waits at d
-pub matching-waiting : (source : List ℕ) (at : ℕ) (words : List Expanded) (d c : ℕ) → option_map (λ n. at + n) (matching_after (c + d) c (map (text_of source) words)) ≡ slice_get (waiting_from source at words) d
+pub matching-waiting : (source : List ℕ) (at : ℕ) (words : List Expanded) (d c : ℕ) → option_map (λ n. at + n) (matching_after (c + d) c (map (expanded_text source) words)) ≡ slice_get (waiting_from source at words) d
 matching-waiting source at [] d c = refl
 matching-waiting source at (word ∷ words) d c =
-    step at d c (opens (text_of source word)) (closes (text_of source word)) (waiting_from source (at + 1) words)
-    (λ opened closed. matching_after opened closed (map (text_of source) words))
-    (opens-closes (text_of source word)) (λ e f. matching-waiting source (at + 1) words e f)
+    step at d c (opens (expanded_text source word)) (closes (expanded_text source word)) (waiting_from source (at + 1) words)
+    (λ opened closed. matching_after opened closed (map (expanded_text source) words))
+    (opens-closes (expanded_text source word)) (λ e f. matching-waiting source (at + 1) words e f)
 
 -- what a word adds to what waits after it
-pub waiting-step : (source : List ℕ) (words : List Expanded) (at : ℕ) (d : Expanded) → at < length words → waiting_from source at (drop at words) ≡ waiting_step at (opens (text_of source (get_or words at d))) (closes (text_of source (get_or words at d))) (waiting_from source (at + 1) (drop (at + 1) words))
+pub waiting-step : (source : List ℕ) (words : List Expanded) (at : ℕ) (d : Expanded) → at < length words → waiting_from source at (drop at words) ≡ waiting_step at (opens (expanded_text source (get_or words at d))) (closes (expanded_text source (get_or words at d))) (waiting_from source (at + 1) (drop (at + 1) words))
 waiting-step source words at d h = ap (waiting_from source at) (drop_more words at d h)
 
 -- the closer of a word is the first that waits after it
-pub closer-step : (source : List ℕ) (words : List Expanded) (at : ℕ) (d : Expanded) → at < length words → each (closer_of source) (take at words) (drop at words) ≡ cond (opens (text_of source (get_or words at d))) (slice_get (waiting_from source (at + 1) (drop (at + 1) words)) 0) None ∷ each (closer_of source) (take (at + 1) words) (drop (at + 1) words)
+pub closer-step : (source : List ℕ) (words : List Expanded) (at : ℕ) (d : Expanded) → at < length words → each (closer_of source) (take at words) (drop at words) ≡ cond (opens (expanded_text source (get_or words at d))) (slice_get (waiting_from source (at + 1) (drop (at + 1) words)) 0) None ∷ each (closer_of source) (take (at + 1) words) (drop (at + 1) words)
 closer-step source words at d h =
     let rest = each (closer_of source) (take (at + 1) words) (drop (at + 1) words) in
     let size : length (take at words) ≡ at = omega (arith, length-take at words) in
     each-step (closer_of source) words at d h
-    ∙ ap (λ n. cond (opens (text_of source (get_or words at d))) (option_map (λ between. n + 1 + between) (closing_distance source (drop (at + 1) words))) None ∷ rest) size
-    ∙ ap (λ o. cond (opens (text_of source (get_or words at d))) o None ∷ rest) (matching-waiting source (at + 1) (drop (at + 1) words) 0 0)
+    ∙ ap (λ n. cond (opens (expanded_text source (get_or words at d))) (option_map (λ between. n + 1 + between) (closing_distance source (drop (at + 1) words))) None ∷ rest) size
+    ∙ ap (λ o. cond (opens (expanded_text source (get_or words at d))) o None ∷ rest) (matching-waiting source (at + 1) (drop (at + 1) words) 0 0)

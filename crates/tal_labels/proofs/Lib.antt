@@ -1,6 +1,6 @@
-pub mod OrderLemmas
 pub mod PlaceLemmas
 pub mod ClosingLemmas
+pub mod StrayLemmas
 pub mod ShapeLemmas
 pub mod IndexLemmas
 pub mod PlacingLemmas

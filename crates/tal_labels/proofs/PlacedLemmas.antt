@@ -11,46 +11,36 @@ use Rattle.tal_words.specs.declared.fault.AsmStop.{AsmStop}
 use Rattle.tal_words.specs.declared.fault.AsmStop.TheVariants.{Refused, NoMemory}
 use Rattle.tal_words.specs.declared.form.Form.{Form}
 use Rattle.tal_words.specs.declared.form.Form.TheVariants.{LambdaEnd}
-use Rattle.tal_words.specs.Faults.{Judged, least, first_fault, fault_or, or_later, Gives}
+use Rattle.tal_words.specs.Faults.{Judged, least, phase_fault, fault_or, or_later, Gives}
 use Rattle.tal_words.specs.Forms.{form, size}
 use Rattle.tal_words.specs.Braces.{opens, closes, matching_after, one_if}
 use Rattle.tal_labels.specs.declared.placed.PlacedWord.{PlacedWord}
-use Rattle.tal_labels.specs.Order.{each, collected}
-use Rattle.tal_labels.specs.Places.{text_of, place_after, places_of}
+use Rattle.tal_words.specs.Order.{each, collected}
+use Rattle.tal_words.specs.Source.{expanded_text}
+use Rattle.tal_labels.specs.Places.{address_after, addresses_of}
 use Rattle.tal_labels.specs.Labels.{defined_name, scope_after, labels_of}
 use Rattle.tal_labels.specs.Shapes.{closing_distance, shape_fault}
-use Rattle.tal_labels.specs.Placing.{form_marks, marks, size_of, is_defined, ends_above, place_kinds, judged_place, placing_fault, place_fault, lambda_place, placed_with, placed_given, placed_of}
-use Rattle.tal_labels.proofs.OrderLemmas.{collected-step, collected-end, get_or-each, length-each, no_word}
-use Rattle.tal_labels.proofs.LayingLemmas.{IsWellPlaced, well_placed, place_read, length-places_of}
-
--- where no word has a fault each has none
-pub first_fault-none : (judged : List Judged) (k : ℕ) (d : Judged) → first_fault judged ≡ None → k < length judged → least (get_or judged k d).kinds ≡ None
-first_fault-none [] k d e h = absurd (omega arith)
-first_fault-none (word ∷ words) k d e h = by (least word.kinds) refl e k h (λ j later below. first_fault-none words j d later below)
-  where
-    by : (o : Option FaultKind) → least word.kinds ≡ o → fault_or word.origin o (first_fault words) ≡ None → (k : ℕ) → k < length (word ∷ words)
-        → ((j : ℕ) → first_fault words ≡ None → j < length words → least (get_or words j d).kinds ≡ None)
-        → least (get_or (word ∷ words) k d).kinds ≡ None
-    by None here later zero h rest = here
-    by None here later (suc k) h rest = rest k later (omega arith)
-    by (Some kind) here later k h rest = cc
+use Rattle.tal_labels.specs.Placing.{is_mark_form, formed_marks, formed_size, is_defined, ends_above, place_kinds, judged_place, placing_fault, place_fault, lambda_address, placed_with, placed_given, placed_of}
+use Rattle.tal_words.proofs.PassLemmas.{none-at, given-more, given-all}
+use Rattle.tal_words.proofs.OrderLemmas.{collected-step, collected-end, get_or-each, length-each, no_word}
+use Rattle.tal_labels.proofs.LayingLemmas.{IsWellPlaced, well_placed, place_read, length-addresses_of}
 
 pub unfaulted : (source : List ℕ) (words : List Expanded) → placing_fault source words ≡ None → (k : ℕ) → k < length words → least (judged_place source (take k words) (get_or words k no_word) (drop (k + 1) words)).kinds ≡ None
 unfolding placing_fault
 unfaulted source words sound k within =
     let nothing : Judged = record { origin = record { span = record { start = 0; end = 0 }; line = 0; column = 0 }; kinds = [] } in
     sym (ap (λ j. least j.kinds) (get_or-each (judged_place source) [] words k no_word nothing within))
-    ∙ first_fault-none (each (judged_place source) [] words) k nothing sound (omega (arith, length-each (judged_place source) [] words))
+    ∙ none-at (each (judged_place source) [] words) k nothing sound (omega (arith, length-each (judged_place source) [] words))
 
 -- what a well placed word of a form is
-pub placed_well : (source : List ℕ) (words : List Expanded) → placing_fault source words ≡ None → (k : ℕ) → k < length words → (shape : Form) → form (text_of source (get_or words k no_word)) ≡ Ok shape
-    → IsWellPlaced (is_defined (labels_of source (take k words)) (defined_name (Ok shape) (scope_after source (take k words)) (text_of source (get_or words k no_word)))) (place_after source (take k words)) (size shape (text_of source (get_or words k no_word))) (form_marks shape) (ends_above source (take k words) (place_after source (take k words)))
+pub placed_well : (source : List ℕ) (words : List Expanded) → placing_fault source words ≡ None → (k : ℕ) → k < length words → (shape : Form) → form (expanded_text source (get_or words k no_word)) ≡ Ok shape
+    → IsWellPlaced (is_defined (labels_of source (take k words)) (defined_name (Ok shape) (scope_after source (take k words)) (expanded_text source (get_or words k no_word)))) (address_after source (take k words)) (size shape (expanded_text source (get_or words k no_word))) (is_mark_form shape) (ends_above source (take k words) (address_after source (take k words)))
 placed_well source words sound k within shape e =
-    let text = text_of source (get_or words k no_word) in
+    let text = expanded_text source (get_or words k no_word) in
     let before = take k words in
-    let place = place_after source before in
+    let place = address_after source before in
     well_placed _ _ _ _ _
-    (sym (ap (λ f. least (place_kinds (is_defined (labels_of source before) (defined_name f (scope_after source before) text)) place (size_of f text) (marks f) (ends_above source before place))) e) ∙ unfaulted source words sound k within)
+    (sym (ap (λ f. least (place_kinds (is_defined (labels_of source before) (defined_name f (scope_after source before) text)) place (formed_size f text) (formed_marks f) (ends_above source before place))) e) ∙ unfaulted source words sound k within)
 
 -- the matching `}` is one of the words, and closes
 matching-closes : (opened closed : ℕ) (texts : List (List ℕ)) (n : ℕ) → matching_after opened closed texts ≡ Some n → (n < length texts) × (closes (get_or texts n []) ≡ true)
@@ -82,18 +72,18 @@ form-closes (first ∷ second ∷ rest) e = cc
 
 -- where a lambda is closed
 pub closer_within : (source : List ℕ) (words : List Expanded) (k between : ℕ) → k < length words → closing_distance source (drop (k + 1) words) ≡ Some between
-    → (k + 1 + between < length words) × (closes (text_of source (get_or words (k + 1 + between) no_word)) ≡ true)
+    → (k + 1 + between < length words) × (closes (expanded_text source (get_or words (k + 1 + between) no_word)) ≡ true)
 closer_within source words k between within found =
     let rest = drop (k + 1) words in
-    let parts = matching-closes 0 0 (map (text_of source) rest) between found in
-    let size : length (map (text_of source) rest) ≡ length words - (k + 1) = length-map rest (text_of source) ∙ length-drop (k + 1) words in
-    let below : between < length rest = omega (arith, parts.0, length-map rest (text_of source)) in (
+    let parts = matching-closes 0 0 (map (expanded_text source) rest) between found in
+    let size : length (map (expanded_text source) rest) ≡ length words - (k + 1) = length-map rest (expanded_text source) ∙ length-drop (k + 1) words in
+    let below : between < length rest = omega (arith, parts.0, length-map rest (expanded_text source)) in (
       omega (arith, parts.0, size),
-      sym (ap closes (get_or-map (text_of source) rest between no_word [] below ∙ ap (text_of source) (get_or-drop (k + 1) words between no_word))) ∙ parts.1,
+      sym (ap closes (get_or-map (expanded_text source) rest between no_word [] below ∙ ap (expanded_text source) (get_or-drop (k + 1) words between no_word))) ∙ parts.1,
     )
 
 -- the place of the `}` of a lambda fits
-pub closer_fits : (source : List ℕ) (words : List Expanded) (places : List ℕ) (k : ℕ) → placing_fault source words ≡ None → places ≡ places_of source words → k < length words → (opening : Bool) (o : Option ℕ) → closing_distance source (drop (k + 1) words) ≡ o
+pub closer_fits : (source : List ℕ) (words : List Expanded) (places : List ℕ) (k : ℕ) → placing_fault source words ≡ None → places ≡ addresses_of source words → k < length words → (opening : Bool) (o : Option ℕ) → closing_distance source (drop (k + 1) words) ≡ o
     → IfSome (cond opening (option_map (λ between. k + 1 + between) o) None) (λ at. (at < length places) × (get_or places at 0 < 2 ^ 16))
 closer_fits source words places k sound all within false o found = tt
 closer_fits source words places k sound all within true None found = tt
@@ -103,13 +93,13 @@ closer_fits source words places k sound all within true (Some between) found =
     let shape = form-closes _ parts.1 in
     let well = placed_well source words sound at parts.0 LambdaEnd shape in
     let read = place_read source words places at parts.0 all in
-    let size : length places ≡ length words = ap length all ∙ length-places_of source words in
+    let size : length places ≡ length words = ap length all ∙ length-addresses_of source words in
     (omega (arith, parts.0, size), omega (arith, read, well.mark refl))
 
 -- the place of the `}`, as it is read
-pub lambda_read : (source : List ℕ) (words : List Expanded) (places : List ℕ) (k : ℕ) → places ≡ places_of source words → k < length words → (opening : Bool) (o : Option ℕ) → closing_distance source (drop (k + 1) words) ≡ o
+pub lambda_read : (source : List ℕ) (words : List Expanded) (places : List ℕ) (k : ℕ) → places ≡ addresses_of source words → k < length words → (opening : Bool) (o : Option ℕ) → closing_distance source (drop (k + 1) words) ≡ o
     → option_map (λ at. get_or places at 0) (cond opening (option_map (λ between. k + 1 + between) o) None)
-    ≡ cond opening (option_map (λ between. place_after source (take k words ++ get_or words k no_word ∷ take between (drop (k + 1) words))) o) None
+    ≡ cond opening (option_map (λ between. address_after source (take k words ++ get_or words k no_word ∷ take between (drop (k + 1) words))) o) None
 lambda_read source words places k all within false o found = refl
 lambda_read source words places k all within true None found = refl
 lambda_read source words places k all within true (Some between) found =
@@ -119,7 +109,7 @@ lambda_read source words places k all within true (Some between) found =
     take-add (k + 1) between words
     ∙ ap (λ ws. ws ++ take between (drop (k + 1) words)) (take_more words k no_word within)
     ∙ append_assoc (take k words) (get_or words k no_word ∷ []) (take between (drop (k + 1) words)) in
-    ap Some (place_read source words places at parts.0 all ∙ ap (place_after source) whole)
+    ap Some (place_read source words places at parts.0 all ∙ ap (address_after source) whole)
 
 -- what the loop over the words keeps
 pub record IsListedSo (source : List ℕ) (words : List Expanded) (k : ℕ) (found : List PlacedWord) : Type 0 where
@@ -130,27 +120,23 @@ unfolding placed_of
 nothing_listed source words found e = record { listed = ap (λ xs. xs ++ collected (placed_given source) [] words) e }
 
 pub next_listed : (source : List ℕ) (words : List Expanded) (k : ℕ) (found more : List PlacedWord) (shape : Form) (place length' : ℕ) (lambda : Option ℕ)
-    → k < length words → IsListedSo source words k found → form (text_of source (get_or words k no_word)) ≡ Ok shape
-    → place ≡ place_after source (take k words) → length' ≡ size shape (text_of source (get_or words k no_word))
-    → lambda ≡ lambda_place source (take k words) (get_or words k no_word) (drop (k + 1) words)
+    → k < length words → IsListedSo source words k found → form (expanded_text source (get_or words k no_word)) ≡ Ok shape
+    → place ≡ address_after source (take k words) → length' ≡ size shape (expanded_text source (get_or words k no_word))
+    → lambda ≡ lambda_address source (take k words) (get_or words k no_word) (drop (k + 1) words)
     → more ≡ found ++ record { word = get_or words k no_word; form = shape; address = place; size = length'; lambda = lambda } ∷ []
     → IsListedSo source words (k + 1) more
 next_listed source words k found more shape place length' lambda within so shaped placed sized closed pushed =
     let word = get_or words k no_word in
-    let rest = collected (placed_given source) (take (k + 1) words) (drop (k + 1) words) in
-    record {
-      listed = ap (λ xs. xs ++ rest) pushed
-          ∙ append_assoc found (record { word = word; form = shape; address = place; size = length'; lambda = lambda } ∷ []) rest
-          ∙ ap (λ p. found ++ record { word = word; form = shape; address = p; size = length'; lambda = lambda } ∷ rest) placed
-          ∙ ap (λ n. found ++ record { word = word; form = shape; address = place_after source (take k words); size = n; lambda = lambda } ∷ rest) sized
-          ∙ ap (λ l. found ++ record { word = word; form = shape; address = place_after source (take k words); size = size shape (text_of source word); lambda = l } ∷ rest) closed
-          ∙ ap (λ f. found ++ (placed_with source (take k words) word (drop (k + 1) words) f ++ rest)) (sym shaped)
-          ∙ ap (λ xs. found ++ xs) (sym (collected-step (placed_given source) words k no_word within))
-          ∙ so.listed;
-    }
+    let piece : Form → ℕ → ℕ → Option ℕ → PlacedWord = λ f p n l. record { word = word; form = f; address = p; size = n; lambda = l } in
+    let here : placed_given source (take k words) word (drop (k + 1) words) ≡ piece shape place length' lambda ∷ [] =
+    ap (placed_with source (take k words) word (drop (k + 1) words)) shaped
+    ∙ ap (λ p. piece shape p (size shape (expanded_text source word)) (lambda_address source (take k words) word (drop (k + 1) words)) ∷ []) (sym placed)
+    ∙ ap (λ n. piece shape place n (lambda_address source (take k words) word (drop (k + 1) words)) ∷ []) (sym sized)
+    ∙ ap (λ l. piece shape place length' l ∷ []) (sym closed) in
+    record { listed = given-more (placed_given source) words k found (placed_of source words) no_word (piece shape place length' lambda ∷ []) more within so.listed here pushed }
 
 pub all_listed : (source : List ℕ) (words : List Expanded) (k : ℕ) (found : List PlacedWord) → length words ≤ k → IsListedSo source words k found → found ≡ placed_of source words
-all_listed source words k found past so = sym (append-nil found) ∙ ap (λ xs. found ++ xs) (sym (collected-end (placed_given source) words k past)) ∙ so.listed
+all_listed source words k found past so = given-all (placed_given source) words k found (placed_of source words) past so.listed
 
 -- the answer of one step that stops is that of the whole
 pub gives_stop : {X Y V W : Type 0} (view : X → Y) (other : V → W) (stop : AsmStop) (a b : Option Fault) (y : Y) (w : W) → ((f : Fault) → a ≡ Some f → b ≡ Some f) → Gives view (Err stop) a y → Gives other (Err stop) b w

@@ -1,18 +1,20 @@
 use Rattle.std.proofs.Common.{◌≡◌, ℕ, ◌+◌, ◌<◌, ◌≤◌, Bool, true, false, not, List, [], ◌∷◌, ◌++◌, length, take, drop, get_or, map, length-take, Option, Some, None, Result, Ok, Err, cond, refl, sym, ◌∙◌, ap, arith}
 use Rattle.std.specs.Prelude.{is_some, fold, ◌&&◌, ◌==◌}
 use Rattle.std.specs.Option.{option_map}
-use Rattle.std.proofs.lemmas.List.{take_more, take_all, get_or-map, length-map}
+use Rattle.std.proofs.lemmas.List.{take_more, take_all, get_or-map, length-map, map-append}
 use Rattle.tal_words.specs.declared.span.Expanded.{Expanded}
 use Rattle.tal_words.specs.declared.fault.FaultKind.{FaultKind}
 use Rattle.tal_words.specs.declared.form.Form.{Form}
 use Rattle.tal_words.specs.declared.fault.FaultKind.TheVariants.{StrayBrace, OpenBrace}
-use Rattle.tal_words.specs.Faults.{Judged, when, least, fault_at, first_fault, fault_or}
+use Rattle.tal_words.specs.Faults.{Judged, when, least, fault_at, phase_fault, fault_or}
 use Rattle.tal_words.specs.Forms.{form}
 use Rattle.tal_words.specs.Braces.{opens, closes}
-use Rattle.tal_labels.specs.Order.{each}
-use Rattle.tal_labels.specs.Places.{text_of}
+use Rattle.tal_words.specs.Order.{each}
+use Rattle.tal_words.specs.Source.{expanded_text}
 use Rattle.tal_labels.specs.Shapes.{shape_kinds, open_after, open_count, closer_of, closers_of, closing_distance, judged_shape, shape_fault}
-use Rattle.tal_labels.proofs.OrderLemmas.{each-step, each-end, get_or-each, length-each, no_word}
+use Rattle.std.proofs.lemmas.List.Sums.{fold-append}
+use Rattle.tal_words.proofs.PassLemmas.{fault-here, fault-later}
+use Rattle.tal_words.proofs.OrderLemmas.{each-step, each-end, get_or-each, length-each, no_word}
 
 -- by the closer of a word as by the `}` itself
 pub shape_kinds-closer : (f : Result Form FaultKind) (text : List ℕ) (depth at : ℕ) (o : Option ℕ) → shape_kinds f text depth (is_some (cond (opens text) (option_map (λ between. at + 1 + between) o) None)) ≡ shape_kinds f text depth (is_some o)
@@ -24,29 +26,17 @@ shape_kinds-closer (Ok shape) text depth at o = ap (λ kinds. when (closes text 
     by true (Some n) = refl
     by false o = refl
 
-fold-more : {X Y : Type 0} (f : Y → X → Y) (start : Y) (xs : List X) (last : X) → fold f start (xs ++ last ∷ []) ≡ f (fold f start xs) last
-fold-more f start [] last = refl
-fold-more f start (x ∷ xs) last = fold-more f (f start x) xs last
-
-pub open_count-more : (source : List ℕ) (words : List Expanded) (k : ℕ) (d : Expanded) → k < length words → open_count source (take (k + 1) words) ≡ open_after (open_count source (take k words)) (text_of source (get_or words k d))
+pub open_count-more : (source : List ℕ) (words : List Expanded) (k : ℕ) (d : Expanded) → k < length words → open_count source (take (k + 1) words) ≡ open_after (open_count source (take k words)) (expanded_text source (get_or words k d))
 unfolding open_count
-open_count-more source words k d h = ap (open_count source) (take_more words k d h) ∙ fold-more (λ depth word. open_after depth (text_of source word)) 0 (take k words) (get_or words k d)
-
--- a phase's fault is at the next word that has one, where none before it has one
-pub judged-fault : (judge : List Expanded → Expanded → List Expanded → Judged) (words : List Expanded) (k : ℕ) (d : Expanded) (kind : FaultKind) → k < length words → least (judge (take k words) (get_or words k d) (drop (k + 1) words)).kinds ≡ Some kind → first_fault (each judge (take k words) (drop k words)) ≡ Some (fault_at (judge (take k words) (get_or words k d) (drop (k + 1) words)).origin kind)
-judged-fault judge words k d kind h e = ap first_fault (each-step judge words k d h) ∙ ap (λ o. fault_or (judge (take k words) (get_or words k d) (drop (k + 1) words)).origin o (first_fault (each judge (take (k + 1) words) (drop (k + 1) words)))) e
-
--- and further on where this word has none
-pub judged-next : (judge : List Expanded → Expanded → List Expanded → Judged) (words : List Expanded) (k : ℕ) (d : Expanded) → k < length words → least (judge (take k words) (get_or words k d) (drop (k + 1) words)).kinds ≡ None → first_fault (each judge (take (k + 1) words) (drop (k + 1) words)) ≡ first_fault (each judge (take k words) (drop k words))
-judged-next judge words k d h e = sym (ap first_fault (each-step judge words k d h) ∙ ap (λ o. fault_or (judge (take k words) (get_or words k d) (drop (k + 1) words)).origin o (first_fault (each judge (take (k + 1) words) (drop (k + 1) words)))) e)
+open_count-more source words k d h = ap (open_count source) (take_more words k d h) ∙ fold-append (λ depth word. open_after depth (expanded_text source word)) 0 (take k words) (get_or words k d ∷ [])
 
 -- the closer of a word, as it is read from the list
-pub closers_of-get : (source : List ℕ) (words : List Expanded) (k : ℕ) (d : Expanded) (e : Option ℕ) → k < length words → get_or (closers_of source words) k e ≡ cond (opens (text_of source (get_or words k d))) (option_map (λ between. k + 1 + between) (closing_distance source (drop (k + 1) words))) None
+pub closers_of-get : (source : List ℕ) (words : List Expanded) (k : ℕ) (d : Expanded) (e : Option ℕ) → k < length words → get_or (closers_of source words) k e ≡ cond (opens (expanded_text source (get_or words k d))) (option_map (λ between. k + 1 + between) (closing_distance source (drop (k + 1) words))) None
 unfolding closers_of
 closers_of-get source words k d e h =
     let size : length (take k words) ≡ k = omega (arith, length-take k words) in
     get_or-each (closer_of source) [] words k d e h
-    ∙ ap (λ n. cond (opens (text_of source (get_or words k d))) (option_map (λ between. n + 1 + between) (closing_distance source (drop (k + 1) words))) None) size
+    ∙ ap (λ n. cond (opens (expanded_text source (get_or words k d))) (option_map (λ between. n + 1 + between) (closing_distance source (drop (k + 1) words))) None) size
 
 pub length-closers_of : (source : List ℕ) (words : List Expanded) → length (closers_of source words) ≡ length words
 unfolding closers_of
@@ -56,43 +46,39 @@ abbrev pub formed : Form → Result Form FaultKind
 formed shape = Ok shape
 
 -- forms by their words
-pub forms-get : (source : List ℕ) (words : List Expanded) (forms : List Form) (k : ℕ) (d : Expanded) (f : Form) → map formed forms ≡ map (λ word. form (text_of source word)) words → k < length words → form (text_of source (get_or words k d)) ≡ Ok (get_or forms k f)
+pub forms-get : (source : List ℕ) (words : List Expanded) (forms : List Form) (k : ℕ) (d : Expanded) (f : Form) → map formed forms ≡ map (λ word. form (expanded_text source word)) words → k < length words → form (expanded_text source (get_or words k d)) ≡ Ok (get_or forms k f)
 forms-get source words forms k d f e h =
-    let size : length forms ≡ length words = sym (length-map forms formed) ∙ ap length e ∙ length-map words (λ word. form (text_of source word)) in
-    sym (get_or-map (λ word. form (text_of source word)) words k d (Ok f) h) ∙ sym (ap (λ xs. get_or xs k (Ok f)) e) ∙ get_or-map formed forms k f (Ok f) (omega arith)
+    let size : length forms ≡ length words = sym (length-map forms formed) ∙ ap length e ∙ length-map words (λ word. form (expanded_text source word)) in
+    sym (get_or-map (λ word. form (expanded_text source word)) words k d (Ok f) h) ∙ sym (ap (λ xs. get_or xs k (Ok f)) e) ∙ get_or-map formed forms k f (Ok f) (omega arith)
 
-pub length-forms : (source : List ℕ) (words : List Expanded) (forms : List Form) → map formed forms ≡ map (λ word. form (text_of source word)) words → length forms ≡ length words
-length-forms source words forms e = sym (length-map forms formed) ∙ ap length e ∙ length-map words (λ word. form (text_of source word))
-
-map-snoc : {X Y : Type 0} (f : X → Y) (xs : List X) (last : X) → map f (xs ++ last ∷ []) ≡ map f xs ++ f last ∷ []
-map-snoc f [] last = refl
-map-snoc f (x ∷ xs) last = ap (λ ys. f x ∷ ys) (map-snoc f xs last)
+pub length-forms : (source : List ℕ) (words : List Expanded) (forms : List Form) → map formed forms ≡ map (λ word. form (expanded_text source word)) words → length forms ≡ length words
+length-forms source words forms e = sym (length-map forms formed) ∙ ap length e ∙ length-map words (λ word. form (expanded_text source word))
 
 -- what the loop over the words keeps
 pub record IsShapedSo (source : List ℕ) (words : List Expanded) (k : ℕ) (shapes : List Form) (open_ones : ℕ) : Type 0 where
-  pub sound : first_fault (each (judged_shape source) (take k words) (drop k words)) ≡ shape_fault source words
-  pub forms : map formed shapes ≡ map (λ word. form (text_of source word)) (take k words)
+  pub sound : phase_fault (each (judged_shape source) (take k words) (drop k words)) ≡ shape_fault source words
+  pub forms : map formed shapes ≡ map (λ word. form (expanded_text source word)) (take k words)
   pub depth : open_ones ≡ open_count source (take k words)
   pub small : open_ones ≤ k
 
 -- what is answered for a word whose shape has no fault, or has one
 pub read_kinds : (source : List ℕ) (words : List Expanded) (k : ℕ) (text : List ℕ) (depth : ℕ) (closed : Bool) (e : Option ℕ) (closers : List (Option ℕ))
-    → k < length words → closers ≡ closers_of source words → text ≡ text_of source (get_or words k no_word) → depth ≡ open_count source (take k words) → closed ≡ is_some (get_or closers k e)
+    → k < length words → closers ≡ closers_of source words → text ≡ expanded_text source (get_or words k no_word) → depth ≡ open_count source (take k words) → closed ≡ is_some (get_or closers k e)
     → shape_kinds (form text) text depth closed ≡ (judged_shape source (take k words) (get_or words k no_word) (drop (k + 1) words)).kinds
 read_kinds source words k text depth closed e closers within all read deep shut =
     let word = get_or words k no_word in
     let distance = closing_distance source (drop (k + 1) words) in
     ap (λ b. shape_kinds (form text) text depth b) (shut ∙ ap (λ cs. is_some (get_or cs k e)) all ∙ ap is_some (closers_of-get source words k no_word e within))
-    ∙ ap (λ t. shape_kinds (form t) t depth (is_some (cond (opens (text_of source word)) (option_map (λ between. k + 1 + between) distance) None))) read
-    ∙ shape_kinds-closer (form (text_of source word)) (text_of source word) depth k distance
-    ∙ ap (λ n. shape_kinds (form (text_of source word)) (text_of source word) n (is_some distance)) deep
+    ∙ ap (λ t. shape_kinds (form t) t depth (is_some (cond (opens (expanded_text source word)) (option_map (λ between. k + 1 + between) distance) None))) read
+    ∙ shape_kinds-closer (form (expanded_text source word)) (expanded_text source word) depth k distance
+    ∙ ap (λ n. shape_kinds (form (expanded_text source word)) (expanded_text source word) n (is_some distance)) deep
 
 pub nothing_shaped : (source : List ℕ) (words : List Expanded) (shapes : List Form) → shapes ≡ [] → IsShapedSo source words 0 shapes 0
 unfolding shape_fault open_count
 nothing_shaped source words shapes e = record { sound = refl; forms = ap (map formed) e; depth = refl; small = omega arith }
 
 pub next_shaped : (source : List ℕ) (words : List Expanded) (k : ℕ) (shapes more : List Form) (shape : Form) (text : List ℕ) (depth next : ℕ) (closed : Bool) (e : Option ℕ) (closers : List (Option ℕ))
-    → k < length words → closers ≡ closers_of source words → text ≡ text_of source (get_or words k no_word) → closed ≡ is_some (get_or closers k e)
+    → k < length words → closers ≡ closers_of source words → text ≡ expanded_text source (get_or words k no_word) → closed ≡ is_some (get_or closers k e)
     → IsShapedSo source words k shapes depth → form text ≡ Ok shape → least (shape_kinds (form text) text depth closed) ≡ None
     → more ≡ shapes ++ shape ∷ [] → next ≡ open_after depth text → next ≤ depth + 1
     → IsShapedSo source words (k + 1) more next
@@ -100,26 +86,26 @@ next_shaped source words k shapes more shape text depth next closed e closers wi
     let word = get_or words k no_word in
     let right = sym (ap least (read_kinds source words k text depth closed e closers within all read so.depth shut)) ∙ none in
     record {
-      sound = judged-next (judged_shape source) words k no_word within right ∙ so.sound;
-      forms = ap (map formed) pushed ∙ map-snoc formed shapes shape
+      sound = fault-later (judged_shape source) words k no_word within right ∙ so.sound;
+      forms = ap (map formed) pushed ∙ map-append formed shapes (shape ∷ [])
           ∙ ap (λ fs. fs ++ formed shape ∷ []) so.forms
-          ∙ ap (λ f. map (λ word. form (text_of source word)) (take k words) ++ f ∷ []) (sym (sym (ap form read) ∙ formed_so))
-          ∙ sym (map-snoc (λ word. form (text_of source word)) (take k words) word)
-          ∙ sym (ap (map (λ word. form (text_of source word))) (take_more words k no_word within));
-      depth = deeper ∙ ap (open_after depth) read ∙ ap (λ n. open_after n (text_of source word)) so.depth ∙ sym (open_count-more source words k no_word within);
+          ∙ ap (λ f. map (λ word. form (expanded_text source word)) (take k words) ++ f ∷ []) (sym (sym (ap form read) ∙ formed_so))
+          ∙ sym (map-append (λ word. form (expanded_text source word)) (take k words) (word ∷ []))
+          ∙ sym (ap (map (λ word. form (expanded_text source word))) (take_more words k no_word within));
+      depth = deeper ∙ ap (open_after depth) read ∙ ap (λ n. open_after n (expanded_text source word)) so.depth ∙ sym (open_count-more source words k no_word within);
       small = omega (arith, so.small);
     }
 
 pub faulty_shape : (source : List ℕ) (words : List Expanded) (k : ℕ) (shapes : List Form) (text : List ℕ) (depth : ℕ) (closed : Bool) (kind : FaultKind) (e : Option ℕ) (closers : List (Option ℕ))
-    → k < length words → closers ≡ closers_of source words → text ≡ text_of source (get_or words k no_word) → closed ≡ is_some (get_or closers k e)
+    → k < length words → closers ≡ closers_of source words → text ≡ expanded_text source (get_or words k no_word) → closed ≡ is_some (get_or closers k e)
     → IsShapedSo source words k shapes depth → least (shape_kinds (form text) text depth closed) ≡ Some kind
     → shape_fault source words ≡ Some (fault_at (get_or words k no_word).origin kind)
 faulty_shape source words k shapes text depth closed kind e closers within all read shut so some =
     let right = sym (ap least (read_kinds source words k text depth closed e closers within all read so.depth shut)) ∙ some in
-    sym so.sound ∙ judged-fault (judged_shape source) words k no_word kind within right
+    sym so.sound ∙ fault-here (judged_shape source) words k no_word within kind right
 
-pub all_shaped : (source : List ℕ) (words : List Expanded) (k : ℕ) (shapes : List Form) (depth : ℕ) → k ≡ length words → IsShapedSo source words k shapes depth → (shape_fault source words ≡ None) × (map formed shapes ≡ map (λ word. form (text_of source word)) words)
+pub all_shaped : (source : List ℕ) (words : List Expanded) (k : ℕ) (shapes : List Form) (depth : ℕ) → k ≡ length words → IsShapedSo source words k shapes depth → (shape_fault source words ≡ None) × (map formed shapes ≡ map (λ word. form (expanded_text source word)) words)
 all_shaped source words k shapes depth whole so = (
-  sym so.sound ∙ ap first_fault (each-end (judged_shape source) words k (omega arith)),
-  so.forms ∙ ap (map (λ word. form (text_of source word))) (take_all k words (omega arith)),
+  sym so.sound ∙ ap phase_fault (each-end (judged_shape source) words k (omega arith)),
+  so.forms ∙ ap (map (λ word. form (expanded_text source word))) (take_all k words (omega arith)),
 )

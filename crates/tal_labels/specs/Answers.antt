@@ -16,9 +16,9 @@ IsShape text depth is_closed (Ok shape) = (form text ≡ Ok shape) × (least (sh
 IsShape text depth is_closed (Err kind) = least (shape_kinds (form text) text depth is_closed) ≡ Some kind
 
 -- the place after a word of a form that has this place
-abbrev pub advanced : Form → List ℕ → ℕ → ℕ
-advanced (Pad value) text place = value
-advanced other text place = place + form_moves other text
+abbrev pub next_address : Form → List ℕ → ℕ → ℕ
+next_address (Pad value) text place = value
+next_address other text place = place + form_moves other text
 
 -- the label of a name at an address
 abbrev pub label_of : Option (List ℕ) → ℕ → List Label
@@ -26,9 +26,9 @@ label_of None address = []
 label_of (Some name) address = record { name = name; address = address } ∷ []
 
 -- the scope after a word
-abbrev pub scope_next : Form → List ℕ → List ℕ → List ℕ
-scope_next LabelDef scope text = scope_of (drop 1 text)
-scope_next other scope text = scope
+abbrev pub next_scope : Form → List ℕ → List ℕ → List ℕ
+next_scope LabelDef scope text = scope_of (drop 1 text)
+next_scope other scope text = scope
 
 -- what waits for an opener from a word on: the indices of the `}` that close nothing after it, the next one first
 abbrev pub waiting_step : ℕ → Bool → Bool → List ℕ → List ℕ

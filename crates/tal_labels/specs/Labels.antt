@@ -9,8 +9,9 @@ use Rattle.tal_words.specs.declared.form.Form.{Form}
 use Rattle.tal_words.specs.declared.form.Form.TheVariants.{LabelDef, SubDef}
 use Rattle.tal_words.specs.Forms.{form}
 use Rattle.tal_words.specs.Names.{first_scope, scope_of, full_name}
-use Rattle.tal_labels.specs.Order.{collected, last_of}
-use Rattle.tal_labels.specs.Places.{text_of, place_after}
+use Rattle.tal_words.specs.Order.{collected, last_of}
+use Rattle.tal_words.specs.Source.{expanded_text}
+use Rattle.tal_labels.specs.Places.{address_after}
 
 -- the name after `@`
 abbrev pub label_name : Result Form FaultKind → List ℕ → Option (List ℕ)
@@ -26,7 +27,7 @@ defined_name _ scope text = None
 module _ (source : List ℕ) where
   -- the name of the last `@` of some words
   abbrev pub last_label : List Expanded → Option (List ℕ)
-  last_label words = last_of (λ word. label_name (form (text_of source word)) (text_of source word)) words
+  last_label words = last_of (λ word. label_name (form (expanded_text source word)) (expanded_text source word)) words
 
   -- the scope by the words before: that of the last `@`, or else the first scope
   unfoldable pub scope_after : List Expanded → List ℕ
@@ -35,11 +36,11 @@ module _ (source : List ℕ) where
   -- the label that a word defines, at the place of the word
   abbrev pub label_at : List Expanded → Option (List ℕ) → List Label
   label_at before None = []
-  label_at before (Some name) = record { name = name; address = place_after source before } ∷ []
+  label_at before (Some name) = record { name = name; address = address_after source before } ∷ []
 
   abbrev pub labels_given : List Expanded → Expanded → List Expanded → List Label
   labels_given before word after =
-      label_at before (defined_name (form (text_of source word)) (scope_after before) (text_of source word))
+      label_at before (defined_name (form (expanded_text source word)) (scope_after before) (expanded_text source word))
 
   -- the labels in order of definition
   unfoldable pub labels_of : List Expanded → List Label

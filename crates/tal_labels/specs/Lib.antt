@@ -1,4 +1,3 @@
-pub mod Order
 pub mod Places
 pub mod Labels
 pub mod Shapes

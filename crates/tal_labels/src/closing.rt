@@ -18,9 +18,7 @@ pub fn closers_of(
 {
     let mut waiting = Vec::new(alloc);
     let mut closers = Vec::new(alloc);
-    let mut at = words.len();
-    while at > 0 {
-        at -= 1;
+    for at in (0..words.len()).rev() {
         let closer = closer_at(words[at].text.text(source), at, &mut waiting)?;
         closers.push(closer)?;
     }

@@ -4,7 +4,7 @@ ghost use Rattle.std.specs.Prelude.{◌≡◌, ◌<◌, ◌^◌, ◌++◌, false
 ghost use Rattle.std.specs.Option.{option_map};
 ghost use Rattle.tal_words.specs.Names.{scope_of as scope_of_name, full_name as full_name_in};
 ghost use Rattle.tal_labels.specs.Index.{labels_in};
-ghost use Rattle.tal_labels.specs.Answers.{label_of, scope_next};
+ghost use Rattle.tal_labels.specs.Answers.{label_of, next_scope};
 ghost use Rattle.tal_labels.specs.Labels.{defined_name as name_defined};
 ghost use Rattle.tal_labels.specs.Placing.{is_defined as is_among};
 
@@ -31,8 +31,8 @@ fn scope_of(name: &[u8]) -> &[u8]
 }
 
 /// The scope after a word: a label opens one.
-pub fn scope_after<'a>(form: Form, scope: &'a [u8], text: &'a [u8]) -> &'a [u8]
-    ensures { result.now ≡ scope_next form scope.now text.now }
+pub fn next_scope<'a>(form: Form, scope: &'a [u8], text: &'a [u8]) -> &'a [u8]
+    ensures { result.now ≡ next_scope form scope.now text.now }
 {
     match (form, text) {
         (Form::LabelDef, [_, name @ ..]) => scope_of(name),

@@ -9,6 +9,7 @@ mod shapes;
 #[cfg(test)]
 mod tests;
 
-pub use labels::{FIRST_SCOPE, full_name, scope_after};
+pub use labels::{FIRST_SCOPE, full_name, next_scope};
 pub use placed::{Placed, PlacedWord};
-pub use placing::place;
+pub use placing::{FIRST_ADDRESS, MEMORY_END, place};
+pub use shapes::strays_match_no_opener;

@@ -1,4 +1,4 @@
-//! Words with their places, and labels.
+//! Words with their addresses, and labels.
 
 ghost use Rattle.std.specs.Prelude.{◌≡◌};
 
@@ -6,22 +6,22 @@ use indexmap::IndexMap;
 use std::marker::Model;
 use tal_words::{Expanded, Form, Label};
 
-/// A word of the expanded list with its place.
+/// A word of the expanded list with its address.
 #[derive(Clone, Copy, Debug, PartialEq, Eq)]
 pub struct PlacedWord {
     /// The word.
     pub word: Expanded,
     /// What it means.
     pub form: Form,
-    /// Its place: the address of its first byte, if it has bytes.
+    /// The address of its first byte, if it has bytes, or else of the next byte.
     pub address: u64,
     /// The number of its bytes.
     pub size: u16,
-    /// For a word that opens a lambda, the place of the `}` that closes it.
+    /// For a word that opens a lambda, the address of the `}` that closes it.
     pub lambda: Option<u16>,
 }
 
-/// The words of a source with their places, and its labels.
+/// The words of a source with their addresses, and its labels.
 #[derive(Drop)]
 pub struct Placed {
     words: Vec<PlacedWord>,
@@ -61,7 +61,7 @@ impl Placed {
         }
     }
 
-    /// The words in order, each with its place.
+    /// The words in order, each with its address.
     pub fn words(&self) -> &[PlacedWord]
         ensures { result.now ≡ self.now.words }
     {

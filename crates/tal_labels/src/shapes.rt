@@ -1,11 +1,13 @@
 //! What is wrong with words by themselves and with their braces.
 
-ghost use Rattle.std.specs.Prelude.{◌≡◌, map, Ok, ◌+◌, ◌<◌, ◌≤◌, ◌^◌};
+ghost use Rattle.std.specs.Prelude.{◌≡◌, ◌==◌, not, true, List, ℕ, map, Ok, ◌+◌, ◌<◌, ◌≤◌, ◌^◌};
 ghost use Rattle.tal_words.specs.Faults.{Gives};
 ghost use Rattle.tal_words.specs.Forms.{form as form_of_text};
-ghost use Rattle.tal_labels.specs.Places.{text_of};
-ghost use Rattle.tal_labels.specs.Shapes.{closers_of, shape_fault, open_after};
+ghost use Rattle.tal_words.specs.Source.{expanded_text};
+ghost use Rattle.tal_labels.specs.Shapes.{closers_of, shape_fault, open_after, open_count, closes_one_of};
 ghost use Rattle.tal_labels.specs.Answers.{IsShape};
+ghost use Rattle.tal_words.specs.declared.span.Expanded.{Expanded as ExpandedWord};
+ghost use Rattle.tal_words.specs.Braces.{closes as closes_brace};
 
 use std::alloc::Global;
 use tal_words::{AsmStop, Expanded, Fault, FaultKind, Form, closes, form_of, opens};
@@ -18,7 +20,7 @@ pub fn forms_of(
     closers: &[Option<usize>],
 ) -> Result<Vec<Form>, AsmStop>
     requires { closers.now ≡ closers_of source.now words.now }
-    ensures { Gives (λ forms. map Ok forms.items) result (shape_fault source.now words.now) (map (λ word. form_of_text (text_of source.now word)) words.now) }
+    ensures { Gives (λ forms. map Ok forms.items) result (shape_fault source.now words.now) (map (λ word. form_of_text (expanded_text source.now word)) words.now) }
 {
     let mut forms = Vec::new(alloc);
     let mut depth = 0usize;
@@ -28,13 +30,13 @@ pub fn forms_of(
             Ok(form) => forms.push(form)?,
             Err(kind) => return Err(AsmStop::Refused(Fault::new(&word.origin, kind))),
         }
-        depth = depth_after(depth, text);
+        depth = open_after(depth, text);
     }
     Ok(forms)
 }
 
 /// How many lambdas are open after a word.
-fn depth_after(depth: usize, text: &[u8]) -> usize
+fn open_after(depth: usize, text: &[u8]) -> usize
     requires { depth < 2 ^ 63 }
     ensures value { result ≡ open_after depth text.now }
     ensures small { result ≤ depth + 1 }
@@ -66,3 +68,9 @@ fn shape_of(text: &[u8], depth: usize, is_closed: bool) -> Result<Form, FaultKin
         }
     }
 }
+
+/// A `}` finds no lambda open exactly where no opener before it has it as its matching brace.
+pub fn strays_match_no_opener()
+    ensures { (source : List ℕ) (before : List ExpandedWord) (word : ExpandedWord) → closes_brace (expanded_text source word) ≡ true
+        → (open_count source before == 0) ≡ not (closes_one_of source before word) }
+{}

@@ -1,156 +1,195 @@
 -- The pass over the words of a source, one word at a time.
-use Rattle.std.proofs.Common.{◌≡◌, ℕ, zero, suc, ◌+◌, ◌-◌, ◌<◌, ◌≤◌, true, false, List, [], ◌∷◌, ◌++◌, length, drop, Option, Some, None, Err, refl, ap, sym, ◌∙◌, arith, add-zero}
-use Rattle.std.specs.Prelude.{Vec}
-use Rattle.std.specs.declared.alloc.Global.{Global}
+use Rattle.std.proofs.Common.{◌≡◌, ℕ, zero, suc, ◌+◌, ◌-◌, ◌<◌, ◌≤◌, true, false, List, [], ◌∷◌, ◌++◌, length, drop, Some, None, Err, refl, ap, sym, ◌∙◌, arith, append_assoc, append-nil, length-append}
 use Rattle.std.specs.List.{flat_map}
-use Rattle.std.proofs.lemmas.List.{append_assoc, append-nil, drop_more, length-take, length-drop}
+use Rattle.std.proofs.lemmas.Grind.{flat_map-append}
+use Rattle.std.proofs.lemmas.List.{drop_more, length-take, length-drop}
 use Rattle.tal_words.specs.declared.span.Word.{Word}
 use Rattle.tal_words.specs.declared.span.Expanded.{Expanded}
-use Rattle.tal_words.specs.declared.fault.Fault.{Fault}
-use Rattle.tal_words.specs.declared.fault.FaultKind.{FaultKind}
 use Rattle.tal_words.specs.declared.fault.FaultKind.TheVariants.{MacroBody}
-use Rattle.tal_words.specs.Source.{begins}
 use Rattle.tal_words.specs.declared.fault.AsmStop.{AsmStop}
 use Rattle.tal_words.specs.declared.fault.AsmStop.TheVariants.{Refused, NoMemory}
-use Rattle.tal_words.specs.Faults.{least, fault_at, first_fault, Gives}
-use Rattle.tal_words.specs.Expansion.{Macro, Part, text_of, body_after, visits, limit_faults, given_by, head_faults, known_after, parts_from, judged_parts, given_by_part, depth_limit, visit_limit}
+use Rattle.tal_words.specs.Order.{collected}
+use Rattle.tal_words.specs.Source.{begins, word_text}
+use Rattle.tal_words.specs.Faults.{Judged, fault_at, phase_fault, Gives}
+use Rattle.tal_words.proofs.OrderLemmas.{collected-more, collected-append}
+use Rattle.tal_words.proofs.PassLemmas.{fault-behind}
+use Rattle.tal_macros.specs.Expansion.{Macro, Part, Plain, Head, Inside, body_after, parts_from, known_at, macro_given, head_length, visits, visits_given, visit_list, judged_visits, judged_part, without_uses, depth_limit, visit_limit}
 use Rattle.tal_macros.specs.declared.body.Body.{Body}
 use Rattle.tal_macros.specs.Bodies.{body_words, word_at}
-use Rattle.tal_macros.specs.Heads.{Defines, IsLeast}
-use Rattle.tal_macros.specs.Visiting.{Expands}
+use Rattle.tal_macros.specs.Heads.{Defines, HeadGives}
+use Rattle.tal_macros.specs.Visiting.{Stops, Expands}
+use Rattle.tal_macros.proofs.Visiting.{stops-among, without_uses-append}
 
--- how many words a body has
-pub length_body : (words : List Word) (body : Body) → body.from ≤ body.to → body.to ≤ length words → length (body_words words body) ≡ body.to - body.from
-length_body words body ordered within = rw (length-take, length-drop) (omega arith)
+module _ (source : List ℕ) where
+  -- what is said of a part does not depend on those after it
+  judged_alone : (before : List Part) (part : Part) (after others : List Part) → judged_part source before part after ≡ judged_part source before part others
+  judged_alone before (Plain word) after others = refl
+  judged_alone before (Head word body) after others = refl
+  judged_alone before (Inside word) after others = refl
 
--- all parts of the words
-unfoldable pub all_parts : List ℕ → List Word → List Part
-all_parts source words = parts_from source [] 0 words
+  visits_alone : (before : List Part) (part : Part) (after others : List Part) → visits_given source before part after ≡ visits_given source before part others
+  visits_alone before (Plain word) after others = refl
+  visits_alone before (Head word body) after others = refl
+  visits_alone before (Inside word) after others = refl
 
--- what the pass knows before a word
-pub record Expanding (source : List ℕ) (words left : List Word) (known : List Macro) (inside visited : ℕ) (now : List Expanded) : Type 0 where
-  pub given : now ++ flat_map (given_by_part source) (parts_from source known inside left) ≡ flat_map (given_by_part source) (all_parts source words)
-  pub first : first_fault (judged_parts source 0 (all_parts source words)) ≡ first_fault (judged_parts source visited (parts_from source known inside left))
-  pub bound : visited ≤ visit_limit
+  visit_list-more : (before : List Part) (part : Part) → visit_list source (before ++ part ∷ []) ≡ visit_list source before ++ visits_given source before part []
+  unfolding visit_list
+  visit_list-more before part = collected-more (visits_given source) visits_alone [] before part
 
-pub expanding_start : (source : List ℕ) (words : List Word) → Expanding source words words [] 0 0 []
-unfolding all_parts
-expanding_start source words = record { given = refl; first = refl; bound = omega arith }
+  known_at-more : (before : List Part) (part : Part) → known_at source (before ++ part ∷ []) ≡ known_at source before ++ macro_given source part
+  unfolding known_at
+  known_at-more before part =
+      flat_map-append (macro_given source) before (part ∷ []) ∙ ap (λ macros. flat_map (macro_given source) before ++ macros) (append-nil (macro_given source part))
 
-module _ (source : List ℕ) (words : List Word) (word : Word) (left : List Word) (known : List Macro) (visited : ℕ) (now : List Expanded) where
-  -- a word in a head
-  pub inside_more : (inside : ℕ) → 0 < inside → begins 37 (text_of source word) ≡ false
-      → Expanding source words (word ∷ left) known inside visited now → Expanding source words left known (inside - 1) visited now
-  inside_more zero some plain expanding = absurd (omega arith)
-  inside_more (suc inside) some plain expanding =
-      let one : suc inside - 1 ≡ inside = omega arith in
-      rw one (record { given = expanding.given; first = rw (plain, add-zero) at expanding.first; bound = expanding.bound })
+  -- what the pass knows before a word: the parts so far, the macros, how many words were visited, and the words given
+  pub record Expanding (words left : List Word) (inside : ℕ) (known : List Macro) (count : ℕ) (now : List Expanded) : Type 0 where
+    pub before : List Part
+    pub cut : parts_from source 0 words ≡ before ++ parts_from source inside left
+    pub faultless : phase_fault (collected (judged_part source) [] before) ≡ None
+    pub knows : known ≡ known_at source before
+    pub given : now ≡ without_uses (visit_list source before)
+    pub counted : count ≡ length (visit_list source before)
+    pub bound : count ≤ visit_limit
+    pub few : length now ≤ count
 
-  -- a head in a body
-  pub inside_fault : (inside : ℕ) → 0 < inside → begins 37 (text_of source word) ≡ true
-      → Expanding source words (word ∷ left) known inside visited now
-      → first_fault (judged_parts source 0 (all_parts source words)) ≡ Some (fault_at word MacroBody)
-  inside_fault zero some head expanding = absurd (omega arith)
-  inside_fault (suc inside) some head expanding = rw head at expanding.first
+  pub expanding_start : (words : List Word) → Expanding words words 0 [] 0 []
+  unfolding known_at visit_list
+  expanding_start words = record { before = []; cut = refl; faultless = refl; knows = refl; given = refl; counted = refl; bound = omega arith; few = omega arith }
 
-  module _ (expanding : Expanding source words (word ∷ left) known 0 visited now) where
-    -- a head that defines a macro
-    pub head_more : begins 37 (text_of source word) ≡ true → (body : List Word) (count : ℕ) → body_after source left ≡ Some body
-        → head_faults source word known (Some body) ≡ [] → length body + 2 ≡ count
-        → Expanding source words left (known_after source known word (Some body)) count visited now
-    head_more head body count closed faultless same = rw (sym same) (record {
-      given = rw (head, closed) at expanding.given;
-      first = rw (head, closed, faultless, add-zero) at expanding.first;
-      bound = expanding.bound;
-    })
+  -- all words have passed
+  pub expanding_end : (words left : List Word) (inside : ℕ) (known : List Macro) (count : ℕ) (now : List Expanded) → left ≡ []
+      → Expanding words left inside known count now
+      → (phase_fault (collected (judged_part source) [] (parts_from source 0 words)) ≡ None) × (now ≡ without_uses (visit_list source (parts_from source 0 words)))
+  expanding_end words left inside known count now none expanding =
+      let whole : parts_from source 0 words ≡ expanding.before =
+      expanding.cut ∙ ap (λ ws. expanding.before ++ parts_from source inside ws) none ∙ ap (λ ps. expanding.before ++ ps) (empty inside) ∙ append-nil expanding.before in
+      rw whole (expanding.faultless, expanding.given)
+    where
+      empty : (inside : ℕ) → parts_from source inside [] ≡ []
+      empty zero = refl
+      empty (suc inside) = refl
 
-    -- a head with a fault
-    pub head_fault : begins 37 (text_of source word) ≡ true → (kind : FaultKind) → least (head_faults source word known (body_after source left)) ≡ Some kind
-        → first_fault (judged_parts source 0 (all_parts source words)) ≡ Some (fault_at word kind)
-    head_fault head kind found = rw (head, found) at expanding.first
-
-    -- a word outside heads
-    pub plain_more : begins 37 (text_of source word) ≡ false → (after : ℕ) (more : List Expanded)
-        → Expands word (visits source known depth_limit word) visited now more after
-        → Expanding source words left known 0 after more
-    plain_more plain after more expands =
-        let given = rw plain at expanding.given in
-        let first = rw (plain, expands.faultless) at expanding.first in
+  module _ (words left next : List Word) (inside : ℕ) (known : List Macro) (count : ℕ) (now : List Expanded) (expanding : Expanding words left inside known count now)
+      (part : Part) (after : ℕ) (cut : parts_from source inside left ≡ part ∷ parts_from source after next) where
+    -- a part without a fault
+    part_more : (macros : List Macro) (total : ℕ) (more : List Expanded) → phase_fault (judged_part source expanding.before part []) ≡ None
+        → macros ≡ known ++ macro_given source part → more ≡ now ++ without_uses (visits_given source expanding.before part [])
+        → total ≡ count + length (visits_given source expanding.before part []) → total ≤ visit_limit → length more ≤ total
+        → Expanding words next after macros total more
+    part_more macros total more faultless defined given counted bound few =
+        let before = expanding.before in
+        let all = visit_list-more before part in
         record {
-          given = rw expands.given (append_assoc now (given_by word (visits source known depth_limit word)) (flat_map (given_by_part source) (parts_from source known 0 left)) ∙ given);
-          first = rw expands.count first;
-          bound = expands.bound;
+          before = before ++ part ∷ [];
+          cut = expanding.cut ∙ ap (λ ps. before ++ ps) cut ∙ sym (append_assoc before (part ∷ []) (parts_from source after next));
+          faultless =
+              ap phase_fault (collected-more (judged_part source) judged_alone [] before part)
+              ∙ fault-behind (collected (judged_part source) [] before) (judged_part source before part []) expanding.faultless ∙ faultless;
+          knows = defined ∙ ap (λ ms. ms ++ macro_given source part) expanding.knows ∙ sym (known_at-more before part);
+          given =
+              given ∙ ap (λ ws. ws ++ without_uses (visits_given source before part [])) expanding.given
+              ∙ sym (without_uses-append (visit_list source before) (visits_given source before part [])) ∙ ap without_uses (sym all);
+          counted = omega (arith, counted, expanding.counted, ap length all, length-append (visit_list source before) (visits_given source before part []));
+          bound = bound;
+          few = few;
         }
 
-    pub plain_fault : begins 37 (text_of source word) ≡ false → (kind : FaultKind) → least (limit_faults visited (visits source known depth_limit word)) ≡ Some kind
-        → first_fault (judged_parts source 0 (all_parts source words)) ≡ Some (fault_at word kind)
-    plain_fault plain kind found = rw (plain, found) at expanding.first
+    -- a part that stops the pass
+    part_stops : (stop : AsmStop) → Stops (judged_part source expanding.before part (parts_from source after next)) stop
+        → Stops (collected (judged_part source) [] (parts_from source 0 words)) stop
+    part_stops stop stopped =
+        let before = expanding.before in
+        let rest = parts_from source after next in
+        let whole : collected (judged_part source) [] (parts_from source 0 words)
+        ≡ collected (judged_part source) [] before ++ (judged_part source before part rest ++ collected (judged_part source) (before ++ part ∷ []) rest) =
+        ap (collected (judged_part source) []) (expanding.cut ∙ ap (λ ps. before ++ ps) cut)
+        ∙ collected-append (judged_part source) judged_alone [] before (part ∷ rest) in
+        rw whole (stops-among (collected (judged_part source) [] before) (judged_part source before part rest) (collected (judged_part source) (before ++ part ∷ []) rest) stop expanding.faultless stopped)
 
--- all words have passed
-pub expanding_end : (source : List ℕ) (words : List Word) (known : List Macro) (inside visited : ℕ) (now : List Expanded)
-    → Expanding source words [] known inside visited now
-    → (first_fault (judged_parts source 0 (parts_from source [] 0 words)) ≡ None) × (now ≡ flat_map (given_by_part source) (parts_from source [] 0 words))
-unfolding all_parts
-expanding_end source words known zero visited now expanding = (expanding.first, sym (append-nil now) ∙ expanding.given)
-expanding_end source words known (suc inside) visited now expanding = (expanding.first, sym (append-nil now) ∙ expanding.given)
+  -- one turn of the loop, at the word of an index
+  module _ (words : List Word) (at inside : ℕ) (known : List Macro) (count : ℕ) (now : List Expanded) (text : List ℕ)
+      (within : at < length words) (is_text : text ≡ word_text source (word_at words at)) (expanding : Expanding words (drop at words) inside known count now) where
+    abbrev word : Word
+    word = word_at words at
 
--- the fault is that of all parts
-pub all_faulty : (source : List ℕ) (words : List Word) (fault : Fault) → first_fault (judged_parts source 0 (all_parts source words)) ≡ Some fault
-    → first_fault (judged_parts source 0 (parts_from source [] 0 words)) ≡ Some fault
-unfolding all_parts
-all_faulty source words fault found = found
+    abbrev next : List Word
+    next = drop (at + 1) words
 
--- one turn of the loop, at the word of a place
-module _ (source : List ℕ) (words : List Word) (at : ℕ) (known : List Macro) (inside visited : ℕ) (now : List Expanded)
-    (within : at < length words) (expanding : Expanding source words (drop at words) known inside visited now) where
-  next : Expanding source words (word_at words at ∷ drop (at + 1) words) known inside visited now
-  next =
-      let step = drop_more words at (record { span = record { start = 0; end = 0 }; line = 0; column = 0 }) within in
-      rw step at expanding
+    left : drop at words ≡ word ∷ next
+    left = drop_more words at (record { span = record { start = 0; end = 0 }; line = 0; column = 0 }) within
 
-  outside : inside ≤ 0 → Expanding source words (word_at words at ∷ drop (at + 1) words) known 0 visited now
-  outside low = let none : inside ≡ 0 = omega arith in rw none at next
+    same : (result answer : _) → result ≡ begins 37 text → result ≡ answer → begins 37 (word_text source word) ≡ answer
+    same result answer ensured tested = ap (begins 37) (sym is_text) ∙ sym ensured ∙ tested
 
-  pub turn_inside : 0 < inside → begins 37 (text_of source (word_at words at)) ≡ false
-      → Expanding source words (drop (at + 1) words) known (inside - 1) visited now
-  turn_inside some plain = inside_more source words (word_at words at) (drop (at + 1) words) known visited now inside some plain next
+    inside_cut : 0 < inside → parts_from source inside (drop at words) ≡ Inside word ∷ parts_from source (inside - 1) next
+    inside_cut some = ap (parts_from source inside) left ∙ by inside some
+      where
+        by : (inside : ℕ) → 0 < inside → parts_from source inside (word ∷ next) ≡ Inside word ∷ parts_from source (inside - 1) next
+        by zero some = absurd (omega arith)
+        by (suc inside) some = let one : suc inside - 1 ≡ inside = omega arith in rw one refl
 
-  pub fault_inside : 0 < inside → begins 37 (text_of source (word_at words at)) ≡ true
-      → first_fault (judged_parts source 0 (parts_from source [] 0 words)) ≡ Some (fault_at (word_at words at) MacroBody)
-  fault_inside some head =
-      all_faulty source words _ (inside_fault source words (word_at words at) (drop (at + 1) words) known visited now inside some head next)
+    -- a further word of a head
+    pub turn_inside : 0 < inside → (result : _) → result ≡ begins 37 text → result ≡ false → Expanding words next (inside - 1) known count now
+    turn_inside some result ensured tested =
+        let plain = same result false ensured tested in
+        part_more words (drop at words) next inside known count now expanding (Inside word) (inside - 1) (inside_cut some) known count now
+        (rw plain refl) (sym (append-nil known)) (sym (append-nil now)) (omega arith) expanding.bound expanding.few
 
-  pub turn_head : inside ≤ 0 → begins 37 (text_of source (word_at words at)) ≡ true → (new : List Macro) (body : Body)
-      → Defines source words (word_at words at) (drop (at + 1) words) known new body
-      → Expanding source words (drop (at + 1) words) new (body.to - body.from + 2) visited now
-  turn_head low head new body defines =
-      let len = length_body words body defines.is_body.ordered defines.is_body.within in
-      rw defines.known
-      (head_more source words (word_at words at) (drop (at + 1) words) known visited now (outside low) head (body_words words body)
-      (body.to - body.from + 2) defines.is_body.closed defines.faultless (ap (λ count. count + 2) len))
+    pub stop_inside : 0 < inside → (result : _) → result ≡ begins 37 text → result ≡ true
+        → phase_fault (collected (judged_part source) [] (parts_from source 0 words)) ≡ Some (fault_at word MacroBody)
+    stop_inside some result ensured tested =
+        let head = same result true ensured tested in
+        part_stops words (drop at words) next inside known count now expanding (Inside word) (inside - 1) (inside_cut some)
+        (Refused (fault_at word MacroBody)) (rw head refl)
 
-  pub fault_head : inside ≤ 0 → begins 37 (text_of source (word_at words at)) ≡ true → (kind : FaultKind)
-      → least (head_faults source (word_at words at) known (body_after source (drop (at + 1) words))) ≡ Some kind
-      → first_fault (judged_parts source 0 (parts_from source [] 0 words)) ≡ Some (fault_at (word_at words at) kind)
-  fault_head low head kind found =
-      all_faulty source words _ (head_fault source words (word_at words at) (drop (at + 1) words) known visited now (outside low) head kind found)
+    module _ (low : inside ≤ 0) (result : _) (ensured : result ≡ begins 37 text) where
+      none : inside ≡ 0
+      none = omega arith
 
-  pub turn_plain : inside ≤ 0 → begins 37 (text_of source (word_at words at)) ≡ false → (after : ℕ) (more : List Expanded)
-      → Expands (word_at words at) (visits source known depth_limit (word_at words at)) visited now more after
-      → Expanding source words (drop (at + 1) words) known inside after more
-  turn_plain low plain after more expands =
-      let none : inside ≡ 0 = omega arith in
-      rw none (plain_more source words (word_at words at) (drop (at + 1) words) known visited now (outside low) plain after more expands)
+      -- a head that defines a macro
+      pub turn_head : result ≡ true → (new : List Macro) (body : Body) → Defines source words word next known new body
+          → Expanding words next (body.to - body.from + 2) new count now
+      turn_head tested new body defines =
+          let head = same result true ensured tested in
+          let closed = defines.is_body.closed in
+          let size : length (body_words words body) + 2 ≡ body.to - body.from + 2 =
+          omega (arith, defines.is_body.ordered, defines.is_body.within, length-take (body.to - body.from) (drop body.from words), length-drop body.from words) in
+          let faultless = defines.faultless in
+          let knows = expanding.knows in
+          part_more words (drop at words) next inside known count now expanding (Head word (Some (body_words words body))) (body.to - body.from + 2)
+          (ap (parts_from source inside) left ∙ rw (none, head, closed, size) refl) new count now
+          (rw (sym knows, faultless) refl) defines.known (sym (append-nil now)) (omega arith) expanding.bound expanding.few
 
-  pub fault_plain : inside ≤ 0 → begins 37 (text_of source (word_at words at)) ≡ false → (kind : FaultKind)
-      → least (limit_faults visited (visits source known depth_limit (word_at words at))) ≡ Some kind
-      → first_fault (judged_parts source 0 (parts_from source [] 0 words)) ≡ Some (fault_at (word_at words at) kind)
-  fault_plain low plain kind found =
-      all_faulty source words _ (plain_fault source words (word_at words at) (drop (at + 1) words) known visited now (outside low) plain kind found)
+      pub stop_head : result ≡ true → (new : List Macro) (stop : AsmStop) → HeadGives source words word next known new (Err stop)
+          → Stops (collected (judged_part source) [] (parts_from source 0 words)) stop
+      stop_head tested new stop stopped =
+          let head = same result true ensured tested in
+          let knows = expanding.knows in
+          part_stops words (drop at words) next inside known count now expanding (Head word (body_after source next)) (head_length (body_after source next))
+          (ap (parts_from source inside) left ∙ rw (none, head) refl) stop (rw (sym knows) stopped)
 
--- what a fault of a word answers
-pub gives_least : (word : Word) (kinds : List FaultKind) (stop : AsmStop) (first : Option Fault) (value : List Expanded)
-    → IsLeast word kinds stop → ((kind : FaultKind) → least kinds ≡ Some kind → first ≡ Some (fault_at word kind))
-    → Gives {X = Vec Expanded Global} (λ given. given.items) (Err stop) first value
-gives_least word kinds (Refused fault) first value (kind, found, is) faulty = rw is (faulty kind found)
-gives_least word kinds NoMemory first value least_kind faulty = tt
+      -- a word outside heads
+      plain_cut : result ≡ false → parts_from source inside (drop at words) ≡ Plain word ∷ parts_from source 0 next
+      plain_cut tested = let plain = same result false ensured tested in ap (parts_from source inside) left ∙ rw (none, plain) refl
+
+      pub turn_plain : result ≡ false → (total : ℕ) (more : List Expanded)
+          → Expands (visits source known word depth_limit word) count now total more → Expanding words next inside known total more
+      turn_plain tested total more expands =
+          let knows = expanding.knows in
+          let counted = expanding.counted in
+          rw none
+          (part_more words (drop at words) next inside known count now expanding (Plain word) 0 (plain_cut tested) known total more
+          (rw (sym knows, sym counted) expands.faultless) (sym (append-nil known)) (rw (sym knows) expands.given) (rw (sym knows) expands.count) expands.bound
+          (omega (arith, expands.few, expanding.few)))
+
+      pub stop_plain : result ≡ false → (stop : AsmStop) → Stops (judged_visits count (visits source known word depth_limit word)) stop
+          → Stops (collected (judged_part source) [] (parts_from source 0 words)) stop
+      stop_plain tested stop stopped =
+          let knows = expanding.knows in
+          let counted = expanding.counted in
+          part_stops words (drop at words) next inside known count now expanding (Plain word) 0 (plain_cut tested) stop (rw (sym knows, sym counted) stopped)
+
+-- what a pass that stops answers
+pub gives_stop : {X Y : Type 0} (view : X → Y) (words : List Judged) (value : Y) (stop : AsmStop) → Stops words stop → Gives view (Err stop) (phase_fault words) value
+gives_stop view words value (Refused fault) stopped = stopped
+gives_stop view words value NoMemory stopped = tt

@@ -6,7 +6,8 @@ use Rattle.tal_words.specs.declared.fault.FaultKind.{FaultKind}
 use Rattle.tal_words.specs.declared.fault.FaultKind.TheVariants.{BadName, NoName, MacroTwice, MacroBody}
 use Rattle.tal_words.specs.Faults.{when, least}
 use Rattle.tal_words.specs.Names.{name_fault}
-use Rattle.tal_words.specs.Expansion.{Macro, body_named, text_of, head_faults}
+use Rattle.tal_words.specs.Source.{word_text}
+use Rattle.tal_macros.specs.Expansion.{Macro, body_named, head_faults}
 
 -- a fault of a name is one of two
 abbrev IsNameFault : Option FaultKind → Type 0
@@ -41,14 +42,14 @@ least_name kind twice open_body (inr none) = rw none (least_none twice open_body
 
 -- a fault of the name is the least of a head
 pub least-head_faults : (source : List ℕ) (word : Word) (known : List Macro) (body : Option (List Word)) (kind : FaultKind)
-    → name_fault (drop 1 (text_of source word)) ≡ Some kind → least (head_faults source word known body) ≡ Some kind
+    → name_fault (drop 1 (word_text source word)) ≡ Some kind → least (head_faults source word known body) ≡ Some kind
 least-head_faults source word known body kind found =
-    let of_name : IsNameFault (name_fault (drop 1 (text_of source word))) = name_fault-is (drop 1 (text_of source word)) in
+    let of_name : IsNameFault (name_fault (drop 1 (word_text source word))) = name_fault-is (drop 1 (word_text source word)) in
     let is : (kind ≡ BadName) ⊎ (kind ≡ NoName) = rw found at of_name in
     rw found (least_name kind _ _ is)
 
 -- a head without a fault
 pub head_faults-none : (source : List ℕ) (word : Word) (known : List Macro) (body : List Word)
-    → name_fault (drop 1 (text_of source word)) ≡ None → is_some (body_named known (drop 1 (text_of source word))) ≡ false
+    → name_fault (drop 1 (word_text source word)) ≡ None → is_some (body_named known (drop 1 (word_text source word))) ≡ false
     → head_faults source word known (Some body) ≡ []
 head_faults-none source word known body named new = rw (named, new) refl

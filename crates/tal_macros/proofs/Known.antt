@@ -1,24 +1,15 @@
 -- Bodies and macros as lists.
-use Rattle.std.proofs.Common.{◌≡◌, ℕ, suc, ◌+◌, ◌-◌, ◌<◌, Bool, true, false, cond, List, [], ◌∷◌, ◌++◌, length, Option, Some, None, is_some, refl, ap, ◌∙◌, arith}
+use Rattle.std.proofs.Common.{◌≡◌, ℕ, Bool, true, false, cond, List, [], ◌∷◌, ◌++◌, Option, Some, None, is_some, refl, ap, ◌∙◌}
 use Rattle.std.specs.Prelude.{if◌then◌else◌, Vec}
 use Rattle.std.specs.Option.{option_map}
 use Rattle.std.specs.Map.{lookup}
 use Rattle.std.specs.Str.{bytes_eq}
 use Rattle.std.specs.declared.alloc.Global.{Global}
-use Rattle.std.proofs.lemmas.List.{drop_more}
 use Rattle.indexmap.specs.IndexMap.{insert_entry}
 use Rattle.tal_words.specs.declared.span.Word.{Word}
-use Rattle.tal_words.specs.Expansion.{body_named}
+use Rattle.tal_macros.specs.Expansion.{body_named}
 use Rattle.tal_macros.specs.declared.body.Body.{Body}
-use Rattle.tal_macros.specs.Bodies.{body_words, known_of, word_at}
-
--- the first word of a body stands before the others
-pub body_words-more : (words : List Word) (body : Body) → body.from < body.to → body.from < length words
-    → body_words words body ≡ word_at words body.from ∷ body_words words (record { from = body.from + 1; to = body.to })
-body_words-more words body some within =
-    let count : body.to - body.from ≡ suc (body.to - (body.from + 1)) = omega arith in
-    let step = drop_more words body.from (record { span = record { start = 0; end = 0 }; line = 0; column = 0 }) within in
-    rw (count, step) refl
+use Rattle.tal_macros.specs.Bodies.{body_words, known_of}
 
 -- the body that a map finds is that of the macro
 pub known-lookup : (words : List Word) (entries : List (Vec ℕ Global × Body)) (name : List ℕ)
@@ -48,17 +39,7 @@ known-insert words eq (entry ∷ entries) key body same none =
     let differs : eq key entry.0 ≡ false = same key entry.0 ∙ other.0 in
     rw differs (ap (λ rest. record { name = entry.0.items; body = body_words words entry.1 } ∷ rest) (known-insert words eq entries key body same other.1))
 
--- the body of one word
-pub word_alone : (words : List Word) (at : ℕ) → at < length words → body_words words (record { from = at; to = at + 1 }) ≡ word_at words at ∷ []
-word_alone words at within =
-    let none : at + 1 - (at + 1) ≡ 0 = omega arith in
-    body_words-more words (record { from = at; to = at + 1 }) (omega arith) within ∙ rw none refl
-
--- a body that is there
-pub some_body : (found : Option Body) → is_some found ≡ true → (body : Body) × (found ≡ Some body)
-some_body None there = cc
-some_body (Some body) there = (body, refl)
-
+-- no body
 pub no_body : (found : Option Body) → is_some found ≡ false → found ≡ None
 no_body None there = refl
 no_body (Some body) there = cc

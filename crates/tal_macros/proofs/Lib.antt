@@ -2,5 +2,4 @@ pub mod Expanding
 pub mod HeadLemmas
 pub mod Closing
 pub mod Known
-pub mod Pending
-pub mod Steps
+pub mod Visiting

@@ -2,10 +2,10 @@
 use Rattle.std.specs.Prelude.{ℕ, ◌-◌, List, [], ◌∷◌, take, drop, slice_index_or, Vec}
 use Rattle.std.specs.declared.alloc.Global.{Global}
 use Rattle.tal_words.specs.declared.span.Word.{Word}
-use Rattle.tal_words.specs.Expansion.{Macro}
+use Rattle.tal_macros.specs.Expansion.{Macro}
 use Rattle.tal_macros.specs.declared.body.Body.{Body}
 
--- the word at a place of the list
+-- the word at an index of the list
 abbrev pub word_at : List Word → ℕ → Word
 word_at words at = slice_index_or words at (record { span = record { start = 0; end = 0 }; line = 0; column = 0 })
 

@@ -1,3 +1,4 @@
+pub mod Expansion
 pub mod Bodies
 pub mod Heads
 pub mod Visiting

@@ -1,15 +1,15 @@
 //! Bodies of macros, and the map from names to bodies.
 
-ghost use Rattle.std.specs.Prelude.{◌≡◌, ◌∷◌, [], MatchOption, List};
+ghost use Rattle.std.specs.Prelude.{◌≡◌, List};
 ghost use Rattle.std.specs.Option.{option_map};
 ghost use Rattle.tal_words.specs.declared.span.Word.{Word as SourceWord};
-ghost use Rattle.tal_words.specs.Expansion.{body_named};
+ghost use Rattle.tal_macros.specs.Expansion.{body_named};
 ghost use Rattle.tal_macros.specs.Bodies.{body_words, known_of};
 
 use indexmap::IndexMap;
 use tal_words::Word;
 
-/// The words of a body, from the word `from` up to the word before `to`.
+/// The words of a body, by their indices: from `from` up to the one before `to`.
 #[derive(Clone, Copy)]
 pub struct Body {
     pub from: usize,
@@ -20,20 +20,13 @@ pub struct Body {
 pub type Macros = IndexMap<Vec<u8>, Body>;
 
 impl Body {
-    /// The first word of a body, and the rest of it.
-    pub fn split_first(self, words: &[Word]) -> Option<(Word, Body)>
-        ensures { MatchOption result (body_words words.now self ≡ [])
-            (λ first. body_words words.now self ≡ first.0 ∷ body_words words.now first.1) }
+    /// The words of the body.
+    pub fn words(self, words: &[Word]) -> &[Word]
+        ensures { result.now ≡ body_words words.now self }
     {
-        if self.from < self.to && self.from < words.len() {
-            let rest = Body {
-                from: self.from + 1,
-                to: self.to,
-            };
-            Some((words[self.from], rest))
-        } else {
-            None
-        }
+        let to = self.to.min(words.len());
+        let from = self.from.min(to);
+        &words[from..to]
     }
 }
 

@@ -2,7 +2,8 @@
 
 ghost use Rattle.std.specs.Prelude.{◌≡◌, ◌<◌, ◌≤◌, ◌-◌, ◌+◌, drop, length, map, MatchOption, IfSome, None, Some};
 ghost use Rattle.tal_words.specs.Braces.{matching, one_if};
-ghost use Rattle.tal_words.specs.Expansion.{text_of, body_after};
+ghost use Rattle.tal_words.specs.Source.{word_text};
+ghost use Rattle.tal_macros.specs.Expansion.{body_after};
 ghost use Rattle.tal_macros.specs.Bodies.{known_of, word_at};
 ghost use Rattle.tal_macros.specs.Heads.{IsBody, HeadGives};
 
@@ -10,7 +11,7 @@ use crate::body::{Body, Macros, body_named};
 use std::alloc::Global;
 use tal_words::{AsmStop, Fault, FaultKind, Word, closes, is_only, name_fault, opens};
 
-/// Reads the head that begins at a place, and adds its macro. Gives the body, or the least of the
+/// Reads the head whose first word has this index, and adds its macro. Gives the body, or the least of the
 /// faults of the head.
 pub fn define(
     alloc: Global,
@@ -49,7 +50,7 @@ fn name_of(text: &[u8]) -> &[u8]
     }
 }
 
-/// The body whose `{` stands at a place, if there is one that is closed.
+/// The body whose `{` has this index, if there is one that is closed.
 fn body_after(source: &[u8], words: &[Word], brace: usize) -> Option<Body>
     requires { brace ≤ length words.now }
     ensures { MatchOption result (body_after source.now (drop brace words.now) ≡ None)
@@ -67,19 +68,19 @@ fn body_after(source: &[u8], words: &[Word], brace: usize) -> Option<Body>
     }
 }
 
-/// The place of the `}` that closes a body which begins at a place.
+/// The index of the `}` that closes a body which begins at an index.
 fn closing(source: &[u8], words: &[Word], from: usize) -> Option<usize>
     requires { from ≤ length words.now }
     ensures within { IfSome result (λ to. (from ≤ to) × (to < length words.now)) }
-    ensures place { MatchOption result (matching (map (text_of source.now) (drop from words.now)) ≡ None)
-        (λ to. matching (map (text_of source.now) (drop from words.now)) ≡ Some (to - from)) }
+    ensures index { MatchOption result (matching (map (word_text source.now) (drop from words.now)) ≡ None)
+        (λ to. matching (map (word_text source.now) (drop from words.now)) ≡ Some (to - from)) }
 {
     let mut opened = 0usize;
     let mut closed = 0usize;
-    for place in from..words.len() {
-        let text = words[place].span.text(source);
+    for index in from..words.len() {
+        let text = words[index].span.text(source);
         if closes(text) && opened == closed {
-            return Some(place);
+            return Some(index);
         }
         opened += one_if(opens(text));
         closed += one_if(closes(text));

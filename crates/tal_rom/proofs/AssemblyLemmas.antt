@@ -1,84 +1,108 @@
 -- The phases of a source.
-use Rattle.std.proofs.Common.{◌≡◌, ℕ, ◌+◌, ◌<◌, ◌≤◌, List, length, Option, Some, None, Err, refl, sym, ◌∙◌, ap, arith, map}
-use Rattle.std.specs.List.{range_with_len}
-use Rattle.std.proofs.lemmas.Bool.{lt-ltb}
-use Rattle.std.proofs.lemmas.List.FromFn.{length-map-range_with_len}
+use Rattle.std.proofs.Common.{◌≡◌, ℕ, ◌+◌, ◌<◌, ◌≤◌, Bool, true, false, List, [], ◌∷◌, length, take, drop, get_or, Option, Some, None, Err, refl, sym, ◌∙◌, ap, arith}
+use Rattle.std.specs.Prelude.{nat_le, nat_lt}
+use Rattle.std.proofs.lemmas.Bool.{lt-ltb, leb-true, ltb-true, and_parts}
 use Rattle.tal_words.specs.declared.fault.Fault.{Fault}
 use Rattle.tal_words.specs.declared.fault.AsmStop.{AsmStop}
 use Rattle.tal_words.specs.declared.fault.AsmStop.TheVariants.{Refused, NoMemory}
-use Rattle.tal_words.specs.Faults.{Gives}
+use Rattle.tal_words.specs.declared.name.Label.{Label}
+use Rattle.tal_words.specs.Source.{expanded_text}
+use Rattle.tal_words.specs.Faults.{Gives, or_later}
 use Rattle.tal_words.specs.Comments.{word_fault, long_source}
-use Rattle.tal_labels.specs.Placing.{Layout, place_fault, layout_of}
-use Rattle.tal_words.specs.declared.span.Expanded.{Expanded}
-use Rattle.tal_words.specs.Expansion.{expanded_of, expansion_fault}
-use Rattle.tal_rom.specs.References.{reference_fault}
-use Rattle.tal_rom.specs.Rom.{Piece, byte_at, rom_image, pieces_of}
-use Rattle.tal_rom.specs.Assembly.{first_fault, rom_of, layout, IsAssembled}
-use Rattle.tal_rom.proofs.Trimming.{length-trimmed}
+use Rattle.tal_words.proofs.FormLemmas.{length-encoded}
+use Rattle.tal_words.proofs.OrderLemmas.{get_or-each}
+use Rattle.tal_macros.specs.Expansion.{expanded_of, expansion_fault}
+use Rattle.tal_labels.specs.declared.placed.PlacedWord.{PlacedWord}
+use Rattle.tal_labels.specs.Placing.{LieApart, place_fault, layout_of}
+use Rattle.tal_labels.proofs.CallerLemmas.{place_fault-none, lie_apart}
+use Rattle.tal_rom.specs.References.{reference_fault, target_of}
+use Rattle.tal_rom.specs.Rom.{Piece, covers, piece_given, pieces_of}
+use Rattle.tal_rom.specs.Answers.{CoverOnce}
+use Rattle.tal_rom.specs.Assembly.{first_fault, layout, IsAssembled}
+use Rattle.tal_rom.proofs.Laying.{no_placed_word}
 
 -- a source over its limit is refused before all else
 pub long_source_refused : (source : List ℕ) → 4194304 < length source → first_fault source ≡ Some long_source
 unfolding first_fault word_fault
 long_source_refused source long = rw (lt-ltb 4194304 (length source) long) refl
 
--- a ROM fits the addresses from 0100 on
-length-rom_image : (pieces : List Piece) → length (rom_image pieces) ≤ 65280
-unfolding rom_image
-length-rom_image pieces =
-    let f : ℕ → ℕ = λ i. byte_at pieces (256 + i) in
-    omega (arith, length-trimmed (map f (range_with_len 0 65280)), length-map-range_with_len f 0 65280)
+-- a pass that stops with a fault stops with that of the source, where that is the source's
+pub stopped : {X Y : Type 0} (view : X → Y) (value : Y) (source : List ℕ) (stop : AsmStop) (fault : Option Fault)
+    → ((found : Fault) → fault ≡ Some found → first_fault source ≡ Some found) → Gives view (Err stop) fault value → IsAssembled source (Err stop)
+stopped view value source (Refused found) fault first e = first found e
+stopped view value source NoMemory fault first e = tt
 
-pub length-rom_of : (source : List ℕ) → length (rom_of source) ≤ 65280
-unfolding rom_of
-length-rom_of source = length-rom_image (pieces_of source (layout source).labels (layout source).words)
-
--- a pass that stops with a fault stops with that of its phase
-module _ {X Y : Type 0} (view : X → Y) (value : Y) where
-  stopped : (P : AsmStop → Type 0) (stop : AsmStop) (fault : Option Fault) → ((found : Fault) → fault ≡ Some found → P (Refused found)) → P NoMemory
-      → Gives view (Err stop) fault value → P stop
-  stopped P (Refused found) fault refused memory e = refused found e
-  stopped P NoMemory fault refused memory e = memory
-
+-- the fault of each phase, where those before have none
 module _ (source : List ℕ) where
-  -- whether a source stops so
-  abbrev Stops : AsmStop → Type 0
-  Stops stop = IsAssembled source (Err stop)
-
-  pub refused_words : {X Y : Type 0} (view : X → Y) (value : Y) (stop : AsmStop) → Gives view (Err stop) (word_fault source) value → Stops stop
+  pub words_first : (found : Fault) → word_fault source ≡ Some found → first_fault source ≡ Some found
   unfolding first_fault
-  refused_words view value stop e = stopped view value Stops stop (word_fault source) (λ found f. rw f refl) tt e
+  words_first found e = rw e refl
 
-  -- the fault of each phase, where those before have none
   module _ (words_sound : word_fault source ≡ None) where
-    pub refused_expansion : {X Y : Type 0} (view : X → Y) (value : Y) (stop : AsmStop) → Gives view (Err stop) (expansion_fault source) value → Stops stop
+    pub expansion_first : (found : Fault) → expansion_fault source ≡ Some found → first_fault source ≡ Some found
     unfolding first_fault
-    refused_expansion view value stop e = stopped view value Stops stop (expansion_fault source) (λ found f. rw (words_sound, f) refl) tt e
+    expansion_first found e = rw (words_sound, e) refl
 
-    module _ (expansion_sound : expansion_fault source ≡ None) (expanded : List Expanded) (all : expanded ≡ expanded_of source) where
-      pub refused_places : {X Y : Type 0} (view : X → Y) (value : Y) (stop : AsmStop) → Gives view (Err stop) (place_fault source expanded) value → Stops stop
+    module _ (expansion_sound : expansion_fault source ≡ None) where
+      pub places_first : (found : Fault) → place_fault source (expanded_of source) ≡ Some found → first_fault source ≡ Some found
       unfolding first_fault
-      refused_places view value stop e =
-          stopped view value Stops stop (place_fault source expanded)
-          (λ found f. let same : place_fault source (expanded_of source) ≡ Some found = ap (place_fault source) (sym all) ∙ f in rw (words_sound, expansion_sound, same) refl) tt e
+      places_first found e = rw (words_sound, expansion_sound, e) refl
 
-      module _ (places_sound : place_fault source expanded ≡ None) (placed : Layout) (laid : placed ≡ layout source) where
-        pub refused_references : {X Y : Type 0} (view : X → Y) (value : Y) (stop : AsmStop)
-            → Gives view (Err stop) (reference_fault source placed.labels placed.words) value → Stops stop
-        unfolding first_fault
-        refused_references view value stop e =
-            let before : place_fault source (expanded_of source) ≡ None = ap (place_fault source) (sym all) ∙ places_sound in
-            stopped view value Stops stop (reference_fault source placed.labels placed.words)
-            (λ found f. let same : reference_fault source (layout source).labels (layout source).words ≡ Some found = ap (λ (l : Layout). reference_fault source l.labels l.words) (sym laid) ∙ f in
-            rw (words_sound, expansion_sound, before, same) refl) tt e
+      pub references_first : place_fault source (expanded_of source) ≡ None → (answer : Option Fault)
+          → reference_fault source (layout source).labels (layout source).words ≡ answer → first_fault source ≡ answer
+      unfolding first_fault
+      references_first places_sound answer e = rw (words_sound, expansion_sound, places_sound, e) refl
 
-        pub accepted : reference_fault source placed.labels placed.words ≡ None → first_fault source ≡ None
-        unfolding first_fault
-        accepted e =
-            let before : place_fault source (expanded_of source) ≡ None = ap (place_fault source) (sym all) ∙ places_sound in
-            let same : reference_fault source (layout source).labels (layout source).words ≡ None = ap (λ (l : Layout). reference_fault source l.labels l.words) (sym laid) ∙ e in
-            rw (words_sound, expansion_sound, before, same) refl
+-- no fault in a phase and none in the later ones
+or_later-none : (fault later : Option Fault) → or_later fault later ≡ None → (fault ≡ None) × (later ≡ None)
+or_later-none None later e = (refl, e)
+or_later-none (Some fault) later e = cc
 
--- the layout of the expanded list is that of the source
-pub layout_is : (source : List ℕ) (expanded : List Expanded) → expanded ≡ expanded_of source → (placed : Layout) → placed ≡ layout_of source expanded → placed ≡ layout source
-unfolding layout
-layout_is source expanded all placed e = e ∙ ap (layout_of source) all
+-- the words of a source without a fault lie apart
+sound_apart : (source : List ℕ) → first_fault source ≡ None → LieApart source (layout source).words
+unfolding first_fault layout
+sound_apart source sound =
+    let places = or_later-none _ _ (or_later-none _ _ (or_later-none _ _ sound).1).1 in
+    let parts = place_fault-none source (expanded_of source) places.0 in
+    lie_apart source (expanded_of source) parts.0 parts.1
+
+module _ (source : List ℕ) (labels : List Label) (words : List PlacedWord) (apart : LieApart source words) where
+  piece_at : (k : ℕ) (word : PlacedWord) (piece : Piece) → k < length words
+      → get_or (pieces_of source labels words) k piece ≡ piece_given source labels (take k words) (get_or words k word) (drop (k + 1) words)
+  unfolding pieces_of
+  piece_at k word piece within = get_or-each (piece_given source labels) [] words k word piece within
+
+  piece_size : (k : ℕ) (word : PlacedWord) (piece : Piece) → k < length words
+      → length (get_or (pieces_of source labels words) k piece).bytes ≡ (get_or words k word).size
+  piece_size k word piece within =
+      let lies = apart.each k word within in
+      ap (λ p. length p.bytes) (piece_at k word piece within)
+      ∙ length-encoded (get_or words k word).form (expanded_text source (get_or words k word).word) (get_or words k word).address _ ∙ sym lies.sized
+
+  -- a word that covers an address has bytes on both sides of it
+  covered : (address k : ℕ) (word : PlacedWord) (piece : Piece) → k < length words → covers address (get_or (pieces_of source labels words) k piece) ≡ true
+      → ((get_or words k word).address ≤ address) × (address < (get_or words k word).address + (get_or words k word).size)
+  covered address k word piece within e =
+      let p = get_or (pieces_of source labels words) k piece in
+      let parts = and_parts (nat_le p.address address) (nat_lt address (p.address + length p.bytes)) e in
+      let at = ap (λ p. p.address) (piece_at k word piece within) in
+      let size = piece_size k word piece within in
+      (omega (arith, at, leb-true _ _ parts.0), omega (arith, at, size, ltb-true _ _ parts.1))
+
+  cover_once : CoverOnce source labels words
+  cover_once = record {
+    once = λ address i k other before within first.
+        by address i k other before within (covered address i no_placed_word other (omega arith) first) (covers address (get_or (pieces_of source labels words) k other)) refl;
+    sized = piece_size;
+  }
+    where
+      by : (address i k : ℕ) (other : Piece) → i < k → k < length words
+          → ((get_or words i no_placed_word).address ≤ address) × (address < (get_or words i no_placed_word).address + (get_or words i no_placed_word).size)
+          → (b : Bool) → covers address (get_or (pieces_of source labels words) k other) ≡ b → covers address (get_or (pieces_of source labels words) k other) ≡ false
+      by address i k other before within first false e = e
+      by address i k other before within first true e =
+          let second = covered address k no_placed_word other within e in
+          absurd (omega (arith, first.0, first.1, second.0, second.1, apart.apart i k no_placed_word before within (omega (arith, first.0, first.1)) (omega (arith, second.0, second.1))))
+
+pub sound_once : (source : List ℕ) → first_fault source ≡ None → CoverOnce source (layout source).labels (layout source).words
+sound_once source sound = cover_once source (layout source).labels (layout source).words (sound_apart source sound)

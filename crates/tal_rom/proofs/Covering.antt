@@ -17,25 +17,25 @@ pub record IsLaid (pieces : List Piece) (rom : List ℕ) : Type 0 where
 found_more : (pieces : List Piece) (piece : Piece) (address : ℕ) → find (covers address) (pieces ++ piece ∷ []) ≡ option_or (find (covers address) pieces) (cond (covers address piece) (Some piece) None)
 found_more pieces piece address = find-append (covers address) pieces (piece ∷ [])
 
-covers-true : (address : ℕ) (piece : Piece) → covers address piece ≡ true → (piece.place ≤ address) × (address < piece.place + length piece.bytes)
+covers-true : (address : ℕ) (piece : Piece) → covers address piece ≡ true → (piece.address ≤ address) × (address < piece.address + length piece.bytes)
 covers-true address piece e =
     let parts = and_parts _ _ e in
     (leb-true _ _ parts.0, ltb-true _ _ parts.1)
 
-covers-false : (address : ℕ) (piece : Piece) → covers address piece ≡ false → (address < piece.place) ⊎ (piece.place + length piece.bytes ≤ address)
+covers-false : (address : ℕ) (piece : Piece) → covers address piece ≡ false → (address < piece.address) ⊎ (piece.address + length piece.bytes ≤ address)
 covers-false address piece e = elim (and_cases _ _ e) [
   | inl before ↦ inl (leb-false _ _ before)
   | inr after ↦ inr (ltb-false _ _ after)
 ]
 
-covers-not : (address : ℕ) (piece : Piece) (b : Bool) → covers address piece ≡ b → ((piece.place ≤ address) → (address < piece.place + length piece.bytes) → ⊥) → covers address piece ≡ false
+covers-not : (address : ℕ) (piece : Piece) (b : Bool) → covers address piece ≡ b → ((piece.address ≤ address) → (address < piece.address + length piece.bytes) → ⊥) → covers address piece ≡ false
 covers-not address piece true e never = (let bounds = covers-true address piece e in absurd (never bounds.0 bounds.1))
 covers-not address piece false e never = e
 
 -- a word without bytes changes nothing
-bare_found : (pieces : List Piece) (place address : ℕ) → find (covers address) (pieces ++ record { place = place; bytes = [] } ∷ []) ≡ find (covers address) pieces
+bare_found : (pieces : List Piece) (place address : ℕ) → find (covers address) (pieces ++ record { address = place; bytes = [] } ∷ []) ≡ find (covers address) pieces
 bare_found pieces place address =
-    let piece : Piece = record { place = place; bytes = [] } in
+    let piece : Piece = record { address = place; bytes = [] } in
     let none : covers address piece ≡ false = covers-not address piece (covers address piece) refl (λ from to. omega arith) in
     found_more pieces piece address ∙ ap (λ b. option_or (find (covers address) pieces) (cond b (Some piece) None)) none ∙ same (find (covers address) pieces)
   where
@@ -43,7 +43,7 @@ bare_found pieces place address =
     same None = refl
     same (Some x) = refl
 
-bare_laid : (pieces : List Piece) (rom : List ℕ) (place : ℕ) → IsLaid pieces rom → IsLaid (pieces ++ record { place = place; bytes = [] } ∷ []) rom
+bare_laid : (pieces : List Piece) (rom : List ℕ) (place : ℕ) → IsLaid pieces rom → IsLaid (pieces ++ record { address = place; bytes = [] } ∷ []) rom
 unfolding byte_at
 bare_laid pieces rom place laid = record {
   each = λ i. laid.each i ∙ ap (byte_of_piece (256 + i)) (sym (bare_found pieces place (256 + i)));
@@ -85,12 +85,12 @@ module _ (rom bytes : List ℕ) (place : ℕ) (behind : 256 + length rom ≤ pla
     unfolding byte_at
     byte_known i o e = laid.each i ∙ ap (byte_of_piece (256 + i)) e
 
-    byte_next : (i : ℕ) (b : Bool) → covers (256 + i) (record { place = place; bytes = bytes }) ≡ b → get_or rom i 0 ≡ 0
-        → get_or more i 0 ≡ byte_of_piece (256 + i) (cond b (Some record { place = place; bytes = bytes }) None)
+    byte_next : (i : ℕ) (b : Bool) → covers (256 + i) (record { address = place; bytes = bytes }) ≡ b → get_or rom i 0 ≡ 0
+        → get_or more i 0 ≡ byte_of_piece (256 + i) (cond b (Some record { address = place; bytes = bytes }) None)
     byte_next i true e none =
-        let bounds = covers-true (256 + i) (record { place = place; bytes = bytes }) e in
+        let bounds = covers-true (256 + i) (record { address = place; bytes = bytes }) e in
         read_word i bounds.0
-    byte_next i false e none = elim (covers-false (256 + i) (record { place = place; bytes = bytes }) e) [
+    byte_next i false e none = elim (covers-false (256 + i) (record { address = place; bytes = bytes }) e) [
       | inl before ↦ elim (cases_lt i (length rom)) [
         | inl inside ↦ read_rom i inside ∙ none
         | inr past ↦ read_gap i past before
@@ -99,8 +99,8 @@ module _ (rom bytes : List ℕ) (place : ℕ) (behind : 256 + length rom ≤ pla
     ]
 
     byte_more : (i : ℕ) (o : Option Piece) → find (covers (256 + i)) pieces ≡ o
-        → get_or more i 0 ≡ byte_of_piece (256 + i) (option_or o (cond (covers (256 + i) (record { place = place; bytes = bytes })) (Some record { place = place; bytes = bytes }) None))
-    byte_more i None e = byte_next i (covers (256 + i) (record { place = place; bytes = bytes })) refl (byte_known i None e)
+        → get_or more i 0 ≡ byte_of_piece (256 + i) (option_or o (cond (covers (256 + i) (record { address = place; bytes = bytes })) (Some record { address = place; bytes = bytes }) None))
+    byte_more i None e = byte_next i (covers (256 + i) (record { address = place; bytes = bytes })) refl (byte_known i None e)
     byte_more i (Some piece) e = elim (cases_lt i (length rom)) [
       | inl inside ↦ read_rom i inside ∙ byte_known i (Some piece) e
       | inr past ↦ (let never : None ≡ Some piece = sym (laid.above (256 + i) (omega arith)) ∙ e in cc)
@@ -109,11 +109,11 @@ module _ (rom bytes : List ℕ) (place : ℕ) (behind : 256 + length rom ≤ pla
 -- one more word lies behind those before it
 pub next_laid : (pieces : List Piece) (rom : List ℕ) (place : ℕ) (bytes : List ℕ) → IsLaid pieces rom
     → (0 < length bytes → 256 + length rom ≤ place) → (0 < length bytes → place + length bytes ≤ 65536)
-    → IsLaid (pieces ++ record { place = place; bytes = bytes } ∷ []) (filled rom place bytes)
+    → IsLaid (pieces ++ record { address = place; bytes = bytes } ∷ []) (filled rom place bytes)
 unfolding byte_at
 next_laid pieces rom place [] laid behind room = bare_laid pieces rom place laid
 next_laid pieces rom place (byte ∷ bytes) laid behind room =
-    let piece : Piece = record { place = place; bytes = byte ∷ bytes } in
+    let piece : Piece = record { address = place; bytes = byte ∷ bytes } in
     let after : 256 + length rom ≤ place = behind (omega arith) in
     let end : place + length (byte ∷ bytes) ≤ 65536 = room (omega arith) in
     let size = length-more rom (byte ∷ bytes) place after in

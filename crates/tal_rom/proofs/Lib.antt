@@ -1,7 +1,4 @@
-pub mod FaultLemmas
-pub mod ExpansionLemmas
 pub mod Trimming
 pub mod Covering
-pub mod PlacedWords
 pub mod Laying
 pub mod AssemblyLemmas

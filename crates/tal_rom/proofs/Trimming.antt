@@ -54,17 +54,3 @@ trimmed-image f n xs short each = trimmed-same xs (map f (range_with_len 0 n)) (
   | inl within ↦ each i ∙ sym (get_or-map-range_with_len f 0 n i i 0 within (omega arith))
   | inr past ↦ get_or_past xs i 0 (omega arith) ∙ sym (get_or_past (map f (range_with_len 0 n)) i 0 (omega (arith, length-map-range_with_len f 0 n)))
 ])
-
--- no longer than before
-length-before_trimmed : (byte : ℕ) (rest : List ℕ) → length (before_trimmed byte rest) ≤ 1 + length rest
-length-before_trimmed byte [] = at_most_one (byte == 0)
-  where
-    at_most_one : (b : Bool) → length (cond b [] (byte ∷ [])) ≤ 1 + 0
-    at_most_one true = omega arith
-    at_most_one false = omega arith
-length-before_trimmed byte (next ∷ rest) = omega arith
-
-pub length-trimmed : (xs : List ℕ) → length (trimmed xs) ≤ length xs
-unfolding trimmed
-length-trimmed [] = omega arith
-length-trimmed (x ∷ xs) = omega (arith, length-before_trimmed x (trimmed xs), length-trimmed xs)

@@ -6,7 +6,7 @@ use Rattle.tal_words.specs.declared.fault.AsmStop.TheVariants.{Refused, NoMemory
 use Rattle.tal_words.specs.Faults.{or_later}
 use Rattle.tal_words.specs.Comments.{word_fault}
 use Rattle.tal_labels.specs.Placing.{Layout, layout_of, place_fault}
-use Rattle.tal_words.specs.Expansion.{expanded_of, expansion_fault}
+use Rattle.tal_macros.specs.Expansion.{expanded_of, expansion_fault}
 use Rattle.tal_rom.specs.References.{reference_fault}
 use Rattle.tal_rom.specs.Rom.{pieces_of, rom_image}
 use Rattle.tal_rom.specs.Program.{Program}

@@ -7,16 +7,16 @@ use Rattle.tal_words.specs.declared.form.Form.{Form}
 use Rattle.tal_words.specs.declared.form.Form.TheVariants.{Refer}
 use Rattle.tal_words.specs.declared.form.Rune.{Rune}
 use Rattle.tal_words.specs.declared.name.Label.{Label}
-use Rattle.tal_words.specs.Faults.{Judged, when, first_fault}
+use Rattle.tal_words.specs.Faults.{Judged, when, phase_fault}
 use Rattle.tal_words.specs.Forms.{reaches}
 use Rattle.tal_words.specs.Names.{full_name, name_after_rune}
 use Rattle.tal_words.specs.Braces.{opens}
 use Rattle.tal_labels.specs.declared.placed.PlacedWord.{PlacedWord}
-use Rattle.tal_labels.specs.Order.{each}
-use Rattle.tal_labels.specs.Places.{text_of}
+use Rattle.tal_words.specs.Order.{each}
+use Rattle.tal_words.specs.Source.{expanded_text}
 use Rattle.tal_labels.specs.Labels.{scope_after, address_named}
 
--- what a reference names in a scope: an opener the place of the `}` that closes its lambda, and any other the address of the
+-- what a reference names in a scope: an opener the address of the `}` that closes its lambda, and any other the address of the
 -- label of its full name
 abbrev pub named_target : List Label → List ℕ → List ℕ → Option ℕ → Option ℕ
 named_target labels scope text lambda =
@@ -27,15 +27,19 @@ abbrev pub form_target : Form → Option ℕ → Option ℕ
 form_target (Refer rune) target = target
 form_target _ target = None
 
--- what is wrong with a reference at a place
+-- the target of a word with its text in a scope
+abbrev pub target_in : List Label → List ℕ → List ℕ → PlacedWord → Option ℕ
+target_in labels scope text placed = form_target placed.form (named_target labels scope text placed.lambda)
+
+-- what is wrong with a reference at an address
 abbrev pub target_kinds : Rune → ℕ → Option ℕ → List FaultKind
-target_kinds rune place None = UnknownName ∷ []
-target_kinds rune place (Some target) = when (not (reaches rune place target)) TooFar
+target_kinds rune address None = UnknownName ∷ []
+target_kinds rune address (Some target) = when (not (reaches rune address target)) TooFar
 
 -- what is wrong with a word of a form
 abbrev pub reference_kinds : Form → ℕ → Option ℕ → List FaultKind
-reference_kinds (Refer rune) place target = target_kinds rune place target
-reference_kinds _ place target = []
+reference_kinds (Refer rune) address target = target_kinds rune address target
+reference_kinds _ address target = []
 
 module _ (source : List ℕ) where
   -- the scope behind some words
@@ -45,8 +49,7 @@ module _ (source : List ℕ) where
   module _ (labels : List Label) where
     -- the target of a word by the words before it, and by the labels of all words
     abbrev pub target_of : List PlacedWord → PlacedWord → Option ℕ
-    target_of before placed =
-        form_target placed.form (named_target labels (scope_behind before) (text_of source placed.word) placed.lambda)
+    target_of before placed = target_in labels (scope_behind before) (expanded_text source placed.word) placed
 
     -- a word with what is wrong with it as a reference
     abbrev pub judged_reference : List PlacedWord → PlacedWord → List PlacedWord → Judged
@@ -57,4 +60,4 @@ module _ (source : List ℕ) where
 
     -- the first fault of the references among words
     unfoldable pub reference_fault : List PlacedWord → Option Fault
-    reference_fault words = first_fault (each judged_reference [] words)
+    reference_fault words = phase_fault (each judged_reference [] words)

@@ -1,25 +1,27 @@
 -- The bytes in memory (Uxntal syntax reference; profile: the ROM ends at its last byte that is not 0).
-use Rattle.std.specs.Prelude.{ℕ, ◌+◌, ◌-◌, ◌==◌, Bool, ◌&&◌, nat_lt, nat_le, if◌then◌else◌, List, [], ◌∷◌, length, map, find, slice_index, Option, Some, None, unwrap_or}
+use Rattle.std.specs.Prelude.{ℕ, ◌+◌, ◌-◌, ◌==◌, Bool, ◌&&◌, nat_lt, nat_le, if◌then◌else◌, List, []}
+use Rattle.std.specs.Prelude.{◌∷◌, length, map, find, slice_index, Option, Some, None, unwrap_or}
 use Rattle.std.specs.List.{range_with_len}
 use Rattle.tal_words.specs.declared.name.Label.{Label}
 use Rattle.tal_words.specs.Forms.{encoded}
 use Rattle.tal_labels.specs.declared.placed.PlacedWord.{PlacedWord}
-use Rattle.tal_labels.specs.Order.{each}
-use Rattle.tal_labels.specs.Places.{text_of}
+use Rattle.tal_labels.specs.Places.{first_address}
+use Rattle.tal_words.specs.Order.{each}
+use Rattle.tal_words.specs.Source.{expanded_text}
 use Rattle.tal_rom.specs.References.{target_of}
 
 -- the bytes of a word, and the address of the first of them
 pub record Piece : Type 0 where
-  pub place : ℕ
+  pub address : ℕ
   pub bytes : List ℕ
 
--- a word covers the addresses from its place up to its place plus the number of its bytes
+-- a word covers the addresses from its own up to that plus the number of its bytes
 abbrev pub covers : ℕ → Piece → Bool
-covers address piece = nat_le piece.place address && nat_lt address (piece.place + length piece.bytes)
+covers address piece = nat_le piece.address address && nat_lt address (piece.address + length piece.bytes)
 
 -- the byte at an address is that of the word that covers it, and 0 where none does
 abbrev pub byte_of_piece : ℕ → Option Piece → ℕ
-byte_of_piece address (Some piece) = slice_index piece.bytes (address - piece.place)
+byte_of_piece address (Some piece) = slice_index piece.bytes (address - piece.address)
 byte_of_piece address None = 0
 
 unfoldable pub byte_at : List Piece → ℕ → ℕ
@@ -35,16 +37,20 @@ unfoldable pub trimmed : List ℕ → List ℕ
 trimmed [] = []
 trimmed (byte ∷ rest) = before_trimmed byte (trimmed rest)
 
+-- the greatest length of a ROM
+abbrev pub rom_limit : ℕ
+rom_limit = 65280
+
 -- the ROM: the bytes at the addresses 0100 to ffff, up to the last one that is not 0
 unfoldable pub rom_image : List Piece → List ℕ
-rom_image pieces = trimmed (map (λ i. byte_at pieces (256 + i)) (range_with_len 0 65280))
+rom_image pieces = trimmed (map (λ i. byte_at pieces (first_address + i)) (range_with_len 0 rom_limit))
 
 module _ (source : List ℕ) (labels : List Label) where
   -- a word with its bytes, by the words before it
   abbrev pub piece_given : List PlacedWord → PlacedWord → List PlacedWord → Piece
   piece_given before placed after = record {
-    place = placed.address;
-    bytes = encoded placed.form (text_of source placed.word) placed.address (unwrap_or (target_of source labels before placed) 0);
+    address = placed.address;
+    bytes = encoded placed.form (expanded_text source placed.word) placed.address (unwrap_or (target_of source labels before placed) 0);
   }
 
   -- the words with their bytes

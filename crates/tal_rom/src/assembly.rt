@@ -1,6 +1,9 @@
 //! From a source to its ROM.
 
-ghost use Rattle.std.specs.Prelude.{◌≡◌, ◌≤◌, length};
+ghost use Rattle.std.specs.Prelude.{◌≡◌, ◌≤◌, List, None, length, ℕ};
+ghost use Rattle.tal_rom.specs.Rom.{rom_limit};
+ghost use Rattle.tal_rom.specs.Assembly.{IsAssembled, first_fault, layout};
+ghost use Rattle.tal_rom.specs.Answers.{CoverOnce};
 
 use crate::rom::rom_of;
 use std::alloc::Global;
@@ -19,24 +22,25 @@ pub struct Assembly {
 impl Model for Assembly {
     ghost use Rattle.std.specs.Prelude.{◌≤◌, length};
     ghost use Rattle.tal_rom.specs.Program.{Program};
+    ghost use Rattle.tal_rom.specs.Rom.{rom_limit};
 
     ghost Value = { Program };
 
     ghost view = { λ assembly. record { rom = assembly.rom.items; places = assembly.placed.words; labels = assembly.placed.labels } };
 
-    ghost invariant = { λ assembly. length assembly.rom.items ≤ 65280 };
+    ghost invariant = { λ assembly. length assembly.rom.items ≤ rom_limit };
 }
 
 impl Assembly {
     /// The bytes from the address 0100 on, without the zeros at their end: at most 65,280.
     pub fn rom(&self) -> &[u8]
         ensures value { result.now ≡ self.now.rom }
-        ensures room { length result.now ≤ 65280 }
+        ensures room { length result.now ≤ rom_limit }
     {
         &self.rom
     }
 
-    /// The words of the source, its macros' bodies in the place of their uses, each with its place.
+    /// The words of the source, its macros' bodies in the place of their uses, each with its address.
     pub fn places(&self) -> &[PlacedWord]
         ensures { result.now ≡ self.now.places }
     {
@@ -51,8 +55,6 @@ impl Assembly {
     }
 }
 
-ghost use Rattle.tal_rom.specs.Assembly.{IsAssembled};
-
 /// The assembly of a source, or its first fault: that of the first phase that has one, at its first
 /// faulty word, of the least kind there. The phases are the cutting into words, the macros, the forms
 /// and braces of words, the labels and places, and the references.
@@ -65,3 +67,9 @@ pub fn assemble(alloc: Global, source: &[u8]) -> Result<Assembly, AsmStop>
     let rom = rom_of(alloc, source, &placed)?;
     Ok(Assembly { rom, placed })
 }
+
+/// In a source without a fault at most one word covers an address, and each word has as many bytes as
+/// its size says.
+pub fn words_cover_once()
+    ensures { (source : List ℕ) → first_fault source ≡ None → CoverOnce source (layout source).labels (layout source).words }
+{}

@@ -4,6 +4,7 @@ ghost use Rattle.std.specs.Prelude.{◌≡◌, ◌∷◌, ◌++◌, ◌≤◌, O
 ghost use Rattle.tal_words.specs.Forms.{encoded, encoded_reference, distance as distance_between, short_bytes as bytes_of_short, low_byte as byte_of_short};
 
 use std::alloc::AllocError;
+use tal_labels::MEMORY_END;
 use tal_words::{Form, Rune};
 
 /// The opcode that puts the byte after it on the stack.
@@ -20,9 +21,6 @@ const JCI: u8 = 0x20;
 
 /// The opcode that calls by the short after it.
 const JSI: u8 = 0x60;
-
-/// The address after the last one.
-const MEMORY_END: u64 = 0x1_0000;
 
 /// The low byte of a number.
 fn low_byte(value: u64) -> u8
@@ -56,41 +54,41 @@ fn append_short(rom: &mut Vec<u8>, opcode: u8, short: u64) -> Result<(), AllocEr
     rom.extend_from_slice(&[opcode, high, low])
 }
 
-/// Appends the bytes of a reference at a place.
+/// Appends the bytes of a reference at an address.
 fn append_reference(
     rom: &mut Vec<u8>,
     rune: Rune,
-    place: u64,
+    address: u64,
     target: u64,
 ) -> Result<(), AllocError>
-    requires at { place ≤ 65536 }
+    requires at { address ≤ 65536 }
     requires to { target ≤ 65535 }
-    ensures { OnOk result (rom.new.items ≡ rom.old.items ++ encoded_reference rune place target) }
+    ensures { OnOk result (rom.new.items ≡ rom.old.items ++ encoded_reference rune address target) }
 {
     match rune {
-        Rune::LitRel => rom.extend_from_slice(&[LIT, low_byte(distance(place + 1, target))]),
-        Rune::RawRel => rom.extend_from_slice(&[low_byte(distance(place, target))]),
+        Rune::LitRel => rom.extend_from_slice(&[LIT, low_byte(distance(address + 1, target))]),
+        Rune::RawRel => rom.extend_from_slice(&[low_byte(distance(address, target))]),
         Rune::LitZero => rom.extend_from_slice(&[LIT, low_byte(target)]),
         Rune::RawZero => rom.extend_from_slice(&[low_byte(target)]),
         Rune::LitAbs => append_short(rom, LIT2, target),
         Rune::RawAbs => rom.extend_from_slice(&short_bytes(target)),
-        Rune::Jmi => append_short(rom, JMI, distance(place + 1, target)),
-        Rune::Jci => append_short(rom, JCI, distance(place + 1, target)),
-        Rune::Jsi => append_short(rom, JSI, distance(place + 1, target)),
+        Rune::Jmi => append_short(rom, JMI, distance(address + 1, target)),
+        Rune::Jci => append_short(rom, JCI, distance(address + 1, target)),
+        Rune::Jsi => append_short(rom, JSI, distance(address + 1, target)),
     }
 }
 
-/// Appends the bytes of a word at a place, with a target if it is a reference.
+/// Appends the bytes of a word at an address, with a target if it is a reference.
 pub fn append_word(
     rom: &mut Vec<u8>,
     form: Form,
     text: &[u8],
-    place: u64,
+    address: u64,
     target: u64,
 ) -> Result<(), AllocError>
-    requires at { place ≤ 65536 }
+    requires at { address ≤ 65536 }
     requires to { target ≤ 65535 }
-    ensures { OnOk result (rom.new.items ≡ rom.old.items ++ encoded form text.now place target) }
+    ensures { OnOk result (rom.new.items ≡ rom.old.items ++ encoded form text.now address target) }
 {
     match form {
         Form::Raw1(byte) | Form::Op(byte) => rom.extend_from_slice(&[byte]),
@@ -101,7 +99,7 @@ pub fn append_word(
             [_, rest @ ..] => rom.extend_from_slice(rest),
             [] => Ok(()),
         },
-        Form::Refer(rune) => append_reference(rom, rune, place, target),
+        Form::Refer(rune) => append_reference(rom, rune, address, target),
         Form::Pad(_)
         | Form::Skip(_)
         | Form::LabelDef

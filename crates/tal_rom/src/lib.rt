@@ -8,6 +8,6 @@ mod rom;
 #[cfg(test)]
 mod tests;
 
-pub use assembly::{Assembly, assemble};
+pub use assembly::{Assembly, assemble, words_cover_once};
 pub use tal_labels::PlacedWord;
 pub use tal_words::{AsmStop, Fault, FaultKind, Label, fault_word};

@@ -6,7 +6,7 @@ ghost use Rattle.tal_words.specs.Forms.{is_near as is_near_target, reaches as re
 ghost use Rattle.tal_words.specs.Names.{name_after_rune as name_of_reference, full_name as full_name_in};
 ghost use Rattle.tal_labels.specs.Labels.{address_named};
 ghost use Rattle.tal_rom.specs.Answers.{HasAddress};
-ghost use Rattle.tal_rom.specs.References.{named_target, form_target, reference_kinds};
+ghost use Rattle.tal_rom.specs.References.{target_in, reference_kinds};
 
 use std::alloc::{AllocError, Global};
 use tal_labels::{Placed, PlacedWord, full_name};
@@ -36,15 +36,14 @@ fn address_in(
 }
 
 /// The target of a word in its scope, where it is a reference that names something.
-pub fn target_of(
+pub fn target_in(
     alloc: Global,
     placed: &Placed,
     scope: &[u8],
     text: &[u8],
     word: &PlacedWord,
 ) -> Result<Option<u16>, AllocError>
-    ensures { IfOk result (λ target. target
-        ≡ form_target word.now.form (named_target placed.now.labels scope.now text.now word.now.lambda)) }
+    ensures { IfOk result (λ target. target ≡ target_in placed.now.labels scope.now text.now word.now) }
 {
     match word.form {
         Form::Refer(_) => {
@@ -57,15 +56,15 @@ pub fn target_of(
     }
 }
 
-/// What is wrong with a word at a place, by its target.
-pub fn reference_fault(form: Form, place: u64, target: Option<u16>) -> Option<FaultKind>
-    requires { HasAddress form place }
-    ensures { result ≡ least (reference_kinds form place target) }
+/// What is wrong with a word at an address, by its target.
+pub fn reference_kind(form: Form, address: u64, target: Option<u16>) -> Option<FaultKind>
+    requires { HasAddress form address }
+    ensures { result ≡ least (reference_kinds form address target) }
 {
     match (form, target) {
         (Form::Refer(_), None) => Some(FaultKind::UnknownName),
         (Form::Refer(rune), Some(target)) => {
-            if reaches(rune, place, target as u64) {
+            if reaches(rune, address, target as u64) {
                 None
             } else {
                 Some(FaultKind::TooFar)
@@ -75,15 +74,15 @@ pub fn reference_fault(form: Form, place: u64, target: Option<u16>) -> Option<Fa
     }
 }
 
-/// Whether a reference at a place can hold its target.
-fn reaches(rune: Rune, place: u64, target: u64) -> bool
-    requires at { place < 2 ^ 16 }
+/// Whether a reference at an address can hold its target.
+fn reaches(rune: Rune, address: u64, target: u64) -> bool
+    requires at { address < 2 ^ 16 }
     requires to { target < 2 ^ 16 }
-    ensures { result ≡ reaches_target rune place target }
+    ensures { result ≡ reaches_target rune address target }
 {
     match rune {
-        Rune::LitRel => is_near(place + 1, target),
-        Rune::RawRel => is_near(place, target),
+        Rune::LitRel => is_near(address + 1, target),
+        Rune::RawRel => is_near(address, target),
         _ => true,
     }
 }

@@ -5,7 +5,7 @@ use Rattle.std.specs.List.{AllByRecursion}
 use Rattle.std.proofs.lemmas.Bool.{leb-true, leb-false}
 use Rattle.tal_words.specs.declared.fault.Fault.{Fault}
 use Rattle.tal_words.specs.declared.fault.FaultKind.{FaultKind}
-use Rattle.tal_words.specs.Faults.{Judged, kind_number, lesser, least, fault_or, first_fault}
+use Rattle.tal_words.specs.Faults.{Judged, kind_number, lesser, least, fault_or, phase_fault}
 use Rattle.tal_words.specs.FirstFault.{IsLeastKind, NoneFaulty, IsFirstFault, IsFirst}
 
 no_kind : (kinds : List FaultKind) → least kinds ≡ None → kinds ≡ []
@@ -63,4 +63,4 @@ first_step word words (Some kind) some found rest = record {
 
 pub first_is : (words : List Judged) → IsFirst words
 first_is [] = tt
-first_is (word ∷ words) = first_step word words (least word.kinds) refl (first_fault words) (first_is words)
+first_is (word ∷ words) = first_step word words (least word.kinds) refl (phase_fault words) (first_is words)

@@ -4,5 +4,7 @@ pub mod FormLemmas
 pub mod Modes
 pub mod Numbers
 pub mod Operations
+pub mod OrderLemmas
+pub mod PassLemmas
 pub mod Runs
 pub mod Tokens

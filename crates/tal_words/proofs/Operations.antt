@@ -4,13 +4,13 @@ use Rattle.std.specs.Str.{bytes_eq}
 use Rattle.std.specs.List.{position_from}
 use Rattle.std.proofs.lemmas.List.{at_drop_more, at_drop_all, take_min, drop_min}
 use Rattle.std.proofs.lemmas.Bool.{and_parts, cases_lt, eqb-true}
-use Rattle.tal_words.specs.Opcodes.{operations, byte_of_op, name_of_op}
+use Rattle.tal_words.specs.Opcodes.{operation_names, byte_of_op, name_of_op}
 
 -- the search among the operations from one on
 pub position-more : (name : List ℕ) (code : ℕ) → code < 32
-    → position_from (bytes_eq name) code (drop code operations)
-    ≡ cond (bytes_eq name (get_or operations code [])) (Some code) (position_from (bytes_eq name) (code + 1) (drop (code + 1) operations))
-position-more name code within = at_drop_more (position_from (bytes_eq name) code) operations code [] within
+    → position_from (bytes_eq name) code (drop code operation_names)
+    ≡ cond (bytes_eq name (get_or operation_names code [])) (Some code) (position_from (bytes_eq name) (code + 1) (drop (code + 1) operation_names))
+position-more name code within = at_drop_more (position_from (bytes_eq name) code) operation_names code [] within
 
 -- the answer is this byte
 abbrev reads : Option ℕ → ℕ → Bool
@@ -40,8 +40,8 @@ pub name_read : (byte : ℕ) → byte < 256 → byte_of_op (name_of_op byte) ≡
 unfolding byte_of_op name_of_op
 name_read byte below = reads-some (byte_of_op (name_of_op byte)) byte (all_read_below-at 256 byte refl below)
 
-pub position-end : (name : List ℕ) (code : ℕ) → 32 ≤ code → position_from (bytes_eq name) code (drop code operations) ≡ None
-position-end name code past = at_drop_all (position_from (bytes_eq name) code) operations code past
+pub position-end : (name : List ℕ) (code : ℕ) → 32 ≤ code → position_from (bytes_eq name) code (drop code operation_names) ≡ None
+position-end name code past = at_drop_all (position_from (bytes_eq name) code) operation_names code past
 
 pub ruleset operation_steps = (position-more, position-end)
 

@@ -1,5 +1,6 @@
 -- Numbers in words are lowercase hexadecimal (Uxntal syntax reference).
-use Rattle.std.specs.Prelude.{ℕ, ◌+◌, ◌-◌, ◌*◌, Bool, ◌&&◌, ◌||◌, ◌==◌, nat_lt, nat_le, if◌then◌else◌, List, length, fold}
+use Rattle.std.specs.Prelude.{ℕ, ◌+◌, ◌-◌, ◌*◌, Bool, ◌&&◌, ◌||◌, ◌==◌, nat_lt, nat_le}
+use Rattle.std.specs.Prelude.{if◌then◌else◌, List, length, fold}
 use Rattle.std.specs.List.{list_all}
 
 -- `0` to `9` are 48 to 57, and `a` to `f` are 97 to 102
@@ -25,5 +26,5 @@ abbrev pub is_short_number : List ℕ → Bool
 is_short_number text = length text == 4 && are_digits text
 
 -- the text is one to four digits
-abbrev pub is_place_number : List ℕ → Bool
-is_place_number text = nat_lt 0 (length text) && nat_le (length text) 4 && are_digits text
+abbrev pub is_address_number : List ℕ → Bool
+is_address_number text = nat_lt 0 (length text) && nat_le (length text) 4 && are_digits text

@@ -1,9 +1,13 @@
 -- What can be wrong with a source, and which fault is the first (profile: the kinds, their numbers and the phases).
-use Rattle.std.specs.Prelude.{◌≡◌, ℕ, Bool, nat_le, if◌then◌else◌, List, [], ◌∷◌, codes, Option, Some, None, Result, Ok, Err}
+use Rattle.std.specs.Prelude.{◌≡◌, ℕ, Bool, nat_le, if◌then◌else◌, List, [], ◌∷◌, codes, Option, Some, None}
+use Rattle.std.specs.Prelude.{Result, Ok, Err}
 use Rattle.tal_words.specs.declared.span.Word.{Word}
 use Rattle.tal_words.specs.declared.fault.Fault.{Fault}
 use Rattle.tal_words.specs.declared.fault.FaultKind.{FaultKind}
-use Rattle.tal_words.specs.declared.fault.FaultKind.TheVariants.{OpenComment, LongWord, StrayParen, BadNumber, BadName, NoName, IncludeHere, LongSource, MacroTwice, MacroBody, MacroDeep, ManyWords, StrayBrace, OpenBrace, LabelTwice, ZeroPage, Outside, Rewind, UnknownName, TooFar}
+use Rattle.tal_words.specs.declared.fault.FaultKind.TheVariants.{OpenComment, LongWord, StrayParen, BadNumber, BadName, NoName}
+use Rattle.tal_words.specs.declared.fault.FaultKind.TheVariants.{IncludeHere, LongSource, MacroTwice, MacroBody, MacroDeep}
+use Rattle.tal_words.specs.declared.fault.FaultKind.TheVariants.{ManyWords, StrayBrace, OpenBrace, LabelTwice, ZeroPage, Outside}
+use Rattle.tal_words.specs.declared.fault.FaultKind.TheVariants.{Rewind, UnknownName, TooFar}
 use Rattle.tal_words.specs.declared.fault.AsmStop.{AsmStop}
 use Rattle.tal_words.specs.declared.fault.AsmStop.TheVariants.{Refused, NoMemory}
 use Rattle.tal_words.specs.Source.{run_at}
@@ -83,9 +87,9 @@ fault_or word None later = later
 fault_or word (Some kind) later = Some (fault_at word kind)
 
 -- the first fault of a phase: at its first word that has a fault, of the least kind there
-abbrev pub first_fault : List Judged → Option Fault
-first_fault [] = None
-first_fault (word ∷ words) = fault_or word.origin (least word.kinds) (first_fault words)
+abbrev pub phase_fault : List Judged → Option Fault
+phase_fault [] = None
+phase_fault (word ∷ words) = fault_or word.origin (least word.kinds) (phase_fault words)
 
 -- the fault of an earlier phase comes before those of a later one
 abbrev pub or_later : Option Fault → Option Fault → Option Fault

@@ -3,7 +3,7 @@ use Rattle.std.specs.Prelude.{◌≡◌, ◌≤◌, ◌⊎◌, List, [], ◌∷�
 use Rattle.std.specs.List.{AllByRecursion}
 use Rattle.tal_words.specs.declared.fault.Fault.{Fault}
 use Rattle.tal_words.specs.declared.fault.FaultKind.{FaultKind}
-use Rattle.tal_words.specs.Faults.{Judged, kind_number, fault_at, first_fault}
+use Rattle.tal_words.specs.Faults.{Judged, kind_number, fault_at, phase_fault}
 
 -- a kind is among some kinds
 abbrev pub IsAmong : List FaultKind → FaultKind → Type 0
@@ -31,4 +31,4 @@ pub record IsFirstFault (words : List Judged) (fault : Fault) : Type 0 where
 
 -- the first fault is the first, and where there is none no word has a fault
 abbrev pub IsFirst : List Judged → Type 0
-IsFirst words = MatchOption (first_fault words) (NoneFaulty words) (IsFirstFault words)
+IsFirst words = MatchOption (phase_fault words) (NoneFaulty words) (IsFirstFault words)

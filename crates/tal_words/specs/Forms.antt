@@ -1,13 +1,15 @@
 -- What each word means, and the bytes that it stands for (Uxntal syntax reference).
-use Rattle.std.specs.Prelude.{ℕ, ◌+◌, ◌-◌, ◌/◌, ◌%◌, Bool, true, ◌&&◌, ◌||◌, ◌==◌, nat_le, if◌then◌else◌, List, [], ◌∷◌, length, drop, Option, Some, None, Result, Ok, Err}
+use Rattle.std.specs.Prelude.{ℕ, ◌+◌, ◌-◌, ◌/◌, ◌%◌, Bool, true, ◌&&◌, ◌||◌, ◌==◌, nat_le}
+use Rattle.std.specs.Prelude.{if◌then◌else◌, List, [], ◌∷◌, length, drop, Option, Some, None, Result, Ok, Err}
 use Rattle.tal_words.specs.declared.fault.FaultKind.{FaultKind}
 use Rattle.tal_words.specs.declared.fault.FaultKind.TheVariants.{BadNumber, BadName, NoName, IncludeHere}
 use Rattle.tal_words.specs.declared.form.Form.{Form}
-use Rattle.tal_words.specs.declared.form.Form.TheVariants.{Pad, Skip, Lit1, Lit2, Raw1, Raw2, Op, Text, LabelDef, SubDef, Refer, LambdaEnd, Ignored}
+use Rattle.tal_words.specs.declared.form.Form.TheVariants.{Pad, Skip, Lit1, Lit2, Raw1, Raw2, Op, Text, LabelDef, SubDef, Refer}
+use Rattle.tal_words.specs.declared.form.Form.TheVariants.{LambdaEnd, Ignored}
 use Rattle.tal_words.specs.declared.form.Rune.{Rune}
 use Rattle.tal_words.specs.declared.form.Rune.TheVariants.{LitRel, RawRel, LitZero, RawZero, LitAbs, RawAbs, Jmi, Jci, Jsi}
 use Rattle.tal_words.specs.Opcodes.{byte_of_op}
-use Rattle.tal_words.specs.Digits.{number_of, is_byte_number, is_short_number, is_place_number}
+use Rattle.tal_words.specs.Digits.{number_of, is_byte_number, is_short_number, is_address_number}
 use Rattle.tal_words.specs.Names.{name_fault, rune_of, slash}
 
 -- the form, unless something is wrong with the name
@@ -26,8 +28,8 @@ if_alone [] form = Ok form
 if_alone (first ∷ rest) form = Err BadName
 
 -- `|h` and `$h`
-abbrev pub place_number : List ℕ → Form → Result Form FaultKind
-place_number digits form = if is_place_number digits then Ok form else Err BadNumber
+abbrev pub address_number : List ℕ → Form → Result Form FaultKind
+address_number digits form = if is_address_number digits then Ok form else Err BadNumber
 
 -- `#hh` and `#hhhh`
 abbrev pub literal : List ℕ → Result Form FaultKind
@@ -65,8 +67,8 @@ rune_or_bare None rest word = Ok (bare word)
 unfoldable pub form : List ℕ → Result Form FaultKind
 form [] = Ok (Refer Jsi)
 form (first ∷ rest) =
-    if first == 124 then place_number rest (Pad (number_of rest))
-    else if first == 36 then place_number rest (Skip (number_of rest))
+    if first == 124 then address_number rest (Pad (number_of rest))
+    else if first == 36 then address_number rest (Skip (number_of rest))
     else if first == 35 then literal rest
     else if first == 34 then Ok Text
     else if first == 64 then named (name_fault rest) LabelDef
@@ -122,42 +124,42 @@ distance address target = target + 131072 - (address + 2)
 abbrev pub is_near : ℕ → ℕ → Bool
 is_near address target = nat_le (address + 2) (target + 128) && nat_le target (address + 129)
 
--- the bytes of a reference at a place; 128 is LIT, 160 LIT2, 64 JMI, 32 JCI, 96 JSI
+-- the bytes of a reference at an address; 128 is LIT, 160 LIT2, 64 JMI, 32 JCI, 96 JSI
 abbrev pub encoded_reference : Rune → ℕ → ℕ → List ℕ
-encoded_reference LitRel place target = 128 ∷ low_byte (distance (place + 1) target) ∷ []
-encoded_reference RawRel place target = low_byte (distance place target) ∷ []
-encoded_reference LitZero place target = 128 ∷ low_byte target ∷ []
-encoded_reference RawZero place target = low_byte target ∷ []
-encoded_reference LitAbs place target = 160 ∷ short_bytes target
-encoded_reference RawAbs place target = short_bytes target
-encoded_reference Jmi place target = 64 ∷ short_bytes (distance (place + 1) target)
-encoded_reference Jci place target = 32 ∷ short_bytes (distance (place + 1) target)
-encoded_reference Jsi place target = 96 ∷ short_bytes (distance (place + 1) target)
+encoded_reference LitRel address target = 128 ∷ low_byte (distance (address + 1) target) ∷ []
+encoded_reference RawRel address target = low_byte (distance address target) ∷ []
+encoded_reference LitZero address target = 128 ∷ low_byte target ∷ []
+encoded_reference RawZero address target = low_byte target ∷ []
+encoded_reference LitAbs address target = 160 ∷ short_bytes target
+encoded_reference RawAbs address target = short_bytes target
+encoded_reference Jmi address target = 64 ∷ short_bytes (distance (address + 1) target)
+encoded_reference Jci address target = 32 ∷ short_bytes (distance (address + 1) target)
+encoded_reference Jsi address target = 96 ∷ short_bytes (distance (address + 1) target)
 
 -- a reference that holds a byte reaches its target
 abbrev pub reaches : Rune → ℕ → ℕ → Bool
-reaches LitRel place target = is_near (place + 1) target
-reaches RawRel place target = is_near place target
-reaches LitZero place target = true
-reaches RawZero place target = true
-reaches LitAbs place target = true
-reaches RawAbs place target = true
-reaches Jmi place target = true
-reaches Jci place target = true
-reaches Jsi place target = true
+reaches LitRel address target = is_near (address + 1) target
+reaches RawRel address target = is_near address target
+reaches LitZero address target = true
+reaches RawZero address target = true
+reaches LitAbs address target = true
+reaches RawAbs address target = true
+reaches Jmi address target = true
+reaches Jci address target = true
+reaches Jsi address target = true
 
--- the bytes of a word of a form, at a place and with a target if it is a reference
+-- the bytes of a word of a form, at an address and with a target if it is a reference
 abbrev pub encoded : Form → List ℕ → ℕ → ℕ → List ℕ
-encoded (Pad n) word place target = []
-encoded (Skip n) word place target = []
-encoded (Lit1 n) word place target = 128 ∷ n ∷ []
-encoded (Lit2 n) word place target = 160 ∷ short_bytes n
-encoded (Raw1 n) word place target = n ∷ []
-encoded (Raw2 n) word place target = short_bytes n
-encoded (Op byte) word place target = byte ∷ []
-encoded Text word place target = drop 1 word
-encoded LabelDef word place target = []
-encoded SubDef word place target = []
-encoded (Refer rune) word place target = encoded_reference rune place target
-encoded LambdaEnd word place target = []
-encoded Ignored word place target = []
+encoded (Pad n) word address target = []
+encoded (Skip n) word address target = []
+encoded (Lit1 n) word address target = 128 ∷ n ∷ []
+encoded (Lit2 n) word address target = 160 ∷ short_bytes n
+encoded (Raw1 n) word address target = n ∷ []
+encoded (Raw2 n) word address target = short_bytes n
+encoded (Op byte) word address target = byte ∷ []
+encoded Text word address target = drop 1 word
+encoded LabelDef word address target = []
+encoded SubDef word address target = []
+encoded (Refer rune) word address target = encoded_reference rune address target
+encoded LambdaEnd word address target = []
+encoded Ignored word address target = []

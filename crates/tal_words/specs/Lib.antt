@@ -1,3 +1,4 @@
+pub mod Order
 pub mod Source
 pub mod Faults
 pub mod FirstFault
@@ -7,4 +8,3 @@ pub mod Digits
 pub mod Names
 pub mod Forms
 pub mod Braces
-pub mod Expansion

@@ -1,11 +1,12 @@
 -- The names of the opcodes (Uxntal opcode reference; profile: JCI, JMI and JSI are words too).
-use Rattle.std.specs.Prelude.{ℕ, ◌+◌, ◌%◌, ◌/◌, Bool, true, not, ◌&&◌, ◌||◌, ◌==◌, if◌then◌else◌, List, [], ◌∷◌, ◌++◌, take, drop, codes, slice_index_or, Option, Some, None}
+use Rattle.std.specs.Prelude.{ℕ, ◌+◌, ◌%◌, ◌/◌, Bool, true, not, ◌&&◌, ◌||◌, ◌==◌, if◌then◌else◌}
+use Rattle.std.specs.Prelude.{List, [], ◌∷◌, ◌++◌, take, drop, codes, slice_index_or, Option, Some, None}
 use Rattle.std.specs.List.{list_any, position_from}
 use Rattle.std.specs.Str.{bytes_eq}
 
 -- the operations, in order of the low five bits of their bytes
-abbrev pub operations : List (List ℕ)
-operations =
+abbrev pub operation_names : List (List ℕ)
+operation_names =
     codes "LIT" ∷ codes "INC" ∷ codes "POP" ∷ codes "NIP" ∷ codes "SWP" ∷ codes "ROT" ∷ codes "DUP" ∷ codes "OVR"
     ∷ codes "EQU" ∷ codes "NEQ" ∷ codes "GTH" ∷ codes "LTH" ∷ codes "JMP" ∷ codes "JCN" ∷ codes "JSR" ∷ codes "STH"
     ∷ codes "LDZ" ∷ codes "STZ" ∷ codes "LDR" ∷ codes "STR" ∷ codes "LDA" ∷ codes "STA" ∷ codes "DEI" ∷ codes "DEO"
@@ -53,7 +54,7 @@ byte_of_op word =
     else if bytes_eq word (codes "JCI") then Some 32
     else if bytes_eq word (codes "JMI") then Some 64
     else if bytes_eq word (codes "JSI") then Some 96
-    else moded_byte (position_from (bytes_eq (take 3 word)) 0 operations) (drop 3 word)
+    else moded_byte (position_from (bytes_eq (take 3 word)) 0 operation_names) (drop 3 word)
 
 -- the modes of a byte, in the order 2, k, r
 abbrev pub shown_modes : Bool → ℕ → List ℕ
@@ -69,4 +70,4 @@ name_of_op byte =
     else if byte == 32 then codes "JCI"
     else if byte == 64 then codes "JMI"
     else if byte == 96 then codes "JSI"
-    else slice_index_or operations (byte % 32) [] ++ shown_modes (not (byte % 32 == 0)) byte
+    else slice_index_or operation_names (byte % 32) [] ++ shown_modes (not (byte % 32 == 0)) byte

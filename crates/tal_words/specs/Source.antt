@@ -1,8 +1,10 @@
 -- How a source is cut into tokens (Uxntal syntax reference).
-use Rattle.std.specs.Prelude.{ℕ, zero, suc, ◌+◌, ◌-◌, Bool, true, false, not, ◌&&◌, ◌==◌, nat_lt, if◌then◌else◌, List, [], ◌∷◌, ◌++◌, length, take, drop, slice_index}
+use Rattle.std.specs.Prelude.{ℕ, zero, suc, ◌+◌, ◌-◌, Bool, true, false, not, ◌&&◌, ◌==◌, nat_lt}
+use Rattle.std.specs.Prelude.{if◌then◌else◌, List, [], ◌∷◌, ◌++◌, length, take, drop, slice_index}
 use Rattle.std.specs.List.{prefix_len, count_by}
 use Rattle.tal_words.specs.declared.span.Span.{Span}
 use Rattle.tal_words.specs.declared.span.Word.{Word}
+use Rattle.tal_words.specs.declared.span.Expanded.{Expanded}
 
 -- a byte that parts tokens is a space or below
 abbrev pub is_blank : ℕ → Bool
@@ -25,6 +27,13 @@ is_only byte (first ∷ second ∷ rest) = false
 -- the bytes of the source that a span covers
 abbrev pub bytes_at : List ℕ → Span → List ℕ
 bytes_at source span = take (span.end - span.start) (drop span.start source)
+
+-- the bytes of a word, and those of a word of the expanded list
+abbrev pub word_text : List ℕ → Word → List ℕ
+word_text source word = bytes_at source word.span
+
+abbrev pub expanded_text : List ℕ → Expanded → List ℕ
+expanded_text source word = bytes_at source word.text
 
 -- a line begins after each newline, and the lines count from 1
 unfoldable pub line_at : List ℕ → ℕ → ℕ

@@ -1,9 +1,10 @@
 //! How a source is cut into words.
 
-ghost use Rattle.std.specs.Prelude.{◌≡◌, ◌≤◌, ◌<◌, ◌+◌, ◌^◌, length, if◌then◌else◌, IfOk};
+ghost use Rattle.std.specs.Prelude.{◌≡◌, ◌≤◌, ◌<◌, ◌+◌, ◌^◌, length, if◌then◌else◌, IfOk, []};
 ghost use Rattle.tal_words.specs.Source.{is_newline, line_at, column_at, begins_token, token_at, tokens_of};
-ghost use Rattle.tal_words.specs.Faults.{Gives, first_fault};
-ghost use Rattle.tal_words.specs.Comments.{words_among, judged_tokens, words_of, word_fault, depth_after, source_limit};
+ghost use Rattle.tal_words.specs.Faults.{Gives, phase_fault};
+ghost use Rattle.tal_words.specs.Order.{each, collected};
+ghost use Rattle.tal_words.specs.Comments.{judged_token, word_given, words_of, word_fault, depth_after, source_limit};
 
 use crate::fault::{AsmStop, Fault, FaultKind};
 use crate::span::{Span, Word};
@@ -11,16 +12,17 @@ use crate::text::{begins, is_blank, is_only, run_end};
 use std::alloc::{AllocError, Global};
 
 /// The greatest length of a source, in bytes.
-const SOURCE_LIMIT: usize = 4_194_304;
+pub const SOURCE_LIMIT: usize = 4_194_304;
 
 /// The greatest length of a word, in bytes.
 const WORD_LIMIT: usize = 255;
 
 /// The words of a source: its tokens outside comments. Refused with the first fault of a token or a
-/// comment, or where the source is too long.
+/// comment, or where the source has more than 4,194,304 bytes.
 #[tactic(auto, unfolding(crate::specs::Comments::word_fault, crate::specs::Comments::words_of))]
 pub fn words(alloc: Global, source: &[u8]) -> Result<Vec<Word>, AsmStop>
-    ensures { Gives (λ v. v.items) result (word_fault source.now) (words_of source.now) }
+    ensures value { Gives (λ v. v.items) result (word_fault source.now) (words_of source.now) }
+    ensures short { IfOk result (λ _. length source.now ≤ source_limit) }
 {
     if source.len() > SOURCE_LIMIT {
         return Err(AsmStop::Refused(Fault {
@@ -36,26 +38,26 @@ pub fn words(alloc: Global, source: &[u8]) -> Result<Vec<Word>, AsmStop>
 
 /// A line and a column of a source.
 #[derive(Clone, Copy)]
-struct Place {
+struct Position {
     line: u32,
     column: u32,
 }
 
-impl Place {
-    /// The place after a byte at this one.
-    fn after(self, byte: u8) -> Place
+impl Position {
+    /// The position after a byte at this one.
+    fn after(self, byte: u8) -> Position
         requires line { self.line < 2 ^ 31 }
         requires column { self.column < 2 ^ 31 }
         ensures line { result.line ≡ (if is_newline byte then self.line + 1 else self.line) }
         ensures column { result.column ≡ (if is_newline byte then 1 else self.column + 1) }
     {
         if byte == b'\n' {
-            Place {
+            Position {
                 line: self.line + 1,
                 column: 1,
             }
         } else {
-            Place {
+            Position {
                 line: self.line,
                 column: self.column + 1,
             }
@@ -69,13 +71,13 @@ fn tokens(alloc: Global, source: &[u8]) -> Result<Vec<Word>, AllocError>
     ensures { IfOk result (λ v. v.items ≡ tokens_of source.now) }
 {
     let mut tokens = Vec::new(alloc);
-    let mut place = Place { line: 1, column: 1 };
+    let mut position = Position { line: 1, column: 1 };
     for at in 0..source.len() {
         if begins_token(source, at) {
-            let token = token_at(source, at, place);
+            let token = token_at(source, at, position);
             tokens.push(token)?;
         }
-        place = place.after(source[at]);
+        position = position.after(source[at]);
     }
     Ok(tokens)
 }
@@ -89,13 +91,13 @@ fn begins_token(source: &[u8], at: usize) -> bool
     (at == 0 || is_blank(source[at - 1])) && !is_blank(source[at])
 }
 
-/// The token that begins at an offset, of which this is the place.
+/// The token that begins at an offset, of which this is the position.
 #[tactic(auto, unfolding(crate::specs::Source::token_at))]
-fn token_at(source: &[u8], at: usize, place: Place) -> Word
+fn token_at(source: &[u8], at: usize, position: Position) -> Word
     requires within { at < length source.now }
     requires short { length source.now ≤ source_limit }
-    requires line { place.line ≡ line_at source.now at }
-    requires column { place.column ≡ column_at source.now at }
+    requires line { position.line ≡ line_at source.now at }
+    requires column { position.column ≡ column_at source.now at }
     ensures { result ≡ token_at source.now at }
 {
     let end = run_end(source, at);
@@ -104,14 +106,15 @@ fn token_at(source: &[u8], at: usize, place: Place) -> Word
             start: at as u32,
             end: end as u32,
         },
-        line: place.line,
-        column: place.column,
+        line: position.line,
+        column: position.column,
     }
 }
 
 /// The tokens that are words, or the first fault of a token or a comment.
 fn outside_comments(alloc: Global, source: &[u8], tokens: &[Word]) -> Result<Vec<Word>, AsmStop>
-    ensures { Gives (λ v. v.items) result (first_fault (judged_tokens source.now 0 tokens.now)) (words_among source.now 0 tokens.now) }
+    ensures { Gives (λ v. v.items) result
+        (phase_fault (each (judged_token source.now) [] tokens.now)) (collected (word_given source.now) [] tokens.now) }
 {
     let mut words = Vec::new(alloc);
     let mut depth = 0usize;
@@ -123,7 +126,7 @@ fn outside_comments(alloc: Global, source: &[u8], tokens: &[Word]) -> Result<Vec
     for token in tokens {
         let text = token.span.text(source);
         if depth > 0 {
-            depth = depth_within(depth, text);
+            depth = depth_after(depth, text);
         } else if begins(text, b'(') {
             opener = *token;
             depth = 1;
@@ -144,7 +147,7 @@ fn outside_comments(alloc: Global, source: &[u8], tokens: &[Word]) -> Result<Vec
 }
 
 /// How many comments are open after a token inside comments.
-fn depth_within(depth: usize, text: &[u8]) -> usize
+fn depth_after(depth: usize, text: &[u8]) -> usize
     requires above { 0 < depth }
     requires below { depth < 2 ^ 63 }
     ensures value { result ≡ depth_after depth text.now }

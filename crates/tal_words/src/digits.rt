@@ -1,7 +1,7 @@
 //! Numbers in words.
 
 ghost use Rattle.std.specs.Prelude.{◌≡◌, Some, None, IsTrue, if◌then◌else◌};
-ghost use Rattle.tal_words.specs.Digits.{is_digit, are_digits, number_of, is_byte_number, is_short_number, is_place_number};
+ghost use Rattle.tal_words.specs.Digits.{is_digit, are_digits, number_of, is_byte_number, is_short_number, is_address_number};
 
 /// Whether a byte is a lowercase hexadecimal digit.
 fn is_digit(byte: u8) -> bool
@@ -52,8 +52,8 @@ pub fn short_value(text: &[u8]) -> u16
 }
 
 /// The value of one to four digits, if the text is that.
-pub fn place_value(text: &[u8]) -> Option<u16>
-    ensures { result ≡ (if is_place_number text.now then Some (number_of text.now) else None) }
+pub fn address_value(text: &[u8]) -> Option<u16>
+    ensures { result ≡ (if is_address_number text.now then Some (number_of text.now) else None) }
 {
     if !are_digits(text) {
         return None;

@@ -6,20 +6,18 @@ mod digits;
 mod fault;
 mod form;
 mod name;
-mod naming;
 mod opcode;
-mod reading;
+mod runes;
 mod span;
 #[cfg(test)]
 mod tests;
 mod text;
 
-pub use cutting::words;
+pub use cutting::{SOURCE_LIMIT, words};
 pub use fault::{AsmStop, Fault, FaultKind, fault_word, first_fault_is_first};
-pub use form::{Form, Rune};
-pub use name::{Label, Name};
-pub use naming::{closes, name_fault, opens, rune_of};
+pub use form::{Form, Rune, form_of};
+pub use name::{Label, Name, name_fault};
 pub use opcode::{names_are_read, op_byte, op_name};
-pub use reading::form_of;
+pub use runes::{closes, opens, rune_of};
 pub use span::{Expanded, Span, Word};
 pub use text::{begins, is_only};

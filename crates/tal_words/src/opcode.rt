@@ -1,15 +1,15 @@
 //! The names of the opcodes.
 
-ghost use Rattle.std.specs.Prelude.{◌≡◌, ℕ, ◌<◌, ◌≤◌, ◌+◌, Some, [], ◌∷◌, ◌++◌, take, drop, if◌then◌else◌};
+ghost use Rattle.std.specs.Prelude.{◌≡◌, ◌%◌, ◌==◌, not, slice_index_or, ℕ, ◌<◌, ◌≤◌, ◌+◌, Some, [], ◌∷◌, ◌++◌, take, drop, if◌then◌else◌};
 ghost use Rattle.std.specs.List.{position_from};
 ghost use Rattle.std.specs.Str.{bytes_eq};
 ghost use Rattle.arrayvec.specs.ArrayVec.{array_vec_len};
-ghost use Rattle.tal_words.specs.Opcodes.{operations, has, is_mode, are_modes, moded_byte, byte_of_op, name_of_op};
+ghost use Rattle.tal_words.specs.Opcodes.{operation_names, has, is_mode, are_modes, moded_byte, byte_of_op, name_of_op, shown_modes};
 
 use arrayvec::ArrayVec;
 
 /// The operations, in order of the low five bits of their bytes.
-const OPERATIONS: [[u8; 3]; 32] = [
+const OPERATION_NAMES: [[u8; 3]; 32] = [
     *b"LIT", *b"INC", *b"POP", *b"NIP", *b"SWP", *b"ROT", *b"DUP", *b"OVR", *b"EQU", *b"NEQ",
     *b"GTH", *b"LTH", *b"JMP", *b"JCN", *b"JSR", *b"STH", *b"LDZ", *b"STZ", *b"LDR", *b"STR",
     *b"LDA", *b"STA", *b"DEI", *b"DEO", *b"ADD", *b"SUB", *b"MUL", *b"DIV", *b"AND", *b"ORA",
@@ -40,7 +40,7 @@ pub fn op_byte(word: &[u8]) -> Option<u8>
 /// The byte of an operation of three letters and its modes.
 #[tactic(auto, using(crate::proofs::Operations::cut_at))]
 fn moded_op_byte(word: &[u8]) -> Option<u8>
-    ensures { result ≡ moded_byte (position_from (bytes_eq (take 3 word.now)) 0 operations) (drop 3 word.now) }
+    ensures { result ≡ moded_byte (position_from (bytes_eq (take 3 word.now)) 0 operation_names) (drop 3 word.now) }
 {
     let (name, modes) = word.split_at(word.len().min(3));
     match operation_of(name) {
@@ -49,13 +49,13 @@ fn moded_op_byte(word: &[u8]) -> Option<u8>
     }
 }
 
-/// The place of a name among the operations.
+/// The index of a name among the operations.
 #[tactic(auto, using(crate::proofs::Operations::operation_steps))]
 fn operation_of(name: &[u8]) -> Option<u8>
-    ensures { result ≡ position_from (bytes_eq name.now) 0 operations }
+    ensures { result ≡ position_from (bytes_eq name.now) 0 operation_names }
 {
     for code in 0..32u8 {
-        if name == OPERATIONS[code as usize].as_slice() {
+        if name == OPERATION_NAMES[code as usize].as_slice() {
             return Some(code);
         }
     }
@@ -100,10 +100,11 @@ fn are_modes(modes: &[u8]) -> bool
     true
 }
 
+/// Whether a byte is the letter of a mode.
 fn is_mode(byte: u8) -> bool
     ensures { result ≡ is_mode byte }
 {
-    byte == b'2' || byte == b'k' || byte == b'r'
+    matches!(byte, b'2' | b'k' | b'r')
 }
 
 /// The name of a byte: the operation, then those of `2`, `k` and `r` that hold, in this order. LIT
@@ -112,20 +113,21 @@ fn is_mode(byte: u8) -> bool
 pub fn op_name(code: u8) -> ArrayVec<u8, 6>
     ensures { result.items ≡ name_of_op code }
 {
-    if code == 0x00 {
-        return letters(*b"BRK");
+    match code {
+        0x00 => letters(*b"BRK"),
+        0x20 => letters(*b"JCI"),
+        0x40 => letters(*b"JMI"),
+        0x60 => letters(*b"JSI"),
+        _ => moded_op_name(code),
     }
-    if code == 0x20 {
-        return letters(*b"JCI");
-    }
-    if code == 0x40 {
-        return letters(*b"JMI");
-    }
-    if code == 0x60 {
-        return letters(*b"JSI");
-    }
+}
+
+/// The name of an operation with the modes of a byte.
+fn moded_op_name(code: u8) -> ArrayVec<u8, 6>
+    ensures { result.items ≡ slice_index_or operation_names (code % 32) [] ++ shown_modes (not (code % 32 == 0)) code }
+{
     let operation = code % 32;
-    let mut name = letters(OPERATIONS[operation as usize]);
+    let mut name = letters(OPERATION_NAMES[operation as usize]);
     push_if(&mut name, code / 0x20 % 2 == 1, b'2');
     push_if(&mut name, operation != 0 && code / 0x80 % 2 == 1, b'k');
     push_if(&mut name, code / 0x40 % 2 == 1, b'r');

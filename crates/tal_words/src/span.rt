@@ -21,8 +21,8 @@ impl Span {
     }
 }
 
-/// A word and the place of its first byte. Lines and columns count from 1, and a column counts
-/// bytes.
+/// A word of the source, and the position of its first byte. Lines and columns count from 1, and a
+/// column counts bytes.
 #[derive(Clone, Copy, Debug, PartialEq, Eq)]
 pub struct Word {
     pub span: Span,

@@ -2,11 +2,11 @@ use Rattle.std.proofs.Common.{arith, ◌≡◌, ◌∙◌, ap, sym, get_or, ◌+
 use Rattle.std.specs.Prelude.{slice_get}
 use Rattle.std.proofs.lemmas.List.{reverse-append}
 use Rattle.tal_words.specs.Braces.{opens, closes}
-use Rattle.tal_labels.specs.Places.{text_of}
-use Rattle.tal_labels.specs.Order.{each}
+use Rattle.tal_words.specs.Source.{expanded_text}
+use Rattle.tal_words.specs.Order.{each}
 use Rattle.tal_labels.specs.Shapes.{closer_of, closers_of}
 use Rattle.tal_labels.specs.Answers.{waiting_step}
-use Rattle.tal_labels.proofs.OrderLemmas.{no_word}
+use Rattle.tal_words.proofs.OrderLemmas.{no_word}
 use Rattle.tal_labels.proofs.ClosingLemmas.{waiting_from, waiting-step, closer-step}
 use Rattle.tal_labels.proofs.closing.closers_of.Goals as goal
 
@@ -17,7 +17,7 @@ loop-at-preserved c =
     let at = c.loop-at.at - 1 in
     let next : c.loop-at.at ≡ at + 1 = omega arith in
     let within : at < length words = omega (arith, c.loop-at.invariant.within) in
-    let text = text_of source (get_or words at no_word) in
+    let text = expanded_text source (get_or words at no_word) in
     let read : c.text.result.now ≡ text = c.text.ensures in
     let rest = waiting_from source (at + 1) (drop (at + 1) words) in
     let waits : reverse c.loop-at.waiting.items ≡ rest = c.loop-at.invariant.waiting ∙ ap (λ n. waiting_from source n (drop n words)) next in

@@ -1,5 +1,5 @@
 use Rattle.std.proofs.Common.{◌≡◌, ◌≤◌, length, take, drop, reverse}
-use Rattle.tal_labels.specs.Order.{each}
+use Rattle.tal_words.specs.Order.{each}
 use Rattle.tal_labels.specs.Shapes.{closer_of}
 use Rattle.tal_labels.proofs.ClosingLemmas.{waiting_from}
 use Rattle.tal_labels.proofs.closing.closers_of.Given as goal
@@ -10,6 +10,3 @@ invariant-loop-at l = record {
   waiting : reverse l.waiting.items ≡ waiting_from l.source l.at (drop l.at l.words);
   closers : reverse l.closers.items ≡ each (closer_of l.source) (take l.at l.words) (drop l.at l.words);
 }
-
-abbrev pub decreases-loop-at : goal.decreases-loop-at
-decreases-loop-at l = l.at

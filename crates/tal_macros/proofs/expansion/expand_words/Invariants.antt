@@ -5,5 +5,5 @@ use Rattle.tal_macros.proofs.expansion.expand_words.Given as goal
 
 abbrev pub invariant-loop-at : goal.invariant-loop-at
 invariant-loop-at l =
-    Expanding l.source l.words (drop l.at l.words) (known_of l.words l.macros.entries) l.inside l.visited l.expanded.items
+    Expanding l.source l.words (drop l.at l.words) l.inside (known_of l.words l.macros.entries) l.visited.count l.visited.expanded.items
     × (l.inside ≤ length l.words + 2)

@@ -1,5 +1,5 @@
 use Rattle.tal_macros.proofs.Closing.{Searches}
 use Rattle.tal_macros.proofs.head.closing.Given as goal
 
-abbrev pub invariant-loop-place : goal.invariant-loop-place
-invariant-loop-place l = Searches l.source l.words l.from l.place l.opened l.closed
+abbrev pub invariant-loop-index : goal.invariant-loop-index
+invariant-loop-index l = Searches l.source l.words l.from l.index l.opened l.closed

@@ -1,6 +1,5 @@
-use Rattle.tal_words.specs.Expansion.{expanded_of}
 use Rattle.tal_rom.proofs.Laying.{IsLaidSo}
 use Rattle.tal_rom.proofs.rom.lay_out.Given as goal
 
 abbrev pub invariant-loop-word : goal.invariant-loop-word
-invariant-loop-word l = IsLaidSo l.source (expanded_of l.source) l.placed.labels l.words l.word-index l.rom.items l.scope
+invariant-loop-word l = IsLaidSo l.source l.placed.labels l.words l.word-index l.rom.items l.scope

@@ -1,8 +1,5 @@
-use Rattle.std.proofs.Common.{◌≤◌, drop}
 use Rattle.tal_words.proofs.Cut.{Passes}
 use Rattle.tal_words.proofs.cutting.outside_comments.Given as goal
 
 abbrev pub invariant-loop-token : goal.invariant-loop-token
-invariant-loop-token l =
-    Passes l.source l.tokens (drop l.token-index l.tokens) l.words.items l.depth l.opener
-    × (l.depth ≤ l.token-index)
+invariant-loop-token l = Passes l.source l.tokens l.token-index l.words.items l.depth l.opener

@@ -21,7 +21,7 @@ loop-at-preserved c =
       | else-begins_token w ↦
           rw w.tokens-is (without_token source at c.loop-at.tokens.items (sym c.begins_token.ensures ∙ w.if-begins_token.false))
     ] in
-    reaches_more _ _ _ _ _ _ _ _ c.loop-at-test.true c.loop-at.invariant more c.after-place.ensures.line c.after-place.ensures.column
+    reaches_more _ _ _ _ _ _ _ _ c.loop-at-test.true c.loop-at.invariant more c.after-position.ensures.line c.after-position.ensures.column
 
 pub returns : goal.returns
 returns c = let end : c.loop-at.at ≡ length c.args.source.now = omega arith in reaches_end _ _ _ _ _ end c.loop-at.invariant

@@ -1,7 +1,7 @@
 use Rattle.std.proofs.Common.{◌≡◌, ℕ, zero, suc, ◌+◌, ◌<◌, ◌≤◌, List, [], ◌∷◌, ◌++◌, length, take, drop, get_or, Option, Some, None, refl, sym, ◌∙◌, ap, arith, append_assoc, append-nil}
 use Rattle.std.proofs.lemmas.List.{take_more, drop_more, drop_all}
 use Rattle.tal_words.specs.declared.span.Expanded.{Expanded}
-use Rattle.tal_labels.specs.Order.{collected, each, or_earlier, last_of}
+use Rattle.tal_words.specs.Order.{collected, each, or_earlier, last_of}
 
 module _ {X Y : Type 0} (give : List X → X → List X → Y) where
   -- what the words from k on give begins with what word k gives
@@ -46,13 +46,19 @@ module _ {X Y : Type 0} (give : List X → X → List X → List Y) where
   pub collected-end : (words : List X) (k : ℕ) → length words ≤ k → collected give (take k words) (drop k words) ≡ []
   collected-end words k h = ap (collected give (take k words)) (drop_all k words h)
 
+  -- what words give that follow others, where what a word gives does not depend on those after it
+  pub collected-append : ((b : List X) (w : X) (a c : List X) → give b w a ≡ give b w c) → (before words more : List X)
+      → collected give before (words ++ more) ≡ collected give before words ++ collected give (before ++ words) more
+  collected-append alone before [] more = ap (λ b. collected give b more) (sym (append-nil before))
+  collected-append alone before (word ∷ words) more =
+      ap (λ ys. ys ++ collected give (before ++ word ∷ []) (words ++ more)) (alone before word (words ++ more) words)
+      ∙ ap (λ ys. give before word words ++ ys) (collected-append alone (before ++ word ∷ []) words more)
+      ∙ sym (append_assoc (give before word words) (collected give (before ++ word ∷ []) words) (collected give ((before ++ word ∷ []) ++ words) more))
+      ∙ ap (λ b. (give before word words ++ collected give (before ++ word ∷ []) words) ++ collected give b more) (append_assoc before (word ∷ []) words)
+
   pub collected-more : ((b : List X) (w : X) (a c : List X) → give b w a ≡ give b w c) → (before words : List X) (last : X) → collected give before (words ++ last ∷ []) ≡ collected give before words ++ give (before ++ words) last []
-  collected-more alone before [] last = append-nil _ ∙ ap (λ b. give b last []) (sym (append-nil before))
-  collected-more alone before (word ∷ words) last =
-      ap (λ ys. ys ++ collected give (before ++ word ∷ []) (words ++ last ∷ [])) (alone before word (words ++ last ∷ []) words)
-      ∙ ap (λ ys. give before word words ++ ys) (collected-more alone (before ++ word ∷ []) words last)
-      ∙ sym (append_assoc (give before word words) (collected give (before ++ word ∷ []) words) (give ((before ++ word ∷ []) ++ words) last []))
-      ∙ ap (λ b. (give before word words ++ collected give (before ++ word ∷ []) words) ++ give b last []) (append_assoc before (word ∷ []) words)
+  collected-more alone before words last =
+      collected-append alone before words (last ∷ []) ∙ ap (λ ys. collected give before words ++ ys) (append-nil (give (before ++ words) last []))
 
 module _ {X Y : Type 0} (find : X → Option Y) where
   or_earlier-assoc : (a b c : Option Y) → or_earlier (or_earlier a b) c ≡ or_earlier a (or_earlier b c)
