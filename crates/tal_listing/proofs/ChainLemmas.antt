@@ -1,0 +1,191 @@
+-- Chains of labels, one label at a time, and the lines of a chain.
+use Rattle.std.proofs.Common.{◌≡◌, ◌≢◌, ℕ, zero, suc, ◌+◌, ◌-◌, ◌<◌, ◌≤◌, true, false, List, [], ◌∷◌, ◌++◌, length, drop, get_or, set, replicate, map, inl, inr, refl, ap, sym, subst, ◌∙◌, arith, append_assoc, append-nil, get_or-set_same, get_or-set_other}
+use Rattle.std.specs.Prelude.{◌==◌, codes}
+use Rattle.std.specs.List.{flat_map, range_with_len}
+use Rattle.std.proofs.lemmas.Bool.{cases_eq, eq-eqb, ne_eqb}
+use Rattle.std.proofs.lemmas.List.{drop_more, drop_all, get_or-replicate, length-replicate, length-set, get_or_default}
+use Rattle.std.proofs.lemmas.List.Concat.{flat_map-append}
+use Rattle.tal_words.specs.declared.name.Label.{Label}
+use Rattle.tal_listing.specs.Texts.{text_of_lines}
+use Rattle.tal_listing.specs.LabelChains.{labels_of_address, IsNext, AreChained}
+use Rattle.tal_listing.specs.Disassembly.{label_line, label_lines, immediate_left, immediate_length, lines_at, begins_instruction, instruction_line, rom_start, disassembly, disassembly_lines}
+
+-- behind the last label no chain has begun
+pub chained_start : (labels : List Label) (first next : List ℕ) (count : ℕ) → count ≡ 65536 → first ≡ replicate count (length labels)
+    → next ≡ replicate (length labels) (length labels) → AreChained labels (length labels) first next
+chained_start labels first next count all is_first is_next = record {
+  first_size = ap length is_first ∙ length-replicate count (length labels) ∙ all;
+  next_size = ap length is_next ∙ length-replicate (length labels) (length labels);
+  firsts = λ address below.
+      let inside : address < count = omega arith in
+      let read : get_or first address 0 ≡ length labels = ap (λ (places : List ℕ). get_or places address 0) is_first ∙ get_or-replicate count address (length labels) 0 inside in
+      let P : ℕ → Type 0 = IsNext labels address (length labels) in
+      subst P (sym read) record { ahead = omega arith; within = omega arith; skipped = refl; found = λ d past. absurd (omega arith) };
+  nexts = λ place d from within. absurd (omega arith);
+}
+
+module _ (labels : List Label) (place : ℕ) (d : Label) (within : place < length labels) where
+  -- the chain of another address passes over a label
+  passed : (address next : ℕ) → (get_or labels place d).address ≢ address → IsNext labels address (place + 1) next → IsNext labels address place next
+  passed address next differ is =
+      let step = drop_more labels place d within in
+      let no : ((get_or labels place d).address == address) ≡ false = ne_eqb (get_or labels place d).address address differ in
+      record {
+        ahead = omega (arith, is.ahead);
+        within = is.within;
+        skipped = rw (step, no) is.skipped;
+        found = is.found;
+      }
+
+  -- the chain of its own address begins with it
+  begun : IsNext labels (get_or labels place d).address place place
+  begun = record {
+    ahead = omega arith;
+    within = omega arith;
+    skipped = refl;
+    found = λ e inside. ap (λ (label : Label). label.address) (get_or_default labels place e d within);
+  }
+
+  -- one more label, from the end
+  pub chained_more : (first next : List ℕ) → (get_or labels place d).address < 65536 → AreChained labels (place + 1) first next
+      → AreChained labels place (set first (get_or labels place d).address place) (set next place (get_or first (get_or labels place d).address 0))
+  chained_more first next below chained =
+      let address = (get_or labels place d).address in
+      let in_first : address < length first = omega (arith, chained.first_size) in
+      let in_next : place < length next = omega (arith, chained.next_size) in
+      record {
+        first_size = length-set first address place ∙ chained.first_size;
+        next_size = length-set next place (get_or first address 0) ∙ chained.next_size;
+        firsts = λ other other_below. elim (cases_eq other address) [
+          | inl same ↦
+              let P : ℕ → Type 0 = λ a. IsNext labels a place (get_or (set first address place) a 0) in
+              let Q : ℕ → Type 0 = IsNext labels address place in
+              subst P (sym same) (subst Q (sym (get_or-set_same first address place 0 in_first)) begun)
+          | inr differ ↦
+              let Q : ℕ → Type 0 = IsNext labels other place in
+              subst Q (sym (get_or-set_other first address other place 0 differ)) (passed other (get_or first other 0) (λ same. differ (sym same)) (chained.firsts other other_below))
+        ];
+        nexts = λ at e from inside. elim (cases_eq at place) [
+          | inl same ↦
+              let P : ℕ → Type 0 = λ p. IsNext labels (get_or labels p e).address (p + 1) (get_or (set next place (get_or first address 0)) p 0) in
+              let Q : ℕ → Type 0 = IsNext labels (get_or labels place e).address (place + 1) in
+              let R : Label → Type 0 = λ label. IsNext labels label.address (place + 1) (get_or first address 0) in
+              subst P (sym same) (subst Q (sym (get_or-set_same next place (get_or first address 0) 0 in_next)) (subst R (get_or_default labels place d e within) (chained.firsts address below)))
+          | inr differ ↦
+              let Q : ℕ → Type 0 = IsNext labels (get_or labels at e).address (at + 1) in
+              subst Q (sym (get_or-set_other next place at (get_or first address 0) 0 differ)) (chained.nexts at e (omega arith) inside)
+        ];
+      }
+
+-- what is left of a chain, and the text so far
+pub record LinesLeft (labels : List Label) (address : ℕ) (before now : List ℕ) (place : ℕ) : Type 0 where
+  pub text : now ++ text_of_lines (label_lines (drop place labels) address) ≡ before ++ text_of_lines (label_lines labels address)
+  pub within : place ≤ length labels
+  pub found : (d : Label) → place < length labels → (get_or labels place d).address ≡ address
+
+pub lines_start : (labels : List Label) (address place : ℕ) (text : List ℕ) → IsNext labels address 0 place → LinesLeft labels address text text place
+lines_start labels address place text is = record {
+  text = ap (λ (found : List Label). text ++ text_of_lines (map label_line found)) (sym is.skipped);
+  within = is.within;
+  found = is.found;
+}
+
+pub lines_more : (labels : List Label) (address : ℕ) (before now more : List ℕ) (place next : ℕ) (label : Label) → place < length labels
+    → LinesLeft labels address before now place → label ≡ get_or labels place label → more ≡ now ++ (label_line label ++ 10 ∷ [])
+    → ((d : Label) → IsNext labels (get_or labels place d).address (place + 1) next) → LinesLeft labels address before more next
+lines_more labels address before now more place next label within left is_label added follows =
+    let here : label.address ≡ address = ap (λ (l : Label). l.address) is_label ∙ left.found label within in
+    let same : (label.address == address) ≡ true = eq-eqb label.address address here in
+    let P : ℕ → Type 0 = λ a. IsNext labels a (place + 1) next in
+    let is : IsNext labels address (place + 1) next = subst P (left.found label within) (follows label) in
+    let step : drop place labels ≡ label ∷ drop (place + 1) labels =
+    drop_more labels place label within ∙ ap (λ (l : Label). l ∷ drop (place + 1) labels) (sym is_label) in
+    let split : labels_of_address address (drop place labels) ≡ label ∷ labels_of_address address (drop next labels) =
+    ap (labels_of_address address) step ∙ rw same (ap (λ (found : List Label). label ∷ found) is.skipped) in
+    record {
+      text =
+          ap (λ (text : List ℕ). text ++ text_of_lines (label_lines (drop next labels) address)) added
+          ∙ append_assoc now (label_line label ++ 10 ∷ []) (text_of_lines (label_lines (drop next labels) address))
+          ∙ ap (λ (found : List Label). now ++ text_of_lines (map label_line found)) (sym split)
+          ∙ left.text;
+      within = is.within;
+      found = is.found;
+    }
+
+pub lines_end : (labels : List Label) (address : ℕ) (before now : List ℕ) (place : ℕ) → length labels ≤ place → LinesLeft labels address before now place
+    → now ≡ before ++ text_of_lines (label_lines labels address)
+lines_end labels address before now place past left =
+    let none = drop_all place labels past in
+    sym (append-nil now) ∙ ap (λ (rest : List Label). now ++ text_of_lines (label_lines rest address)) (sym none) ∙ left.text
+
+-- the offsets up to one more
+range_more : (from count : ℕ) → range_with_len from (count + 1) ≡ range_with_len from count ++ (from + count) ∷ []
+range_more from count = by count from (count + 1) (from + count) (omega arith) refl
+  where
+    by : (count from more last : ℕ) → more ≡ suc count → from + count ≡ last → range_with_len from more ≡ range_with_len from count ++ last ∷ []
+    by zero from more last is_more is_last = let same : from ≡ last = omega arith in rw (is_more, same) refl
+    by (suc count) from more last is_more is_last = rw is_more (ap (λ (rest : List ℕ). from ∷ rest) (by count (from + 1) (suc count) last refl (omega arith)))
+
+-- the text of the lines up to an offset
+pub record TextUpTo (rom : List ℕ) (labels : List Label) (text : List ℕ) (left offset : ℕ) : Type 0 where
+  pub lines : text ≡ text_of_lines (codes "|0100" ∷ flat_map (lines_at rom labels) (range_with_len 0 offset))
+  pub ahead : left ≡ immediate_left rom offset
+
+pub text_start : (rom : List ℕ) (labels : List Label) (text : List ℕ) → text ≡ codes "|0100" ++ 10 ∷ [] → TextUpTo rom labels text 0 0
+unfolding immediate_left
+text_start rom labels text is = record { lines = is; ahead = refl }
+
+-- the text with the lines of one more offset
+text_more : (rom : List ℕ) (labels : List Label) (text more : List ℕ) (left offset : ℕ) → TextUpTo rom labels text left offset
+    → more ≡ text ++ text_of_lines (lines_at rom labels offset)
+    → more ≡ text_of_lines (codes "|0100" ∷ flat_map (lines_at rom labels) (range_with_len 0 (offset + 1)))
+text_more rom labels text more left offset up added =
+    let ended = λ (line : List ℕ). line ++ 10 ∷ [] in
+    let first = codes "|0100" ++ 10 ∷ [] in
+    let so_far = flat_map (lines_at rom labels) (range_with_len 0 offset) in
+    let last : 0 + offset ≡ offset = omega arith in
+    let range : range_with_len 0 (offset + 1) ≡ range_with_len 0 offset ++ offset ∷ [] = range_more 0 offset ∙ ap (λ (n : ℕ). range_with_len 0 offset ++ n ∷ []) last in
+    let joined : flat_map (lines_at rom labels) (range_with_len 0 (offset + 1)) ≡ so_far ++ lines_at rom labels offset =
+    ap (flat_map (lines_at rom labels)) range ∙ flat_map-append (lines_at rom labels) (range_with_len 0 offset) (offset ∷ [])
+    ∙ ap (λ (lines : List (List ℕ)). so_far ++ lines) (append-nil (lines_at rom labels offset)) in
+    added ∙ ap (λ (t : List ℕ). t ++ text_of_lines (lines_at rom labels offset)) up.lines
+    ∙ append_assoc first (text_of_lines so_far) (text_of_lines (lines_at rom labels offset))
+    ∙ ap (λ (t : List ℕ). first ++ t) (sym (flat_map-append ended so_far (lines_at rom labels offset)))
+    ∙ ap (λ (lines : List (List ℕ)). first ++ text_of_lines lines) (sym joined)
+
+-- an offset at which an instruction begins
+pub text_begins : (rom : List ℕ) (labels : List Label) (text with_labels more : List ℕ) (left after offset : ℕ) → TextUpTo rom labels text left offset → left ≡ 0
+    → with_labels ≡ text ++ text_of_lines (label_lines labels (rom_start + offset)) → more ≡ with_labels ++ (instruction_line rom offset ++ 10 ∷ [])
+    → after ≡ immediate_length (get_or rom offset 0) → TextUpTo rom labels more after (offset + 1)
+unfolding immediate_left
+text_begins rom labels text with_labels more left after offset up none labelled added length' =
+    let begins : begins_instruction rom offset ≡ true = eq-eqb (immediate_left rom offset) 0 (sym up.ahead ∙ none) in
+    let one : offset + 1 ≡ suc offset = omega arith in
+    let here : text_of_lines (lines_at rom labels offset) ≡ text_of_lines (label_lines labels (rom_start + offset)) ++ (instruction_line rom offset ++ 10 ∷ []) =
+    rw begins
+    (flat_map-append (λ (line : List ℕ). line ++ 10 ∷ []) (label_lines labels (rom_start + offset)) (instruction_line rom offset ∷ [])
+    ∙ ap (λ (t : List ℕ). text_of_lines (label_lines labels (rom_start + offset)) ++ t) (append-nil (instruction_line rom offset ++ 10 ∷ []))) in
+    record {
+      lines = text_more rom labels text more left offset up
+          (added ∙ ap (λ (t : List ℕ). t ++ (instruction_line rom offset ++ 10 ∷ [])) labelled
+          ∙ append_assoc text (text_of_lines (label_lines labels (rom_start + offset))) (instruction_line rom offset ++ 10 ∷ [])
+          ∙ ap (λ (t : List ℕ). text ++ t) (sym here));
+      ahead = length' ∙ sym (rw (one, begins) refl);
+    }
+
+-- an offset within an instruction
+pub text_within : (rom : List ℕ) (labels : List Label) (text : List ℕ) (left after offset : ℕ) → TextUpTo rom labels text left offset → left ≢ 0
+    → after ≡ left - 1 → TextUpTo rom labels text after (offset + 1)
+unfolding immediate_left
+text_within rom labels text left after offset up some less =
+    let within : begins_instruction rom offset ≡ false = ne_eqb (immediate_left rom offset) 0 (λ none. some (up.ahead ∙ none)) in
+    let one : offset + 1 ≡ suc offset = omega arith in
+    let here : text_of_lines (lines_at rom labels offset) ≡ [] = rw within refl in
+    record {
+      lines = text_more rom labels text text left offset up (sym (append-nil text) ∙ ap (λ (t : List ℕ). text ++ t) (sym here));
+      ahead = less ∙ ap (λ (n : ℕ). n - 1) up.ahead ∙ sym (rw (one, within) refl);
+    }
+
+pub text_end : (rom : List ℕ) (labels : List Label) (text : List ℕ) (left offset : ℕ) → offset ≡ length rom → TextUpTo rom labels text left offset → text ≡ disassembly rom labels
+unfolding disassembly disassembly_lines
+text_end rom labels text left offset end up = up.lines ∙ ap (λ (n : ℕ). text_of_lines (codes "|0100" ∷ flat_map (lines_at rom labels) (range_with_len 0 n))) end

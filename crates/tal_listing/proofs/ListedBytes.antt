@@ -1,0 +1,107 @@
+-- The bytes that a listing shows beside a word are those of the word.
+use Rattle.std.proofs.Common.{◌≡◌, ℕ, zero, suc, ◌+◌, ◌-◌, ◌<◌, Bool, true, false, List, [], ◌∷◌, length, get_or, map, find, Some, None, inl, inr, refl, ap, sym, ◌∙◌, arith}
+use Rattle.std.specs.Prelude.{if◌then◌else◌, ◌==◌, nat_le, nat_lt}
+use Rattle.std.specs.List.{range_with_len}
+use Rattle.std.proofs.lemmas.Bool.{cases_Bool, eqb-true, le-leb, lt-ltb, and_from}
+use Rattle.std.proofs.lemmas.List.FromFn.{get_or-map-range_with_len, length-map-range_with_len}
+use Rattle.std.proofs.lemmas.Grind.{same_number_lists}
+use Rattle.tal_words.proofs.OrderLemmas.{get_or-each, length-each}
+use Rattle.tal_labels.specs.declared.placed.PlacedWord.{PlacedWord}
+use Rattle.tal_rom.specs.Rom.{Piece, covers, byte_of_piece, byte_at, before_trimmed, trimmed, rom_image, piece_given, pieces_of}
+use Rattle.tal_rom.specs.Assembly.{first_fault, layout, rom_of}
+use Rattle.tal_rom.proofs.AssemblyLemmas.{sound_once}
+use Rattle.tal_listing.specs.Listing.{memory_bytes, HoldsItsWords}
+use Rattle.tal_listing.proofs.ListingLemmas.{sound_words}
+
+-- a list reads the same without the zeros at its end
+get_or-trimmed : (xs : List ℕ) (i : ℕ) → get_or (trimmed xs) i 0 ≡ get_or xs i 0
+unfolding trimmed
+get_or-trimmed [] i = refl
+get_or-trimmed (x ∷ xs) i = by (trimmed xs) (λ j. get_or-trimmed xs j) i
+  where
+    first : (b : Bool) → (x == 0) ≡ b → get_or (if b then [] else x ∷ []) 0 0 ≡ x
+    first true e = sym (eqb-true x 0 e)
+    first false e = refl
+
+    later : (b : Bool) (j : ℕ) → get_or (if b then [] else x ∷ []) (suc j) 0 ≡ 0
+    later true j = refl
+    later false j = refl
+
+    by : (t : List ℕ) → ((j : ℕ) → get_or t j 0 ≡ get_or xs j 0) → (i : ℕ) → get_or (before_trimmed x t) i 0 ≡ get_or (x ∷ xs) i 0
+    by [] same zero = first (x == 0) refl
+    by [] same (suc j) = later (x == 0) j ∙ same j
+    by (y ∷ ys) same zero = refl
+    by (y ∷ ys) same (suc j) = same j
+
+-- the first word that covers an address is found
+found_first : (pieces : List Piece) (address k : ℕ) (d : Piece) → k < length pieces → covers address (get_or pieces k d) ≡ true
+    → ((i : ℕ) → i < k → covers address (get_or pieces i d) ≡ false) → find (covers address) pieces ≡ Some (get_or pieces k d)
+found_first [] address k d within here before = absurd (omega arith)
+found_first (piece ∷ pieces) address zero d within here before = rw here refl
+found_first (piece ∷ pieces) address (suc k) d within here before =
+    let other = before 0 (omega arith) in
+    rw other (found_first pieces address k d (omega arith) here (λ i below. before (suc i) (omega arith)))
+
+module _ (source : List ℕ) (sound : first_fault source ≡ None) (k : ℕ) (word : PlacedWord) (piece : Piece) (within : k < length (layout source).words) where
+  abbrev words : List PlacedWord
+  words = (layout source).words
+
+  abbrev pieces : List Piece
+  pieces = pieces_of source (layout source).labels (layout source).words
+
+  abbrev placed : PlacedWord
+  placed = get_or (layout source).words k word
+
+  abbrev own : Piece
+  own = get_or (pieces_of source (layout source).labels (layout source).words) k piece
+
+  own_address : own.address ≡ placed.address
+  unfolding pieces_of
+  own_address = ap (λ (p : Piece). p.address) (get_or-each (piece_given source (layout source).labels) [] (layout source).words k word piece within)
+
+  piece_count : length pieces ≡ length words
+  unfolding pieces_of
+  piece_count = length-each (piece_given source (layout source).labels) [] (layout source).words
+
+  -- a byte of the ROM
+  rom_byte : (i : ℕ) → i < 65280 → get_or (rom_of source) i 0 ≡ byte_at pieces (256 + i)
+  unfolding rom_of rom_image
+  rom_byte i below =
+      let f : ℕ → ℕ = λ n. byte_at pieces (256 + n) in
+      get_or-trimmed (map f (range_with_len 0 65280)) i ∙ get_or-map-range_with_len f 0 65280 i i 0 below (omega arith)
+
+  byte_own : (j : ℕ) → j < placed.size → byte_at pieces (placed.address + j) ≡ get_or own.bytes j 0
+  unfolding byte_at
+  byte_own j inside =
+      let once = sound_once source sound in
+      let size = once.sized k word piece within in
+      let here : covers (placed.address + j) own ≡ true = and_from (nat_le own.address (placed.address + j)) (nat_lt (placed.address + j) (own.address + length own.bytes))
+      (le-leb own.address (placed.address + j) (omega (arith, own_address))) (lt-ltb (placed.address + j) (own.address + length own.bytes) (omega (arith, own_address, size))) in
+      let before = λ (i : ℕ) (below : i < k). elim (cases_Bool (covers (placed.address + j) (get_or pieces i piece))) as (λ _. covers (placed.address + j) (get_or pieces i piece) ≡ false) [
+        | inl covered ↦ (let never : true ≡ false = sym here ∙ once.once (placed.address + j) i k piece below within covered in cc)
+        | inr free ↦ free
+      ] in
+      let found = found_first pieces (placed.address + j) k piece (omega (arith, piece_count)) here before in
+      let at : placed.address + j - own.address ≡ j = omega (arith, own_address) in
+      ap (byte_of_piece (placed.address + j)) found ∙ ap (λ (n : ℕ). get_or own.bytes n 0) at
+
+  shown : memory_bytes (rom_of source) placed.address placed.size ≡ own.bytes
+  shown =
+      let rom = rom_of source in
+      let f : ℕ → ℕ = λ i. get_or rom (placed.address - 256 + i) 0 in
+      let once = sound_once source sound in
+      let size = once.sized k word piece within in
+      let lies = (sound_words source sound).each k word within in
+      let count = length-map-range_with_len f 0 placed.size in
+      same_number_lists (memory_bytes rom placed.address placed.size) own.bytes (omega (arith, count, size))
+      (λ j below.
+      let inside : j < placed.size = omega (arith, count) in
+      let start = lies.start (omega arith) in
+      let end = lies.end (omega arith) in
+      let address : 256 + (placed.address - 256 + j) ≡ placed.address + j = omega arith in
+      get_or-map-range_with_len f 0 placed.size j j 0 inside (omega arith)
+      ∙ rom_byte (placed.address - 256 + j) (omega arith)
+      ∙ ap (byte_at pieces) address ∙ byte_own j inside)
+
+pub holds_words : (source : List ℕ) → first_fault source ≡ None → HoldsItsWords source
+holds_words source sound = record { each = λ k word piece within. shown source sound k word piece within }

@@ -1,0 +1,5 @@
+pub mod Texts
+pub mod LabelChains
+pub mod Disassembly
+pub mod Assembling
+pub mod Listing

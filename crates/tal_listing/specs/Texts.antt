@@ -1,0 +1,12 @@
+-- Lines of text.
+use Rattle.std.specs.Prelude.{ℕ, List, [], ◌∷◌, ◌++◌}
+use Rattle.std.specs.List.{flat_map}
+use Rattle.uxn_io.specs.NumberText.{hex_of_byte}
+
+-- lines, each with a newline behind it
+abbrev pub text_of_lines : List (List ℕ) → List ℕ
+text_of_lines lines = flat_map (λ line. line ++ 10 ∷ []) lines
+
+-- the digits of bytes, two for each
+abbrev pub hex_of_bytes : List ℕ → List ℕ
+hex_of_bytes bytes = flat_map hex_of_byte bytes

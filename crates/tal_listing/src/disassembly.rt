@@ -1,0 +1,130 @@
+//! The disassembly of a ROM.
+
+ghost use Rattle.std.specs.Prelude.{◌≡◌, ◌≤◌, ◌<◌, ◌+◌, ◌++◌, ℕ, List, ◌∷◌, [], length, slice_index, true, IfOk, OnOk};
+ghost use Rattle.tal_words.specs.declared.name.Label.{Label};
+ghost use Rattle.tal_words.specs.Comments.{source_limit};
+ghost use Rattle.tal_symbols.specs.SymbolFile.{are_readable};
+ghost use Rattle.tal_rom.specs.Rom.{rom_limit};
+ghost use Rattle.tal_listing.specs.Assembling.{AssemblesTo};
+ghost use Rattle.tal_listing.specs.LabelChains.{AreChained};
+ghost use Rattle.tal_listing.specs.Texts.{text_of_lines};
+ghost use Rattle.tal_listing.specs.Disassembly.{immediate_length, immediate_at, behind_name, label_line, label_lines, instruction_line, disassembly};
+
+use crate::chains::LabelChains;
+use std::alloc::{AllocError, Global};
+use tal_words::{Label, op_name};
+use uxn_io::{hex_byte, hex_short};
+
+/// The address of the first byte of a ROM.
+const ROM_START: usize = 0x0100;
+
+/// The disassembly of a ROM: the line `|0100`, and then a line for each instruction, with its name, its
+/// immediate as far as the ROM has it, and its address. Before an instruction each label of its address
+/// has a line. With labels whose names can be read back, the text assembles to the ROM without the
+/// zeros at its end, where it is no longer than a source may be.
+pub fn disassemble(alloc: Global, rom: &[u8], labels: &[Label]) -> Result<Vec<u8>, AllocError>
+    requires { length rom.now ≤ rom_limit }
+    ensures value { IfOk result (λ text. text.items ≡ disassembly rom.now labels.now) }
+    ensures assembles { IfOk result (λ text. are_readable labels.now ≡ true → length text.items ≤ source_limit
+        → AssemblesTo text.items rom.now) }
+{
+    let chains = LabelChains::new(alloc, labels)?;
+    let mut text = Vec::new(alloc);
+    text.extend_from_slice(b"|0100\n")?;
+    let mut left = 0;
+    for offset in 0..rom.len() {
+        if left == 0 {
+            let address = (ROM_START + offset) as u16;
+            append_label_lines(&mut text, &chains, labels, address)?;
+            append_instruction(&mut text, rom, offset)?;
+            left = immediate_len(rom[offset]);
+        } else {
+            left -= 1;
+        }
+    }
+    Ok(text)
+}
+
+/// A disassembly assembles to its ROM without the zeros at the end: for each ROM of at most 65,280 bytes
+/// and all labels whose names are not empty and have no byte up to a space, where the text is no longer
+/// than a source may be.
+pub fn disassemblies_assemble()
+    ensures { (rom : List ℕ) (labels : List Label) → ((i : ℕ) → i < length rom → slice_index rom i < 256)
+        → length rom ≤ rom_limit → are_readable labels ≡ true → length (disassembly rom labels) ≤ source_limit
+        → AssemblesTo (disassembly rom labels) rom }
+{}
+
+/// How many bytes of an instruction follow its opcode.
+fn immediate_len(opcode: u8) -> usize
+    ensures value { result ≡ immediate_length opcode }
+    ensures bound { result ≤ 2 }
+{
+    match opcode {
+        0x80 | 0xc0 => 1,
+        0x20 | 0x40 | 0x60 | 0xa0 | 0xe0 => 2,
+        _ => 0,
+    }
+}
+
+/// Appends the lines of the labels of an address.
+fn append_label_lines(
+    text: &mut Vec<u8>,
+    chains: &LabelChains,
+    labels: &[Label],
+    address: u16,
+) -> Result<(), AllocError>
+    requires { AreChained labels.now 0 chains.now.first.items chains.now.next.items }
+    ensures { OnOk result (text.new.items ≡ text.old.items ++ text_of_lines (label_lines labels.now address)) }
+{
+    let mut place = chains.first_of(labels, address);
+    while place < labels.len() {
+        append_label_line(text, &labels[place])?;
+        place = chains.next_of(labels, place);
+    }
+    Ok(())
+}
+
+/// Appends the line of a label.
+fn append_label_line(text: &mut Vec<u8>, label: &Label) -> Result<(), AllocError>
+    ensures { OnOk result (text.new.items ≡ text.old.items ++ (label_line label.now ++ 10 ∷ [])) }
+{
+    text.extend_from_slice(b"( @")?;
+    text.extend_from_slice(label.name.bytes())?;
+    text.extend_from_slice(b" )\n")
+}
+
+/// Appends the line of the instruction at an offset.
+fn append_instruction(text: &mut Vec<u8>, rom: &[u8], offset: usize) -> Result<(), AllocError>
+    requires within { offset < length rom.now }
+    requires short { length rom.now ≤ rom_limit }
+    ensures { OnOk result (text.new.items ≡ text.old.items ++ (instruction_line rom.now offset ++ 10 ∷ [])) }
+{
+    text.extend_from_slice(&op_name(rom[offset]))?;
+    append_immediate(text, immediate_of(rom, offset))?;
+    text.extend_from_slice(b" ( ")?;
+    text.extend_from_slice(&hex_short((ROM_START + offset) as u16))?;
+    text.extend_from_slice(b" )\n")
+}
+
+/// The bytes behind an opcode that belong to its instruction, as far as the ROM has them.
+fn immediate_of(rom: &[u8], offset: usize) -> &[u8]
+    requires { offset < length rom.now }
+    ensures { result.now ≡ immediate_at rom.now offset }
+{
+    let rest = &rom[offset + 1..];
+    &rest[..immediate_len(rom[offset]).min(rest.len())]
+}
+
+/// Appends the digits of an immediate, if there are any, with a space before them.
+fn append_immediate(text: &mut Vec<u8>, bytes: &[u8]) -> Result<(), AllocError>
+    ensures { OnOk result (text.new.items ≡ text.old.items ++ behind_name bytes.now) }
+{
+    if bytes.is_empty() {
+        return Ok(());
+    }
+    text.push(b' ')?;
+    for byte in bytes {
+        text.extend_from_slice(&hex_byte(*byte))?;
+    }
+    Ok(())
+}

@@ -1,0 +1,4 @@
+pub mod Cutting
+pub mod ReadingLemmas
+pub mod WritingLemmas
+pub mod NearestLemmas

@@ -1,0 +1,150 @@
+-- The reading of a file, one entry at a time.
+use Rattle.std.proofs.Common.{◌≡◌, ℕ, ◌+◌, ◌*◌, ◌/◌, ◌%◌, ◌<◌, ◌≤◌, true, List, [], ◌∷◌, ◌++◌, length, take, drop, get_or, map, Option, Some, None, Ok, Err, inl, inr, refl, ap, sym, ◌∙◌, arith, append_assoc, append-nil, length-append, length-drop}
+use Rattle.std.specs.Prelude.{not, ◌&&◌, ◌==◌, nat_lt}
+use Rattle.std.specs.List.{list_any}
+use Rattle.std.proofs.lemmas.Bool.{cases_Bool, le-ltb, lt-ltb, and_from, not_from_false}
+use Rattle.std.proofs.lemmas.List.{take-append-drop, nil_from_length, length_push, get_or-append-add}
+use Rattle.std.proofs.lemmas.List.Concat.{flat_map-append}
+use Rattle.std.proofs.lemmas.List.Folds.{list_all-append}
+use Rattle.tal_words.specs.declared.name.Label.{Label}
+use Rattle.tal_words.specs.Source.{is_blank}
+use Rattle.tal_symbols.specs.declared.stop.SymbolKind.{SymbolKind}
+use Rattle.tal_symbols.specs.declared.stop.SymbolKind.TheVariants.{Torn, NoName, BadByte, Long}
+use Rattle.tal_symbols.specs.SymbolFile.{entry, symbol_file, symbols_limit, is_readable, are_readable}
+use Rattle.tal_symbols.specs.Reading.{Refusal, entries, entry_fault, bad_name, name_before_zero, label_of_entry, first_refusal, refused_at, symbols_in}
+use Rattle.tal_symbols.specs.Answers.{entry_length, StopsAt, IsRefused}
+use Rattle.tal_symbols.proofs.Cutting.{whole_entry, cut_entry, entry_length-some, entry_length-within, same_fault}
+
+-- what is known before an entry: the labels so far are those of the entries before, and nothing is wrong with these
+pub record ReadsOn (bytes rest : List ℕ) (labels : List Label) : Type 0 where
+  pub refusal : first_refusal 0 (entries bytes) ≡ first_refusal (length labels) (entries rest)
+  pub all : map label_of_entry (entries bytes) ≡ labels ++ map label_of_entry (entries rest)
+  pub parts : bytes ≡ symbol_file labels ++ rest
+  pub readable : are_readable labels ≡ true
+  pub count : length labels + length rest ≤ length bytes
+
+pub reads_start : (bytes : List ℕ) → ReadsOn bytes bytes []
+reads_start bytes = record { refusal = refl; all = refl; parts = refl; readable = refl; count = omega arith }
+
+named_readable : (name : List ℕ) → bad_name name ≡ None → (nat_lt 0 (length name) && not (list_any is_blank name)) ≡ true
+named_readable [] e = cc
+named_readable (first ∷ rest) e = elim (cases_Bool (list_any is_blank (first ∷ rest))) [
+  | inl blank ↦ (let never : Some BadByte ≡ None = rw blank at e in cc)
+  | inr plain ↦
+      let some : nat_lt 0 (length (first ∷ rest)) ≡ true = lt-ltb 0 (length (first ∷ rest)) (omega arith) in
+      and_from (nat_lt 0 (length (first ∷ rest))) (not (list_any is_blank (first ∷ rest))) some (not_from_false (list_any is_blank (first ∷ rest)) plain)
+]
+
+-- the entry of the label that is read is the entry
+entry_again : (high low : ℕ) (name : List ℕ) → low < 256 → entry (record { name = name; address = 256 * high + low }) ≡ high ∷ low ∷ (name ++ 0 ∷ [])
+entry_again high low name small =
+    let first : (256 * high + low) / 256 ≡ high = omega arith in
+    let second : (256 * high + low) % 256 ≡ low = omega arith in
+    rw (first, second) refl
+
+-- one more entry
+pub reads_more : (bytes rest : List ℕ) (labels : List Label) (label : Label) → ((k : ℕ) → k < length bytes → get_or bytes k 0 < 256)
+    → ReadsOn bytes rest labels → 0 < length rest → entry_fault (take (entry_length rest) rest) ≡ None
+    → label ≡ label_of_entry (take (entry_length rest) rest)
+    → ReadsOn bytes (drop (entry_length rest) rest) (labels ++ label ∷ [])
+reads_more bytes rest labels label small reads some sound is_label =
+    let whole = whole_entry rest (sym (same_fault rest) ∙ sound) in
+    let front = take (entry_length rest) rest in
+    let back = drop (entry_length rest) rest in
+    let cut = cut_entry rest some in
+    let name = name_before_zero whole.text in
+    let is_read : label ≡ record { name = name; address = 256 * whole.high + whole.low } = is_label ∙ whole.labelled in
+    let low_small : whole.low < 256 = low_of whole.high whole.low whole.text whole.parts in
+    let again : entry label ≡ front = ap entry is_read ∙ entry_again whole.high whole.low name low_small ∙ sym whole.cut in
+    let counted : length (labels ++ label ∷ []) ≡ length labels + 1 = length_push labels label in
+    record {
+      refusal =
+          reads.refusal ∙ ap (first_refusal (length labels)) cut
+          ∙ ap (λ (fault : Option SymbolKind). refused_at (length labels) fault (first_refusal (length labels + 1) (entries back))) sound
+          ∙ ap (λ (n : ℕ). first_refusal n (entries back)) (sym counted);
+      all =
+          reads.all ∙ ap (λ (parts : List (List ℕ)). labels ++ map label_of_entry parts) cut
+          ∙ ap (λ (first : Label). labels ++ first ∷ map label_of_entry (entries back)) (sym is_label)
+          ∙ sym (append_assoc labels (label ∷ []) (map label_of_entry (entries back)));
+      parts =
+          reads.parts ∙ ap (λ (text : List ℕ). symbol_file labels ++ text) (sym (take-append-drop (entry_length rest) rest) ∙ ap (λ (text : List ℕ). text ++ back) (sym again))
+          ∙ sym (append_assoc (symbol_file labels) (entry label) back)
+          ∙ ap (λ (text : List ℕ). text ++ back) (sym (flat_map-append entry labels (label ∷ []) ∙ ap (λ (text : List ℕ). symbol_file labels ++ text) (append-nil (entry label))));
+      readable =
+          list_all-append is_readable labels (label ∷ [])
+          ∙ and_from (are_readable labels) (is_readable label && true) reads.readable
+          (and_from (is_readable label) true (ap is_readable is_read ∙ named_readable name whole.named) refl);
+      count = omega (arith, counted, reads.count, length-drop (entry_length rest) rest, entry_length-some rest some, entry_length-within rest);
+    }
+  where
+    low_of : (high low : ℕ) (text : List ℕ) → rest ≡ high ∷ low ∷ text → low < 256
+    low_of high low text e =
+        let front = symbol_file labels in
+        let size = length-append front rest in
+        let read : get_or bytes (length front + 1) 0 ≡ low =
+        ap (λ (all : List ℕ). get_or all (length front + 1) 0) reads.parts ∙ get_or-append-add front rest 1 0 ∙ ap (λ (all : List ℕ). get_or all 1 0) e in
+        let inside : length front + 1 < length bytes = omega (arith, size, ap length reads.parts, ap length e) in
+        let below = small (length front + 1) inside in
+        omega (arith, read)
+
+-- a faulty entry
+pub reads_stop : (bytes rest : List ℕ) (labels : List Label) (kind : SymbolKind) → ReadsOn bytes rest labels → 0 < length rest
+    → entry_fault (take (entry_length rest) rest) ≡ Some kind
+    → (first_refusal 0 (entries bytes) ≡ Some (record { entry = length labels; kind = kind })) × StopsAt bytes (length labels) kind
+reads_stop bytes rest labels kind reads some fault = (
+  reads.refusal ∙ ap (first_refusal (length labels)) (cut_entry rest some)
+      ∙ ap (λ (found : Option SymbolKind). refused_at (length labels) found (first_refusal (length labels + 1) (entries (drop (entry_length rest) rest)))) fault,
+  record {
+    front = labels;
+    rest = rest;
+    parts = reads.parts;
+    readable = reads.readable;
+    number = refl;
+    begins = some;
+    fault = sym (same_fault rest) ∙ fault;
+  },
+)
+
+-- all entries
+pub reads_end : (bytes rest : List ℕ) (labels : List Label) → ReadsOn bytes rest labels → length rest ≡ 0
+    → (first_refusal 0 (entries bytes) ≡ None) × (map label_of_entry (entries bytes) ≡ labels) × (are_readable labels ≡ true) × (symbol_file labels ≡ bytes)
+reads_end bytes rest labels reads end =
+    let none = nil_from_length rest end in (
+      reads.refusal ∙ ap (λ (text : List ℕ). first_refusal (length labels) (entries text)) none,
+      reads.all ∙ ap (λ (text : List ℕ). labels ++ map label_of_entry (entries text)) none ∙ append-nil labels,
+      reads.readable,
+      sym (reads.parts ∙ ap (λ (text : List ℕ). symbol_file labels ++ text) none ∙ append-nil (symbol_file labels)),
+    )
+
+-- no entry is too long
+not_long : (rest : List ℕ) → entry_fault rest ≡ Some Long → ⊥
+not_long [] e = cc
+not_long (a ∷ []) e = cc
+not_long (a ∷ b ∷ text) e = elim (cases_Bool (list_any (λ byte. byte == 0) text)) [
+  | inl has ↦ named_not_long (name_before_zero text) (rw has at e)
+  | inr none ↦ (let never : Some Torn ≡ Some Long = rw none at e in cc)
+]
+  where
+    named_not_long : (name : List ℕ) → bad_name name ≡ Some Long → ⊥
+    named_not_long [] e = cc
+    named_not_long (first ∷ rest) e = elim (cases_Bool (list_any is_blank (first ∷ rest))) [
+      | inl blank ↦ (let never : Some BadByte ≡ Some Long = rw blank at e in cc)
+      | inr plain ↦ (let never : None ≡ Some Long = rw plain at e in cc)
+    ]
+
+pub stops_refused : (bytes : List ℕ) (entry : ℕ) (kind : SymbolKind) → length bytes ≤ symbols_limit → StopsAt bytes entry kind → IsRefused bytes entry kind
+stops_refused bytes entry Torn short stops = (short, stops)
+stops_refused bytes entry NoName short stops = (short, stops)
+stops_refused bytes entry BadByte short stops = (short, stops)
+stops_refused bytes entry Long short stops = absurd (not_long stops.rest stops.fault)
+
+-- what is found in a file within the limit
+pub found_refusal : (bytes : List ℕ) (refusal : Refusal) → length bytes ≤ symbols_limit → first_refusal 0 (entries bytes) ≡ Some refusal
+    → symbols_in bytes ≡ Err refusal
+unfolding symbols_in
+found_refusal bytes refusal short e = let low = le-ltb symbols_limit (length bytes) short in rw (low, e) refl
+
+pub found_labels : (bytes : List ℕ) (labels : List Label) → length bytes ≤ symbols_limit → first_refusal 0 (entries bytes) ≡ None
+    → map label_of_entry (entries bytes) ≡ labels → symbols_in bytes ≡ Ok labels
+unfolding symbols_in
+found_labels bytes labels short e all = let low = le-ltb symbols_limit (length bytes) short in rw (low, e, all) refl

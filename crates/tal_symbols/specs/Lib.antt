@@ -1,0 +1,4 @@
+pub mod SymbolFile
+pub mod Reading
+pub mod Answers
+pub mod Lookups

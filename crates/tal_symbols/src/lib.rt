@@ -1,0 +1,15 @@
+//! Symbol files, which keep the labels of a program, and look-ups of labels.
+#![tactic(auto)]
+
+mod lookups;
+mod reading;
+mod stop;
+#[cfg(test)]
+mod tests;
+mod writing;
+
+pub use lookups::{address_of, nearest};
+pub use reading::{read_symbols, written_symbols_are_read};
+pub use stop::{SymbolKind, SymbolStop};
+pub use tal_words::{Label, Name};
+pub use writing::write_symbols;
