@@ -1,5 +1,6 @@
-use Rattle.std.proofs.Common.{◌≡◌, ◌≢◌, ℕ, zero, suc, true, false, List, [], ◌∷◌, slice_set, slice_index, refl, ap, sym, ◌∙◌, cond, arith}
+use Rattle.std.proofs.Common.{◌≡◌, ◌≢◌, ℕ, zero, suc, true, false, List, [], ◌∷◌, slice_set, slice_index, refl, ap, sym, ◌∙◌, cond, subst, arith}
 use Rattle.std.specs.Prelude.{Option, Ok, Err, ◌==◌}
+use Rattle.uxn_opcodes.specs.declared.Stop.TheVariants.{SinkFault}
 use Rattle.std.proofs.lemmas.Bool.Decides.{nat_tests}
 use Rattle.uxn_io.specs.Told.{extended}
 use Rattle.uxn_opcodes.specs.declared.Core.{Core}
@@ -9,8 +10,8 @@ use Rattle.uxn_opcodes.specs.Rule.{opcode_at}
 use Rattle.uxn_opcodes.specs.Instruction.{Instruction}
 use Rattle.uxn_opcodes.specs.Model.{Carries, after_instruction, carried-ran, carried-broke, carried-stopped}
 use Rattle.uxn_cli.specs.declared.console.Console.{Console}
-use Rattle.uxn_cli.specs.Run.{World, State, fresh, put_out, put_err, console, next, vector, last_of, vector_end}
-use Rattle.uxn_cli.specs.Console.{SameSinks, Reads, Wrote, Stopped, StandsFor, EndsVector}
+use Rattle.uxn_cli.specs.Run.{Ports, State, fresh, put_out, put_err, console, next, vector, last_of, vector_end}
+use Rattle.uxn_cli.specs.Console.{SameSinks, rules_by, StandsFor, EndsVector}
 use Rattle.uxn_cli.proofs.Growth.{extended-extended, extended-nothing}
 
 last_of-vector : (budget : ℕ) (a b : State) → last_of a (vector budget b) ≡ last_of b (vector budget b)
@@ -38,10 +39,10 @@ module _ {O E : Type 0} (told_out : O → Option (List ℕ)) (told_err : E → O
   same_again a b c p q = record { out = q.out ∙ p.out; err = q.err ∙ p.err }
 
   -- the ports of the run are those of the console, whatever it put before
-  carries : (start : Console O E) → Carries (StandsFor told_out told_err start) Reads (Wrote told_out told_err) console
+  carries : (start : Console O E) → Carries (rules_by told_out told_err) (StandsFor told_out told_err start) console
   carries start = record {
-    reading = λ now world core port value s r. r ∙ ap (λ page. slice_index page port) s.page;
-    writing = λ now world core port byte after core_after s w. record {
+    reading = λ now ports core port value s r. r ∙ ap (λ page. slice_index page port) s.page;
+    writing = λ now ports core port byte after core_after s w. record {
       same_core = w.core;
       same_ports = record {
         page = w.page ∙ ap (λ page. slice_set page port byte) s.page;
@@ -52,71 +53,58 @@ module _ {O E : Type 0} (told_out : O → Option (List ℕ)) (told_err : E → O
     };
   }
 
-  -- whatever vector goes on from here, with so many instructions left, ends where the whole vector ends
-  pub record Along (budget : ℕ) (old : Core) (start : Console O E) (core : Core) (now : Console O E) (left : ℕ) : Type 0 where
-    pub world : World
-    pub stands : StandsFor told_out told_err start now world
-    pub goes_on : vector_end left (record { core = core; ports = world }) ≡ vector_end budget (record { core = old; ports = fresh start.page })
+  module _ (budget : ℕ) (old : Core) (start : Console O E) where
+    abbrev whole : State
+    whole = vector_end budget (record { core = old; ports = fresh start.page })
+
+    -- whatever vector goes on from here, with so many instructions left, ends where the whole vector ends
+    pub record Along (core : Core) (now : Console O E) (left : ℕ) : Type 0 where
+      pub ports : Ports
+      pub stands : StandsFor told_out told_err start now ports
+      pub goes_on : vector_end left (record { core = core; ports = ports }) ≡ whole
+
+    -- the same with the number written otherwise
+    pub along-left : (core : Core) (now : Console O E) (left other : ℕ) → left ≡ other → Along core now left → Along core now other
+    along-left core now left other e a = let P : ℕ → Type 0 = λ n. Along core now n in subst P e a
+
+    -- no instruction is left
+    pub ends-cut : (core : Core) (now : Console O E) → Along core now 0 → EndsVector told_out told_err budget old start core now
+    ends-cut core now a = record { ports = a.ports; stands = a.stands; ends = sym a.goes_on ∙ vector_end-zero _ }
+
+    module _ (core : Core) (now : Console O E) (left : ℕ) (core_new : Core) (after : Console O E) (a : Along core now (suc left)) where
+      -- one more instruction
+      pub along-ran : Instruction (rules_by told_out told_err) core now (Ok Ran) core_new after → Along core_new after left
+      unfolding Instruction
+      along-ran ran =
+          let at = carried-ran (rules_by told_out told_err) (StandsFor told_out told_err start) console (carries start) core now a.ports core_new after a.stands ran in
+          record {
+            ports = (after_instruction console core a.ports).ports;
+            stands = at.same_ports;
+            goes_on = ap (λ c. vector_end left (record { core = c; ports = (after_instruction console core a.ports).ports })) at.same_core
+                ∙ sym (vector_end-next left (record { core = core; ports = a.ports }) ran.0) ∙ a.goes_on;
+          }
+
+      -- BRK ends the vector
+      pub ends-broke : Instruction (rules_by told_out told_err) core now (Ok Broke) core_new after → EndsVector told_out told_err budget old start core_new after
+      unfolding Instruction
+      ends-broke broke =
+          let at = carried-broke (rules_by told_out told_err) (StandsFor told_out told_err start) console core now a.ports core_new after a.stands broke in
+          record {
+            ports = (after_instruction console core a.ports).ports;
+            stands = at.same_ports;
+            ends = sym a.goes_on ∙ vector_end-break left (record { core = core; ports = a.ports }) broke.0
+                ∙ ap (λ c. record { core = c; ports = (after_instruction console core a.ports).ports }) (sym at.same_core);
+          }
+
+      -- a stop leaves the same sinks, and a sink is to blame
+      pub stopped-same : (stop : Stop) → Instruction (rules_by told_out told_err) core now (Err stop) core_new after → SameSinks start after × (stop ≡ SinkFault)
+      stopped-same stop s =
+          let at = carried-stopped (rules_by told_out told_err) (StandsFor told_out told_err start) console (carries start) core now a.ports stop core_new after a.stands s in
+          (same_again start at.ports after at.same_ports.same at.stops.same, at.stops.sink)
 
   pub along-start : (budget : ℕ) (old : Core) (start : Console O E) → Along budget old start old start budget
   along-start budget old start = record {
-    world = fresh start.page;
+    ports = fresh start.page;
     stands = record { page = refl; out = sym (extended-nothing _); err = sym (extended-nothing _); same = record { out = refl; err = refl } };
     goes_on = refl;
-  }
-
-  goes_on_at : (core : Core) (now : Console O E) (core_new : Core) (after : Console O E) → Instruction Reads (Wrote told_out told_err) Stopped core now (Ok Ran) core_new after → opcode_at core ≢ 0
-  unfolding Instruction
-  goes_on_at core now core_new after ran = ran.0
-
-  breaks_at : (core : Core) (now : Console O E) (core_new : Core) (after : Console O E) → Instruction Reads (Wrote told_out told_err) Stopped core now (Ok Broke) core_new after → opcode_at core ≡ 0
-  unfolding Instruction
-  breaks_at core now core_new after broke = broke.0
-
-  -- one more instruction
-  pub along-ran : (budget : ℕ) (old : Core) (start : Console O E) (core : Core) (now : Console O E) (left : ℕ) (core_new : Core) (after : Console O E)
-      → Along budget old start core now (suc left) → Instruction Reads (Wrote told_out told_err) Stopped core now (Ok Ran) core_new after
-      → Along budget old start core_new after left
-  along-ran budget old start core now left core_new after a ran =
-      let at = carried-ran (StandsFor told_out told_err start) Reads (Wrote told_out told_err) Stopped console (carries start) core now a.world core_new after a.stands ran in
-      record {
-        world = (after_instruction console core a.world).ports;
-        stands = at.same_ports;
-        goes_on = ap (λ c. vector_end left (record { core = c; ports = (after_instruction console core a.world).ports })) at.same_core
-            ∙ sym (vector_end-next left (record { core = core; ports = a.world }) (goes_on_at core now core_new after ran)) ∙ a.goes_on;
-      }
-
-  -- BRK ends the vector
-  pub ends-broke : (budget : ℕ) (old : Core) (start : Console O E) (core : Core) (now : Console O E) (left : ℕ) (core_new : Core) (after : Console O E)
-      → Along budget old start core now (suc left) → Instruction Reads (Wrote told_out told_err) Stopped core now (Ok Broke) core_new after
-      → EndsVector told_out told_err budget old start core_new after
-  ends-broke budget old start core now left core_new after a broke =
-      let at = carried-broke (StandsFor told_out told_err start) Reads (Wrote told_out told_err) Stopped console core now a.world core_new after a.stands broke in
-      record {
-        world = (after_instruction console core a.world).ports;
-        stands = at.same_ports;
-        ends = sym a.goes_on ∙ vector_end-break left (record { core = core; ports = a.world }) (breaks_at core now core_new after broke)
-            ∙ ap (λ c. record { core = c; ports = (after_instruction console core a.world).ports }) (sym at.same_core);
-      }
-
-  -- no instruction is left
-  pub ends-cut : (budget : ℕ) (old : Core) (start : Console O E) (core : Core) (now : Console O E)
-      → Along budget old start core now 0 → EndsVector told_out told_err budget old start core now
-  ends-cut budget old start core now a = record { world = a.world; stands = a.stands; ends = sym a.goes_on ∙ vector_end-zero _ }
-
-  -- a stop leaves the same sinks
-  pub same-stopped : (budget : ℕ) (old : Core) (start : Console O E) (core : Core) (now : Console O E) (left : ℕ) (stop : Stop) (core_new : Core) (after : Console O E)
-      → Along budget old start core now left → Instruction Reads (Wrote told_out told_err) Stopped core now (Err stop) core_new after
-      → SameSinks start after
-  same-stopped budget old start core now left stop core_new after a s =
-      let at = carried-stopped (StandsFor told_out told_err start) Reads (Wrote told_out told_err) Stopped console (carries start) core now a.world stop core_new after a.stands s in
-      same_again start at.ports after at.same_ports.same at.stops
-
-  -- the same with the number written otherwise
-  pub along-left : (budget : ℕ) (old : Core) (start : Console O E) (core : Core) (now : Console O E) (left other : ℕ)
-      → left ≡ other → Along budget old start core now left → Along budget old start core now other
-  along-left budget old start core now left other e a = record {
-    world = a.world;
-    stands = a.stands;
-    goes_on = ap (λ n. vector_end n (record { core = core; ports = a.world })) (sym e) ∙ a.goes_on;
   }

@@ -1,189 +1,240 @@
-use Rattle.std.proofs.Common.{◌≡◌, ℕ, ◌≤◌, ◌⊎◌, List, [], ◌∷◌, ◌++◌, refl, ap, sym, ◌∙◌, inl, inr, arith}
-use Rattle.std.specs.Prelude.{Option, Some, None, Result, Ok, Err, IsErr, IsSome, IfSome, codes}
-use Rattle.uxn_io.specs.declared.paths.PathFault.{PathFault}
-use Rattle.uxn_io.specs.Told.{extended}
-use Rattle.uxn_io.specs.Files.{Nodes, file_at}
-use Rattle.uxn_io.specs.PathText.{path_of}
+use Rattle.std.proofs.Common.{◌≡◌, ℕ, ◌≤◌, ◌⊎◌, Bool, true, false, List, [], ◌++◌, refl, ap, sym, ◌∙◌, inl, inr, subst, arith}
+use Rattle.std.specs.Prelude.{Option, Some, None, Result, Ok, Err, IfSome, codes, decimal}
+use Rattle.tal_words.specs.Faults.{kind_name}
 use Rattle.tal_words.specs.declared.fault.Fault.{Fault}
-use Rattle.tal_words.specs.Faults.{kind_name, fault_text}
 use Rattle.tal_rom.specs.Assembly.{first_fault, rom_of}
-use Rattle.uxn_cli.specs.Words.{Asked, ToPlay, settings}
-use Rattle.uxn_cli.specs.Lines.{not_understood, no_path, missing, position, refused}
-use Rattle.uxn_cli.specs.Run.{reset_world}
-use Rattle.uxn_cli.specs.Outcome.{Outcome, refusal, ended, outcome, of_source, of_input, of_path, of_command, view_of, input_of, input_at}
-use Rattle.uxn_cli.specs.Answer.{IsEarly, IsOutcome, Answers}
-use Rattle.uxn_cli.specs.Causes.{IsExactly, AreIllegal, NameNoPath, NamePath, IsMissing, IsRefused, IsAccepted, PutsLine}
+use Rattle.uxn_io.specs.declared.trees.FileBytes.{FileBytes}
+use Rattle.uxn_io.specs.declared.trees.FileBytes.TheVariants.{Found, Missing as NoFile, TooLong}
+use Rattle.uxn_io.specs.ByteList.{ByteList}
+use Rattle.uxn_io.specs.Told.{extended}
+use Rattle.uxn_io.specs.Files.{Nodes}
+use Rattle.uxn_opcodes.specs.declared.Stop.{Stop}
+use Rattle.uxn_opcodes.specs.declared.Stop.TheVariants.{TreeFault, SinkFault, NoMemory}
+use Rattle.uxn_cli.specs.declared.words.Command.{Command}
+use Rattle.uxn_cli.specs.declared.words.Command.TheVariants.{Play, Assemble, Disassemble}
+use Rattle.uxn_cli.specs.declared.task.Task.{Task}
+use Rattle.uxn_cli.specs.declared.refusal.Refusal.{Refusal}
+use Rattle.uxn_cli.specs.declared.refusal.Refusal.TheVariants.{NotUnderstood, NoPath, NoOutput, Missing, Faulty, LongRom, BadSymbols}
+use Rattle.std.proofs.lemmas.Bool.Decides.{nat_tests}
+use Rattle.uxn_io.specs.Faults.{Nobody}
+use Rattle.uxn_cli.specs.Blame.{blame_at, early_status}
+use Rattle.uxn_cli.specs.Lines.{line, text_of, line_of, status_of}
+use Rattle.uxn_cli.specs.World.{World}
+use Rattle.uxn_cli.specs.Verdict.{and_then, View, Work, Run, Write, Print, view_of, source_by, source_in, rom_in, labels_by, labels_in, program_in, texts_of, work_of, made_by, judged, verdict}
+use Rattle.uxn_cli.specs.Outcome.{Outcome, outcome_of}
+use Rattle.uxn_cli.specs.Answer.{IsViewOf, Judges, HasOutcome, HasEnded, IsCut, EndsEarly, Answers}
+use Rattle.uxn_cli.specs.Causes.{IsEarly, IsExactly, verdict_on, IsIllegal, IsPathless, IsMissing, IsFaulty, IsUnfit, IsBlocked, IsAccepted, PutsLine}
+use Rattle.tal_symbols.specs.Reading.{symbols_in}
+use Rattle.tal_listing.specs.Disassembly.{disassembly}
 use Rattle.uxn_cli.proofs.Growth.{extended-nothing}
-use Rattle.uxn_cli.proofs.Outcomes.{not_legal, worded_outcome, named_outcome}
+use Rattle.uxn_cli.proofs.VerdictLemmas.{no_texts}
 
--- what an outcome is, by its five cases
-data Case (words : List (List ℕ)) (view : Option (List ℕ)) : Type 0 where
-  illegal : settings words ≡ None → outcome words view ≡ refusal 128 not_understood → Case words view
-  pathless : (word : List ℕ) → settings words ≡ Some (ToPlay word) → IsErr (path_of word) → outcome words view ≡ refusal 129 (no_path word) → Case words view
-  absent : (path : List ℕ) → NamePath words path → view ≡ None → outcome words view ≡ refusal 130 (missing path) → Case words view
-  faulty : (path source : List ℕ) (fault : Fault) → NamePath words path → view ≡ Some source → first_fault source ≡ Some fault → outcome words view ≡ refusal 131 (refused source fault) → Case words view
-  sound : (path source : List ℕ) → NamePath words path → view ≡ Some source → first_fault source ≡ None → outcome words view ≡ ended (reset_world (rom_of source)) → Case words view
+abbrev pub status_by : Result Work Refusal → ℕ
+status_by found = (outcome_of found).status
 
-source_case : (words : List (List ℕ)) (path source : List ℕ) (fault : Option Fault) → NamePath words path → first_fault source ≡ fault → outcome words (Some source) ≡ of_source source fault → Case words (Some source)
-source_case words path source None named f e = sound path source named refl f e
-source_case words path source (Some fault) named f e = faulty path source fault named refl f e
+-- the status of work that is done is 0
+is_zero : (work : Work) → status_by (Ok work) ≡ 0
+is_zero (Run rom) = refl
+is_zero (Write texts) = refl
+is_zero (Print text) = refl
 
-input_case : (words : List (List ℕ)) (path : List ℕ) (view : Option (List ℕ)) → NamePath words path → outcome words view ≡ of_input path view → Case words view
-input_case words path None named e = absent path named refl e
-input_case words path (Some source) named e = source_case words path source (first_fault source) named refl e
+-- an outcome is no early end
+pub is_small : (v : Result Work Refusal) → status_by v ≤ 135
+is_small (Ok work) = omega (arith, is_zero work)
+is_small (Err NotUnderstood) = omega arith
+is_small _ = omega arith
 
-path_case : (words : List (List ℕ)) (word : List ℕ) (read : Result (List ℕ) PathFault) (view : Option (List ℕ)) → settings words ≡ Some (ToPlay word) → path_of word ≡ read → outcome words view ≡ of_path word read view → Case words view
-path_case words word (Err fault) view s p e = pathless word s (rw p refl) e
-path_case words word (Ok path) view s p e = input_case words path view (record { word = word; legal = s; read = p }) e
+-- which verdict has a status
+only_missing : (v : Result Work Refusal) → status_by v ≡ 130 → IsMissing v
+only_missing (Err (Missing path)) e = (path, refl)
+only_missing (Ok work) e = absurd (omega (arith, is_zero work))
+only_missing _ e = absurd (omega arith)
 
-command_case : (words : List (List ℕ)) (asked : Option Asked) (view : Option (List ℕ)) → settings words ≡ asked → outcome words view ≡ of_command asked view → Case words view
-command_case words None view s e = illegal s e
-command_case words (Some (ToPlay word)) view s e = path_case words word (path_of word) view s refl e
+only_faulty : (v : Result Work Refusal) → status_by v ≡ 131 → IsFaulty v
+only_faulty (Err (Faulty fault word)) e = (fault, word, refl)
+only_faulty (Ok work) e = absurd (omega (arith, is_zero work))
+only_faulty _ e = absurd (omega arith)
 
-case_of : (words : List (List ℕ)) (view : Option (List ℕ)) → Case words view
-unfolding outcome
-case_of words view = command_case words (settings words) view refl refl
+only_unfit : (v : Result Work Refusal) → status_by v ≡ 134 → IsUnfit v
+only_unfit (Err (LongRom length)) e = inl (length, refl)
+only_unfit (Err (BadSymbols entry kind)) e = inr (entry, kind, refl)
+only_unfit (Ok work) e = absurd (omega (arith, is_zero work))
+only_unfit _ e = absurd (omega arith)
 
--- the view of a path that the words name is what its file holds
-view_named : (words : List (List ℕ)) (nodes : Nodes) (path : List ℕ) → NamePath words path → view_of nodes words ≡ file_at nodes path
-unfolding view_of
-view_named words nodes path named = ap (λ s. input_of nodes s) named.legal ∙ ap (λ p. input_at nodes p) named.read
+is_unfit : (v : Result Work Refusal) → IsUnfit v → status_by v ≡ 134
+is_unfit v (inl p) = ap status_by p.1
+is_unfit v (inr p) = ap status_by p.2
 
-early_is : (answer : ℕ) → IsEarly answer → 136 ≤ answer
-early_is answer (inl e) = omega arith
-early_is answer (inr (inl e)) = omega arith
-early_is answer (inr (inr e)) = omega arith
+only_blocked : (v : Result Work Refusal) → status_by v ≡ 135 → IsBlocked v
+only_blocked (Err (NoOutput path)) e = (path, refl)
+only_blocked (Ok work) e = absurd (omega (arith, is_zero work))
+only_blocked _ e = absurd (omega arith)
 
--- the status of each case
-data Status (words : List (List ℕ)) (view : Option (List ℕ)) (answer : ℕ) : Type 0 where
-  is_illegal : settings words ≡ None → answer ≡ 128 → Status words view answer
-  is_pathless : NameNoPath words → answer ≡ 129 → Status words view answer
-  is_absent : (path : List ℕ) → NamePath words path → view ≡ None → answer ≡ 130 → Status words view answer
-  is_faulty : (path source : List ℕ) → NamePath words path → view ≡ Some source → IsSome (first_fault source) → answer ≡ 131 → Status words view answer
-  is_sound : (path source : List ℕ) → NamePath words path → view ≡ Some source → first_fault source ≡ None → answer ≡ 0 → Status words view answer
+only_accepted : (v : Result Work Refusal) → status_by v ≡ 0 → IsAccepted v
+only_accepted (Ok work) e = (work, refl)
+only_accepted (Err NotUnderstood) e = absurd (omega arith)
+only_accepted _ e = absurd (omega arith)
 
-status_in : (words : List (List ℕ)) (view : Option (List ℕ)) (answer : ℕ) → answer ≡ (outcome words view).status → Case words view → Status words view answer
-status_in words view answer e (illegal s o) = is_illegal s (e ∙ ap (λ (p : Outcome). p.status) o)
-status_in words view answer e (pathless word s p o) = is_pathless (record { word = word; legal = s; no_path = p }) (e ∙ ap (λ (p : Outcome). p.status) o)
-status_in words view answer e (absent path named v o) = is_absent path named v (e ∙ ap (λ (p : Outcome). p.status) o)
-status_in words view answer e (faulty path source fault named v f o) = is_faulty path source named v (rw f refl) (e ∙ ap (λ (p : Outcome). p.status) o)
-status_in words view answer e (sound path source named v f o) = is_sound path source named v f (e ∙ ap (λ (p : Outcome). p.status) o)
+only_illegal : (r : Refusal) → status_of r ≡ 128 → r ≡ NotUnderstood
+only_illegal NotUnderstood e = refl
+only_illegal _ e = absurd (omega arith)
 
-status_of : (words : List (List ℕ)) (view : Option (List ℕ)) (answer : ℕ) → answer ≡ (outcome words view).status → Status words view answer
-status_of words view answer e = status_in words view answer e (case_of words view)
+only_pathless : (r : Refusal) → status_of r ≡ 129 → (word : ByteList) × (r ≡ NoPath word)
+only_pathless (NoPath word) e = (word, refl)
+only_pathless _ e = absurd (omega arith)
 
--- the status of words that name no path, and of a source with a fault
-pathless_status : (word : List ℕ) (read : Result (List ℕ) PathFault) (view : Option (List ℕ)) → IsErr read → (of_path word read view).status ≡ 129
-pathless_status word (Err fault) view e = refl
-pathless_status word (Ok path) view e = absurd cc
+-- what the view determines is no refusal of the words
+abbrev IsLater : {A : Type 0} → Result A Refusal → Type 0
+IsLater (Ok value) = Unit {0}
+IsLater (Err refusal) = 130 ≤ status_of refusal
 
-faulty_status : (source : List ℕ) (fault : Option Fault) → IsSome fault → (of_source source fault).status ≡ 131
-faulty_status source None e = absurd cc
-faulty_status source (Some fault) e = refl
+then-later : {A B : Type 0} (said : Result A Refusal) (next : A → Result B Refusal) → IsLater said → ((value : A) → IsLater (next value)) → IsLater (and_then said next)
+then-later (Ok value) next h later = later value
+then-later (Err refusal) next h later = h
 
-module _ (words : List (List ℕ)) (tree : Option Nodes) (out err new_out new_err : Option (List ℕ)) (answer : ℕ) where
-  -- a status comes exactly with a fact, where an outcome has that status exactly with it
-  exactly : (status : ℕ) (P : Type 0) → status ≤ 131 → (IsOutcome words tree out err new_out new_err answer → answer ≡ status → P)
-      → (IsOutcome words tree out err new_out new_err answer → P → answer ≡ status) → Answers words tree out err new_out new_err answer → IsExactly answer status P
-  exactly status P small only whenever (inl early) = record {
-    only = λ e. (let large = early_is answer early in absurd (omega arith));
-    whenever = λ p. inr early;
+source-later : (path : List ℕ) (file : FileBytes) → IsLater (source_in path file)
+source-later path NoFile = omega arith
+source-later path (TooLong length) = omega arith
+source-later path (Found source) = elim (first_fault source.list) as (λ f. IsLater (source_by source.list f)) [ None ↦ tt | Some fault ↦ (let le : 130 ≤ 131 = omega arith in le) ]
+
+rom-later : (path : List ℕ) (file : FileBytes) → IsLater (rom_in path file)
+rom-later path NoFile = omega arith
+rom-later path (TooLong length) = omega arith
+rom-later path (Found rom) = tt
+
+labels-later : (path : Option (List ℕ)) (file : FileBytes) → IsLater (labels_in path file)
+labels-later None file = tt
+labels-later (Some path) NoFile = omega arith
+labels-later (Some path) (TooLong length) = omega arith
+labels-later (Some path) (Found bytes) = elim (symbols_in bytes.list) as (λ s. IsLater (labels_by s)) [ Ok labels ↦ tt | Err bad ↦ (let le : 130 ≤ 134 = omega arith in le) ]
+
+program-later : (rom : Bool) (path : List ℕ) (file : FileBytes) → IsLater (program_in rom path file)
+program-later true path file = rom-later path file
+program-later false path file = then-later (source_in path file) (λ source. Ok (rom_of source)) (source-later path file) (λ source. tt)
+
+work-later : (command : Command) (task : Task) (view : View) → IsLater (work_of command task view)
+work-later Play task view = then-later (program_in task.rom task.file view.file) (λ rom. Ok (Run rom)) (program-later task.rom task.file view.file) (λ rom. tt)
+work-later Assemble task view = then-later (source_in task.file view.file) (λ source. Ok (Write (texts_of task source))) (source-later task.file view.file) (λ source. tt)
+work-later Disassemble task view =
+    then-later (rom_in task.file view.file) (λ rom. and_then (labels_in task.symbols view.symbols) (λ labels. Ok (Print (disassembly rom labels))))
+    (rom-later task.file view.file)
+    (λ rom. then-later (labels_in task.symbols view.symbols) (λ labels. Ok (Print (disassembly rom labels))) (labels-later task.symbols view.symbols) (λ labels. tt))
+
+made-later : (blocked : Option (List ℕ)) (work : Work) → IsLater (made_by blocked work)
+made-later None work = tt
+made-later (Some path) work = omega arith
+
+judged-later : (task : Task) (view : View) → IsLater (judged task view)
+judged-later task view = then-later (work_of task.command task view) (made_by view.blocked) (work-later task.command task view) (made-later view.blocked)
+
+later-status : (found : Result Work Refusal) (number : ℕ) → IsLater found → status_by found ≡ number → 128 ≤ number → number ≤ 129 → ⊥
+later-status (Ok work) number later e large small = omega (arith, is_zero work)
+later-status (Err refusal) number later e large small = omega arith
+
+-- the verdict on what stands in a tree that tells its contents
+same_view : (nodes : Nodes) (task : Task) (view : View) → IsViewOf (Some nodes) task view → view ≡ view_of nodes task
+same_view nodes task view seen = rw (← seen.file, ← seen.symbols, ← seen.blocked) refl
+
+told_verdict : (nodes : Nodes) (asked : Result Task Refusal) (found : Result Work Refusal) → Judges asked (Some nodes) found → found ≡ verdict_on nodes asked
+told_verdict nodes (Err refusal) found j = sym j.judged
+told_verdict nodes (Ok task) found j = sym j.judged ∙ ap (judged task) (same_view nodes task j.view j.seen)
+
+-- which words are refused, whatever was seen
+illegal_asked : (asked : Result Task Refusal) (view : View) → status_by (verdict asked view) ≡ 128 → IsIllegal asked
+illegal_asked (Err r) view e = ap Err (only_illegal r e)
+illegal_asked (Ok task) view e = absurd (later-status (judged task view) 128 (judged-later task view) e (omega arith) (omega arith))
+
+pathless_asked : (asked : Result Task Refusal) (view : View) → status_by (verdict asked view) ≡ 129 → IsPathless asked
+pathless_asked (Err r) view e = let word = only_pathless r e in (word.0, ap Err word.1)
+pathless_asked (Ok task) view e = absurd (later-status (judged task view) 129 (judged-later task view) e (omega arith) (omega arith))
+
+module _ (asked : Result Task Refusal) (before now : World) (answer : ℕ) where
+  early_is : EndsEarly asked before now answer → IsEarly answer
+  early_is e = elim e.stop as (λ stop. answer ≡ early_status stop → IsEarly answer) [
+    | TreeFault ↦ λ s. inl s
+    | SinkFault ↦ λ s. inr (inl s)
+    | NoMemory ↦ λ s. inr (inr s)
+  ] e.status
+
+  early_large : IsEarly answer → 136 ≤ answer
+  early_large (inl e) = omega arith
+  early_large (inr (inl e)) = omega arith
+  early_large (inr (inr e)) = omega arith
+
+  -- a status comes exactly with a fact, where a verdict has that status exactly with it
+  exactly : (status : ℕ) (P : Type 0) → status ≤ 135 → ((found : Result Work Refusal) → Judges asked before.tree found → status_by found ≡ status → P)
+      → ((found : Result Work Refusal) → Judges asked before.tree found → P → status_by found ≡ status) → Answers asked before now answer → IsExactly answer status P
+  exactly status P small only whenever (inl ended) = record {
+    only = λ e. only ended.found ended.judges (sym ended.has.status ∙ e);
+    whenever = λ p. inl (ended.has.status ∙ whenever ended.found ended.judges p);
   }
-  exactly status P small only whenever (inr i) = record { only = λ e. only i e; whenever = λ p. inl (whenever i p) }
+  exactly status P small only whenever (inr early) = record {
+    only = λ e. (let large = early_large (early_is early) in absurd (omega arith));
+    whenever = λ p. inr (early_is early);
+  }
 
-  pub exactly_illegal : Answers words tree out err new_out new_err answer → IsExactly answer 128 (AreIllegal words)
-  exactly_illegal = exactly 128 (AreIllegal words) (omega arith)
-      (λ i e. elim (status_of words i.view answer i.has.status) [
-        | is_illegal s a ↦ s
-        | is_pathless p a ↦ absurd (omega arith)
-        | is_absent path n v a ↦ absurd (omega arith)
-        | is_faulty path source n v f a ↦ absurd (omega arith)
-        | is_sound path source n v f a ↦ absurd (omega arith)
-      ])
-      (λ i p. i.has.status ∙ ap (λ (o : Outcome). o.status) (not_legal words (sym p) i.view))
+  pub exactly_illegal : Answers asked before now answer → IsExactly answer 128 (IsIllegal asked)
+  exactly_illegal = exactly 128 (IsIllegal asked) (omega arith)
+      (λ found j e. illegal_asked asked j.view (ap status_by j.judged ∙ e)) (λ found j p. sym (ap status_by j.judged) ∙ ap (λ a. status_by (verdict a j.view)) p)
 
-  pub exactly_pathless : Answers words tree out err new_out new_err answer → IsExactly answer 129 (NameNoPath words)
-  exactly_pathless = exactly 129 (NameNoPath words) (omega arith)
-      (λ i e. elim (status_of words i.view answer i.has.status) [
-        | is_illegal s a ↦ absurd (omega arith)
-        | is_pathless p a ↦ p
-        | is_absent path n v a ↦ absurd (omega arith)
-        | is_faulty path source n v f a ↦ absurd (omega arith)
-        | is_sound path source n v f a ↦ absurd (omega arith)
-      ])
-      (λ i p. i.has.status ∙ ap (λ (o : Outcome). o.status) (worded_outcome words p.word i.view (sym p.legal)) ∙ pathless_status p.word (path_of p.word) i.view p.no_path)
+  pub exactly_pathless : Answers asked before now answer → IsExactly answer 129 (IsPathless asked)
+  exactly_pathless = exactly 129 (IsPathless asked) (omega arith)
+      (λ found j e. pathless_asked asked j.view (ap status_by j.judged ∙ e)) (λ found j p. sym (ap status_by j.judged) ∙ ap (λ a. status_by (verdict a j.view)) p.1)
 
-module _ (words : List (List ℕ)) (nodes : Nodes) (out err new_out new_err : Option (List ℕ)) (answer : ℕ) where
-  -- what the file at a named path holds is the view
-  held : (i : IsOutcome words (Some nodes) out err new_out new_err answer) (path : List ℕ) → NamePath words path → i.view ≡ file_at nodes path
-  held i path named = i.seen ∙ view_named words nodes path named
+  -- the same for a status that what stands in the tree decides
+  exactly_told : (tree : Option Nodes) → before.tree ≡ tree → (status : ℕ) → status ≤ 135 → (Is : Result Work Refusal → Type 0)
+      → ((v : Result Work Refusal) → status_by v ≡ status → Is v) → ((v : Result Work Refusal) → Is v → status_by v ≡ status)
+      → Answers asked before now answer → IfSome tree (λ nodes. IsExactly answer status (Is (verdict_on nodes asked)))
+  exactly_told None same status small Is only whenever a = tt
+  exactly_told (Some nodes) same status small Is only whenever a =
+      let on : (found : Result Work Refusal) → Judges asked before.tree found → found ≡ verdict_on nodes asked = λ found j. told_verdict nodes asked found (subst (λ t. Judges asked t found) same j) in
+      exactly status (Is (verdict_on nodes asked)) small (λ found j e. only (verdict_on nodes asked) (ap status_by (sym (on found j)) ∙ e))
+      (λ found j p. ap status_by (on found j) ∙ whenever (verdict_on nodes asked) p) a
 
-  -- the status of a named path by what its file holds
-  status_by : (i : IsOutcome words (Some nodes) out err new_out new_err answer) (path : List ℕ) → NamePath words path → (file : Option (List ℕ)) → file_at nodes path ≡ file
-      → answer ≡ (of_input path file).status
-  status_by i path named file holds =
-      i.has.status ∙ ap (λ (o : Outcome). o.status) (named_outcome words named.word path i.view (sym named.legal) (sym named.read)) ∙ ap (λ f. (of_input path f).status) (held i path named ∙ holds)
+  pub exactly_missing : Answers asked before now answer → IfSome before.tree (λ nodes. IsExactly answer 130 (IsMissing (verdict_on nodes asked)))
+  exactly_missing = exactly_told before.tree refl 130 (omega arith) IsMissing only_missing (λ v p. ap status_by p.1)
 
-  pub exactly_missing : Answers words (Some nodes) out err new_out new_err answer → IsExactly answer 130 (IsMissing words nodes)
-  exactly_missing = exactly words (Some nodes) out err new_out new_err answer 130 (IsMissing words nodes) (omega arith)
-      (λ i e. elim (status_of words i.view answer i.has.status) [
-        | is_illegal s a ↦ absurd (omega arith)
-        | is_pathless p a ↦ absurd (omega arith)
-        | is_absent path n v a ↦ record { path = path; named = n; no_file = sym (held i path n) ∙ v }
-        | is_faulty path source n v f a ↦ absurd (omega arith)
-        | is_sound path source n v f a ↦ absurd (omega arith)
-      ])
-      (λ i p. status_by i p.path p.named None p.no_file)
+  pub exactly_faulty : Answers asked before now answer → IfSome before.tree (λ nodes. IsExactly answer 131 (IsFaulty (verdict_on nodes asked)))
+  exactly_faulty = exactly_told before.tree refl 131 (omega arith) IsFaulty only_faulty (λ v p. ap status_by p.2)
 
-  pub exactly_refused : Answers words (Some nodes) out err new_out new_err answer → IsExactly answer 131 (IsRefused words nodes)
-  exactly_refused = exactly words (Some nodes) out err new_out new_err answer 131 (IsRefused words nodes) (omega arith)
-      (λ i e. elim (status_of words i.view answer i.has.status) [
-        | is_illegal s a ↦ absurd (omega arith)
-        | is_pathless p a ↦ absurd (omega arith)
-        | is_absent path n v a ↦ absurd (omega arith)
-        | is_faulty path source n v f a ↦ record { source = source; input = record { path = path; named = n; holds = sym (held i path n) ∙ v }; faulty = f }
-        | is_sound path source n v f a ↦ absurd (omega arith)
-      ])
-      (λ i p. status_by i p.input.path p.input.named (Some p.source) p.input.holds ∙ faulty_status p.source (first_fault p.source) p.faulty)
+  pub exactly_unfit : Answers asked before now answer → IfSome before.tree (λ nodes. IsExactly answer 134 (IsUnfit (verdict_on nodes asked)))
+  exactly_unfit = exactly_told before.tree refl 134 (omega arith) IsUnfit only_unfit is_unfit
 
-  pub exactly_accepted : Answers words (Some nodes) out err new_out new_err answer → IsExactly answer 0 (IsAccepted words nodes)
-  exactly_accepted = exactly words (Some nodes) out err new_out new_err answer 0 (IsAccepted words nodes) (omega arith)
-      (λ i e. elim (status_of words i.view answer i.has.status) [
-        | is_illegal s a ↦ absurd (omega arith)
-        | is_pathless p a ↦ absurd (omega arith)
-        | is_absent path n v a ↦ absurd (omega arith)
-        | is_faulty path source n v f a ↦ absurd (omega arith)
-        | is_sound path source n v f a ↦ record { source = source; input = record { path = path; named = n; holds = sym (held i path n) ∙ v }; sound = f }
-      ])
-      (λ i p. status_by i p.input.path p.input.named (Some p.source) p.input.holds ∙ ap (λ f. (of_source p.source f).status) p.sound)
+  pub exactly_blocked : Answers asked before now answer → IfSome before.tree (λ nodes. IsExactly answer 135 (IsBlocked (verdict_on nodes asked)))
+  exactly_blocked = exactly_told before.tree refl 135 (omega arith) IsBlocked only_blocked (λ v p. ap status_by p.1)
 
-fault_line : List ℕ → Fault → List ℕ
-fault_line source fault = codes "source " ++ position fault ++ codes ": " ++ kind_name fault.kind ++ codes ": " ++ fault_text source fault
+  pub exactly_accepted : Answers asked before now answer → IfSome before.tree (λ nodes. IsExactly answer 0 (IsAccepted (verdict_on nodes asked)))
+  exactly_accepted = exactly_told before.tree refl 0 (omega arith) IsAccepted only_accepted (λ v p. ap status_by p.1 ∙ is_zero p.0)
 
-refused_line : (source : List ℕ) (fault : Fault) → refused source fault ≡ fault_line source fault ++ 10 ∷ []
-unfolding refused fault_line
-refused_line source fault = refl
+  -- a refusal puts its one line on the error output, and nothing on the other
+  refusal_of : HasEnded asked before now answer → 128 ≤ answer → (refusal : Refusal) × HasOutcome (outcome_of (Err refusal)) before now answer
+  refusal_of ended large = go ended.found ended.has
+    where
+      go : (found : Result Work Refusal) → HasOutcome (outcome_of found) before now answer → (refusal : Refusal) × HasOutcome (outcome_of (Err refusal)) before now answer
+      go (Ok work) has = absurd (let e = has.status in omega (arith, is_zero work))
+      go (Err refusal) has = (refusal, has)
 
--- the same for a tree that tells its contents
-module _ (words : List (List ℕ)) (out err new_out new_err : Option (List ℕ)) (answer : ℕ) where
-  pub told_missing : (tree : Option Nodes) → Answers words tree out err new_out new_err answer → IfSome tree (λ nodes. IsExactly answer 130 (IsMissing words nodes))
-  told_missing None h = tt
-  told_missing (Some nodes) h = exactly_missing words nodes out err new_out new_err answer h
+  pub is_quiet : Answers asked before now answer → 128 ≤ answer → answer ≤ 135 → now.out ≡ before.out
+  is_quiet (inl ended) large small = (refusal_of ended large).1.out ∙ extended-nothing before.out
+  is_quiet (inr early) large small = let later = early_large (early_is early) in absurd (omega arith)
 
-  pub told_refused : (tree : Option Nodes) → Answers words tree out err new_out new_err answer → IfSome tree (λ nodes. IsExactly answer 131 (IsRefused words nodes))
-  told_refused None h = tt
-  told_refused (Some nodes) h = exactly_refused words nodes out err new_out new_err answer h
+  pub puts_line : Answers asked before now answer → 128 ≤ answer → answer ≤ 135 → PutsLine before.err now.err
+  puts_line (inl ended) large small = let r = refusal_of ended large in (text_of r.0, r.1.err)
+  puts_line (inr early) large small = let later = early_large (early_is early) in absurd (omega arith)
 
-  pub told_accepted : (tree : Option Nodes) → Answers words tree out err new_out new_err answer → IfSome tree (λ nodes. IsExactly answer 0 (IsAccepted words nodes))
-  told_accepted None h = tt
-  told_accepted (Some nodes) h = exactly_accepted words nodes out err new_out new_err answer h
+  pub is_untouched : Answers asked before now answer → 128 ≤ answer → answer ≤ 135 → now.tree ≡ before.tree
+  is_untouched (inl ended) large small = (refusal_of ended large).1.tree ∙ no_texts before.tree
+  is_untouched (inr early) large small = let later = early_large (early_is early) in absurd (omega arith)
 
-  -- an accepted source ends with the exit code, unless a count rose or memory is wanting
-  pub completes : (tree : Option Nodes) (TreeRose OutRose ErrRose : Type 0) → Answers words tree out err new_out new_err answer → (answer ≡ 136 → TreeRose) → (answer ≡ 137 → OutRose ⊎ ErrRose)
-      → IfSome tree (λ nodes. IsAccepted words nodes → (TreeRose → ⊥) → (OutRose → ⊥) → (ErrRose → ⊥) → (answer ≡ 0) ⊎ (answer ≡ 138))
-  completes None TreeRose OutRose ErrRose h by_tree by_sink = tt
-  completes (Some nodes) TreeRose OutRose ErrRose h by_tree by_sink = λ accepted t o e.
-      elim ((exactly_accepted words nodes out err new_out new_err answer h).whenever accepted) [
+  -- what is accepted ends with its exit code, unless a count rose or memory was wanting
+  pub completes : (TreeRose OutRose ErrRose : Type 0) → Answers asked before now answer → (answer ≡ 136 → TreeRose) → (answer ≡ 137 → OutRose ⊎ ErrRose)
+      → IfSome before.tree (λ nodes. IsAccepted (verdict_on nodes asked) → (TreeRose → ⊥) → (OutRose → ⊥) → (ErrRose → ⊥) → (answer ≡ 0) ⊎ (answer ≡ 138))
+  completes TreeRose OutRose ErrRose a by_tree by_sink = go before.tree (exactly_accepted a)
+    where
+      go : (tree : Option Nodes) → IfSome tree (λ nodes. IsExactly answer 0 (IsAccepted (verdict_on nodes asked)))
+          → IfSome tree (λ nodes. IsAccepted (verdict_on nodes asked) → (TreeRose → ⊥) → (OutRose → ⊥) → (ErrRose → ⊥) → (answer ≡ 0) ⊎ (answer ≡ 138))
+      go None h = tt
+      go (Some nodes) h = λ accepted t o e. elim (h.whenever accepted) [
         | inl zero ↦ inl zero
         | inr early ↦ elim early [
           | inl is_tree ↦ absurd (t (by_tree is_tree))
@@ -194,34 +245,6 @@ module _ (words : List (List ℕ)) (out err new_out new_err : Option (List ℕ))
         ]
       ]
 
-  -- an outcome has a small status
-  pub is_small : (tree : Option Nodes) → IsOutcome words tree out err new_out new_err answer → answer ≤ 131
-  is_small tree i = elim (status_of words i.view answer i.has.status) [
-    | is_illegal s a ↦ omega arith
-    | is_pathless p a ↦ omega arith
-    | is_absent path n v a ↦ omega arith
-    | is_faulty path source n v f a ↦ omega arith
-    | is_sound path source n v f a ↦ omega arith
-  ]
-
-  -- a refusal puts nothing on the standard output
-  pub is_quiet : (tree : Option Nodes) → Answers words tree out err new_out new_err answer → 128 ≤ answer → answer ≤ 131 → new_out ≡ out
-  is_quiet tree (inl early) low high = let large = early_is answer early in absurd (omega arith)
-  is_quiet tree (inr i) low high = i.has.written ∙ elim (case_of words i.view) [
-    | illegal s o ↦ ap (λ (p : Outcome). extended out p.out) o ∙ extended-nothing out
-    | pathless word s p o ↦ ap (λ (p : Outcome). extended out p.out) o ∙ extended-nothing out
-    | absent path n v o ↦ ap (λ (p : Outcome). extended out p.out) o ∙ extended-nothing out
-    | faulty path source fault n v f o ↦ ap (λ (p : Outcome). extended out p.out) o ∙ extended-nothing out
-    | sound path source n v f o ↦ let zero = i.has.status ∙ ap (λ (p : Outcome). p.status) o in absurd (omega arith)
-  ]
-
-  -- and its one line on the error output
-  pub puts_line : (tree : Option Nodes) → Answers words tree out err new_out new_err answer → 128 ≤ answer → answer ≤ 131 → PutsLine err new_err
-  puts_line tree (inl early) low high = let large = early_is answer early in absurd (omega arith)
-  puts_line tree (inr i) low high = elim (case_of words i.view) [
-    | illegal s o ↦ (codes "words: not understood", i.has.told ∙ ap (λ (p : Outcome). extended err p.err) o)
-    | pathless word s p o ↦ (codes "path: " ++ word, i.has.told ∙ ap (λ (p : Outcome). extended err p.err) o)
-    | absent path n v o ↦ (codes "missing: " ++ path, i.has.told ∙ ap (λ (p : Outcome). extended err p.err) o)
-    | faulty path source fault n v f o ↦ (fault_line source fault, i.has.told ∙ ap (λ (p : Outcome). extended err p.err) o ∙ ap (λ text. extended err text) (refused_line source fault))
-    | sound path source n v f o ↦ let zero = i.has.status ∙ ap (λ (p : Outcome). p.status) o in absurd (omega arith)
-  ]
+-- who is to blame for a status
+pub blame-ended : (answer : ℕ) → answer ≤ 135 → blame_at answer ≡ Nobody
+blame-ended answer small = grind (arith, nat_tests)

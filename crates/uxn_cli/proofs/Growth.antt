@@ -1,7 +1,7 @@
-use Rattle.std.proofs.Common.{◌≡◌, ℕ, List, [], ◌++◌, refl, ap, append_assoc}
+use Rattle.std.proofs.Common.{◌≡◌, ℕ, List, [], ◌∷◌, ◌++◌, take, refl, ap, ◌∙◌, append_assoc, arith}
 use Rattle.std.specs.Prelude.{Option, Some, None}
 use Rattle.std.proofs.lemmas.List.{append-nil}
-use Rattle.uxn_io.specs.Told.{extended}
+use Rattle.uxn_io.specs.Told.{extended, HasTakenFront}
 
 -- nothing more
 pub extended-nothing : (told : Option (List ℕ)) → extended told [] ≡ told
@@ -13,4 +13,8 @@ pub extended-extended : (told : Option (List ℕ)) (a b : List ℕ) → extended
 extended-extended None a b = refl
 extended-extended (Some bytes) a b = ap Some (append_assoc bytes a b)
 
-pub ruleset growth = (extended-nothing, extended-extended)
+-- a front that is shorter than one byte
+pub front_of_one : (before now : Option (List ℕ)) (value : ℕ) → HasTakenFront before now (value ∷ []) → now ≡ before
+front_of_one before now value front =
+    let none : front.count ≡ 0 = (let less = front.within in omega arith) in
+    front.taken ∙ ap (λ n. extended before (take n (value ∷ []))) none ∙ extended-nothing before

@@ -1,6 +1,13 @@
-pub mod WordLemmas
 pub mod Growth
 pub mod Along
 pub mod Reset
-pub mod Outcomes
+pub mod ArgumentLemmas
+pub mod LineLemmas
+pub mod WordLemmas
+pub mod VerdictLemmas
 pub mod CauseLemmas
+pub mod OutputLemmas
+pub mod ApartLemmas
+pub mod AssemblingLemmas
+pub mod OpcodeLemmas
+pub mod OthersLemmas

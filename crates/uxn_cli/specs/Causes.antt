@@ -1,65 +1,65 @@
 -- When each status is answered.
-use Rattle.std.specs.Prelude.{◌≡◌, ℕ, ◌++◌, List, [], ◌∷◌, Option, Some, None, Ok, IsErr, IsSome, ◌⊎◌}
+use Rattle.std.specs.Prelude.{◌≡◌, ℕ, List, [], ◌∷◌, ◌++◌, Option, Some, None, Result, Ok, Err, ◌⊎◌}
+use Rattle.std.specs.Prelude.{false, IfOk, IfSome}
+use Rattle.std.specs.List.{list_any}
+use Rattle.std.specs.Str.{bytes_eq}
+use Rattle.std.specs.FinMap as map
 use Rattle.uxn_io.specs.Told.{extended}
-use Rattle.uxn_io.specs.Files.{Nodes, file_at}
-use Rattle.uxn_io.specs.PathText.{path_of}
-use Rattle.uxn_opcodes.specs.declared.Stop.{Stop}
-use Rattle.uxn_opcodes.specs.declared.Stop.TheVariants.{TreeFault, SinkFault, NoMemory}
-use Rattle.tal_rom.specs.Assembly.{first_fault}
-use Rattle.uxn_cli.specs.Words.{ToPlay, settings}
-use Rattle.uxn_cli.specs.Answer.{IsEarly}
+use Rattle.uxn_io.specs.ByteList.{ByteList}
+use Rattle.uxn_io.specs.Files.{Nodes}
+use Rattle.tal_words.specs.declared.fault.Fault.{Fault}
+use Rattle.tal_symbols.specs.declared.stop.SymbolKind.{SymbolKind}
+use Rattle.uxn_cli.specs.declared.task.Task.{Task}
+use Rattle.uxn_cli.specs.declared.refusal.Refusal.{Refusal}
+use Rattle.uxn_cli.specs.declared.refusal.Refusal.TheVariants.{NotUnderstood, NoPath, NoOutput, Missing, Faulty, LongRom, BadSymbols}
+use Rattle.uxn_cli.specs.Verdict.{Work, and_then, view_of, judged, outputs_of}
 
--- the status of a call that ended early
-abbrev pub early_status : Stop → ℕ
-early_status TreeFault = 136
-early_status SinkFault = 137
-early_status NoMemory = 138
+-- a fault of the tree, a fault of a sink, or want of memory ended the call early
+abbrev pub IsEarly : ℕ → Type 0
+IsEarly status = (status ≡ 136) ⊎ (status ≡ 137) ⊎ (status ≡ 138)
 
 -- the answer is this status exactly where the fact holds, unless the call ended early
 pub record IsExactly (answer status : ℕ) (P : Type 0) : Type 0 where
   pub only : answer ≡ status → P
   pub whenever : P → (answer ≡ status) ⊎ IsEarly answer
 
--- the words are not legal
-abbrev pub AreIllegal : List (List ℕ) → Type 0
-AreIllegal words = settings words ≡ None
+-- the verdict on words and on what stands in a tree
+abbrev pub verdict_on : Nodes → Result Task Refusal → Result Work Refusal
+verdict_on nodes asked = and_then asked (λ task. judged task (view_of nodes task))
 
--- the words are legal, and name no path
-pub record NameNoPath (words : List (List ℕ)) : Type 0 where
-  pub word : List ℕ
-  pub legal : settings words ≡ Some (ToPlay word)
-  pub no_path : IsErr (path_of word)
+-- which verdict it is: words that are not legal, or name no path; an input that is no file; a source with a fault; a ROM that is
+-- too long or a symbol file that is refused; an output that clashes or cannot be made; and work that is to be done
+abbrev pub IsIllegal : {A : Type 0} → Result A Refusal → Type 0
+IsIllegal verdict = verdict ≡ Err NotUnderstood
 
--- the words are legal, and name this path
-pub record NamePath (words : List (List ℕ)) (path : List ℕ) : Type 0 where
-  pub word : List ℕ
-  pub legal : settings words ≡ Some (ToPlay word)
-  pub read : path_of word ≡ Ok path
+abbrev pub IsPathless : {A : Type 0} → Result A Refusal → Type 0
+IsPathless verdict = (word : ByteList) × (verdict ≡ Err (NoPath word))
 
--- no file is at the path
-pub record IsMissing (words : List (List ℕ)) (nodes : Nodes) : Type 0 where
-  pub path : List ℕ
-  pub named : NamePath words path
-  pub no_file : file_at nodes path ≡ None
+abbrev pub IsMissing : {A : Type 0} → Result A Refusal → Type 0
+IsMissing verdict = (path : List ℕ) × (verdict ≡ Err (Missing path))
 
--- the file at the path holds this source
-pub record HasSource (words : List (List ℕ)) (nodes : Nodes) (source : List ℕ) : Type 0 where
-  pub path : List ℕ
-  pub named : NamePath words path
-  pub holds : file_at nodes path ≡ Some source
+abbrev pub IsFaulty : {A : Type 0} → Result A Refusal → Type 0
+IsFaulty verdict = (fault : Fault) × (word : ByteList) × (verdict ≡ Err (Faulty fault word))
 
--- the source has a fault
-pub record IsRefused (words : List (List ℕ)) (nodes : Nodes) : Type 0 where
-  pub source : List ℕ
-  pub input : HasSource words nodes source
-  pub faulty : IsSome (first_fault source)
+abbrev pub IsUnfit : {A : Type 0} → Result A Refusal → Type 0
+IsUnfit verdict =
+    ((length : ℕ) × (verdict ≡ Err (LongRom length))) ⊎ ((entry : ℕ) × (kind : SymbolKind) × (verdict ≡ Err (BadSymbols entry kind)))
 
--- the source has none
-pub record IsAccepted (words : List (List ℕ)) (nodes : Nodes) : Type 0 where
-  pub source : List ℕ
-  pub input : HasSource words nodes source
-  pub sound : first_fault source ≡ None
+abbrev pub IsBlocked : {A : Type 0} → Result A Refusal → Type 0
+IsBlocked verdict = (path : List ℕ) × (verdict ≡ Err (NoOutput path))
+
+abbrev pub IsAccepted : {A : Type 0} → Result A Refusal → Type 0
+IsAccepted {A} verdict = (work : A) × (verdict ≡ Ok work)
 
 -- a line and nothing else was put
 abbrev pub PutsLine : Option (List ℕ) → Option (List ℕ) → Type 0
 PutsLine before now = (text : List ℕ) × (now ≡ extended before (text ++ 10 ∷ []))
+
+-- the path is no file that the task writes
+abbrev pub IsNoOutput : Result Task Refusal → List ℕ → Type 0
+IsNoOutput asked path = IfOk asked (λ task. list_any (bytes_eq path) (outputs_of task) ≡ false)
+
+-- every path but those of the outputs has its old node
+abbrev pub KeepsOthers : Result Task Refusal → Option Nodes → Option Nodes → Type 0
+KeepsOthers asked before now =
+    (path : List ℕ) → IsNoOutput asked path → IfSome before (λ old. IfSome now (λ new. map.get new path ≡ map.get old path))

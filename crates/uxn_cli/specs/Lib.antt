@@ -1,7 +1,14 @@
 pub mod Words
+pub mod Asked
 pub mod Lines
+pub mod World
+pub mod Outputs
+pub mod Verdict
+pub mod Follows
+pub mod Blame
 pub mod Run
+pub mod Console
 pub mod Outcome
 pub mod Answer
 pub mod Causes
-pub mod Console
+pub mod OpcodeNames

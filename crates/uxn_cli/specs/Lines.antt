@@ -1,29 +1,37 @@
--- The lines on the error output.
+-- The status and the one line of each refusal.
 use Rattle.std.specs.Prelude.{ℕ, List, [], ◌∷◌, ◌++◌, codes, decimal}
 use Rattle.tal_words.specs.declared.fault.Fault.{Fault}
-use Rattle.tal_words.specs.Faults.{kind_name, fault_text}
+use Rattle.tal_words.specs.Faults.{kind_name}
+use Rattle.tal_symbols.specs.Answers.{symbol_kind_name}
+use Rattle.uxn_cli.specs.declared.refusal.Refusal.{Refusal}
+use Rattle.uxn_cli.specs.declared.refusal.Refusal.TheVariants.{NotUnderstood, NoPath, NoOutput, Missing, Faulty, LongRom, BadSymbols}
+
+abbrev pub status_of : Refusal → ℕ
+status_of NotUnderstood = 128
+status_of (NoPath word) = 129
+status_of (NoOutput path) = 135
+status_of (Missing path) = 130
+status_of (Faulty fault word) = 131
+status_of (LongRom length) = 134
+status_of (BadSymbols entry kind) = 134
 
 -- a text and a newline
 abbrev pub line : List ℕ → List ℕ
 line text = text ++ 10 ∷ []
 
--- the words are not legal
-abbrev pub not_understood : List ℕ
-not_understood = line (codes "words: not understood")
+-- the first fault of a source: its line and column, counted from 1, its kind and its word
+abbrev pub fault_text : Fault → List ℕ → List ℕ
+fault_text fault word =
+    codes "source " ++ decimal fault.line ++ codes ":" ++ decimal fault.column ++ codes ": " ++ kind_name fault.kind ++ codes ": " ++ word
 
--- a word is no path
-abbrev pub no_path : List ℕ → List ℕ
-no_path word = line (codes "path: " ++ word)
+abbrev pub text_of : Refusal → List ℕ
+text_of NotUnderstood = codes "words: not understood"
+text_of (NoPath word) = codes "path: " ++ word.list
+text_of (NoOutput path) = codes "output: " ++ path
+text_of (Missing path) = codes "missing: " ++ path
+text_of (Faulty fault word) = fault_text fault word.list
+text_of (LongRom length) = codes "rom: " ++ decimal length ++ codes " bytes"
+text_of (BadSymbols entry kind) = codes "symbols " ++ decimal entry ++ codes ": " ++ symbol_kind_name kind
 
--- an input is no file
-abbrev pub missing : List ℕ → List ℕ
-missing path = line (codes "missing: " ++ path)
-
--- a line and a column, counted from 1
-abbrev pub position : Fault → List ℕ
-position fault = decimal fault.line ++ codes ":" ++ decimal fault.column
-
--- a source has a fault: its line, column, kind and word
-unfoldable pub refused : List ℕ → Fault → List ℕ
-refused source fault =
-    line (codes "source " ++ position fault ++ codes ": " ++ kind_name fault.kind ++ codes ": " ++ fault_text source fault)
+abbrev pub line_of : Refusal → List ℕ
+line_of refusal = line (text_of refusal)

@@ -1,10 +1,11 @@
 -- The run of a ROM on a machine that has a console and no other device (Varvara device reference: the console).
-use Rattle.std.specs.Prelude.{ℕ, zero, suc, ◌==◌, List, [], ◌∷◌, ◌++◌, if◌then◌else◌, replicate, slice_index, slice_set}
+use Rattle.std.specs.Prelude.{ℕ, zero, suc, ◌==◌, List, [], ◌∷◌, ◌++◌, if◌then◌else◌, replicate}
+use Rattle.std.specs.Prelude.{slice_index, slice_set}
 use Rattle.uxn_opcodes.specs.Rule.{new_core, opcode_at}
 use Rattle.uxn_opcodes.specs.Model.{PortModel, Machine, after_instruction}
 
 -- what a machine has beside its core: the bytes last stored in its ports, and the bytes put so far
-pub record World : Type 0 where
+pub record Ports : Type 0 where
   pub page : List ℕ
   pub out : List ℕ
   pub err : List ℕ
@@ -14,7 +15,7 @@ unfoldable pub new_page : List ℕ
 new_page = replicate 256 0
 
 -- nothing is put yet
-abbrev pub fresh : List ℕ → World
+abbrev pub fresh : List ℕ → Ports
 fresh page = record { page = page; out = []; err = [] }
 
 -- a write to port 18 puts its byte on the standard output
@@ -26,23 +27,23 @@ abbrev pub put_err : ℕ → ℕ → List ℕ
 put_err port value = if port == 0x19 then value ∷ [] else []
 
 -- a write stores its byte and then acts
-abbrev pub with_write : World → ℕ → ℕ → World
-with_write world port value = record {
-  page = slice_set world.page port value;
-  out = world.out ++ put_out port value;
-  err = world.err ++ put_err port value;
+abbrev pub with_write : Ports → ℕ → ℕ → Ports
+with_write ports port value = record {
+  page = slice_set ports.page port value;
+  out = ports.out ++ put_out port value;
+  err = ports.err ++ put_err port value;
 }
 
 -- the console's ports: a read gives the byte last stored, and a write leaves the core as it is
-abbrev pub console : PortModel World
+abbrev pub console : PortModel Ports
 console = record {
-  read = λ world core port. slice_index world.page port;
-  write = λ world core port value. record { core = core; ports = with_write world port value };
+  read = λ ports core port. slice_index ports.page port;
+  write = λ ports core port value. record { core = core; ports = with_write ports port value };
 }
 
 -- a machine with its console
 abbrev pub State : Type 0
-State = Machine World
+State = Machine Ports
 
 -- the state after one more instruction
 abbrev pub next : State → State
@@ -71,5 +72,5 @@ abbrev pub reset : List ℕ → State
 reset rom = record { core = new_core rom; ports = fresh new_page }
 
 -- what the reset vector leaves beside the core
-unfoldable pub reset_world : List ℕ → World
-reset_world rom = (vector_end budget (reset rom)).ports
+unfoldable pub reset_ports : List ℕ → Ports
+reset_ports rom = (vector_end budget (reset rom)).ports

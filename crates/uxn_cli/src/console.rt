@@ -1,5 +1,7 @@
 //! The ports of a machine that has a console and no other device.
-ghost use Rattle.std.specs.Prelude.{◌≡◌, ◌↔◌, Err, IsOk, OnErr, replicate};
+ghost use Rattle.std.specs.Prelude.{◌≡◌, [], ◌∷◌, Err, OnOk, OnErr, is_err, replicate};
+ghost use Rattle.uxn_io.specs.Faults.{Counted};
+ghost use Rattle.uxn_io.specs.Told.{extended};
 
 use uxn_io::{Failed, Sink, put_all};
 use uxn_opcodes::{Core, Ports, Stop};
@@ -13,12 +15,15 @@ pub struct Console<'a, O: Sink, E: Sink> {
     err: &'a mut E,
 }
 
-/// The answer of a port whose byte was put.
-fn answer(put: Result<(), Failed>) -> Result<(), Stop>
-    ensures ok { IsOk result ↔ IsOk put }
-    ensures err { OnErr result (result ≡ Err Stop.SinkFault) }
+/// Puts a byte. Where the sink fails nothing is put.
+#[tactic(auto, using(crate::proofs::Growth::front_of_one))]
+fn put_byte<S: Sink>(sink: &mut S, value: u8) -> Result<(), Stop>
+    ensures ok { OnOk result (S.told sink.new ≡ extended (S.told sink.old) (value ∷ [])) }
+    ensures err { OnErr result (S.told sink.new ≡ S.told sink.old) }
+    ensures stop { OnErr result (result ≡ Err Stop.SinkFault) }
+    ensures ledger { Counted (S.faults sink.old) (S.faults sink.new) (is_err result) }
 {
-    match put {
+    match put_all(sink, &[value]) {
         Ok(()) => Ok(()),
         Err(Failed) => Err(Stop::SinkFault),
     }
@@ -42,19 +47,11 @@ impl<'a, O: Sink, E: Sink> Console<'a, O, E> {
 }
 
 impl<'a, O: Sink, E: Sink> Ports for Console<'a, O, E> {
-    ghost use Rattle.uxn_cli.specs.Console.{Reads, Wrote, Stopped};
+    ghost use Rattle.uxn_cli.specs.Console.{rules_by, faults_by};
 
-    ghost reads = { Reads };
+    ghost rules = { rules_by O.told E.told };
 
-    ghost wrote = { Wrote O.told E.told };
-
-    ghost stopped = { Stopped };
-
-    ghost tree_faults = { λ _. 0 };
-
-    ghost out_faults = { λ console. O.faults console.out.now };
-
-    ghost err_faults = { λ console. E.faults console.err.now };
+    ghost faults = { faults_by O.faults E.faults };
 
     fn dei(&self, _core: &Core, port: u8) -> u8 {
         self.page[usize::from(port)]
@@ -64,8 +61,8 @@ impl<'a, O: Sink, E: Sink> Ports for Console<'a, O, E> {
         let place = usize::from(port);
         self.page[place] = value;
         match port {
-            0x18 => answer(put_all(self.out, &[value])),
-            0x19 => answer(put_all(self.err, &[value])),
+            0x18 => put_byte(self.out, value),
+            0x19 => put_byte(self.err, value),
             _ => Ok(()),
         }
     }

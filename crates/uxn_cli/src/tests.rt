@@ -7,36 +7,73 @@ use uxn_io::{Bytes, MemSink, MemTree, Node, Path, TreeCall};
 #[derive(Drop)]
 struct Given {
     status: u8,
+    tree: MemTree,
     out: MemSink,
     err: MemSink,
 }
 
-/// Calls with one file, a.tal, and with the calls of the tree and of the standard output that fail.
+/// The calls that fail, and the room of the error output.
+#[derive(Clone, Copy)]
+struct Faults<'a> {
+    tree: &'a [(TreeCall, u32)],
+    out: &'a [u32],
+    err: &'a [u32],
+    err_room: usize,
+}
+
+/// No call fails.
+const NONE: Faults<'static> = Faults {
+    tree: &[],
+    out: &[],
+    err: &[],
+    err_room: 100,
+};
+
+/// A file or a folder at a path of one component.
+fn node<R: AllocGlobal + Abort>(
+    rt: &R,
+    name: &[u8],
+    folder: bool,
+    bytes: &[u8],
+) -> Result<(Path, Node), Fail> {
+    let bytes = Bytes::new(rt.alloc(), bytes)?;
+    Ok((Path::read(name)?, Node { folder, bytes }))
+}
+
+/// Calls over a tree that has the file a.tal and the folder d.
 fn call<R: AllocGlobal + Abort>(
     rt: &R,
     words: &[&str],
-    source: &[u8],
-    tree_fails: &[(TreeCall, u32)],
-    out_fails: &[u32],
+    file: &[u8],
+    faults: Faults<'_>,
 ) -> Result<Given, Fail> {
     let mut texts = Vec::new(rt.alloc());
     for word in words {
         texts.push(word.to_string(rt.alloc())?)?;
     }
-    let bytes = Bytes::new(rt.alloc(), source)?;
-    let nodes = [(
-        Path::read(b"a.tal")?,
-        Node {
-            folder: false,
-            bytes,
-        },
-    )];
-    assert!(rt; MemTree::can_hold(&nodes, source.len()));
-    let mut tree = MemTree::new(rt.alloc(), &nodes, 0, source.len(), tree_fails)?;
-    let mut out = MemSink::new(rt.alloc(), 100, out_fails)?;
-    let mut err = MemSink::new(rt.alloc(), 100, &[])?;
+    let nodes = [node(rt, b"a.tal", false, file)?, node(rt, b"d", true, b"")?];
+    assert!(rt; MemTree::can_hold(&nodes, 200));
+    let mut tree = MemTree::new(rt.alloc(), &nodes, 3, 200, faults.tree)?;
+    let mut out = MemSink::new(rt.alloc(), 200, faults.out)?;
+    let mut err = MemSink::new(rt.alloc(), faults.err_room, faults.err)?;
     let status = uxn(rt.alloc(), &texts, &mut tree, &mut out, &mut err);
-    Ok(Given { status, out, err })
+    Ok(Given {
+        status,
+        tree,
+        out,
+        err,
+    })
+}
+
+/// The bytes of the file at a path, where a file is there.
+fn held<'a>(given: &'a Given, name: &[u8]) -> Option<&'a [u8]> {
+    let Ok(path) = Path::read(name) else {
+        return None;
+    };
+    match given.tree.node(&path) {
+        Some(node) => Some(node.bytes.as_slice()),
+        None => None,
+    }
 }
 
 #[test]
@@ -54,7 +91,7 @@ fn runs_sources(rt: HostRuntime) -> Result<(), Fail> {
         ),
         (b"".as_slice(), b"".as_slice(), b"".as_slice()),
     ] {
-        let given = call(&rt, &["play", "a.tal"], source, &[], &[])?;
+        let given = call(&rt, &["play", "a.tal"], source, NONE)?;
         assert_eq!(rt; given.status, 0, "{source:?}");
         assert_eq!(rt; given.out.bytes(), out, "{source:?}");
         assert_eq!(rt; given.err.bytes(), err, "{source:?}");
@@ -71,12 +108,7 @@ fn refuses_with_one_line(rt: HostRuntime) -> Result<(), Fail> {
             b"source 1:5: UnknownName: ,x\n".as_slice(),
         ),
         (
-            ["play"].as_slice(),
-            128,
-            b"words: not understood\n".as_slice(),
-        ),
-        (
-            ["play", "-x"].as_slice(),
+            ["asm", "a.tal"].as_slice(),
             128,
             b"words: not understood\n".as_slice(),
         ),
@@ -86,42 +118,124 @@ fn refuses_with_one_line(rt: HostRuntime) -> Result<(), Fail> {
             b"path: ../x.tal\n".as_slice(),
         ),
         (
-            ["play", "none.tal"].as_slice(),
+            ["dis", "a.tal", "--symbols=none"].as_slice(),
             130,
-            b"missing: none.tal\n".as_slice(),
+            b"missing: none\n".as_slice(),
+        ),
+        (
+            ["dis", "a.tal", "--symbols", "a.tal"].as_slice(),
+            134,
+            b"symbols 0: Torn\n".as_slice(),
+        ),
+        (
+            ["asm", "a.tal", "--out", "o", "--symbols", "o"].as_slice(),
+            135,
+            b"output: o\n".as_slice(),
         ),
     ] {
-        let given = call(&rt, words, b"#41 ,x", &[], &[])?;
+        let given = call(&rt, words, b"#41 ,x", NONE)?;
         assert_eq!(rt; given.status, status, "{words:?}");
         assert_eq!(rt; given.out.bytes(), b"".as_slice(), "{words:?}");
         assert_eq!(rt; given.err.bytes(), line, "{words:?}");
+        assert_eq!(rt; held(&given, b"o"), None, "{words:?}");
     }
+    Ok(())
+}
+
+/// The source that prints A.
+const PRINTS_A: &[u8] = b"|0100 LIT \"A #18 DEO BRK";
+
+#[test]
+fn writes_what_was_asked_for(rt: HostRuntime) -> Result<(), Fail> {
+    let words = ["asm", "--listing=l", "a.tal", "--out", "o"].as_slice();
+    let given = call(&rt, words, PRINTS_A, NONE)?;
+    assert_eq!(rt; given.status, 0);
+    assert_eq!(rt; given.err.bytes(), b"".as_slice());
+    assert_eq!(rt;
+        held(&given, b"o"),
+        Some([0x80, 0x41, 0x80, 0x18, 0x17].as_slice())
+    );
+    assert_eq!(rt;
+        held(&given, b"l"),
+        Some(
+            b"0100 80  1:7 LIT\n0101 41  1:11 \"A\n0102 80 18  1:14 #18\n0104 17  1:18 DEO\n0105 00  1:22 BRK\n".as_slice()
+        )
+    );
+    Ok(())
+}
+
+#[test]
+fn prints_a_disassembly(rt: HostRuntime) -> Result<(), Fail> {
+    let rom = [0x80, 0x41, 0x80, 0x18, 0x17].as_slice();
+    let given = call(&rt, &["dis", "a.tal"], rom, NONE)?;
+    assert_eq!(rt; given.status, 0);
+    assert_eq!(rt;
+        given.out.bytes(),
+        b"|0100\nLIT 41 ( 0100 )\nLIT 18 ( 0102 )\nDEO ( 0104 )\n".as_slice()
+    );
     Ok(())
 }
 
 #[test]
 fn ends_at_the_first_fault(rt: HostRuntime) -> Result<(), Fail> {
-    let source = b"LIT 41 #18 DEO LIT 42 #18 DEO BRK";
-    for (tree_fails, out_fails, status, out) in [
-        ([].as_slice(), [0].as_slice(), 137, b"".as_slice()),
-        ([].as_slice(), [1].as_slice(), 137, b"A".as_slice()),
+    let writes = b"LIT 41 #18 DEO LIT 42 #19 DEO BRK".as_slice();
+    for (words, faults, status, out, err) in [
         (
-            [(TreeCall::Kind, 0)].as_slice(),
-            [].as_slice(),
-            136,
+            ["play", "a.tal"].as_slice(),
+            Faults { out: &[0], ..NONE },
+            137,
+            b"".as_slice(),
             b"".as_slice(),
         ),
         (
-            [(TreeCall::Read, 0)].as_slice(),
-            [].as_slice(),
+            ["play", "a.tal"].as_slice(),
+            Faults { err: &[0], ..NONE },
+            137,
+            b"A".as_slice(),
+            b"".as_slice(),
+        ),
+        (
+            ["play"].as_slice(),
+            Faults { err: &[0], ..NONE },
+            137,
+            b"".as_slice(),
+            b"".as_slice(),
+        ),
+        (
+            ["play"].as_slice(),
+            Faults {
+                err_room: 5,
+                ..NONE
+            },
+            137,
+            b"".as_slice(),
+            b"words".as_slice(),
+        ),
+        (
+            ["play", "a.tal"].as_slice(),
+            Faults {
+                tree: &[(TreeCall::Read, 0)],
+                ..NONE
+            },
             136,
+            b"".as_slice(),
+            b"".as_slice(),
+        ),
+        (
+            ["asm", "a.tal", "--out", "o"].as_slice(),
+            Faults {
+                tree: &[(TreeCall::Append, 0)],
+                ..NONE
+            },
+            136,
+            b"".as_slice(),
             b"".as_slice(),
         ),
     ] {
-        let given = call(&rt, &["play", "a.tal"], source, tree_fails, out_fails)?;
-        assert_eq!(rt; given.status, status);
-        assert_eq!(rt; given.out.bytes(), out);
-        assert_eq!(rt; given.err.bytes(), b"".as_slice());
+        let given = call(&rt, words, writes, faults)?;
+        assert_eq!(rt; given.status, status, "{words:?}");
+        assert_eq!(rt; given.out.bytes(), out, "{words:?}");
+        assert_eq!(rt; given.err.bytes(), err, "{words:?}");
     }
     Ok(())
 }

@@ -1,7 +1,8 @@
 //! The run of a vector.
-ghost use Rattle.std.specs.Prelude.{◌≡◌, ◌≤◌, ◌⊎◌, OnOk, IsErrOf};
-ghost use Rattle.uxn_io.specs.Cause.{Rose};
-ghost use Rattle.uxn_cli.specs.Console.{EndsVector};
+ghost use Rattle.std.specs.Prelude.{◌≡◌, Err, OnOk, OnErr};
+ghost use Rattle.uxn_io.specs.Faults.{Ledger};
+ghost use Rattle.uxn_opcodes.specs.Ports.{blame_of};
+ghost use Rattle.uxn_cli.specs.Console.{EndsVector, faults_by};
 
 use super::console::Console;
 use uxn_io::Sink;
@@ -14,14 +15,10 @@ pub fn run_vector<'a, O: Sink, E: Sink>(
     budget: u32,
 ) -> Result<(), Stop>
     ensures ok { OnOk result (EndsVector O.told E.told budget core.old console.old core.new console.new) }
+    ensures stop { OnErr result (result ≡ Err Stop.SinkFault) }
     ensures same_out { console.new.out.ghost_name ≡ console.old.out.ghost_name }
     ensures same_err { console.new.err.ghost_name ≡ console.old.err.ghost_name }
-    ensures later_out { O.faults console.old.out.now ≤ O.faults console.new.out.now }
-    ensures later_err { E.faults console.old.err.now ≤ E.faults console.new.err.now }
-    ensures no_tree { IsErrOf result Stop.TreeFault → ⊥ }
-    ensures sinks { IsErrOf result Stop.SinkFault
-        → Rose (O.faults console.old.out.now) (O.faults console.new.out.now)
-        ⊎ Rose (E.faults console.old.err.now) (E.faults console.new.err.now) }
+    ensures ledger { Ledger (faults_by O.faults E.faults console.old) (faults_by O.faults E.faults console.new) (blame_of result) }
 {
     for _ in 0..budget {
         match step(core, console) {

@@ -23,6 +23,8 @@ impl<W: Write + Drop> Sink for Stream<W> {
 
     ghost faults = { λ stream. stream.faults };
 
+    ghost sure = { λ _. 0 };
+
     fn put(&mut self, piece: &[u8]) -> Result<usize, Failed> {
         if piece.is_empty() {
             return Ok(0);

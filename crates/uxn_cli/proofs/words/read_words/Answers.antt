@@ -1,15 +1,21 @@
-use Rattle.std.proofs.Common.{map, string_bytes, ap, sym, ◌∙◌}
-use Rattle.uxn_cli.specs.Words.{settings, named}
-use Rattle.uxn_cli.proofs.WordLemmas.{list_of_two, settings-other, settings-two}
+use Rattle.std.proofs.Common.{◌≡◌, ◌∙◌, ap, sym, map, ◌-◌, length, take, drop, string_bytes, arith}
+use Rattle.std.specs.Prelude.{Some, None, option_map}
+use Rattle.std.proofs.lemmas.Result.{IfOk-weaker}
+use Rattle.uxn_cli.specs.Words.{asked_with, command_of}
+use Rattle.uxn_cli.proofs.WordLemmas.{settings_at, settings_empty}
 use Rattle.uxn_cli.proofs.words.read_words.Goals as goal
 
-pub returns-then-words-ne2 : goal.returns-then-words-ne2
-returns-then-words-ne2 c = sym (settings-other string_bytes c.args.words.now c.if-words-ne2.true)
+pub returns-in_default : goal.returns-in_default
+returns-in_default c = sym (settings_empty string_bytes c.args.words.now c.in_default.len_below)
 
-pub returns : goal.returns
-returns c =
-    let two = list_of_two c.args.words.now c.index-words-0.result c.index-words-1.result c.if-words-ne2.false c.index-words-0.is c.index-words-1.is in
-    c.play_named.ensures
-    ∙ ap (λ name. named name c.as_str-2.result.now) c.as_str.ensures.value
-    ∙ ap (λ source. named (string_bytes c.index-words-0.result) source) c.as_str-2.ensures.value
-    ∙ sym (ap (λ words. settings (map string_bytes words)) two ∙ settings-two _ _)
+pub returns-in-Some : goal.returns-in-Some
+returns-in-Some c =
+    let words = map string_bytes (take (length c.args.words.now - 1) (drop 1 c.args.words.now)) in
+    let command : Some c.in-Some.command ≡ command_of (string_bytes c.name-item.result) = sym c.in-Some.is ∙ c.command_named.ensures ∙ ap command_of c.as_bytes.ensures.value in
+    IfOk-weaker c.read.result _ _
+    (λ read is. is ∙ ap (asked_with words) command ∙ sym (settings_at string_bytes c.args.words.now c.name-item.result (omega arith) c.name-item.is)) c.read.ensures
+
+pub returns-in-None : goal.returns-in-None
+returns-in-None c =
+    ap (asked_with (map string_bytes (take (length c.args.words.now - 1) (drop 1 c.args.words.now)))) (sym c.in-None.is ∙ c.command_named.ensures ∙ ap command_of c.as_bytes.ensures.value)
+    ∙ sym (settings_at string_bytes c.args.words.now c.name-item.result (omega arith) c.name-item.is)

@@ -1,0 +1,289 @@
+-- The rules of a command with one file and the options of a table, and what one use of each makes.
+use Rattle.std.proofs.Common.{◌≡◌, ◌∙◌, ◌+◌, ◌&&◌, ◌||◌, ℕ, Bool, cond, true, false, not, true≢false, refl, sym, ap, ap₂, subst, List, [], ◌∷◌, ◌++◌, map, length, Option, Some, None, append-nil, append_assoc, codes, is_some, option_map}
+use Rattle.std.specs.List.{find, list_any, list_all, fold}
+use Rattle.std.specs.Option.{option_map_or, unwrap_or}
+use Rattle.std.specs.Str.{bytes_eq}
+use Rattle.std.proofs.lemmas.List.{map-append}
+use Rattle.std.proofs.lemmas.Slice.Eq.{bytes_eq-Decides}
+use Rattle.clap.specs.Walk.{Held, Row, Rule, Text, arg_by_id, arg_by_index, arg_by_long, at_row, default_rows, first_of, has_row, more_values, reading_by, used, with_default}
+use Rattle.clap.specs.Simple.{App, Shape, built, filled, filled_from, new_rule, new_shape, with_index}
+use Rattle.clap.specs.Takes as takes
+use Rattle.clap.specs.Kinds.{Kinds, or_else}
+use Rattle.clap.specs.Faults.{check_fault, defaults_fault, use_fault, default_fault}
+use Rattle.clap.specs.Facts.{explicit_source}
+use Rattle.clap.specs.declared.builder.action.ArgAction.{ArgAction}
+use Rattle.clap.specs.declared.builder.action.ArgAction.TheVariants.{Set, SetTrue}
+use Rattle.clap.specs.declared.builder.value_parser.ValueParser.TheVariants as vp
+use Rattle.clap.specs.declared.builder.value_parser.Reading.TheVariants.{AsWritten}
+use Rattle.clap.specs.declared.parser.matches.ValueSource.TheVariants.{DefaultValue, CommandLine}
+use Rattle.clap.specs.declared.error.kind.ErrorKind.{ErrorKind}
+use Rattle.clap.specs.declared.error.kind.ErrorKind.TheVariants as kind
+use Rattle.clap.proofs.WalkLemmas.{list_any-map}
+use Rattle.std.specs.Prelude.{option_and_then, slice_get}
+use Rattle.uxn_cli.specs.Asked.{argument, choice_argument, file_argument}
+use Rattle.uxn_cli.specs.Words.{Choice, Given, choice_named, file_name, given, is_given, value_of}
+
+-- ---- rules
+
+-- an argument as it is built
+abbrev pub ruled : Text → Option Text → Option ℕ → Bool → Bool → Rule
+ruled id long index has_value required = record (new_rule id) {
+  long = long;
+  index = index;
+  action = Some (cond has_value Set SetTrue);
+  range = Some (record { start_inclusive = cond has_value 1 0; end_inclusive = cond has_value 1 0 });
+  defaults = cond has_value [] (codes "false" ∷ []);
+  missing = cond has_value [] (codes "true" ∷ []);
+  parser = Some (cond has_value vp.String vp.Bool);
+  required = required;
+}
+
+abbrev pub file_rule : Rule
+file_rule = ruled file_name None (Some 1) true true
+
+abbrev pub choice_rule : Choice → Rule
+choice_rule choice = ruled choice.name (Some choice.name) None choice.has_value choice.is_required
+
+abbrev pub rules_for : List Choice → List Rule
+rules_for choices = file_rule ∷ map choice_rule choices
+
+filled_choice : (i : ℕ) (name : Text) (has_value required : Bool)
+    → with_index i (filled (argument name (Some name) has_value required)) ≡ ruled name (Some name) None has_value required
+filled_choice i name true required = refl
+filled_choice i name false required = refl
+
+filled_choices : (i : ℕ) (choices : List Choice) → filled_from i (map choice_argument choices) ≡ map choice_rule choices
+filled_choices i [] = refl
+filled_choices i (choice ∷ choices) =
+    ap₂ (λ r rs. r ∷ rs) (filled_choice i choice.name choice.has_value choice.is_required) (filled_choices i choices)
+
+pub filled_rules : (choices : List Choice) → filled_from 1 (file_argument ∷ map choice_argument choices) ≡ rules_for choices
+filled_rules choices = ap (λ rs. file_rule ∷ rs) (filled_choices 2 choices)
+
+-- ---- look-ups
+
+pub found_passes : {X : Type 0} (p : X → Bool) (xs : List X) (x : X) → find p xs ≡ Some x → p x ≡ true
+found_passes p [] x e = absurd (true≢false (sym (ap is_some e)))
+found_passes p (y ∷ ys) x e = elim (p y) as (λ b. p y ≡ b → cond b (Some y) (find p ys) ≡ Some x → p x ≡ true) [
+  | true ↦ λ h s. subst (λ z. p z ≡ true) (ap (λ o. unwrap_or o x) s) h
+  | false ↦ λ h s. found_passes p ys x s
+] refl e
+
+by_long_choice : (choices : List Choice) (name : Text) → arg_by_long (map choice_rule choices) name ≡ option_map choice_rule (choice_named choices name)
+by_long_choice [] name = refl
+by_long_choice (choice ∷ choices) name =
+    elim (bytes_eq choice.name name) as (λ b. cond (b || false) (Some (choice_rule choice)) (arg_by_long (map choice_rule choices) name)
+    ≡ option_map choice_rule (cond b (Some choice) (choice_named choices name))) [ true ↦ refl | false ↦ by_long_choice choices name ]
+
+pub by_long : (choices : List Choice) (name : Text) → arg_by_long (rules_for choices) name ≡ option_map choice_rule (choice_named choices name)
+by_long choices name = by_long_choice choices name
+
+-- no option has the name of the file
+abbrev pub is_apart : List Choice → Bool
+is_apart choices = list_all (λ choice. not (bytes_eq file_name choice.name)) choices
+
+both : (a b : Bool) → (a && b) ≡ true → (a ≡ true) × (b ≡ true)
+both true b e = (refl, e)
+both false b e = absurd (true≢false (sym e))
+
+by_id_choice : (choices : List Choice) (id : Text) (choice : Choice) → choice_named choices id ≡ Some choice → arg_by_id (map choice_rule choices) id ≡ Some (choice_rule choice)
+by_id_choice [] id choice e = absurd (true≢false (sym (ap is_some e)))
+by_id_choice (other ∷ choices) id choice e = elim (bytes_eq other.name id) as (λ b. cond b (Some other) (choice_named choices id) ≡ Some choice
+    → cond b (Some (choice_rule other)) (arg_by_id (map choice_rule choices) id) ≡ Some (choice_rule choice)) [
+      | true ↦ λ s. ap (option_map choice_rule) s
+      | false ↦ λ s. by_id_choice choices id choice s
+    ] e
+
+pub apart_named : (choices : List Choice) (id : Text) (choice : Choice) → is_apart choices ≡ true → choice_named choices id ≡ Some choice → bytes_eq file_name choice.name ≡ false
+apart_named [] id choice apart e = absurd (true≢false (sym (ap is_some e)))
+apart_named (other ∷ choices) id choice apart e = elim (bytes_eq other.name id) as (λ b. cond b (Some other) (choice_named choices id) ≡ Some choice → bytes_eq file_name choice.name ≡ false) [
+  | true ↦ λ s. subst (λ c. bytes_eq file_name c.name ≡ false) (ap (λ o. unwrap_or o choice) s) (is_false (bytes_eq file_name other.name) (both _ _ apart).0)
+  | false ↦ λ s. apart_named choices id choice (both _ _ apart).1 s
+] e
+  where
+    is_false : (b : Bool) → not b ≡ true → b ≡ false
+    is_false true e = absurd (true≢false (sym e))
+    is_false false e = refl
+
+-- an option that is named is found by its id
+pub by_id : (choices : List Choice) (name : Text) (choice : Choice) → is_apart choices ≡ true → choice_named choices name ≡ Some choice
+    → arg_by_id (rules_for choices) choice.name ≡ Some (choice_rule choice)
+by_id choices name choice apart e =
+    let same : choice.name ≡ name = (bytes_eq-Decides choice.name name).0 (found_passes (λ c. bytes_eq c.name name) choices choice e) in
+    let here : choice_named choices choice.name ≡ Some choice = ap (choice_named choices) same ∙ e in
+    let other : bytes_eq file_name choice.name ≡ false = apart_named choices name choice apart e in
+    ap (λ b. cond b (Some file_rule) (arg_by_id (map choice_rule choices) choice.name)) other ∙ by_id_choice choices choice.name choice here
+
+-- ---- rows
+
+abbrev pub row : Given → Row
+row item = record { id = item.name; values = item.value ∷ []; count = None; source = Some CommandLine; reading = AsWritten }
+
+pub has_row-items : (id : Text) (items : List Given) → has_row id (map row items) ≡ is_given id items
+has_row-items id [] = refl
+has_row-items id (item ∷ items) = ap (λ b. bytes_eq item.name id || b) (has_row-items id items)
+
+neither : (a b : Bool) → (a || b) ≡ false → (a ≡ false) × (b ≡ false)
+neither true b e = absurd (true≢false e)
+neither false b e = (refl, e)
+
+pub absent : (id : Text) (change : Row → List Row) (missing rows : List Row) → has_row id rows ≡ false → at_row id change missing rows ≡ rows ++ missing
+absent id change missing [] e = refl
+absent id change missing (r ∷ rows) e =
+    let parts = neither (bytes_eq r.id id) (has_row id rows) e in
+    ap (λ b. cond b (change r ++ rows) (r ∷ at_row id change missing rows)) parts.0 ∙ ap (λ rs. r ∷ rs) (absent id change missing rows parts.1)
+
+-- one more use
+abbrev pub repeats : Bool → Kinds
+repeats again = cond again (kind.ArgumentConflict ∷ []) []
+
+repeats-is : (b : Bool) → or_else (cond (b && true) (kind.ArgumentConflict ∷ []) []) [] ≡ repeats b
+repeats-is true = refl
+repeats-is false = refl
+
+abbrev pub values_for : Bool → Text → List Text
+values_for has_value value = cond has_value (value ∷ []) []
+
+-- a switch has the value `true`
+abbrev pub Fits : Bool → Text → Type 0
+Fits has_value value = has_value ≡ false → value ≡ codes "true"
+
+pub use_faults : (id : Text) (long : Option Text) (index : Option ℕ) (has_value required : Bool) (value : Text) (items : List Given)
+    → use_fault false (ruled id long index has_value required) (values_for has_value value) (map row items) ≡ repeats (is_given id items)
+use_faults id long index true required value items =
+    ap (λ b. or_else (cond (b && true) (kind.ArgumentConflict ∷ []) []) []) (has_row-items id items) ∙ repeats-is (is_given id items)
+use_faults id long index false required value items =
+    ap (λ b. or_else (cond (b && true) (kind.ArgumentConflict ∷ []) []) []) (has_row-items id items) ∙ repeats-is (is_given id items)
+
+appended : (id : Text) (change remove : Row → List Row) (value : Text) (items : List Given) → is_given id items ≡ false
+    → at_row id change (row (given id value) ∷ []) (at_row id remove [] (map row items)) ≡ map row (items ++ given id value ∷ [])
+appended id change remove value items fresh =
+    let none = has_row-items id items ∙ fresh in
+    let kept : at_row id remove [] (map row items) ≡ map row items = absent id remove [] (map row items) none ∙ append-nil (map row items) in
+    ap (at_row id change (row (given id value) ∷ [])) kept ∙ absent id change (row (given id value) ∷ []) (map row items) none
+    ∙ sym (map-append row items (given id value ∷ []))
+
+pub use_rows : (id : Text) (long : Option Text) (index : Option ℕ) (has_value required : Bool) (value : Text) (items : List Given) → Fits has_value value
+    → is_given id items ≡ false → used (ruled id long index has_value required) (values_for has_value value) (map row items) ≡ map row (items ++ given id value ∷ [])
+use_rows id long index true required value items fits fresh = appended id (more_values CommandLine (value ∷ [])) (λ _. []) value items fresh
+use_rows id long index false required value items fits fresh =
+    rw (fits refl) (appended id (more_values CommandLine (codes "true" ∷ [])) (λ _. []) (codes "true") items fresh)
+
+-- ---- defaults
+
+abbrev pub default_row : Text → Row
+default_row id = record { id = id; values = codes "false" ∷ []; count = None; source = Some DefaultValue; reading = AsWritten }
+
+abbrev with_choice : List Row → Choice → List Row
+with_choice rows choice = with_default rows (choice_rule choice)
+
+-- the rows of the items, and the defaults of the switches that are not given
+abbrev pub with_defaults : List Choice → List Row → List Row
+with_defaults choices rows = fold with_default rows (rules_for choices)
+
+file_default : (rows : List Row) → with_default rows file_rule ≡ rows
+file_default rows = elim (has_row file_name rows) as (λ b. cond b rows rows ≡ rows) [ true ↦ refl | false ↦ refl ]
+
+found_pushed : {Z : Type 0} (read : Option Row → Z) (p : Row → Bool) (rows : List Row) (r : Row) → read (cond (p r) (Some r) None) ≡ read None
+    → read (find p (rows ++ r ∷ [])) ≡ read (find p rows)
+found_pushed read p [] r e = e
+found_pushed read p (x ∷ rows) r e = elim (p x) as (λ b. read (cond b (Some x) (find p (rows ++ r ∷ []))) ≡ read (cond b (Some x) (find p rows))) [
+  | true ↦ refl
+  | false ↦ found_pushed read p rows r e
+]
+
+module _ {Z : Type 0} (read : Option Row → Z) (id : Text) where
+  -- the default of a switch is not seen by `read`
+  abbrev pub Unseen : Choice → Type 0
+  Unseen choice = read (cond (not choice.has_value && bytes_eq choice.name id) (Some (default_row choice.name)) None) ≡ read None
+
+  abbrev pub AllUnseen : List Choice → Type 0
+  AllUnseen [] = Unit {0}
+  AllUnseen (choice ∷ choices) = Unseen choice × AllUnseen choices
+
+  abbrev found : List Row → Z
+  found rows = read (find (λ r. bytes_eq r.id id) rows)
+
+  default_unseen : (name : Text) (has_value required : Bool) (rows : List Row)
+      → read (cond (not has_value && bytes_eq name id) (Some (default_row name)) None) ≡ read None
+      → found (with_default rows (ruled name (Some name) None has_value required)) ≡ found rows
+  default_unseen name true required rows e = elim (has_row name rows) as (λ b. found (cond b rows rows) ≡ found rows) [ true ↦ refl | false ↦ refl ]
+  default_unseen name false required rows e =
+      elim (has_row name rows) as (λ b. has_row name rows ≡ b
+      → found (cond b rows (default_rows name AsWritten (codes "false" ∷ []) rows)) ≡ found rows) [
+        | true ↦ λ h. refl
+        | false ↦ λ h. ap found (absent name (more_values DefaultValue (codes "false" ∷ [])) (default_row name ∷ []) rows h)
+            ∙ found_pushed read (λ r. bytes_eq r.id id) rows (default_row name) e
+      ] refl
+
+  choices_unseen : (choices : List Choice) (rows : List Row) → AllUnseen choices → found (fold with_default rows (map choice_rule choices)) ≡ found rows
+  choices_unseen [] rows u = refl
+  choices_unseen (choice ∷ choices) rows u =
+      choices_unseen choices (with_choice rows choice) u.1 ∙ default_unseen choice.name choice.has_value choice.is_required rows u.0
+
+  pub unseen : (choices : List Choice) (rows : List Row) → AllUnseen choices → found (with_defaults choices rows) ≡ found rows
+  unseen choices rows u = choices_unseen choices (with_default rows file_rule) u ∙ ap found (file_default rows)
+
+  -- a reading that no default changes
+  pub blind : ((name : Text) → read (Some (default_row name)) ≡ read None) → (choices : List Choice) → AllUnseen choices
+  blind same [] = tt
+  blind same (choice ∷ choices) = (
+    elim (not choice.has_value && bytes_eq choice.name id) as (λ b. read (cond b (Some (default_row choice.name)) None) ≡ read None) [ true ↦ same choice.name | false ↦ refl ],
+    blind same choices,
+  )
+
+-- no switch has the name that is read
+pub no_switch_unseen : {Z : Type 0} (read : Option Row → Z) (id : Text) (choices : List Choice)
+    → list_all (λ choice. choice.has_value || not (bytes_eq choice.name id)) choices ≡ true → AllUnseen read id choices
+no_switch_unseen read id [] e = tt
+no_switch_unseen read id (choice ∷ choices) e =
+    let parts = both (choice.has_value || not (bytes_eq choice.name id)) _ e in
+    (other choice.has_value (bytes_eq choice.name id) parts.0, no_switch_unseen read id choices parts.1)
+  where
+    other : (has_value same : Bool) → (has_value || not same) ≡ true → read (cond (not has_value && same) (Some (default_row choice.name)) None) ≡ read None
+    other true same h = refl
+    other false false h = refl
+    other false true h = absurd (true≢false (sym h))
+
+choice_has_no_fault : (name : Text) (has_value required : Bool) (rows : List Row) → default_fault rows (ruled name (Some name) None has_value required) ≡ []
+choice_has_no_fault name true required rows = elim (has_row name rows) as (λ b. cond (b || true) [] (or_else [] []) ≡ []) [ true ↦ refl | false ↦ refl ]
+choice_has_no_fault name false required rows = elim (has_row name rows) as (λ b. cond (b || false) [] (or_else [] []) ≡ []) [ true ↦ refl | false ↦ refl ]
+
+choices_have_no_fault : (choices : List Choice) (rows : List Row) → defaults_fault rows (map choice_rule choices) ≡ []
+unfolding defaults_fault
+choices_have_no_fault [] rows = refl
+choices_have_no_fault (choice ∷ choices) rows =
+    ap (λ k. or_else k (defaults_fault (with_choice rows choice) (map choice_rule choices))) (choice_has_no_fault choice.name choice.has_value choice.is_required rows)
+    ∙ choices_have_no_fault choices (with_choice rows choice)
+
+-- no default is refused
+pub defaults_pass : (choices : List Choice) (rows : List Row) → defaults_fault rows (rules_for choices) ≡ []
+unfolding defaults_fault
+defaults_pass choices rows =
+    (elim (has_row file_name rows) as (λ b. or_else (cond (b || true) [] (or_else [] [])) (defaults_fault (with_default rows file_rule) (map choice_rule choices))
+    ≡ defaults_fault (with_default rows file_rule) (map choice_rule choices)) [ true ↦ refl | false ↦ refl ])
+    ∙ choices_have_no_fault choices (with_default rows file_rule)
+
+-- ---- what the rows say of the items
+
+abbrev pub explicit : Option Row → Bool
+explicit found = option_map_or (λ r. explicit_source r.source) found false
+
+items_given : (id : Text) (items : List Given) → takes.is_given id (map row items) ≡ is_given id items
+items_given id [] = refl
+items_given id (item ∷ items) = elim (bytes_eq item.name id) as (λ b. explicit (cond b (Some (row item)) (find (λ r. bytes_eq r.id id) (map row items))) ≡ (b || is_given id items)) [
+  | true ↦ refl
+  | false ↦ items_given id items
+]
+
+pub rows_given : (choices : List Choice) (id : Text) (items : List Given) → takes.is_given id (with_defaults choices (map row items)) ≡ is_given id items
+rows_given choices id items = unseen explicit id choices (map row items) (blind explicit id (λ name. refl) choices) ∙ items_given id items
+
+pub items_first : (id : Text) (items : List Given) → first_of id (map row items) ≡ value_of id items
+items_first id [] = refl
+items_first id (item ∷ items) = elim (bytes_eq item.name id) as (λ b.
+    option_and_then (λ r. slice_get r.values 0) (cond b (Some (row item)) (find (λ r. bytes_eq r.id id) (map row items)))
+    ≡ option_map (λ i. i.value) (cond b (Some item) (find (λ i. bytes_eq i.name id) items))) [
+      | true ↦ refl
+      | false ↦ items_first id items
+    ]

@@ -1,0 +1,126 @@
+use Rattle.std.proofs.Common.{◌≡◌, ℕ, Bool, not, List, [], ◌∷◌, map, refl, ap, ap₂, sym, ◌∙◌, subst, inr}
+use Rattle.std.specs.Prelude.{Option, Some, None, Result, Ok, Err, IfSome, option_map, option_to_list, find, ◌++◌}
+use Rattle.std.proofs.lemmas.List.{map-append}
+use Rattle.uxn_io.specs.declared.trees.FileBytes.{FileBytes}
+use Rattle.uxn_io.specs.declared.trees.FileBytes.TheVariants.{Missing as NoFile}
+use Rattle.uxn_io.specs.Changes.{can_create}
+use Rattle.uxn_io.specs.Files.{Nodes, file_at}
+use Rattle.uxn_io.specs.Told.{extended}
+use Rattle.uxn_io.specs.WholeFile.{whole_file}
+use Rattle.uxn_opcodes.specs.declared.Stop.TheVariants.{TreeFault}
+use Rattle.uxn_cli.specs.declared.outputs.Output.{Output}
+use Rattle.uxn_cli.specs.declared.task.Task.{Task}
+use Rattle.uxn_cli.specs.declared.words.Command.TheVariants.{Assemble}
+use Rattle.uxn_cli.specs.declared.refusal.Refusal.TheVariants.{NoOutput}
+use Rattle.uxn_cli.specs.World.{World, world, Text, with_texts, CanMake, HasWrittenFront}
+use Rattle.uxn_cli.specs.Outputs.{seen_text, seen_texts, paths_of}
+use Rattle.uxn_cli.specs.Verdict.{and_then, View, Work, Write, source_in, text_at, texts_of, inputs_by, outputs_by, outputs_of, clashes, blocked_seen, made_by, judged, verdict}
+use Rattle.uxn_cli.specs.Answer.{IsViewOf, Judges, HasEnded, IsRefused, HasCutWork, IsCutWrite}
+use Rattle.uxn_cli.proofs.Growth.{extended-nothing}
+use Rattle.uxn_cli.proofs.ApartLemmas.{makes_all}
+
+-- the view of `asm`
+abbrev pub asm_view : FileBytes → Option (List ℕ) → View
+asm_view file blocked = record { file = file; symbols = NoFile; blocked = blocked }
+
+pub sees_asm : (tree : Option Nodes) (task : Task) (file : FileBytes) (blocked : Option (List ℕ)) → task.command ≡ Assemble
+    → IfSome tree (λ nodes. file ≡ whole_file (file_at nodes task.file) 4194304) → IfSome tree (λ nodes. blocked ≡ blocked_seen nodes task) → IsViewOf tree task (asm_view file blocked)
+sees_asm None task file blocked asm found looked = record { file = tt; symbols = tt; blocked = tt }
+sees_asm (Some nodes) task file blocked asm found looked = record { file = rw asm found; symbols = rw asm refl; blocked = looked }
+
+-- what a tree that is not asked may hold
+pub unlooked : (tree : Option Nodes) (task : Task) → (blocked : Option (List ℕ)) × IfSome tree (λ nodes. blocked ≡ blocked_seen nodes task)
+unlooked None task = (None, tt)
+unlooked (Some nodes) task = (blocked_seen nodes task, refl)
+
+then_made : (said : Result (List ℕ) Rattle.uxn_cli.specs.declared.refusal.Refusal.Refusal) (work : List ℕ → Work) (blocked : Option (List ℕ))
+    → and_then (and_then said (λ source. Ok (work source))) (made_by blocked) ≡ and_then said (λ source. made_by blocked (work source))
+then_made (Ok source) work blocked = refl
+then_made (Err refusal) work blocked = refl
+
+pub judged-asm : (task : Task) (file : FileBytes) (blocked : Option (List ℕ)) → task.command ≡ Assemble
+    → judged task (asm_view file blocked) ≡ and_then (source_in task.file file) (λ source. made_by blocked (Write (texts_of task source)))
+judged-asm task file blocked asm = rw asm (then_made (source_in task.file file) (λ source. Write (texts_of task source)) blocked)
+
+-- the files that are written are the outputs
+path-text_at : (path : Option (List ℕ)) (bytes : List ℕ) → map (λ (t : Text). t.path) (text_at path bytes) ≡ option_to_list path
+path-text_at None bytes = refl
+path-text_at (Some path) bytes = refl
+
+pub paths-texts_of : (task : Task) (source : List ℕ) → map (λ (t : Text). t.path) (texts_of task source) ≡ outputs_by Assemble task
+paths-texts_of task source =
+    map-append (λ (t : Text). t.path) (text_at task.out _ ++ text_at task.symbols _) (text_at task.listing _)
+    ∙ ap₂ (λ a b. a ++ b)
+    (map-append (λ (t : Text). t.path) (text_at task.out _) (text_at task.symbols _) ∙ ap₂ (λ a b. a ++ b) (path-text_at task.out _) (path-text_at task.symbols _))
+    (path-text_at task.listing _)
+
+seen_paths : (outputs : List Output) → map (λ (t : Text). t.path) (seen_texts outputs) ≡ paths_of outputs
+seen_paths [] = refl
+seen_paths (output ∷ outputs) = ap (λ ps. output.path ∷ ps) (seen_paths outputs)
+
+module _ (task : Task) (asm : task.command ≡ Assemble) (tree : Option Nodes) (file : FileBytes) (source : List ℕ) (outputs : List Output)
+    (found : IfSome tree (λ nodes. file ≡ whole_file (file_at nodes task.file) 4194304)) (accepted : source_in task.file file ≡ Ok source)
+    (texts : seen_texts outputs ≡ texts_of task source) where
+  text_paths : map (λ (t : Text). t.path) (seen_texts outputs) ≡ outputs_of task
+  text_paths = ap (map (λ (t : Text). t.path)) texts ∙ paths-texts_of task source ∙ ap (λ c. outputs_by c task) (sym asm)
+
+  paths : paths_of outputs ≡ outputs_of task
+  paths = sym (seen_paths outputs) ∙ text_paths
+
+  looked_at : (blocked : Option (List ℕ)) → IfSome tree (λ nodes. blocked ≡ find (λ path. not (can_create nodes path)) (paths_of outputs)) → IfSome tree (λ nodes. blocked ≡ blocked_seen nodes task)
+  looked_at blocked looked = rw paths at looked
+
+  judges_asm : (blocked : Option (List ℕ)) → IfSome tree (λ nodes. blocked ≡ find (λ path. not (can_create nodes path)) (paths_of outputs))
+      → Judges (Ok task) tree (made_by blocked (Write (texts_of task source)))
+  judges_asm blocked looked = record {
+    view = asm_view file blocked;
+    seen = sees_asm tree task file blocked asm found (looked_at blocked looked);
+    judged = judged-asm task file blocked asm ∙ ap (λ said. and_then said (λ s. made_by blocked (Write (texts_of task s)))) accepted;
+  }
+
+  -- what was looked at can be made
+  pub can_write : (told : Option Nodes) → told ≡ tree → find (clashes (inputs_by task.command task) (outputs_of task)) (outputs_of task) ≡ None
+      → IfSome tree (λ nodes. None ≡ find (λ path. not (can_create nodes path)) (paths_of outputs)) → IfSome told (CanMake (seen_texts outputs))
+  can_write told same apart looked = rw same (go tree (rw paths at looked))
+    where
+      go : (t : Option Nodes) → IfSome t (λ nodes. None ≡ find (λ path. not (can_create nodes path)) (outputs_of task)) → IfSome t (CanMake (seen_texts outputs))
+      go None l = tt
+      go (Some nodes) l = makes_all (inputs_by task.command task) (seen_texts outputs) nodes (rw text_paths apart) (rw text_paths l)
+
+  module _ (out err : Option (List ℕ)) (now : Option Nodes) where
+    -- an output that cannot be made
+    pub is_blocked : (path : List ℕ) → IfSome tree (λ nodes. Some path ≡ find (λ p. not (can_create nodes p)) (paths_of outputs)) → now ≡ tree
+        → IsRefused (Ok task) (world tree out err) (world now out err) (NoOutput path)
+    is_blocked path looked same = record { judges = judges_asm (Some path) looked; same = ap (λ t. world t out err) same }
+
+    -- a fault while the files were written
+    pub is_cut : IfSome tree (λ nodes. None ≡ find (λ p. not (can_create nodes p)) (paths_of outputs)) → HasWrittenFront tree now (seen_texts outputs)
+        → HasCutWork (Ok task) (world tree out err) (world now out err) TreeFault
+    is_cut looked front = record {
+      work = Write (texts_of task source);
+      judges = judges_asm None looked;
+      cut = record { tree = rw (← texts) front; out = refl; err = refl };
+    }
+
+    -- all files were written
+    pub is_written : IfSome tree (λ nodes. None ≡ find (λ p. not (can_create nodes p)) (paths_of outputs)) → now ≡ option_map (with_texts (seen_texts outputs)) tree
+        → HasEnded (Ok task) (world tree out err) (world now out err) 0
+    is_written looked written = record {
+      found = Ok (Write (texts_of task source));
+      judges = judges_asm None looked;
+      has = record { status = refl; tree = rw (← texts) written; out = sym (extended-nothing out); err = sym (extended-nothing err) };
+    }
+
+-- a file that a tree which tells nothing did not make
+pub is_unmade : (task : Task) (asm : task.command ≡ Assemble) (tree now : Option Nodes) (file : FileBytes) (source path : List ℕ) (out err : Option (List ℕ))
+    → source_in task.file file ≡ Ok source → tree ≡ None → now ≡ None → IsRefused (Ok task) (world tree out err) (world now out err) (NoOutput path)
+is_unmade task asm tree now file source path out err accepted none gone =
+    let P : Option Nodes → Type 0 = λ t. IsRefused (Ok task) (world t out err) (world now out err) (NoOutput path) in
+    subst P (sym none) (record {
+      judges = record {
+        view = asm_view file (Some path);
+        seen = sees_asm None task file (Some path) asm tt tt;
+        judged = judged-asm task file (Some path) asm ∙ ap (λ said. and_then said (λ s. made_by (Some path) (Write (texts_of task s)))) accepted;
+      };
+      same = ap (λ t. world t out err) gone;
+    })

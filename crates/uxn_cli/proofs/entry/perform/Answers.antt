@@ -1,0 +1,12 @@
+use Rattle.std.proofs.Common.{◌≡◌, rules}
+use Rattle.std.specs.Prelude.{Err}
+use Rattle.uxn_cli.proofs.VerdictLemmas.{words_failed}
+use Rattle.uxn_cli.proofs.entry.perform.Goals as goal
+
+pub returns-in_err-task-clause-performs : goal.returns-in_err-task-clause-performs
+returns-in_err-task-clause-performs g c =
+    let result : c.from_residual.result ≡ Err c.in_err-task.field-0.0 = search rules in
+    rw result (words_failed _ _ _ _ c.in_err-task.field-0.0 c.in_err-task.ensures.follows)
+
+pub returns-in-Assemble-clause-performs : goal.returns-in-Assemble-clause-performs
+returns-in-Assemble-clause-performs g c = rw c.in_ok-task.ensures.follows (c.assemble_files.ensures.performs _ _)

@@ -1,0 +1,37 @@
+use Rattle.std.proofs.Common.{rules}
+use Rattle.uxn_cli.proofs.CauseLemmas.{exactly_illegal, exactly_pathless, exactly_missing, exactly_faulty, exactly_unfit, exactly_blocked, exactly_accepted, is_untouched, is_quiet, puts_line}
+use Rattle.uxn_cli.proofs.OthersLemmas.{keeps_others}
+use Rattle.uxn_cli.proofs.entry.uxn.Goals as goal
+
+pub returns-clause-untouched : goal.returns-clause-untouched
+returns-clause-untouched g c = is_untouched _ _ _ _ c.status_of.ensures.outcome
+
+pub returns-clause-blocked : goal.returns-clause-blocked
+returns-clause-blocked g c = exactly_blocked _ _ _ _ c.status_of.ensures.outcome
+
+pub returns-clause-illegal : goal.returns-clause-illegal
+returns-clause-illegal g c = exactly_illegal _ _ _ _ c.status_of.ensures.outcome
+
+pub returns-clause-pathless : goal.returns-clause-pathless
+returns-clause-pathless g c = exactly_pathless _ _ _ _ c.status_of.ensures.outcome
+
+pub returns-clause-missing : goal.returns-clause-missing
+returns-clause-missing g c = exactly_missing _ _ _ _ c.status_of.ensures.outcome
+
+pub returns-clause-faulty : goal.returns-clause-faulty
+returns-clause-faulty g c = exactly_faulty _ _ _ _ c.status_of.ensures.outcome
+
+pub returns-clause-unfit : goal.returns-clause-unfit
+returns-clause-unfit g c = exactly_unfit _ _ _ _ c.status_of.ensures.outcome
+
+pub returns-clause-accepted : goal.returns-clause-accepted
+returns-clause-accepted g c = exactly_accepted _ _ _ _ c.status_of.ensures.outcome
+
+pub returns-clause-quiet : goal.returns-clause-quiet
+returns-clause-quiet g c = is_quiet _ _ _ _ c.status_of.ensures.outcome
+
+pub returns-clause-one_line : goal.returns-clause-one_line
+returns-clause-one_line g c = puts_line _ _ _ _ c.status_of.ensures.outcome
+
+pub returns-clause-others : goal.returns-clause-others
+returns-clause-others g c = keeps_others _ _ _ _ c.status_of.ensures.outcome

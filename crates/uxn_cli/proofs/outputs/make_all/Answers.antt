@@ -1,0 +1,23 @@
+use Rattle.std.proofs.Common.{◌≡◌, ◌∙◌, ◌+◌, ap, inl, inr, rules}
+use Rattle.std.specs.Prelude.{Err, option_map}
+use Rattle.uxn_io.specs.Changes.{with_created}
+use Rattle.uxn_cli.proofs.OutputLemmas.{made_more, can_rest, untold, made_front}
+use Rattle.uxn_cli.proofs.outputs.make_all.Goals as goal
+
+pub returns-in_err-create-clause-err : goal.returns-in_err-create-clause-err
+returns-in_err-create-clause-err g c =
+    let result : c.from_residual.result ≡ Err c.in_err-create.field-0.0 = search rules in
+    rw result (made_front c.args.outputs.now c.loop-output.output-index c.output-item.result c.loop-output-test.true c.output-item.is _ _ _ c.loop-output.invariant.made c.in_err-create.ensures.err)
+
+pub returns-then-not-branch-clause-ok : goal.returns-then-not-branch-clause-ok
+returns-then-not-branch-clause-ok g c =
+    let none = untold c.args.outputs.now c.loop-output.output-index c.output-item.result c.loop-output-test.true c.output-item.is _ _ c.in_ok-create.field-0
+    c.loop-output.invariant.made c.loop-output.invariant.can c.in_ok-create.ensures.answer c.if-not-branch.true in
+    (none.0, c.in_ok-create.ensures.ok ∙ ap (option_map (with_created c.output-item.result.path)) none.1)
+
+pub loop-output-preserved : goal.loop-output-preserved
+loop-output-preserved g c = record {
+  made = made_more c.args.outputs.now c.loop-output.output-index c.output-item.result c.loop-output-test.true c.output-item.is _ _ _ c.loop-output.invariant.made c.in_ok-create.ensures.ok;
+  can = can_rest c.args.outputs.now c.loop-output.output-index c.output-item.result c.loop-output-test.true c.output-item.is _ _ c.in_ok-create.ensures.ok c.loop-output.invariant.can;
+  faults = c.in_ok-create.ensures.ledger ∙ c.loop-output.invariant.faults;
+}

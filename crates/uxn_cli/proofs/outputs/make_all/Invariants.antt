@@ -1,0 +1,12 @@
+use Rattle.std.proofs.Common.{◌≡◌, take, drop}
+use Rattle.std.specs.Prelude.{IfSome, option_map}
+use Rattle.uxn_cli.specs.World.{with_empty, CanMake}
+use Rattle.uxn_cli.specs.Outputs.{seen_texts}
+use Rattle.uxn_cli.proofs.outputs.make_all.Given as goal
+
+abbrev pub invariant-loop-output : goal.invariant-loop-output
+invariant-loop-output g l = record {
+  made : g.T.Tree.told l.tree ≡ option_map (with_empty (take l.output-index (seen_texts l.outputs))) (g.T.Tree.told l.fn.tree);
+  can : IfSome (g.T.Tree.told l.tree) (CanMake (drop l.output-index (seen_texts l.outputs)));
+  faults : g.T.Tree.faults l.tree ≡ g.T.Tree.faults l.fn.tree;
+}

@@ -1,0 +1,46 @@
+-- Who is to blame where a call ended early, and the status that says so.
+use Rattle.std.specs.Prelude.{◌≡◌, ℕ, ◌==◌, List, Option, Result, Ok, Err, if◌then◌else◌}
+use Rattle.uxn_io.specs.Told.{HasTakenFront}
+use Rattle.uxn_io.specs.Faults.{Blame, Nobody, TheTree, ASink}
+use Rattle.uxn_io.specs.declared.trees.ReadStop.{ReadStop}
+use Rattle.uxn_io.specs.declared.trees.ReadStop.TheVariants.{Failed, NoMemory as WantsMemory}
+use Rattle.uxn_opcodes.specs.declared.Stop.{Stop}
+use Rattle.uxn_opcodes.specs.declared.Stop.TheVariants.{TreeFault, SinkFault, NoMemory}
+use Rattle.uxn_cli.specs.declared.refusal.Halt.{Halt}
+use Rattle.uxn_cli.specs.declared.refusal.Halt.TheVariants.{Refused, Stopped}
+
+abbrev pub blame_of : Stop → Blame
+blame_of TreeFault = TheTree
+blame_of SinkFault = ASink
+blame_of NoMemory = Nobody
+
+-- of a step that may be refused
+abbrev pub blame_in : {A : Type 0} → Result A Halt → Blame
+blame_in (Ok value) = Nobody
+blame_in (Err (Refused refusal)) = Nobody
+blame_in (Err (Stopped stop)) = blame_of stop
+
+-- of a call that may stop
+abbrev pub blame_by : {A : Type 0} → Result A Stop → Blame
+blame_by (Ok value) = Nobody
+blame_by (Err stop) = blame_of stop
+
+-- of a status
+abbrev pub blame_at : ℕ → Blame
+blame_at status = if status == 136 then TheTree else if status == 137 then ASink else Nobody
+
+abbrev pub early_status : Stop → ℕ
+early_status TreeFault = 136
+early_status SinkFault = 137
+early_status NoMemory = 138
+
+-- a file that was not read
+abbrev pub halt_of_read : ReadStop → Halt
+halt_of_read Failed = Stopped TreeFault
+halt_of_read WantsMemory = Stopped NoMemory
+
+-- a line that was not put: a sink failed, and has a front of it; or memory was wanting, and nothing was put
+abbrev pub Stops : Option (List ℕ) → Option (List ℕ) → List ℕ → Stop → Type 0
+Stops before now line TreeFault = ⊥
+Stops before now line SinkFault = HasTakenFront before now line
+Stops before now line NoMemory = now ≡ before

@@ -1,0 +1,106 @@
+//! What `asm` writes.
+ghost use Rattle.std.specs.Prelude.{◌≡◌, ℕ, ◌++◌, List, Option, Ok, IfOk, OnOk};
+ghost use Rattle.tal_rom.specs.Assembly.{IsAssembled};
+ghost use Rattle.tal_symbols.specs.SymbolFile.{symbol_file};
+ghost use Rattle.tal_listing.specs.Listing.{listing_of};
+ghost use Rattle.uxn_io.specs.Faults.{Ledger, counts};
+ghost use Rattle.uxn_cli.specs.World.{world};
+ghost use Rattle.uxn_cli.specs.Outputs.{seen_texts};
+ghost use Rattle.uxn_cli.specs.Verdict.{HasApartOutputs, text_at, texts_of};
+ghost use Rattle.uxn_cli.specs.Answer.{Performs};
+ghost use Rattle.uxn_cli.specs.Blame.{blame_in};
+
+use super::commands::{Accepted, SOURCE_LIMIT, accept_source};
+use super::outputs::{Output, first_blocked, write_all};
+use super::refusal::{Halt, Refusal};
+use super::task::Task;
+use super::words::Command;
+use std::alloc::{AllocError, Global};
+use tal_listing::listing;
+use tal_rom::Assembly;
+use tal_symbols::write_symbols;
+use uxn_io::{Path, Tree, read_file};
+
+/// The file of a ROM, where it was asked for.
+#[tactic(auto, using(crate::proofs::OutputLemmas::pushed))]
+fn push_rom(
+    alloc: Global,
+    outputs: &mut Vec<Output>,
+    path: &Option<Path>,
+    assembly: &Assembly,
+) -> Result<(), AllocError>
+    ensures { OnOk result (seen_texts outputs.new.items ≡ seen_texts outputs.old.items ++ text_at path.now assembly.now.rom) }
+{
+    if let Some(path) = path {
+        let bytes = Vec::from_slice(alloc, assembly.rom())?;
+        outputs.push(Output { path: *path, bytes })?;
+    }
+    Ok(())
+}
+
+/// The file of its symbols, where it was asked for.
+#[tactic(auto, using(crate::proofs::OutputLemmas::pushed))]
+fn push_symbols(
+    alloc: Global,
+    outputs: &mut Vec<Output>,
+    path: &Option<Path>,
+    assembly: &Assembly,
+) -> Result<(), AllocError>
+    ensures { OnOk result (seen_texts outputs.new.items ≡ seen_texts outputs.old.items ++ text_at path.now (symbol_file assembly.now.labels)) }
+{
+    if let Some(path) = path {
+        let bytes = write_symbols(alloc, assembly.labels())?;
+        outputs.push(Output { path: *path, bytes })?;
+    }
+    Ok(())
+}
+
+/// The file of its listing, where it was asked for.
+#[tactic(auto, using(crate::proofs::OutputLemmas::pushed))]
+fn push_listing(
+    alloc: Global,
+    outputs: &mut Vec<Output>,
+    path: &Option<Path>,
+    accepted: &Accepted,
+) -> Result<(), AllocError>
+    requires { IsAssembled accepted.now.source.list (Ok accepted.now.assembly) }
+    ensures { OnOk result (seen_texts outputs.new.items ≡ seen_texts outputs.old.items ++ text_at path.now (listing_of accepted.now.source.list accepted.now.assembly)) }
+{
+    if let Some(path) = path {
+        let bytes = listing(alloc, accepted.source.as_slice(), &accepted.assembly)?;
+        outputs.push(Output { path: *path, bytes })?;
+    }
+    Ok(())
+}
+
+/// The files that were asked for, with what they are to hold.
+fn outputs_of(alloc: Global, task: &Task, accepted: &Accepted) -> Result<Vec<Output>, AllocError>
+    requires { IsAssembled accepted.now.source.list (Ok accepted.now.assembly) }
+    ensures { IfOk result (λ outputs. seen_texts outputs.items ≡ texts_of task.now accepted.now.source.list) }
+{
+    let mut outputs = Vec::new(alloc);
+    push_rom(alloc, &mut outputs, &task.out, &accepted.assembly)?;
+    push_symbols(alloc, &mut outputs, &task.symbols, &accepted.assembly)?;
+    push_listing(alloc, &mut outputs, &task.listing, accepted)?;
+    Ok(outputs)
+}
+
+/// Assembles the source in a file, and writes what was asked for. All that takes memory is done before
+/// the first file is made.
+pub fn assemble_files<T: Tree>(alloc: Global, task: &Task, tree: &mut T) -> Result<u8, Halt>
+    requires command { task.now.command ≡ Command.Assemble }
+    requires apart { HasApartOutputs task.now }
+    ensures performs { (out err : Option (List ℕ)) → Performs (Ok task.now) (world (T.told tree.old) out err) (world (T.told tree.new) out err) result }
+    ensures ledger { Ledger (counts (T.faults tree.old) 0 0) (counts (T.faults tree.new) 0 0) (blame_in result) }
+{
+    let file = read_file(alloc, tree, &task.file, SOURCE_LIMIT)?;
+    let accepted = accept_source(alloc, &task.file, file)?;
+    let outputs = outputs_of(alloc, task, &accepted)?;
+    match first_blocked(tree, &outputs)? {
+        Some(path) => Err(Halt::Refused(Refusal::NoOutput(path))),
+        None => match write_all(tree, &outputs)? {
+            Some(path) => Err(Halt::Refused(Refusal::NoOutput(path))),
+            None => Ok(0),
+        },
+    }
+}

@@ -1,0 +1,201 @@
+//! The commands.
+ghost use Rattle.std.specs.Prelude.{◌≡◌, ◌≤◌, Ok, None, length, IfOk, IfSome};
+ghost use Rattle.uxn_io.specs.Faults.{Counted, Ledger, counts};
+ghost use Rattle.uxn_io.specs.WholeFile.{KeepsLimit, has_failed};
+ghost use Rattle.tal_rom.specs.Assembly.{IsAssembled};
+ghost use Rattle.uxn_cli.specs.World.{world};
+ghost use Rattle.uxn_cli.specs.Verdict.{source_in, rom_in, labels_in, symbols_by, Run, Print};
+ghost use Rattle.uxn_cli.specs.Follows.{Follows};
+ghost use Rattle.uxn_cli.specs.Answer.{Works, Performs};
+ghost use Rattle.uxn_cli.specs.Blame.{blame_in};
+
+use super::console::Console;
+use super::refusal::{Halt, Refusal};
+use super::task::Task;
+use super::vector::run_vector;
+use super::words::Command;
+use std::alloc::Global;
+use tal_listing::disassemble;
+use tal_rom::{Assembly, assemble};
+use tal_symbols::{SymbolKind, SymbolStop, read_symbols};
+use tal_words::{AsmStop, Fault, FaultKind, Label, fault_word};
+use uxn_io::{Bytes, Failed, FileBytes, Path, ReadStop, Sink, Tree, put_all, read_file};
+use uxn_opcodes::{Core, Stop};
+
+/// The greatest length of a source in bytes.
+pub const SOURCE_LIMIT: u32 = 4_194_304;
+
+/// The greatest length of a ROM in bytes.
+const ROM_LIMIT: u32 = 65_280;
+
+/// The greatest number of instructions of a vector.
+const BUDGET: u32 = 4_000_000;
+
+/// The greatest length of a symbol file in bytes.
+const SYMBOLS_LIMIT: u32 = 16_777_216;
+
+/// The fault of a source that is over its limit.
+const LONG_SOURCE: Fault = Fault {
+    at: 0,
+    line: 1,
+    column: 1,
+    kind: FaultKind::LongSource,
+};
+
+/// A source without a fault, and what it is assembled to.
+#[derive(Drop)]
+pub struct Accepted {
+    /// The source.
+    pub source: Bytes,
+    /// Its assembly.
+    pub assembly: Assembly,
+}
+
+/// The source in a file, unless no file is there or the source has a fault.
+pub fn accept_source(alloc: Global, path: &Path, file: FileBytes) -> Result<Accepted, Halt>
+    ensures follows { Follows (λ accepted. accepted.source.list) result (source_in path.now file) }
+    ensures assembled { IfOk result (λ accepted. IsAssembled accepted.source.list (Ok accepted.assembly)) }
+{
+    let source = match file {
+        FileBytes::Found(source) => source,
+        FileBytes::Missing => return Err(Halt::Refused(Refusal::Missing(*path))),
+        FileBytes::TooLong(_) => {
+            let word = Bytes::from(Vec::new(alloc));
+            return Err(Halt::Refused(Refusal::Faulty(LONG_SOURCE, word)));
+        }
+    };
+    match assemble(alloc, source.as_slice()) {
+        Ok(assembly) => Ok(Accepted { source, assembly }),
+        Err(AsmStop::Refused(fault)) => {
+            let word = Bytes::new(alloc, fault_word(source.as_slice(), &fault))?;
+            Err(Halt::Refused(Refusal::Faulty(fault, word)))
+        }
+        Err(AsmStop::NoMemory) => Err(Halt::Stopped(Stop::NoMemory)),
+    }
+}
+
+/// The ROM in a file, unless no file is there or it is too long.
+fn accept_rom(path: &Path, file: FileBytes) -> Result<Bytes, Halt>
+    requires { KeepsLimit 65280 file }
+    ensures follows { Follows (λ rom. rom.list) result (rom_in path.now file) }
+    ensures room { IfOk result (λ rom. length rom.list ≤ 65280) }
+{
+    match file {
+        FileBytes::Found(rom) => Ok(rom),
+        FileBytes::Missing => Err(Halt::Refused(Refusal::Missing(*path))),
+        FileBytes::TooLong(length) => Err(Halt::Refused(Refusal::LongRom(length))),
+    }
+}
+
+/// Runs a ROM from its reset vector, and gives the exit code.
+fn run_rom<O: Sink, E: Sink>(
+    alloc: Global,
+    rom: &[u8],
+    out: &mut O,
+    err: &mut E,
+) -> Result<u8, Halt>
+    requires { length rom.now ≤ 65280 }
+    ensures works { Works (Run rom.now) (world None (O.told out.old) (E.told err.old)) (world None (O.told out.new) (E.told err.new)) result }
+    ensures ledger { Ledger (counts 0 (O.faults out.old) (E.faults err.old)) (counts 0 (O.faults out.new) (E.faults err.new)) (blame_in result) }
+{
+    let mut core = Core::new(alloc, rom)?;
+    let mut console = Console::new(out, err);
+    match run_vector(&mut core, &mut console, BUDGET) {
+        Ok(()) => Ok(0),
+        Err(stop) => Err(Halt::Stopped(stop)),
+    }
+}
+
+/// Runs a source, or a ROM file.
+pub fn play<T: Tree, O: Sink, E: Sink>(
+    alloc: Global,
+    task: &Task,
+    tree: &mut T,
+    out: &mut O,
+    err: &mut E,
+) -> Result<u8, Halt>
+    requires { task.now.command ≡ Command.Play }
+    ensures performs { Performs (Ok task.now) (world (T.told tree.old) (O.told out.old) (E.told err.old))
+        (world (T.told tree.new) (O.told out.new) (E.told err.new)) result }
+    ensures ledger { Ledger (counts (T.faults tree.old) (O.faults out.old) (E.faults err.old))
+        (counts (T.faults tree.new) (O.faults out.new) (E.faults err.new)) (blame_in result) }
+{
+    if task.rom {
+        let file = read_file(alloc, tree, &task.file, ROM_LIMIT)?;
+        let rom = accept_rom(&task.file, file)?;
+        run_rom(alloc, rom.as_slice(), out, err)
+    } else {
+        let file = read_file(alloc, tree, &task.file, SOURCE_LIMIT)?;
+        let accepted = accept_source(alloc, &task.file, file)?;
+        run_rom(alloc, accepted.assembly.rom(), out, err)
+    }
+}
+
+/// What stands at the path of a symbol file, where there is a path.
+fn read_optional<T: Tree>(
+    alloc: Global,
+    tree: &mut T,
+    path: &Option<Path>,
+) -> Result<FileBytes, ReadStop>
+    ensures same { T.told tree.new ≡ T.told tree.old }
+    ensures answer { IfOk result (λ answer. IfSome (T.told tree.old) (λ nodes. answer ≡ symbols_by nodes path.now)) }
+    ensures ledger { Counted (T.faults tree.old) (T.faults tree.new) (has_failed result) }
+{
+    match path {
+        Some(path) => read_file(alloc, tree, path, SYMBOLS_LIMIT),
+        None => Ok(FileBytes::Missing),
+    }
+}
+
+/// The labels in a symbol file, unless no file is there or it is refused. Without a path there are none.
+fn accept_labels(alloc: Global, path: &Option<Path>, file: FileBytes) -> Result<Vec<Label>, Halt>
+    ensures { Follows (λ labels. labels.items) result (labels_in path.now file) }
+{
+    let Some(path) = path else {
+        return Ok(Vec::new(alloc));
+    };
+    match file {
+        FileBytes::Found(bytes) => match read_symbols(alloc, bytes.as_slice()) {
+            Ok(labels) => Ok(labels),
+            Err(SymbolStop::Refused { entry, kind }) => {
+                Err(Halt::Refused(Refusal::BadSymbols(entry, kind)))
+            }
+            Err(SymbolStop::NoMemory) => Err(Halt::Stopped(Stop::NoMemory)),
+        },
+        FileBytes::Missing => Err(Halt::Refused(Refusal::Missing(*path))),
+        FileBytes::TooLong(_) => Err(Halt::Refused(Refusal::BadSymbols(0, SymbolKind::Long))),
+    }
+}
+
+/// Prints a text.
+fn print<O: Sink, E: Sink>(text: &[u8], out: &mut O, err: &mut E) -> Result<u8, Halt>
+    ensures works { Works (Print text.now) (world None (O.told out.old) (E.told err.old)) (world None (O.told out.new) (E.told err.new)) result }
+    ensures ledger { Ledger (counts 0 (O.faults out.old) (E.faults err.old)) (counts 0 (O.faults out.new) (E.faults err.new)) (blame_in result) }
+{
+    match put_all(out, text) {
+        Ok(()) => Ok(0),
+        Err(Failed) => Err(Halt::Stopped(Stop::SinkFault)),
+    }
+}
+
+/// Prints the disassembly of a ROM file.
+pub fn disassemble_rom<T: Tree, O: Sink, E: Sink>(
+    alloc: Global,
+    task: &Task,
+    tree: &mut T,
+    out: &mut O,
+    err: &mut E,
+) -> Result<u8, Halt>
+    requires { task.now.command ≡ Command.Disassemble }
+    ensures performs { Performs (Ok task.now) (world (T.told tree.old) (O.told out.old) (E.told err.old))
+        (world (T.told tree.new) (O.told out.new) (E.told err.new)) result }
+    ensures ledger { Ledger (counts (T.faults tree.old) (O.faults out.old) (E.faults err.old))
+        (counts (T.faults tree.new) (O.faults out.new) (E.faults err.new)) (blame_in result) }
+{
+    let file = read_file(alloc, tree, &task.file, ROM_LIMIT)?;
+    let rom = accept_rom(&task.file, file)?;
+    let symbols = read_optional(alloc, tree, &task.symbols)?;
+    let labels = accept_labels(alloc, &task.symbols, symbols)?;
+    let text = disassemble(alloc, rom.as_slice(), &labels)?;
+    print(&text, out, err)
+}

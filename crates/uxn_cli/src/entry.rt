@@ -1,0 +1,157 @@
+//! The top call, from the words to the status.
+ghost use Rattle.std.specs.Prelude.{◌≡◌, ◌≤◌, ◌⊎◌, map, string_bytes, IfOk, IfSome};
+ghost use Rattle.uxn_io.specs.Faults.{Rose, Ledger, counts};
+ghost use Rattle.uxn_cli.specs.World.{world};
+ghost use Rattle.uxn_cli.specs.Verdict.{request, HasApartOutputs};
+ghost use Rattle.uxn_cli.specs.Follows.{Follows};
+ghost use Rattle.uxn_cli.specs.Answer.{Performs, Ends, Answers};
+ghost use Rattle.uxn_cli.specs.Blame.{blame_in, blame_by, blame_at, early_status};
+ghost use Rattle.uxn_cli.specs.Causes.{IsExactly, verdict_on, IsIllegal, IsPathless, IsMissing, IsFaulty, IsUnfit, IsBlocked, IsAccepted, KeepsOthers, PutsLine};
+
+use super::assembling::assemble_files;
+use super::commands::{disassemble_rom, play};
+use super::refusal::{Halt, Refusal};
+use super::task::{Task, apart, paths_in};
+use super::words::{Command, read_words};
+use std::alloc::Global;
+use uxn_io::{Sink, Tree};
+use uxn_opcodes::Stop;
+
+/// What the words ask for, unless they are not legal or name no path.
+fn request(alloc: Global, words: &[String]) -> Result<Task, Halt>
+    ensures follows { Follows (λ task. task) result (request (map string_bytes words.now)) }
+    ensures apart { IfOk result HasApartOutputs }
+{
+    match read_words(alloc, words) {
+        Ok(Some(settings)) => {
+            let task = paths_in(alloc, &settings)?;
+            apart(alloc, task)
+        }
+        Ok(None) => Err(Halt::Refused(Refusal::NotUnderstood)),
+        Err(_) => Err(Halt::Stopped(Stop::NoMemory)),
+    }
+}
+
+/// Does what the words ask for. Where it is refused its line is not put yet.
+fn perform<T: Tree, O: Sink, E: Sink>(
+    alloc: Global,
+    words: &[String],
+    tree: &mut T,
+    out: &mut O,
+    err: &mut E,
+) -> Result<u8, Halt>
+    ensures performs { Performs (request (map string_bytes words.now)) (world (T.told tree.old) (O.told out.old) (E.told err.old))
+        (world (T.told tree.new) (O.told out.new) (E.told err.new)) result }
+    ensures ledger { Ledger (counts (T.faults tree.old) (O.faults out.old) (E.faults err.old))
+        (counts (T.faults tree.new) (O.faults out.new) (E.faults err.new)) (blame_in result) }
+{
+    let task = request(alloc, words)?;
+    match task.command {
+        Command::Play => play(alloc, &task, tree, out, err),
+        Command::Assemble => assemble_files(alloc, &task, tree),
+        Command::Disassemble => disassemble_rom(alloc, &task, tree, out, err),
+    }
+}
+
+/// Does what the words ask for, or puts the line that says why not.
+fn answer<T: Tree, O: Sink, E: Sink>(
+    alloc: Global,
+    words: &[String],
+    tree: &mut T,
+    out: &mut O,
+    err: &mut E,
+) -> Result<u8, Stop>
+    ensures ends { Ends (request (map string_bytes words.now)) (world (T.told tree.old) (O.told out.old) (E.told err.old))
+        (world (T.told tree.new) (O.told out.new) (E.told err.new)) result }
+    ensures ledger { Ledger (counts (T.faults tree.old) (O.faults out.old) (E.faults err.old))
+        (counts (T.faults tree.new) (O.faults out.new) (E.faults err.new)) (blame_by result) }
+{
+    match perform(alloc, words, tree, out, err) {
+        Ok(status) => Ok(status),
+        Err(Halt::Refused(refusal)) => refusal.put(alloc, err),
+        Err(Halt::Stopped(stop)) => Err(stop),
+    }
+}
+
+/// The status of a call that ended early.
+fn early_status(stop: Stop) -> u8
+    ensures { result ≡ early_status stop }
+{
+    match stop {
+        Stop::TreeFault => 136,
+        Stop::SinkFault => 137,
+        Stop::NoMemory => 138,
+    }
+}
+
+/// Does what the words ask for, and gives the status.
+fn status_of<T: Tree, O: Sink, E: Sink>(
+    alloc: Global,
+    words: &[String],
+    tree: &mut T,
+    out: &mut O,
+    err: &mut E,
+) -> u8
+    ensures outcome { Answers (request (map string_bytes words.now)) (world (T.told tree.old) (O.told out.old) (E.told err.old))
+        (world (T.told tree.new) (O.told out.new) (E.told err.new)) result }
+    ensures ledger { Ledger (counts (T.faults tree.old) (O.faults out.old) (E.faults err.old))
+        (counts (T.faults tree.new) (O.faults out.new) (E.faults err.new)) (blame_at result) }
+{
+    match answer(alloc, words, tree, out, err) {
+        Ok(status) => status,
+        Err(stop) => early_status(stop),
+    }
+}
+
+/// Does all that the program does: reads what the `words` after its name ask for, does it on the tree
+/// and the two sinks, and gives the exit status.
+///
+/// `play SRC` assembles the source in the file SRC and runs its ROM from the reset vector, for at most
+/// 4,000,000 instructions; with `--rom` the file is the ROM. The bytes that it writes to the ports 18
+/// and 19 go to `out` and `err`. The status is then 0. A refusal puts its one line on `err` and nothing
+/// else: 128 for words that are not legal, 129 for a word that is no path, 130 for an input that is no
+/// file, 131 for a source with a fault, 134 for a ROM of more than 65,280 bytes. The call ends early
+/// with 136 where the tree failed, with 137 where a sink failed, and with 138 where memory is wanting.
+pub fn uxn<T: Tree, O: Sink, E: Sink>(
+    alloc: Global,
+    words: &[String],
+    tree: &mut T,
+    out: &mut O,
+    err: &mut E,
+) -> u8
+    // Unless the call ends early, the status and the bytes added to both sinks are the outcome of what
+    // the words ask for and of what stands in the tree. After an early end that no sink is to blame for
+    // nothing was put; a refusal whose line could not be put has put a front of it that is shorter.
+    ensures outcome { Answers (request (map string_bytes words.now)) (world (T.told tree.old) (O.told out.old) (E.told err.old))
+        (world (T.told tree.new) (O.told out.new) (E.told err.new)) result }
+
+    // Every path that is no output has its old node.
+    ensures others { KeepsOthers (request (map string_bytes words.now)) (T.told tree.old) (T.told tree.new) }
+
+    // When each refusal comes, and when the run ends with its exit code.
+    ensures illegal { IsExactly result 128 (IsIllegal (request (map string_bytes words.now))) }
+    ensures pathless { IsExactly result 129 (IsPathless (request (map string_bytes words.now))) }
+    ensures missing { IfSome (T.told tree.old) (λ nodes. IsExactly result 130 (IsMissing (verdict_on nodes (request (map string_bytes words.now))))) }
+    ensures faulty { IfSome (T.told tree.old) (λ nodes. IsExactly result 131 (IsFaulty (verdict_on nodes (request (map string_bytes words.now))))) }
+    ensures unfit { IfSome (T.told tree.old) (λ nodes. IsExactly result 134 (IsUnfit (verdict_on nodes (request (map string_bytes words.now))))) }
+    ensures blocked { IfSome (T.told tree.old) (λ nodes. IsExactly result 135 (IsBlocked (verdict_on nodes (request (map string_bytes words.now))))) }
+    ensures accepted { IfSome (T.told tree.old) (λ nodes. IsExactly result 0 (IsAccepted (verdict_on nodes (request (map string_bytes words.now))))) }
+
+    // A refusal changes nothing in the tree, and puts its one line on the error output and nothing on the standard output.
+    ensures untouched { 128 ≤ result → result ≤ 135 → T.told tree.new ≡ T.told tree.old }
+    ensures quiet { 128 ≤ result → result ≤ 135 → O.told out.new ≡ O.told out.old }
+    ensures one_line { 128 ≤ result → result ≤ 135 → PutsLine (E.told err.old) (E.told err.new) }
+
+    // A fault of the tree or of a sink is answered exactly where its count rose in this call.
+    ensures ledger { Ledger (counts (T.faults tree.old) (O.faults out.old) (E.faults err.old))
+        (counts (T.faults tree.new) (O.faults out.new) (E.faults err.new)) (blame_at result) }
+    ensures tree_fault { result ≡ 136 → Rose (T.faults tree.old) (T.faults tree.new) }
+    ensures sink_fault { result ≡ 137 → Rose (O.faults out.old) (O.faults out.new) ⊎ Rose (E.faults err.old) (E.faults err.new) }
+
+    // What is accepted ends with its exit code, unless a count rose or memory was wanting.
+    ensures complete { IfSome (T.told tree.old) (λ nodes. IsAccepted (verdict_on nodes (request (map string_bytes words.now)))
+        → (Rose (T.faults tree.old) (T.faults tree.new) → ⊥) → (Rose (O.faults out.old) (O.faults out.new) → ⊥)
+        → (Rose (E.faults err.old) (E.faults err.new) → ⊥) → (result ≡ 0) ⊎ (result ≡ 138)) }
+{
+    status_of(alloc, words, tree, out, err)
+}

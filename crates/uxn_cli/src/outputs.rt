@@ -1,0 +1,117 @@
+//! The files that a command writes.
+ghost use Rattle.std.specs.Prelude.{◌≡◌, None, Some, not, find, IfOk, IfSome, OnOk, OnErr, MatchOption, is_err};
+ghost use Rattle.std.specs.Option.{option_map};
+ghost use Rattle.uxn_io.specs.Changes.{can_create};
+ghost use Rattle.uxn_io.specs.Faults.{Counted};
+ghost use Rattle.uxn_io.specs.Files.{is_folder_at, has_parent};
+ghost use Rattle.uxn_cli.specs.World.{with_empty, with_bytes, CanMake, AreFiles, HasMadeFront, HasFilledFront, HasWrittenFront, with_texts};
+ghost use Rattle.uxn_cli.specs.Outputs.{seen_texts, paths_of};
+
+use uxn_io::{Failed, Kind, Path, Tree, append_all};
+
+/// A file that is to be written.
+#[derive(Drop)]
+pub struct Output {
+    /// Where it is to be.
+    pub path: Path,
+    /// What it is to hold.
+    pub bytes: Vec<u8>,
+}
+
+/// Whether a folder is at the path.
+fn is_folder<T: Tree>(tree: &mut T, path: &Path) -> Result<bool, Failed>
+    ensures answer { IfOk result (λ answer. IfSome (T.told tree.old) (λ nodes. answer ≡ is_folder_at nodes (Some path.now))) }
+    ensures same { T.told tree.new ≡ T.told tree.old }
+    ensures ledger { Counted (T.faults tree.old) (T.faults tree.new) (is_err result) }
+{
+    match tree.kind(path)? {
+        Kind::Folder => Ok(true),
+        Kind::File(_) | Kind::Missing => Ok(false),
+    }
+}
+
+/// Whether the parent of the path is a folder. The current folder always is.
+fn has_parent<T: Tree>(tree: &mut T, path: &Path) -> Result<bool, Failed>
+    ensures answer { IfOk result (λ answer. IfSome (T.told tree.old) (λ nodes. answer ≡ has_parent nodes path.now)) }
+    ensures same { T.told tree.new ≡ T.told tree.old }
+    ensures ledger { Counted (T.faults tree.old) (T.faults tree.new) (is_err result) }
+{
+    match path.parent() {
+        Some(parent) => is_folder(tree, &parent),
+        None => Ok(true),
+    }
+}
+
+/// Whether a file can be made at the path.
+fn can_create<T: Tree>(tree: &mut T, path: &Path) -> Result<bool, Failed>
+    ensures answer { IfOk result (λ answer. IfSome (T.told tree.old) (λ nodes. answer ≡ can_create nodes path.now)) }
+    ensures same { T.told tree.new ≡ T.told tree.old }
+    ensures ledger { Counted (T.faults tree.old) (T.faults tree.new) (is_err result) }
+{
+    let parent_is_folder = has_parent(tree, path)?;
+    let is_folder = is_folder(tree, path)?;
+    Ok(parent_is_folder && !is_folder)
+}
+
+/// The first file that cannot be made. Nothing changes.
+pub fn first_blocked<T: Tree>(tree: &mut T, outputs: &[Output]) -> Result<Option<Path>, Failed>
+    ensures answer { IfOk result (λ answer. IfSome (T.told tree.old) (λ nodes.
+        answer ≡ find (λ path. not (can_create nodes path)) (paths_of outputs.now))) }
+    ensures same { T.told tree.new ≡ T.told tree.old }
+    ensures ledger { Counted (T.faults tree.old) (T.faults tree.new) (is_err result) }
+{
+    for output in outputs {
+        if !can_create(tree, &output.path)? {
+            return Ok(Some(output.path));
+        }
+    }
+    Ok(None)
+}
+
+/// Makes the files, empty and in order, or gives the first one that the tree does not make. On a tree
+/// that tells its contents each is made.
+fn make_all<T: Tree>(tree: &mut T, outputs: &[Output]) -> Result<Option<Path>, Failed>
+    requires { IfSome (T.told tree.old) (CanMake (seen_texts outputs.now)) }
+    ensures ok { IfOk result (λ refused. MatchOption refused
+        (T.told tree.new ≡ option_map (with_empty (seen_texts outputs.now)) (T.told tree.old)) (λ path. (T.told tree.old ≡ None) × (T.told tree.new ≡ None))) }
+    ensures err { OnErr result (HasMadeFront (T.told tree.old) (T.told tree.new) (seen_texts outputs.now)) }
+    ensures ledger { Counted (T.faults tree.old) (T.faults tree.new) (is_err result) }
+{
+    for output in outputs {
+        if !tree.create(&output.path)? {
+            return Ok(Some(output.path));
+        }
+    }
+    Ok(None)
+}
+
+/// Appends to each file its bytes, in order.
+fn fill_all<T: Tree>(tree: &mut T, outputs: &[Output]) -> Result<(), Failed>
+    requires { IfSome (T.told tree.old) (AreFiles (seen_texts outputs.now)) }
+    ensures ok { OnOk result (T.told tree.new ≡ option_map (with_bytes (seen_texts outputs.now)) (T.told tree.old)) }
+    ensures err { OnErr result (HasFilledFront (T.told tree.old) (T.told tree.new) (seen_texts outputs.now)) }
+    ensures ledger { Counted (T.faults tree.old) (T.faults tree.new) (is_err result) }
+{
+    for output in outputs {
+        append_all(tree, &output.path, &output.bytes)?;
+    }
+    Ok(())
+}
+
+/// Writes the files: makes each, and then appends its bytes. Gives the first one that the tree does not
+/// make, which comes only on a tree that tells nothing.
+pub fn write_all<T: Tree>(tree: &mut T, outputs: &[Output]) -> Result<Option<Path>, Failed>
+    requires { IfSome (T.told tree.old) (CanMake (seen_texts outputs.now)) }
+    ensures ok { IfOk result (λ refused. MatchOption refused
+        (T.told tree.new ≡ option_map (with_texts (seen_texts outputs.now)) (T.told tree.old)) (λ path. (T.told tree.old ≡ None) × (T.told tree.new ≡ None))) }
+    ensures err { OnErr result (HasWrittenFront (T.told tree.old) (T.told tree.new) (seen_texts outputs.now)) }
+    ensures ledger { Counted (T.faults tree.old) (T.faults tree.new) (is_err result) }
+{
+    match make_all(tree, outputs)? {
+        Some(path) => Ok(Some(path)),
+        None => {
+            fill_all(tree, outputs)?;
+            Ok(None)
+        }
+    }
+}

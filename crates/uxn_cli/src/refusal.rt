@@ -1,0 +1,173 @@
+//! Why a call ends before its work is done, and the line of a refusal.
+ghost use Rattle.std.specs.Prelude.{◌≡◌, [], ◌∷◌, ◌++◌, IfOk, IfErr};
+ghost use Rattle.uxn_io.specs.Faults.{Ledger, counts};
+ghost use Rattle.uxn_io.specs.Told.{extended};
+ghost use Rattle.uxn_cli.specs.Lines.{line, fault_text, line_of, status_of};
+ghost use Rattle.uxn_cli.specs.Blame.{blame_by, Stops};
+
+use std::alloc::{AllocError, Global};
+use tal_symbols::SymbolKind;
+use tal_words::Fault;
+use uxn_io::{Bytes, Failed, Path, ReadStop, Sink, decimal, put_all};
+use uxn_opcodes::Stop;
+
+/// Why a call does nothing but put one line on the error output.
+#[derive(Debug, Drop)]
+pub enum Refusal {
+    /// The words are not legal.
+    NotUnderstood,
+    /// This word is no path.
+    NoPath(Bytes),
+    /// An output, which clashes with another file of the command or cannot be made.
+    NoOutput(Path),
+    /// An input, which is no file.
+    Missing(Path),
+    /// The first fault of a source, and the word that has it.
+    Faulty(Fault, Bytes),
+    /// A ROM file has so many bytes, over 65,280.
+    LongRom(u64),
+    /// The first faulty entry of a symbol file, counted from 0, and what is wrong with it.
+    BadSymbols(u32, SymbolKind),
+}
+
+/// Why a call ended before its work was done.
+#[derive(Debug, Drop)]
+pub enum Halt {
+    /// It is refused.
+    Refused(Refusal),
+    /// The tree or a sink failed, or memory is wanting.
+    Stopped(Stop),
+}
+
+impl From<AllocError> for Halt {
+    ghost use Rattle.std.specs.Prelude.{◌≡◌};
+    ghost use Rattle.uxn_cli.specs.declared.refusal.Halt.TheVariants as halts;
+    ghost use Rattle.uxn_opcodes.specs.declared.Stop.TheVariants as stops;
+
+    ghost from_gives = { λ _ halt. halt ≡ halts.Stopped stops.NoMemory };
+
+    fn from(_want: AllocError) -> Halt {
+        Halt::Stopped(Stop::NoMemory)
+    }
+}
+
+impl From<Failed> for Halt {
+    ghost use Rattle.std.specs.Prelude.{◌≡◌};
+    ghost use Rattle.uxn_cli.specs.declared.refusal.Halt.TheVariants as halts;
+    ghost use Rattle.uxn_opcodes.specs.declared.Stop.TheVariants as stops;
+
+    ghost from_gives = { λ _ halt. halt ≡ halts.Stopped stops.TreeFault };
+
+    fn from(_fault: Failed) -> Halt {
+        Halt::Stopped(Stop::TreeFault)
+    }
+}
+
+impl From<ReadStop> for Halt {
+    ghost use Rattle.std.specs.Prelude.{◌≡◌};
+    ghost use Rattle.uxn_cli.specs.Blame.{halt_of_read};
+
+    ghost from_gives = { λ stop halt. halt ≡ halt_of_read stop };
+
+    fn from(stop: ReadStop) -> Halt {
+        match stop {
+            ReadStop::Failed => Halt::Stopped(Stop::TreeFault),
+            ReadStop::NoMemory => Halt::Stopped(Stop::NoMemory),
+        }
+    }
+}
+
+impl Refusal {
+    /// The status of the call that is refused.
+    pub fn status(&self) -> u8
+        ensures { result ≡ status_of self.now }
+    {
+        match self {
+            Refusal::NotUnderstood => 128,
+            Refusal::NoPath(_) => 129,
+            Refusal::NoOutput(_) => 135,
+            Refusal::Missing(_) => 130,
+            Refusal::Faulty(..) => 131,
+            Refusal::LongRom(_) | Refusal::BadSymbols(..) => 134,
+        }
+    }
+
+    /// The line that says why. Errors with want of memory.
+    fn line(&self, alloc: Global) -> Result<Vec<u8>, AllocError>
+        ensures { IfOk result (λ made. made.items ≡ line_of self.now) }
+    {
+        match self {
+            Refusal::NotUnderstood => Vec::from_slice(alloc, b"words: not understood\n"),
+            Refusal::NoPath(word) => labelled(alloc, b"path: ", word.as_slice()),
+            Refusal::NoOutput(path) => labelled(alloc, b"output: ", path.bytes()),
+            Refusal::Missing(path) => labelled(alloc, b"missing: ", path.bytes()),
+            Refusal::Faulty(fault, word) => fault_line(alloc, fault, word.as_slice()),
+            Refusal::LongRom(length) => rom_line(alloc, *length),
+            Refusal::BadSymbols(entry, kind) => symbols_line(alloc, *entry, *kind),
+        }
+    }
+
+    /// Puts the line that says why, and gives the status.
+    pub fn put<E: Sink>(&self, alloc: Global, err: &mut E) -> Result<u8, Stop>
+        ensures ok { IfOk result (λ status. (status ≡ status_of self.now) × (E.told err.new ≡ extended (E.told err.old) (line_of self.now))) }
+        ensures stops { IfErr result (Stops (E.told err.old) (E.told err.new) (line_of self.now)) }
+        ensures ledger { Ledger (counts 0 0 (E.faults err.old)) (counts 0 0 (E.faults err.new)) (blame_by result) }
+    {
+        let Ok(line) = self.line(alloc) else {
+            return Err(Stop::NoMemory);
+        };
+        match put_all(err, &line) {
+            Ok(()) => Ok(self.status()),
+            Err(Failed) => Err(Stop::SinkFault),
+        }
+    }
+}
+
+/// What a text is, the text, and a newline.
+fn labelled(alloc: Global, label: &[u8], text: &[u8]) -> Result<Vec<u8>, AllocError>
+    ensures { IfOk result (λ made. made.items ≡ label.now ++ text.now ++ 10 ∷ []) }
+{
+    let mut line = Vec::from_slice(alloc, label)?;
+    line.extend_from_slice(text)?;
+    line.push(b'\n')?;
+    Ok(line)
+}
+
+/// Names the first fault of a source: its line, column, kind and word.
+fn fault_line(alloc: Global, fault: &Fault, word: &[u8]) -> Result<Vec<u8>, AllocError>
+    ensures { IfOk result (λ made. made.items ≡ line (fault_text fault.now word.now)) }
+{
+    let mut line = Vec::from_slice(alloc, b"source ")?;
+    line.extend_from_slice(&decimal(u64::from(fault.line)))?;
+    line.push(b':')?;
+    line.extend_from_slice(&decimal(u64::from(fault.column)))?;
+    line.extend_from_slice(b": ")?;
+    line.extend_from_slice(fault.kind.name().as_bytes())?;
+    line.extend_from_slice(b": ")?;
+    line.extend_from_slice(word)?;
+    line.push(b'\n')?;
+    Ok(line)
+}
+
+/// Says how long a ROM is.
+fn rom_line(alloc: Global, length: u64) -> Result<Vec<u8>, AllocError>
+    ensures { IfOk result (λ made. made.items ≡ line_of (Refusal.LongRom length)) }
+{
+    let mut line = Vec::from_slice(alloc, b"rom: ")?;
+    line.extend_from_slice(&decimal(length))?;
+    line.extend_from_slice(b" bytes")?;
+    line.push(b'\n')?;
+    Ok(line)
+}
+
+/// Names the first faulty entry of a symbol file, and what is wrong with it.
+fn symbols_line(alloc: Global, entry: u32, kind: SymbolKind) -> Result<Vec<u8>, AllocError>
+    ensures { IfOk result (λ made. made.items ≡ line_of (Refusal.BadSymbols entry kind)) }
+{
+    let mut line = Vec::from_slice(alloc, b"symbols ")?;
+    line.extend_from_slice(&decimal(u64::from(entry)))?;
+    line.extend_from_slice(b": ")?;
+    line.extend_from_slice(kind.name().as_bytes())?;
+    line.push(b'\n')?;
+    Ok(line)
+}

@@ -1,0 +1,148 @@
+//! What legal words ask for, once all that they name are paths.
+ghost use Rattle.std.specs.Prelude.{◌≡◌, ◌++◌, IfOk, OnOk, find, option_copied, option_to_list};
+ghost use Rattle.std.specs.List.{list_any};
+ghost use Rattle.std.specs.Str.{bytes_eq};
+ghost use Rattle.uxn_cli.specs.Asked.{asked};
+ghost use Rattle.std.specs.Option.{option_map};
+ghost use Rattle.uxn_cli.specs.Verdict.{path_in, optional_path_in, paths_in, inputs_by, outputs_of, meets, clashes, apart, HasApartOutputs};
+ghost use Rattle.uxn_cli.specs.Follows.{Follows};
+
+use super::refusal::{Halt, Refusal};
+use super::words::{Command, Settings};
+use std::alloc::{AllocError, Global};
+use uxn_io::{Bytes, Path};
+
+/// What is to be done.
+#[derive(Clone, Copy)]
+pub struct Task {
+    /// The command.
+    pub command: Command,
+    /// The file that it is about.
+    pub file: Path,
+    /// Whether the file is a ROM.
+    pub rom: bool,
+    /// The file for a ROM.
+    pub out: Option<Path>,
+    /// The file of symbols.
+    pub symbols: Option<Path>,
+    /// The file for a listing.
+    pub listing: Option<Path>,
+}
+
+/// The path that a word is.
+fn path_in(alloc: Global, word: &[u8]) -> Result<Path, Halt>
+    ensures { Follows (λ found. found) result (path_in word.now) }
+{
+    match Path::read(word) {
+        Ok(path) => Ok(path),
+        Err(_) => Err(Halt::Refused(Refusal::NoPath(Bytes::new(alloc, word)?))),
+    }
+}
+
+/// The path that a word is, where there is a word.
+fn optional_path_in(alloc: Global, word: Option<&[u8]>) -> Result<Option<Path>, Halt>
+    ensures { Follows (λ found. found) result (optional_path_in (option_map (λ text. text.now) word.entry)) }
+{
+    match word {
+        Some(word) => Ok(Some(path_in(alloc, word)?)),
+        None => Ok(None),
+    }
+}
+
+/// What the words ask for, unless a word that names a file is no path: then the first one is named.
+pub fn paths_in(alloc: Global, settings: &Settings<'_>) -> Result<Task, Halt>
+    ensures { Follows (λ found. found) result (paths_in (asked settings.now)) }
+{
+    let file = path_in(alloc, settings.file)?;
+    let out = optional_path_in(alloc, settings.out)?;
+    let symbols = optional_path_in(alloc, settings.symbols)?;
+    let listing = optional_path_in(alloc, settings.listing)?;
+    Ok(Task {
+        command: settings.command,
+        file,
+        rom: settings.rom,
+        out,
+        symbols,
+        listing,
+    })
+}
+
+impl Task {
+    /// The files that it writes, in the order of its usage line. Errors with want of memory.
+    pub fn outputs(&self, alloc: Global) -> Result<Vec<Path>, AllocError>
+        ensures { IfOk result (λ paths. paths.items ≡ outputs_of self.now) }
+    {
+        let mut paths = Vec::new(alloc);
+        if let Command::Assemble = self.command {
+            push_some(&mut paths, self.out)?;
+            push_some(&mut paths, self.symbols)?;
+            push_some(&mut paths, self.listing)?;
+        }
+        Ok(paths)
+    }
+
+    /// Whether it reads the file at this path.
+    fn has_input(&self, path: &Path) -> bool
+        ensures { result ≡ list_any (bytes_eq path.now) (inputs_by self.now.command self.now) }
+    {
+        let is_file = is_same(path, &self.file);
+        match self.command {
+            Command::Play | Command::Assemble => is_file,
+            Command::Disassemble => match &self.symbols {
+                Some(symbols) => is_file || is_same(path, symbols),
+                None => is_file,
+            },
+        }
+    }
+
+    /// Whether an output clashes with another one, or is an input.
+    #[tactic(auto, unfolding(crate::specs::Verdict::clashes))]
+    fn clashes(&self, outputs: &[Path], path: &Path) -> bool
+        ensures { result ≡ clashes (inputs_by self.now.command self.now) outputs.now path.now }
+    {
+        outputs.iter().filter(|other| meets(path, other)).count() > 1 || self.has_input(path)
+    }
+
+    /// The first output that clashes.
+    fn first_clash<'a>(&self, outputs: &'a [Path]) -> Option<&'a Path>
+        ensures { option_copied result ≡ find (clashes (inputs_by self.now.command self.now) outputs.now) outputs.now }
+    {
+        outputs.iter().find(|path| self.clashes(outputs, path))
+    }
+}
+
+/// Puts a path behind others, where there is one.
+fn push_some(paths: &mut Vec<Path>, path: Option<Path>) -> Result<(), AllocError>
+    ensures { OnOk result (paths.new.items ≡ paths.old.items ++ option_to_list path) }
+{
+    if let Some(path) = path {
+        paths.push(path)?;
+    }
+    Ok(())
+}
+
+/// Whether two paths are the same.
+fn is_same(path: &Path, other: &Path) -> bool
+    ensures { result ≡ bytes_eq path.now other.now }
+{
+    path.bytes() == other.bytes()
+}
+
+/// Whether two paths are the same or one lies under the other.
+fn meets(path: &Path, other: &Path) -> bool
+    ensures { result ≡ meets path.now other.now }
+{
+    is_same(path, other) || path.is_under(other) || other.is_under(path)
+}
+
+/// A task whose outputs do not clash, or else the first one that does.
+pub fn apart(alloc: Global, task: Task) -> Result<Task, Halt>
+    ensures follows { Follows (λ found. found) result (apart task) }
+    ensures apart { IfOk result HasApartOutputs }
+{
+    let outputs = task.outputs(alloc)?;
+    match task.first_clash(&outputs) {
+        Some(path) => Err(Halt::Refused(Refusal::NoOutput(*path))),
+        None => Ok(task),
+    }
+}

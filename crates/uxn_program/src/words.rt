@@ -1,0 +1,49 @@
+//! The words after the program's name, and what is said where they cannot be had.
+ghost use Rattle.uxn_program.specs.Refusal.{Refuses};
+
+use std::io::ErrorKind;
+use std::rt::Env;
+use std::{env, io};
+use uxn_io::{Failed, Sink, put_all};
+
+/// Why the words cannot be had.
+#[derive(Clone, Copy, Debug, PartialEq, Eq)]
+pub enum WordsStop {
+    /// A word is not UTF-8.
+    NotText,
+    /// Want of memory.
+    NoMemory,
+}
+
+impl From<io::Error> for WordsStop {
+    fn from(error: io::Error) -> WordsStop {
+        if error.kind() == ErrorKind::OutOfMemory {
+            WordsStop::NoMemory
+        } else {
+            WordsStop::NotText
+        }
+    }
+}
+
+/// The words after the program's name.
+pub fn words_of<R: Env + AllocGlobal>(rt: &R) -> Result<Vec<String>, WordsStop> {
+    let mut words = Vec::new(rt.alloc());
+    for word in env::args(rt)?.skip(1) {
+        words.push(word).map_err(io::Error::from)?;
+    }
+    Ok(words)
+}
+
+/// The status where the words cannot be had: 138 where memory is wanting, 128 and its line where a word is
+/// not UTF-8, and 137 where that line cannot be put.
+pub fn refuse_words<E: Sink>(err: &mut E, stop: WordsStop) -> u8
+    ensures { Refuses stop (E.told err.old) (E.told err.new) (E.faults err.old) (E.faults err.new) result }
+{
+    match stop {
+        WordsStop::NoMemory => 138,
+        WordsStop::NotText => match put_all(err, b"words: not understood\n") {
+            Ok(()) => 128,
+            Err(Failed) => 137,
+        },
+    }
+}
