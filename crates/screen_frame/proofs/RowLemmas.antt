@@ -1,0 +1,36 @@
+-- One more pixel of a row of the picture file.
+use Rattle.std.proofs.Common.{◌≡◌, ℕ, ◌+◌, ◌*◌, ◌<◌, List, [], ◌∷◌, ◌++◌, length, take, slice_index_or, slice_set, refl, sym, ◌∙◌, arith}
+use Rattle.std.proofs.lemmas.List.{append-nil, length-set, take_more_set, take_more}
+use Rattle.std.proofs.lemmas.List.Concat.{flat_map-append}
+use Rattle.std.proofs.lemmas.Grind.{common_steps}
+use Rattle.screen_frame.specs.Ppm.{row_bytes}
+
+pub three_elements : (xs : List ℕ) → length xs ≡ 3 → slice_index_or xs 0 0 ∷ slice_index_or xs 1 0 ∷ slice_index_or xs 2 0 ∷ [] ≡ xs
+three_elements [] h = absurd (omega arith)
+three_elements (a ∷ []) h = absurd (omega arith)
+three_elements (a ∷ b ∷ []) h = absurd (omega arith)
+three_elements (a ∷ b ∷ c ∷ []) h = refl
+three_elements (a ∷ b ∷ c ∷ d ∷ xs) h = absurd (omega arith)
+
+three_set : (xs : List ℕ) (n a b c : ℕ) → n + 2 < length xs
+    → take (n + 3) (slice_set (slice_set (slice_set xs n a) (n + 1) b) (n + 2) c) ≡ take n xs ++ (a ∷ b ∷ c ∷ [])
+three_set xs n a b c h =
+    let first = take_more_set xs n a (omega arith) in
+    let second = take_more_set (slice_set xs n a) (n + 1) b (omega (arith, length-set xs n a)) in
+    let third = take_more_set (slice_set (slice_set xs n a) (n + 1) b) (n + 2) c (omega (arith, length-set xs n a, length-set (slice_set xs n a) (n + 1) b)) in
+    grind (arith, common_steps)
+
+pub row_more : (colours : List (List ℕ)) (row into colour : List ℕ) (i : ℕ) → i < length row → length into ≡ 3 * length row
+    → colour ≡ slice_index_or colours (slice_index_or row i 0) [] → length colour ≡ 3
+    → take (3 * i) into ≡ row_bytes colours (take i row)
+    → take (3 * (i + 1)) (slice_set (slice_set (slice_set into (3 * i) (slice_index_or colour 0 0)) (3 * i + 1) (slice_index_or colour 1 0)) (3 * i + 2) (slice_index_or colour 2 0))
+    ≡ row_bytes colours (take (i + 1) row)
+row_more colours row into colour i h l v three before =
+    let wide : 3 * i + 2 < length into = omega arith in
+    let more : 3 * (i + 1) ≡ 3 * i + 3 = omega arith in
+    let taken = three_set into (3 * i) (slice_index_or colour 0 0) (slice_index_or colour 1 0) (slice_index_or colour 2 0) wide in
+    let whole : take (3 * i) into ++ (slice_index_or colour 0 0 ∷ slice_index_or colour 1 0 ∷ slice_index_or colour 2 0 ∷ []) ≡ row_bytes colours (take i row) ++ colour =
+    rw (three_elements colour three, before) refl in
+    let joined : row_bytes colours (take (i + 1) row) ≡ row_bytes colours (take i row) ++ colour =
+    rw (take_more row i 0 h, flat_map-append (λ x. slice_index_or colours x []) (take i row) (slice_index_or row i 0 ∷ [])) (rw (← v, append-nil colour) refl) in
+    rw more (taken ∙ whole ∙ sym joined)

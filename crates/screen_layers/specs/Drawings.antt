@@ -1,0 +1,133 @@
+-- What is drawn, and the colour that it paints at a place (Varvara device reference: screen; that a fill takes x and y
+-- as unsigned shorts is the profile).
+use Rattle.std.specs.Prelude.{ℕ, zero, suc, ◌+◌, ◌-◌, ◌*◌, ◌/◌, ◌%◌, ◌^◌, ◌==◌, nat_lt, nat_le}
+use Rattle.std.specs.Prelude.{Bool, true, false, ◌&&◌}
+use Rattle.std.specs.Prelude.{if◌then◌else◌, List, [], ◌∷◌, ◌++◌, take, drop, slice_index, Option, Some, None}
+use Rattle.screen_layers.specs.declared.control.Layer.{Layer}
+use Rattle.screen_layers.specs.declared.control.Layer.TheVariants.{Background, Foreground}
+use Rattle.screen_layers.specs.declared.Moved.{Moved}
+use Rattle.screen_layers.specs.Control.{has_bit, flips_x, flips_y, layer_of, fills, has_two_bits, tile_size, step_of}
+use Rattle.screen_layers.specs.Blending.{ink}
+
+-- a rectangle from left up to right and from top up to bottom, these two not in it; one place; or a tile with its corner,
+-- the bytes that were read (eight, and eight more where it has two bits a pixel), flips and blend
+pub data Shape : Type 0 where
+  fill : (left right top bottom colour : ℕ) → Shape
+  dot : (x y colour : ℕ) → Shape
+  tile : (x y : ℕ) (bytes : List ℕ) (flip_x flip_y : Bool) (blend : ℕ) → Shape
+
+-- a shape on one of the layers
+pub record Drawing : Type 0 where
+  pub layer : Layer
+  pub shape : Shape
+
+-- how far a coordinate lies after a corner, modulo 65536
+abbrev pub distance : ℕ → ℕ → ℕ
+distance corner at = (at + 65536 - corner) % 65536
+
+-- the bit of a byte, 0 being the lowest
+abbrev pub bit_of : ℕ → ℕ → ℕ
+bit_of byte place = byte / 2 ^ place % 2
+
+-- a bit as a number
+abbrev pub number_of : Bool → ℕ
+number_of bit = if bit then 1 else 0
+
+-- the value at a column of a tile's row: the bit of its low byte, plus twice that of its high byte
+abbrev pub value_of : ℕ → ℕ → Bool → ℕ → ℕ
+value_of low high flip_x column =
+    bit_of low (if flip_x then column else 7 - column) + 2 * bit_of high (if flip_x then column else 7 - column)
+
+-- the colour that a row of a tile paints at a coordinate, if it covers it and is opaque there
+abbrev pub row_painted : ℕ → ℕ → ℕ → Bool → ℕ → ℕ → Option ℕ
+row_painted corner low high flip_x blend at =
+    if nat_lt (distance corner at) 8 then ink blend (value_of low high flip_x (distance corner at)) else None
+
+-- the byte of a tile that a row shows
+abbrev pub byte_of : Bool → ℕ → ℕ
+byte_of flip_y row = if flip_y then 7 - row else row
+
+-- the colour that a shape paints at a place, if it covers it and is opaque there; a tile of one bit a pixel has no bytes
+-- past the eighth, so its high bits are 0
+unfoldable pub painted : Shape → ℕ → ℕ → Option ℕ
+painted (fill left right top bottom colour) x y =
+    if (nat_le left x && nat_lt x right) && (nat_le top y && nat_lt y bottom) then Some colour else None
+painted (dot at_x at_y colour) x y =
+    if (x == at_x) && (y == at_y) then Some colour else None
+painted (tile at_x at_y bytes flip_x flip_y blend) x y =
+    let row = byte_of flip_y (distance at_y y) in
+    if nat_lt (distance at_y y) 8
+    then row_painted at_x (slice_index bytes row) (slice_index bytes (8 + row)) flip_x blend x
+    else None
+
+-- whether two layers are one
+abbrev pub same_layer : Layer → Layer → Bool
+same_layer Background Background = true
+same_layer Background Foreground = false
+same_layer Foreground Background = false
+same_layer Foreground Foreground = true
+
+-- the colour that a drawing paints at a place of a layer, if it does
+abbrev pub paint : Drawing → Layer → ℕ → ℕ → Option ℕ
+paint drawing layer x y = if same_layer drawing.layer layer then painted drawing.shape x y else None
+
+-- a fill: from x up to the width or up to x, and from y up to the height or up to y
+abbrev pub filled : ℕ → ℕ → ℕ → ℕ → ℕ → Drawing
+filled width height x y control = record {
+  layer = layer_of control;
+  shape = fill
+      (if flips_x control then 0 else x) (if flips_x control then x else width)
+      (if flips_y control then 0 else y) (if flips_y control then y else height)
+      (control % 4);
+}
+
+-- one pixel
+abbrev pub dotted : ℕ → ℕ → ℕ → Drawing
+dotted x y control = record { layer = layer_of control; shape = dot x y (control % 4) }
+
+-- the drawing of a write to pixel, on a screen of this width and height
+unfoldable pub drawn_by_pixel : ℕ → ℕ → ℕ → ℕ → ℕ → Drawing
+drawn_by_pixel width height x y control = if fills control then filled width height x y control else dotted x y control
+
+-- the next x and y after a write to pixel: a fill advances nothing
+abbrev pub moved_by_pixel : ℕ → ℕ → ℕ → ℕ → ℕ × ℕ
+moved_by_pixel x y auto control =
+    if fills control
+    then (x, y)
+    else ((x + (if has_bit auto 1 then 1 else 0)) % 65536, (y + (if has_bit auto 2 then 1 else 0)) % 65536)
+
+-- so many bytes from an address on; memory follows itself, since addresses are modulo 65536
+unfoldable pub bytes_at : List ℕ → ℕ → ℕ → List ℕ
+bytes_at memory at count = take count (drop at (memory ++ memory))
+
+-- how far the bytes of one tile lie from those of the next: a tile's size where auto has 04, else 0
+abbrev pub bytes_step : ℕ → ℕ → ℕ
+bytes_step auto control = if has_bit auto 4 then tile_size (has_two_bits control) else 0
+
+-- tile i of a write to sprite: auto 02 steps its x, auto 01 its y and auto 04 its address
+unfoldable pub tile_of : List ℕ → ℕ → ℕ → ℕ → ℕ → ℕ → ℕ → Drawing
+tile_of memory x y addr auto control i = record {
+  layer = layer_of control;
+  shape = tile
+      ((x + i * step_of auto 2 (flips_x control)) % 65536)
+      ((y + i * step_of auto 1 (flips_y control)) % 65536)
+      (bytes_at memory ((addr + i * bytes_step auto control) % 65536) (tile_size (has_two_bits control)))
+      (flips_x control) (flips_y control) (control % 16);
+}
+
+-- the first drawings of a row of them, the newest first
+unfoldable pub newest_first : (ℕ → Drawing) → ℕ → List Drawing
+newest_first drawing zero = []
+newest_first drawing (suc i) = drawing i ∷ newest_first drawing i
+
+-- the drawings of a write to sprite, the newest first: one tile, and as many more as the high nibble of auto says
+abbrev pub drawn_by_sprite : List ℕ → ℕ → ℕ → ℕ → ℕ → ℕ → List Drawing
+drawn_by_sprite memory x y addr auto control = newest_first (tile_of memory x y addr auto control) (auto / 16 + 1)
+
+-- the next x, y and addr after a write to sprite: auto 01 moves x, auto 02 moves y and auto 04 moves addr past the tiles
+abbrev pub moved_by_sprite : ℕ → ℕ → ℕ → ℕ → ℕ → Moved
+moved_by_sprite x y addr auto control = record {
+  x = (x + step_of auto 1 (flips_x control)) % 65536;
+  y = (y + step_of auto 2 (flips_y control)) % 65536;
+  addr = (addr + (auto / 16 + 1) * bytes_step auto control) % 65536;
+}

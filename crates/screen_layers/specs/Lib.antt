@@ -1,0 +1,5 @@
+pub mod Control
+pub mod Blending
+pub mod Drawings
+pub mod Pictures
+pub mod Layers

@@ -1,0 +1,283 @@
+//! The screen: two layers of pixels, drawn by the ports pixel and sprite.
+#![tactic(auto)]
+
+ghost use Rattle.std.specs.Prelude.{ℕ, ◌≡◌, ◌+◌, ◌*◌, ◌/◌, ◌%◌, ◌<◌, ◌≤◌, false, nat_le, nat_lt, ◌&&◌, if◌then◌else◌, ◌++◌, IfOk, length, drop, slice_index};
+ghost use Rattle.screen_frame.specs.Colours.{shown};
+ghost use Rattle.screen_layers.specs.Control.{has_bit, step_of, tile_size};
+ghost use Rattle.screen_layers.specs.Drawings.{tile, filled, dotted, moved_by_pixel, moved_by_sprite, bytes_at};
+ghost use Rattle.screen_layers.specs.Pictures.{Picture, new_picture, after_pixel, after_sprite, can_resize, resized, picture_row_of};
+
+mod control;
+mod plane;
+#[cfg(test)]
+mod tests;
+mod tile;
+
+use control::{Layer, has_bit, layer_of, step_of};
+use plane::{Area, Plane, STRIDE, Size, Tile};
+use screen_frame::{CHANNELS, Palette, compose, ppm_row};
+use std::alloc::{AllocError, Global};
+use std::marker::Model;
+use tile::Look;
+use uxn_memory::Memory;
+
+/// The least width and height of a screen.
+const LEAST: u16 = 8;
+
+/// The greatest width and height of a screen.
+const GREATEST: u16 = 2047;
+
+/// Where a sprite leaves x, y and the address of its tiles.
+#[derive(Clone, Copy, Debug, PartialEq, Eq)]
+pub struct Moved {
+    pub x: u16,
+    pub y: u16,
+    pub addr: u16,
+}
+
+/// A screen of two layers, 8 to 2047 pixels each way. Contracts see its size and its layers' pixels, and say which
+/// pictures these stand for.
+#[derive(Drop)]
+pub struct Screen {
+    size: Size,
+    background: Plane,
+    foreground: Plane,
+}
+
+impl Model for Screen {
+    ghost use Rattle.std.specs.Prelude.{◌≤◌};
+    ghost use Rattle.screen_layers.specs.Layers.{Layers};
+
+    ghost Value = { Layers };
+
+    ghost view = { λ s. record { width = s.size.width; height = s.size.height; background = s.background; foreground = s.foreground } };
+
+    ghost invariant = { λ s. (s.size.width ≤ 2047) × (s.size.height ≤ 2047) };
+}
+
+impl Screen {
+    ghost use Rattle.screen_layers.specs.Layers.{StandsFor, Draws};
+
+    /// A screen of 512 by 320 pixels, both layers 0. It takes the memory of both layers at the greatest size; no other
+    /// call takes any.
+    pub fn new(alloc: Global) -> Result<Screen, AllocError>
+        ensures { IfOk result (λ screen. StandsFor screen new_picture) }
+    {
+        let background = Plane::new(alloc)?;
+        let foreground = Plane::new(alloc)?;
+        Ok(Screen {
+            size: Size {
+                width: 512,
+                height: 320,
+            },
+            background,
+            foreground,
+        })
+    }
+
+    /// The width in pixels.
+    pub fn width(&self) -> u16
+        ensures { result ≡ self.now.width }
+    {
+        self.size.width
+    }
+
+    /// The height in pixels.
+    pub fn height(&self) -> u16
+        ensures { result ≡ self.now.height }
+    {
+        self.size.height
+    }
+
+    /// Does a write to the port pixel, and gives the next x and y. It colours the pixel at x and y, or fills.
+    pub fn pixel(&mut self, x: u16, y: u16, auto: u8, control: u8) -> (u16, u16)
+        ensures drawn { (picture : Picture) → StandsFor self.old picture → StandsFor self.new (after_pixel picture x y control) }
+        ensures moved { result ≡ moved_by_pixel x y auto control }
+    {
+        if has_bit(control, 0x80) {
+            self.fill(x, y, control);
+            (x, y)
+        } else {
+            self.dot(x, y, control);
+            (
+                x.wrapping_add(u16::from(has_bit(auto, 0x01))),
+                y.wrapping_add(u16::from(has_bit(auto, 0x02))),
+            )
+        }
+    }
+
+    /// Does a write to the port sprite, and gives the next x, y and address. It draws one tile, and as many more as the
+    /// high nibble of auto says.
+    pub fn sprite(
+        &mut self,
+        memory: &Memory,
+        x: u16,
+        y: u16,
+        addr: u16,
+        auto: u8,
+        control: u8,
+    ) -> Moved
+        ensures drawn { (picture : Picture) → StandsFor self.old picture → StandsFor self.new
+            (after_sprite picture memory.now x y addr auto control) }
+        ensures moved { result ≡ moved_by_sprite x y addr auto control }
+    {
+        let look = Look::of(control);
+        for i in 0..u16::from(auto / 16) + 1 {
+            let place = place_of(x, y, addr, auto, &look, i);
+            self.tile(memory, place, layer_of(control), &look);
+        }
+        place_after(x, y, addr, auto, &look)
+    }
+
+    /// Asks for a size. True where each way lies in 8 to 2047 and one differs from the present size: the screen then
+    /// has that size, and both layers are 0. False changes nothing.
+    pub fn resize(&mut self, width: u16, height: u16) -> bool
+        ensures answer { result ≡ can_resize self.old.width self.old.height width height }
+        ensures picture { (picture : Picture) → StandsFor self.old picture → StandsFor self.new (resized picture width height) }
+        ensures refused { result ≡ false → self.new ≡ self.old }
+    {
+        if !is_size(width)
+            || !is_size(height)
+            || (width == self.size.width && height == self.size.height)
+        {
+            return false;
+        }
+        self.size = Size { width, height };
+        self.background.clear();
+        self.foreground.clear();
+        true
+    }
+
+    /// Puts a row of the picture file into the front of a buffer, and gives the number of bytes: three a pixel.
+    pub fn picture_row(&self, y: u16, palette: &Palette, into: &mut [u8]) -> usize
+        requires row { y < self.now.height }
+        requires room { 6141 ≤ length into.old }
+        ensures count { result ≡ 3 * self.now.width }
+        ensures row { (picture : Picture) → StandsFor self.now picture →
+            into.new ≡ picture_row_of palette.now.colours picture y ++ drop result into.old }
+    {
+        let width = usize::from(self.size.width);
+        let count = CHANNELS * width;
+        let mut buffer = [0; STRIDE];
+        let values = &mut buffer[..width];
+        compose_row(
+            self.foreground.row(y, self.size.width),
+            self.background.row(y, self.size.width),
+            values,
+        );
+        ppm_row(palette, values, &mut into[..count]);
+        count
+    }
+
+    // Fills from x and y on, or up to them where flipped.
+    fn fill(&mut self, x: u16, y: u16, control: u8)
+        ensures { Draws self.old self.new (filled self.old.width self.old.height x y control) }
+    {
+        let (left, right) = span(x, self.size.width, has_bit(control, 0x10));
+        let (top, bottom) = span(y, self.size.height, has_bit(control, 0x20));
+        let area = Area {
+            left,
+            right,
+            top,
+            bottom,
+        };
+        match layer_of(control) {
+            Layer::Background => self.background.fill(area, control % 4),
+            Layer::Foreground => self.foreground.fill(area, control % 4),
+        }
+    }
+
+    // Colours the pixel at a place, if it lies on the screen.
+    fn dot(&mut self, x: u16, y: u16, control: u8)
+        ensures { Draws self.old self.new (dotted x y control) }
+    {
+        if x < self.size.width && y < self.size.height {
+            match layer_of(control) {
+                Layer::Background => self.background.dot(x, y, control % 4),
+                Layer::Foreground => self.foreground.dot(x, y, control % 4),
+            }
+        }
+    }
+
+    // Paints a tile on a layer.
+    fn tile(&mut self, memory: &Memory, place: Tile, layer: Layer, look: &Look)
+        ensures { Draws self.old self.new (record {
+          layer = layer;
+          shape = tile place.x place.y
+              (bytes_at memory.now place.at (tile_size look.now.two_bits)) look.now.columns look.now.flip_y look.now.inks;
+        }) }
+    {
+        let size = self.size;
+        match layer {
+            Layer::Background => self.background.tile(size, memory, place, look),
+            Layer::Foreground => self.foreground.tile(size, memory, place, look),
+        }
+    }
+}
+
+// Where a tile of a sprite stands, by its number, and where its bytes are.
+fn place_of(x: u16, y: u16, addr: u16, auto: u8, look: &Look, i: u16) -> Tile
+    ensures x { result.x ≡ (x + i * step_of auto 2 look.now.columns) % 65536 }
+    ensures y { result.y ≡ (y + i * step_of auto 1 look.now.flip_y) % 65536 }
+    ensures at { result.at ≡ (addr + i * (if has_bit auto 4 then tile_size look.now.two_bits else 0)) % 65536 }
+{
+    Tile {
+        x: x.wrapping_add(i.wrapping_mul(step_of(auto, 0x02, look.columns.is_flipped()))),
+        y: y.wrapping_add(i.wrapping_mul(step_of(auto, 0x01, look.flip_y))),
+        at: addr.wrapping_add(i.wrapping_mul(bytes_step(auto, look))),
+    }
+}
+
+// How far the bytes of one tile lie from those of the next.
+fn bytes_step(auto: u8, look: &Look) -> u16
+    ensures { result ≡ (if has_bit auto 4 then tile_size look.now.two_bits else 0) }
+{
+    if has_bit(auto, 0x04) { look.size() } else { 0 }
+}
+
+// Where a sprite leaves x, y and the address.
+fn place_after(x: u16, y: u16, addr: u16, auto: u8, look: &Look) -> Moved
+    ensures x { result.x ≡ (x + step_of auto 1 look.now.columns) % 65536 }
+    ensures y { result.y ≡ (y + step_of auto 2 look.now.flip_y) % 65536 }
+    ensures addr { result.addr ≡ (addr + (auto / 16 + 1) * (if has_bit auto 4 then tile_size look.now.two_bits else 0)) % 65536 }
+{
+    let count = u16::from(auto / 16) + 1;
+    Moved {
+        x: x.wrapping_add(step_of(auto, 0x01, look.columns.is_flipped())),
+        y: y.wrapping_add(step_of(auto, 0x02, look.flip_y)),
+        addr: addr.wrapping_add(count.wrapping_mul(bytes_step(auto, look))),
+    }
+}
+
+// Whether a screen may have this width or height.
+fn is_size(size: u16) -> bool
+    ensures { result ≡ (nat_le 8 size && nat_le size 2047) }
+{
+    (LEAST..=GREATEST).contains(&size)
+}
+
+// The part of a side that a fill covers: from a place on, or up to it where it is flipped.
+fn span(at: u16, size: u16, flip: bool) -> (u16, u16)
+    ensures ordered { result.0 ≤ result.1 }
+    ensures within { result.1 ≤ size }
+    ensures covers { (k : ℕ) → k < size → (nat_le result.0 k && nat_lt k result.1)
+        ≡ (nat_le (if flip then 0 else at) k && nat_lt k (if flip then at else size)) }
+{
+    if flip {
+        (0, at.min(size))
+    } else {
+        (at.min(size), size)
+    }
+}
+
+// The values that are shown where two rows lie over each other.
+fn compose_row(foreground: &[u8], background: &[u8], into: &mut [u8])
+    requires foreground { length foreground.now ≡ length into.old }
+    requires background { length background.now ≡ length into.old }
+    ensures count { length into.new ≡ length foreground.now }
+    ensures values { (k : ℕ) → k < length foreground.now → slice_index into.new k ≡ shown (slice_index foreground.now k) (slice_index background.now k) }
+{
+    for i in 0..into.len() {
+        into[i] = compose(foreground[i], background[i]);
+    }
+}
