@@ -1,0 +1,5 @@
+pub mod Divisions
+pub mod Bounds
+pub mod Ages
+pub mod Overs
+pub mod Frames

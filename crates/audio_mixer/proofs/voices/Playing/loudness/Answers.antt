@@ -1,0 +1,8 @@
+use Rattle.std.specs.Prelude.{◌≡◌, min, ◌≤◌}
+use Rattle.std.proofs.Common.{sym, ◌∙◌, arith}
+use Rattle.audio_mixer.specs.Notes.{loudness, attack_of, decay_of, sustain_of, release_of}
+use Rattle.audio_mixer.proofs.voices.Playing.loudness.Goals as goal
+use Rattle.audio_mixer.proofs.Ages.{loudness-kept-of}
+
+pub returns-clause-value : goal.returns-clause-value
+returns-clause-value c = λ age plays. c.at.ensures.value ∙ loudness-kept-of c.args.self.now age plays

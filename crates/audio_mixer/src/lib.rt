@@ -1,0 +1,11 @@
+//! The four voices of the audio device: notes that are started, and the samples that they give.
+#![tactic(auto)]
+
+mod mixer;
+mod notes;
+#[cfg(test)]
+mod tests;
+mod voices;
+
+pub use mixer::Mixer;
+pub use notes::Start;

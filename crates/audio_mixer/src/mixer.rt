@@ -1,0 +1,116 @@
+//! The four voices together.
+ghost use Rattle.std.specs.Prelude.{◌≡◌};
+ghost use Rattle.audio_mixer.specs.Sounds.{sum_of};
+
+use super::notes::Start;
+use super::voices::{Pair, Voice};
+use uxn_memory::Memory;
+
+/// How many pairs of samples a frame has.
+const PAIRS: usize = 735;
+
+/// The sums of what four voices give, modulo 65,536.
+fn mixed(a: &Pair, b: &Pair, c: &Pair, d: &Pair) -> Pair
+    ensures left { result.left ≡ sum_of a.now.left b.now.left c.now.left d.now.left }
+    ensures right { result.right ≡ sum_of a.now.right b.now.right c.now.right d.now.right }
+{
+    let left = 0i16.wrapping_add(a.left).wrapping_add(b.left);
+    let right = 0i16.wrapping_add(a.right).wrapping_add(b.right);
+    Pair {
+        left: left.wrapping_add(c.left).wrapping_add(d.left),
+        right: right.wrapping_add(c.right).wrapping_add(d.right),
+    }
+}
+
+/// The four voices of the audio device.
+#[derive(Drop)]
+pub struct Mixer {
+    first: Voice,
+    second: Voice,
+    third: Voice,
+    fourth: Voice,
+}
+
+impl Mixer {
+    ghost use Rattle.std.specs.Prelude.{◌≡◌, ◌≢◌, ℕ, ◌<◌};
+    ghost use Rattle.audio_mixer.specs.Sounds.{Sound, Silence, begun, later, started_on, position_of, output_of, endings, frame_of};
+    ghost use Rattle.audio_mixer.specs.Voices.{Sounds, StandsFor};
+
+    /// Four voices that are stopped.
+    pub fn new() -> Mixer
+        ensures { StandsFor result (λ voice. Silence) }
+    {
+        Mixer {
+            first: Voice::stopped(),
+            second: Voice::stopped(),
+            third: Voice::stopped(),
+            fourth: Voice::stopped(),
+        }
+    }
+
+    /// Starts a note on a voice, 0 to 3, in place of what it plays. A note whose key is 108 or more, or that has no
+    /// sample, stops the voice.
+    pub fn start(&mut self, voice: u8, note: &Start)
+        requires { voice < 4 }
+        ensures { (sounds : ℕ → Sound) → StandsFor self.old sounds → StandsFor self.new (started_on voice note.now sounds) }
+    {
+        match voice {
+            0 => self.first.start(note),
+            1 => self.second.start(note),
+            2 => self.third.start(note),
+            _ => self.fourth.start(note),
+        }
+    }
+
+    /// Renders a frame: 735 pairs of samples, left then right, and true for each voice whose note ended in it.
+    pub fn render(&mut self, memory: &Memory, into: &mut [i16; 1470]) -> [bool; 4]
+        ensures frame { (sounds : ℕ → Sound) → StandsFor self.old sounds → into.new ≡ frame_of memory.now sounds }
+        ensures ends { (sounds : ℕ → Sound) → StandsFor self.old sounds → result ≡ endings 735 sounds }
+        ensures sounds { (sounds : ℕ → Sound) → StandsFor self.old sounds → StandsFor self.new (λ voice. later 735 (sounds voice)) }
+    {
+        let (mut first, mut second, mut third, mut fourth) = (false, false, false, false);
+        for place in 0..PAIRS {
+            let (a, a_ends) = self.first.next(memory);
+            let (b, b_ends) = self.second.next(memory);
+            let (c, c_ends) = self.third.next(memory);
+            let (d, d_ends) = self.fourth.next(memory);
+            let heard = mixed(&a, &b, &c, &d);
+            into[2 * place] = heard.left;
+            into[2 * place + 1] = heard.right;
+            first |= a_ends;
+            second |= b_ends;
+            third |= c_ends;
+            fourth |= d_ends;
+        }
+        [first, second, third, fourth]
+    }
+
+    /// A voice by its number.
+    fn voice(&self, voice: u8) -> &Voice
+        requires { voice < 4 }
+        ensures { (sounds : ℕ → Sound) → StandsFor self.now sounds → Sounds result.now (sounds voice) }
+    {
+        match voice {
+            0 => &self.first,
+            1 => &self.second,
+            2 => &self.third,
+            _ => &self.fourth,
+        }
+    }
+
+    /// The place in the sample of a voice, 0 to 3; 0 where it is stopped.
+    pub fn position(&self, voice: u8) -> u16
+        requires { voice < 4 }
+        ensures { (sounds : ℕ → Sound) → StandsFor self.now sounds → result ≡ position_of (sounds voice) }
+    {
+        self.voice(voice).position()
+    }
+
+    /// How loud a voice, 0 to 3, is: left in the high digit, right in the low one, 0 where it is stopped.
+    pub fn output(&self, voice: u8) -> u8
+        requires { voice < 4 }
+        ensures { (sounds : ℕ → Sound) → StandsFor self.now sounds → result ≡ output_of (sounds voice) }
+    {
+        self.voice(voice).output()
+    }
+}

@@ -1,0 +1,291 @@
+//! One voice: the note that it plays, and how far it has come.
+ghost use Rattle.std.specs.Prelude.{◌≡◌, ℕ, ◌+◌, ◌<◌, ◌≤◌, ◌/◌, ◌%◌, false};
+ghost use Rattle.audio_mixer.specs.Notes.{
+  heard,
+  level,
+  is_silent,
+  length_of,
+  advance_of,
+  period_of,
+  attack_of,
+  decay_of,
+  sustain_of,
+  release_of,
+};
+
+use super::notes::{Envelope, Start};
+use uxn_memory::Memory;
+
+/// A note that goes on: what its start determines, and where it stands after the samples so far.
+#[derive(Clone, Copy)]
+pub(crate) struct Playing {
+    start: Start,
+    len: u32,
+    advance: u32,
+    period: u32,
+    envelope: Envelope,
+    /// The samples so far, but no more than the envelope lasts.
+    age: u32,
+    /// What the advances have gone on past the last whole byte, below the period.
+    phase: u32,
+    /// The place in the sample.
+    place: u32,
+    ghost sounding: { is_silent start ≡ false },
+    ghost len_of_start: { len ≡ length_of start },
+    ghost advance_of_start: { advance ≡ advance_of start },
+    ghost period_of_start: { period ≡ period_of start },
+    ghost attack_of_start: { envelope.attack ≡ attack_of start },
+    ghost decay_of_start: { envelope.decay ≡ decay_of start },
+    ghost sustain_of_start: { envelope.sustain ≡ sustain_of start },
+    ghost release_of_start: { envelope.release ≡ release_of start },
+    ghost in_memory: { len + start.addr ≤ 65536 },
+    ghost slow: { advance ≤ 990748 },
+    ghost some_period: { 0 < period },
+    ghost short_period: { period ≤ 11042816 },
+    ghost in_envelope: { age ≤ envelope.release },
+    ghost in_period: { phase < period },
+    ghost in_sample: { place < len },
+}
+
+/// A voice, which plays a note or is stopped.
+#[derive(Clone, Copy)]
+pub(crate) struct Voice {
+    playing: Option<Playing>,
+}
+
+/// The samples of the two sides at one moment.
+#[derive(Clone, Copy)]
+pub(crate) struct Pair {
+    pub left: i16,
+    pub right: i16,
+}
+
+/// The quotient and the rest, by subtraction, since these quotients are mostly 0 or 1.
+fn split(total: u32, unit: u32) -> (u32, u32)
+    requires { 0 < unit }
+    ensures quotient { result.0 ≡ total / unit }
+    ensures rest { result.1 ≡ total % unit }
+{
+    let mut rest = total;
+    let mut count = 0;
+    while rest >= unit {
+        rest -= unit;
+        count += 1;
+    }
+    (count, rest)
+}
+
+/// A byte of the sample at a loudness and a volume.
+fn heard(byte: u8, envelope: u32, volume: u8) -> i16
+    requires envelope { envelope ≤ 2184 }
+    requires volume { volume < 16 }
+    ensures { result ≡ heard byte envelope volume }
+{
+    let loudness = envelope * u32::from(volume);
+    if byte < 0x80 {
+        -((u32::from(0x80 - byte) * loudness / 384) as i16)
+    } else {
+        (u32::from(byte - 0x80) * loudness / 384) as i16
+    }
+}
+
+/// How loud a side is shown.
+fn level(envelope: u32, volume: u8) -> u8
+    requires envelope { envelope ≤ 2184 }
+    requires volume { volume < 16 }
+    ensures value { result ≡ level envelope volume }
+    ensures most { result ≤ 15 }
+{
+    if volume == 0 {
+        0
+    } else {
+        (1 + envelope * u32::from(volume) / 2048).min(15) as u8
+    }
+}
+
+impl Playing {
+    ghost use Rattle.std.specs.Prelude.{◌≡◌, ℕ, ◌+◌, ◌<◌, ◌≤◌, min, true, false, IfSome, IfNone};
+    ghost use Rattle.audio_mixer.specs.Notes.{is_silent, is_repeating, is_released, is_played, has_ended, wrapped, envelope_at, heard, left_of, right_of};
+    ghost use Rattle.audio_mixer.specs.Sounds.{output_of, Note};
+    ghost use Rattle.audio_mixer.specs.Voices.{Plays, IsAhead, GivesPair};
+
+    /// The note at its start, unless it is silent.
+    fn new(start: &Start) -> Option<Playing>
+        ensures plays { IfSome result (λ playing. Plays playing start.now 0) }
+        ensures sounding { IfSome result (λ playing. is_silent start.now ≡ false) }
+        ensures silent { IfNone result (is_silent start.now ≡ true) }
+    {
+        if start.is_silent() {
+            return None;
+        }
+        Some(Playing {
+            start: *start,
+            len: start.len(),
+            advance: start.advance(),
+            period: start.period(),
+            envelope: start.envelope(),
+            age: 0,
+            phase: 0,
+            place: 0,
+        })
+    }
+
+    /// Whether the envelope is over.
+    #[tactic(auto, unfolding(crate::specs::Notes::is_released))]
+    fn is_released(&self) -> bool
+        ensures { (age : ℕ) → Plays self.now self.now.start age → result ≡ is_released self.now.start age }
+    {
+        self.envelope.release > 0 && self.age >= self.envelope.release
+    }
+
+    /// The samples so far once there is one more, but no more than the envelope lasts.
+    fn next_age(&self) -> u32
+        ensures { result ≡ min (self.now.age + 1) self.now.envelope.release }
+    {
+        (self.age + 1).min(self.envelope.release)
+    }
+
+    /// The place so many bytes ahead, or none where the sample is over and does not repeat.
+    #[tactic(auto, unfolding(crate::specs::Notes::wrapped))]
+    fn place_ahead(&self, steps: u32) -> Option<u32>
+        requires { steps ≤ 12033564 }
+        ensures some { IfSome result (λ place. place ≡ wrapped self.now.start (self.now.place + steps)) }
+        ensures within { IfSome result (λ place. place < self.now.len) }
+        ensures once { IfNone result (is_repeating self.now.start ≡ false) }
+        ensures over { IfNone result (self.now.len ≤ self.now.place + steps) }
+    {
+        let place = self.place + steps;
+        if place < self.len {
+            Some(place)
+        } else if self.start.repeats() {
+            Some(split(place, self.len).1)
+        } else {
+            None
+        }
+    }
+
+    /// The phase and the place of the next sample, or none where the sample is over and does not repeat.
+    fn ahead(&self) -> Option<(u32, u32)>
+        ensures some { IfSome result (λ to. (age : ℕ) → Plays self.now self.now.start age → IsAhead self.now.start age to.0 to.1) }
+        ensures in_period { IfSome result (λ to. to.0 < self.now.period) }
+        ensures in_sample { IfSome result (λ to. to.1 < self.now.len) }
+        ensures none { IfNone result ((age : ℕ) → Plays self.now self.now.start age → is_played self.now.start age ≡ true) }
+    {
+        let (steps, phase) = split(self.phase + self.advance, self.period);
+        match self.place_ahead(steps) {
+            Some(place) => Some((phase, place)),
+            None => None,
+        }
+    }
+
+    /// The next pair of samples, or none where the note ends.
+    fn next(&mut self, memory: &Memory) -> Option<Pair>
+        ensures some { IfSome result (λ pair. (age : ℕ) → Plays self.old self.old.start age
+            → GivesPair memory.now self.old.start age pair × Plays self.new self.old.start (age + 1)) }
+        ensures none { IfNone result ((age : ℕ) → Plays self.old self.old.start age → has_ended self.old.start age ≡ true) }
+    {
+        if self.is_released() {
+            return None;
+        }
+        let Some((phase, place)) = self.ahead() else {
+            return None;
+        };
+        let byte = memory.get(self.start.addr + place as u16);
+        let pair = self.pair(byte);
+        self.age = self.next_age();
+        self.phase = phase;
+        self.place = place;
+        Some(pair)
+    }
+
+    /// How loud the note is, 0 to 2184.
+    fn loudness(&self) -> u32
+        ensures value { (age : ℕ) → Plays self.now self.now.start age → result ≡ envelope_at self.now.start age }
+        ensures most { result ≤ 2184 }
+    {
+        self.envelope.at(self.age)
+    }
+
+    /// The samples that a byte gives.
+    fn pair(&self, byte: u8) -> Pair
+        ensures left { (age : ℕ) → Plays self.now self.now.start age
+            → result.left ≡ heard byte (envelope_at self.now.start age) (left_of self.now.start) }
+        ensures right { (age : ℕ) → Plays self.now self.now.start age
+            → result.right ≡ heard byte (envelope_at self.now.start age) (right_of self.now.start) }
+    {
+        let loudness = self.loudness();
+        Pair {
+            left: heard(byte, loudness, self.start.volume / 16),
+            right: heard(byte, loudness, self.start.volume % 16),
+        }
+    }
+
+    /// How loud the note is shown to be.
+    fn output(&self) -> u8
+        ensures { (age : ℕ) → Plays self.now self.now.start age → result ≡ output_of (Note self.now.start age) }
+    {
+        let loudness = self.loudness();
+        level(loudness, self.start.volume / 16) * 16 + level(loudness, self.start.volume % 16)
+    }
+}
+
+impl Voice {
+    ghost use Rattle.std.specs.Prelude.{◌≡◌, ℕ};
+    ghost use Rattle.audio_mixer.specs.Sounds.{Sound, Silence, begun, later, ends_within, position_of, output_of};
+    ghost use Rattle.audio_mixer.specs.Voices.{Sounds, GivesNext};
+
+    /// A voice that plays nothing.
+    pub(crate) fn stopped() -> Voice
+        ensures { Sounds result Silence }
+    {
+        Voice { playing: None }
+    }
+
+    /// Starts a note in place of what the voice plays.
+    pub(crate) fn start(&mut self, note: &Start)
+        ensures { Sounds self.new (begun note.now) }
+    {
+        self.playing = Playing::new(note);
+    }
+
+    /// The next pair of samples, and whether the note ends with it.
+    pub(crate) fn next(&mut self, memory: &Memory) -> (Pair, bool)
+        ensures gives { (sound : Sound) → Sounds self.old sound → GivesNext memory.now sound result.0 }
+        ensures ends { (sound : Sound) → Sounds self.old sound → result.1 ≡ ends_within 1 sound }
+        ensures sounds { (sound : Sound) → Sounds self.old sound → Sounds self.new (later 1 sound) }
+    {
+        let Some(mut playing) = self.playing else {
+            return (Pair { left: 0, right: 0 }, false);
+        };
+        match playing.next(memory) {
+            Some(pair) => {
+                self.playing = Some(playing);
+                (pair, false)
+            }
+            None => {
+                self.playing = None;
+                (Pair { left: 0, right: 0 }, true)
+            }
+        }
+    }
+
+    /// The place in the sample.
+    pub(crate) fn position(&self) -> u16
+        ensures { (sound : Sound) → Sounds self.now sound → result ≡ position_of sound }
+    {
+        match self.playing {
+            Some(playing) => playing.place as u16,
+            None => 0,
+        }
+    }
+
+    /// How loud the voice is.
+    pub(crate) fn output(&self) -> u8
+        ensures { (sound : Sound) → Sounds self.now sound → result ≡ output_of sound }
+    {
+        match self.playing {
+            Some(playing) => playing.output(),
+            None => 0,
+        }
+    }
+}
