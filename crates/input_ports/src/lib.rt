@@ -1,0 +1,106 @@
+//! The ports of the controller and the mouse: what an input stores at them, and what is 0 again after its vector.
+#![tactic(auto)]
+
+ghost use Rattle.std.specs.Prelude.{◌≡◌, ◌<◌, slice_index};
+ghost use Rattle.input_ports.specs.Page.{stores_of, stores_after, vector_of, with_stores, short_stores};
+
+#[cfg(test)]
+mod tests;
+
+/// Where the controller's vector is stored, a short.
+pub const CONTROLLER_VECTOR: u8 = 0x80;
+
+/// Where the mouse's vector is stored, a short.
+pub const MOUSE_VECTOR: u8 = 0x90;
+
+const BUTTONS: usize = 0x82;
+
+const KEY: usize = 0x83;
+
+const MOUSE_X: usize = 0x92;
+
+const MOUSE_Y: usize = 0x94;
+
+const MOUSE_STATE: usize = 0x96;
+
+const SCROLL_X: usize = 0x9a;
+
+const SCROLL_Y: usize = 0x9c;
+
+/// What a player does at the controller or the mouse (Varvara device reference).
+#[derive(Debug, Clone, Copy, PartialEq, Eq)]
+pub enum Input {
+    /// A key is struck; the byte is its character.
+    Key(u8),
+    /// The buttons of this mask go down: `01` A, `02` B, `04` select, `08` start, `10` up, `20` down, `40` left, `80` right.
+    Down(u8),
+    /// The buttons of this mask go up.
+    Up(u8),
+    /// The mouse is at this column and row, in pixels.
+    Mouse(u16, u16),
+    /// The mouse buttons of this mask go down.
+    Press(u8),
+    /// The mouse buttons of this mask go up.
+    Release(u8),
+    /// The wheel turns so far to the right and down.
+    Scroll(i16, i16),
+}
+
+/// Stores an input at its ports, as its vector finds them.
+#[tactic(auto, unfolding(crate::specs::Page::stores_of))]
+pub fn apply(page: &mut [u8; 256], input: &Input)
+    ensures { page.new ≡ with_stores page.old (stores_of (slice_index page.old) input.now) }
+{
+    match *input {
+        Input::Key(byte) => page[KEY] = byte,
+        Input::Down(mask) => page[BUTTONS] = page[BUTTONS] | mask,
+        Input::Up(mask) => page[BUTTONS] = page[BUTTONS] & !mask,
+        Input::Mouse(x, y) => {
+            store_short(page, MOUSE_X, x);
+            store_short(page, MOUSE_Y, y);
+        }
+        Input::Press(mask) => page[MOUSE_STATE] = page[MOUSE_STATE] | mask,
+        Input::Release(mask) => page[MOUSE_STATE] = page[MOUSE_STATE] & !mask,
+        Input::Scroll(x, y) => {
+            store_short(page, SCROLL_X, x.cast_unsigned());
+            store_short(page, SCROLL_Y, y.cast_unsigned());
+        }
+    }
+}
+
+/// Stores 0 at the ports that are 0 again after the vector: the key, or both ways of the wheel.
+#[tactic(auto, unfolding(crate::specs::Page::stores_after))]
+pub fn settle(page: &mut [u8; 256], input: &Input)
+    ensures { page.new ≡ with_stores page.old (stores_after input.now) }
+{
+    match *input {
+        Input::Key(_) => page[KEY] = 0,
+        Input::Scroll(_, _) => {
+            store_short(page, SCROLL_X, 0);
+            store_short(page, SCROLL_Y, 0);
+        }
+        _ => {}
+    }
+}
+
+/// The port that holds the vector of an input.
+#[tactic(auto, unfolding(crate::specs::Page::vector_of))]
+pub fn vector_port(input: &Input) -> u8
+    ensures { result ≡ vector_of input.now }
+{
+    match *input {
+        Input::Key(_) | Input::Down(_) | Input::Up(_) => CONTROLLER_VECTOR,
+        Input::Mouse(_, _) | Input::Press(_) | Input::Release(_) | Input::Scroll(_, _) => {
+            MOUSE_VECTOR
+        }
+    }
+}
+
+// Stores a short, its high byte at the port and its low byte at the next one.
+fn store_short(page: &mut [u8; 256], port: usize, value: u16)
+    requires { port < 255 }
+    ensures { page.new ≡ with_stores page.old (short_stores port value) }
+{
+    page[port] = (value / 256) as u8;
+    page[port + 1] = (value % 256) as u8;
+}
