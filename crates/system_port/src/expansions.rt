@@ -1,0 +1,97 @@
+//! The expansion port: records that fill and copy memory.
+ghost use Rattle.std.specs.Prelude.{◌≡◌, ◌+◌, ◌%◌, ◌<◌};
+ghost use Rattle.system_port.specs.Expansion.{byte_in, short_in, place_in, record_at, done, expanded};
+
+use uxn_memory::Memory;
+
+/// A bank of memory and an address in it.
+#[derive(Clone, Copy)]
+pub(crate) struct Place {
+    bank: u16,
+    address: u16,
+}
+
+/// What a record asks for.
+#[derive(Clone, Copy)]
+pub(crate) enum Record {
+    /// So many bytes from a place on become a value.
+    Fill(u16, Place, u8),
+    /// So many bytes are copied from the first place to the second, the lowest address first.
+    CopyUp(u16, Place, Place),
+    /// The same, the highest address first.
+    CopyDown(u16, Place, Place),
+    /// No operation has this number.
+    Unknown,
+}
+
+fn byte_in(memory: &Memory, at: u16, offset: u16) -> u8
+    ensures { result ≡ byte_in memory.now at offset }
+{
+    memory.get(at.wrapping_add(offset))
+}
+
+fn short_in(memory: &Memory, at: u16, offset: u16) -> u16
+    ensures { result ≡ short_in memory.now at offset }
+{
+    memory.get2(at.wrapping_add(offset))
+}
+
+fn place_in(memory: &Memory, at: u16, offset: u16) -> Place
+    requires { offset < 256 }
+    ensures { result ≡ place_in memory.now at offset }
+{
+    Place {
+        bank: short_in(memory, at, offset),
+        address: short_in(memory, at, offset + 2),
+    }
+}
+
+impl Record {
+    /// The record at an address, whose own addresses wrap.
+    #[tactic(auto, unfolding(crate::specs::Expansion::record_at))]
+    fn at(memory: &Memory, at: u16) -> Record
+        ensures { result ≡ record_at memory.now at }
+    {
+        let length = short_in(memory, at, 1);
+        match byte_in(memory, at, 0) {
+            0x00 => Record::Fill(length, place_in(memory, at, 3), byte_in(memory, at, 7)),
+            0x01 => Record::CopyUp(length, place_in(memory, at, 3), place_in(memory, at, 7)),
+            0x02 => Record::CopyDown(length, place_in(memory, at, 3), place_in(memory, at, 7)),
+            _ => Record::Unknown,
+        }
+    }
+
+    /// Does what the record asks for, where all its banks are bank 0.
+    fn perform(self, memory: &mut Memory)
+        ensures { memory.new ≡ done self memory.old }
+    {
+        match self {
+            Record::Fill(length, to, value) => {
+                if to.bank == 0 {
+                    memory.fill(length, to.address, value);
+                }
+            }
+            Record::CopyUp(length, from, to) => {
+                if from.bank == 0 && to.bank == 0 {
+                    memory.copy_up(length, from.address, to.address);
+                }
+            }
+            Record::CopyDown(length, from, to) => {
+                if from.bank == 0 && to.bank == 0 {
+                    memory.copy_down(length, from.address, to.address);
+                }
+            }
+            Record::Unknown => {}
+        }
+    }
+}
+
+/// Does what the record at an address says: its first byte 00 fills with a length, a bank, an address and a
+/// value; 01 copies upwards and 02 downwards with a length, a source and a target, each a bank and an address.
+/// The record is read whole before memory changes. Another first byte, or a bank other than 0, does nothing.
+#[tactic(auto, unfolding(crate::specs::Expansion::expanded))]
+pub fn expansion(memory: &mut Memory, at: u16)
+    ensures { memory.new ≡ expanded memory.old at }
+{
+    Record::at(memory, at).perform(memory);
+}

@@ -1,0 +1,10 @@
+//! The system device: the expansion port, the debug text and the exit code of a state. No call takes memory.
+#![tactic(auto)]
+
+mod debug;
+mod expansions;
+#[cfg(test)]
+mod tests;
+
+pub use debug::{debug_text, exit_code};
+pub use expansions::expansion;

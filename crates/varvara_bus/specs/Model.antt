@@ -1,0 +1,33 @@
+-- The ports of a machine as a model, and what an instruction does over them.
+use Rattle.std.specs.Prelude.{ℕ, List, [], ◌++◌}
+use Rattle.uxn_io.specs.Outside.{Change}
+use Rattle.uxn_opcodes.specs.declared.Core.{Core}
+use Rattle.uxn_opcodes.specs.Model.{PortModel, Machine, after_instruction}
+use Rattle.varvara_bus.specs.State.{DeviceState}
+use Rattle.varvara_bus.specs.Reads.{read_of}
+use Rattle.varvara_bus.specs.Effect.{Effect, effect}
+
+-- what the devices stand for, and the changes made so far
+pub record Devised : Type 0 where
+  pub devices : DeviceState
+  pub changes : List Change
+
+-- a read gives what its port reads; a write has its effect, whose changes come after those made so far
+abbrev pub varvara : PortModel Devised
+varvara = record {
+  read = λ so_far core port. read_of so_far.devices core port;
+  write = λ so_far core port byte. record {
+    core = (effect so_far.devices core port byte).core;
+    ports = record {
+      devices = (effect so_far.devices core port byte).devices;
+      changes = so_far.changes ++ (effect so_far.devices core port byte).changes;
+    };
+  };
+}
+
+abbrev pub effect_from : Machine Devised → Effect
+effect_from machine = record { core = machine.core; devices = machine.ports.devices; changes = machine.ports.changes }
+
+-- what an instruction does, with the writes of its port access one after the other
+unfoldable pub instruction_effect : DeviceState → Core → Effect
+instruction_effect devices core = effect_from (after_instruction varvara core (record { devices = devices; changes = [] }))

@@ -1,0 +1,31 @@
+-- What the devices of a machine stand for.
+use Rattle.std.specs.Prelude.{◌≡◌, ℕ, List, [], ◌∷◌, ◌+◌, Option, slice_index}
+use Rattle.varvara_bus.specs.declared.devices.Clock.{Clock}
+use Rattle.varvara_bus.specs.declared.devices.Devices.{Devices}
+use Rattle.varvara_bus.specs.History.{Store, History, stored, stored_after}
+
+-- the bytes stored so far, the frames begun, and, the same in a whole run, the clock and the folder of the machine's files
+pub record DeviceState : Type 0 where
+  pub history : History
+  pub frames : ℕ
+  pub clock : Clock
+  pub root : Option (List ℕ)
+
+-- nothing is stored, and no frame has begun
+abbrev pub new_state : Clock → Option (List ℕ) → DeviceState
+new_state clock root = record { history = []; frames = 0; clock = clock; root = root }
+
+-- bytes stored, one after the other
+abbrev pub storing : List Store → DeviceState → DeviceState
+storing stores state = record state { history = stored_after state.history stores }
+
+-- one more frame has begun
+abbrev pub next_frame : DeviceState → DeviceState
+next_frame state = record state { frames = state.frames + 1 }
+
+-- devices hold in each port what was last stored there
+pub record StandFor (devices : Devices) (state : DeviceState) : Type 0 where
+  pub page : (port : ℕ) → slice_index devices.page port ≡ stored state.history port
+  pub frames : devices.frames ≡ state.frames
+  pub clock : devices.clock ≡ state.clock
+  pub root : devices.root ≡ state.root

@@ -1,0 +1,209 @@
+//! The bus: what the machine's ports are.
+ghost use Rattle.std.specs.Prelude.{◌≡◌, ◌+◌, ◌<◌, [], ◌∷◌, Err, OnOk, OnErr, IfErr, is_err};
+ghost use Rattle.varvara_bus.specs.State.{DeviceState, storing, next_frame};
+ghost use Rattle.input_ports.specs.Page.{stores_of, stores_after};
+ghost use Rattle.varvara_bus.specs.History.{stored, stored_short};
+ghost use Rattle.uxn_io.specs.Faults.{Counted, Ledger};
+ghost use Rattle.uxn_opcodes.specs.Ports.{blame_of};
+ghost use Rattle.uxn_io.specs.Told.{extended, HasTakenFront};
+ghost use Rattle.varvara_bus.specs.Effect.{debug_bytes};
+ghost use Rattle.varvara_bus.specs.Bus.{BusStandsFor, ChangesDevices, held, frames_begun, bus_faults, Acted, ActStopped};
+
+use crate::devices::{
+    Devices, apply as apply_to, give as give_to, settle as settle_to, store, stored, stored_short,
+};
+use crate::ports::{Action, Source};
+use console_port::console_write;
+use input_ports::Input;
+use system_port::{debug_text, expansion};
+use uxn_io::{Failed, Sink, Tree, put_all};
+use uxn_opcodes::{Core, Ports, Stop};
+
+/// The devices of a machine over a tree of files and two outputs.
+#[derive(Drop)]
+pub struct Bus<'a, T: Tree, O: Sink, E: Sink> {
+    pub(crate) devices: &'a mut Devices,
+    pub(crate) tree: &'a mut T,
+    pub(crate) out: &'a mut O,
+    pub(crate) err: &'a mut E,
+}
+
+/// The answer of a port whose bytes were put.
+fn answer(put: Result<(), Failed>) -> Result<(), Stop>
+    ensures ok { is_err result ≡ is_err put }
+    ensures err { OnErr result (result ≡ Err Stop.SinkFault) }
+{
+    match put {
+        Ok(()) => Ok(()),
+        Err(Failed) => Err(Stop::SinkFault),
+    }
+}
+
+/// Puts the debug text, where the byte is not 0.
+#[inline(never)]
+fn put_debug_text<E: Sink>(core: &Core, err: &mut E, value: u8) -> Result<(), Failed>
+    ensures ok { OnOk result (E.told err.new ≡ extended (E.told err.old) (debug_bytes value core.now)) }
+    ensures err { OnErr result (HasTakenFront (E.told err.old) (E.told err.new) (debug_bytes value core.now)) }
+    ensures ledger { Counted (E.faults err.old) (E.faults err.new) (is_err result) }
+{
+    if value == 0 {
+        return Ok(());
+    }
+    let text = debug_text(&core.working, &core.returns);
+    put_all(err, text.as_slice())
+}
+
+impl<'a, T: Tree, O: Sink, E: Sink> Bus<'a, T, O, E> {
+    /// A bus over these four. Nothing is done to them.
+    pub fn new(
+        devices: &'a mut Devices,
+        tree: &'a mut T,
+        out: &'a mut O,
+        err: &'a mut E,
+    ) -> Bus<'a, T, O, E>
+        ensures devices { result.devices.ghost_name ≡ devices.entry.ghost_name }
+        ensures devices_now { result.devices.now ≡ devices.old }
+        ensures tree { result.tree.ghost_name ≡ tree.entry.ghost_name }
+        ensures tree_now { result.tree.now ≡ tree.old }
+        ensures out { result.out.ghost_name ≡ out.entry.ghost_name }
+        ensures out_now { result.out.now ≡ out.old }
+        ensures err { result.err.ghost_name ≡ err.entry.ghost_name }
+        ensures err_now { result.err.now ≡ err.old }
+    {
+        Bus {
+            devices,
+            tree,
+            out,
+            err,
+        }
+    }
+
+    /// The byte last stored in a port.
+    pub fn stored(&self, port: u8) -> u8
+        ensures held { result ≡ held self.now port }
+        ensures stored { (state : DeviceState) → BusStandsFor self.now state → result ≡ stored state.history port }
+    {
+        stored(self.devices, port)
+    }
+
+    /// The short in a port and the next one, its high byte first.
+    pub fn stored_short(&self, port: u8) -> u16
+        requires { port < 255 }
+        ensures { (state : DeviceState) → BusStandsFor self.now state → result ≡ stored_short state.history port }
+    {
+        stored_short(self.devices, port)
+    }
+
+    /// Stores a byte in a port, without acting.
+    pub fn store(&mut self, port: u8, value: u8)
+        ensures devices { (state : DeviceState) → BusStandsFor self.old state
+            → BusStandsFor self.new (storing ((port, value) ∷ []) state) }
+        ensures others { ChangesDevices self.old self.new }
+        ensures frames { frames_begun self.new ≡ frames_begun self.old }
+    {
+        store(self.devices, port, value);
+    }
+
+    /// Stores an event of the console: its byte in port 12 and its kind in port 17.
+    pub fn give(&mut self, value: u8, kind: u8)
+        ensures devices { (state : DeviceState) → BusStandsFor self.old state
+            → BusStandsFor self.new (storing ((0x12, value) ∷ (0x17, kind) ∷ []) state) }
+        ensures others { ChangesDevices self.old self.new }
+        ensures frames { frames_begun self.new ≡ frames_begun self.old }
+    {
+        give_to(self.devices, value, kind);
+    }
+
+    /// Stores an input at its ports, as its vector finds them.
+    pub fn apply(&mut self, input: &Input)
+        ensures devices { (state : DeviceState) → BusStandsFor self.old state
+            → BusStandsFor self.new (storing (stores_of (stored state.history) input.now) state) }
+        ensures others { ChangesDevices self.old self.new }
+        ensures frames { frames_begun self.new ≡ frames_begun self.old }
+    {
+        apply_to(self.devices, input);
+    }
+
+    /// Stores 0 at the ports of an input that are 0 again after its vector.
+    pub fn settle(&mut self, input: &Input)
+        ensures devices { (state : DeviceState) → BusStandsFor self.old state
+            → BusStandsFor self.new (storing (stores_after input.now) state) }
+        ensures others { ChangesDevices self.old self.new }
+        ensures frames { frames_begun self.new ≡ frames_begun self.old }
+    {
+        settle_to(self.devices, input);
+    }
+
+    /// Counts a frame that begins.
+    pub fn frame_begins(&mut self)
+        requires { frames_begun self.old < 1000000 }
+        ensures devices { (state : DeviceState) → BusStandsFor self.old state → BusStandsFor self.new (next_frame state) }
+        ensures others { ChangesDevices self.old self.new }
+        ensures frames { frames_begun self.new ≡ frames_begun self.old + 1 }
+    {
+        self.devices.frames += 1;
+    }
+
+    /// How many frames have begun.
+    pub fn frames(&self) -> u32
+        ensures begun { result ≡ frames_begun self.now }
+        ensures frames { (state : DeviceState) → BusStandsFor self.now state → result ≡ state.frames }
+    {
+        self.devices.frames
+    }
+}
+
+impl<'a, T: Tree, O: Sink, E: Sink> Ports for Bus<'a, T, O, E> {
+    ghost use Rattle.varvara_bus.specs.Bus.{bus_rules, bus_faults};
+
+    ghost rules = { bus_rules T.told O.told E.told };
+
+    ghost faults = { bus_faults T.faults O.faults E.faults };
+
+    #[tactic(auto, unfolding(crate::specs::Reads::read_of))]
+    fn dei(&self, core: &Core, port: u8) -> u8 {
+        match Source::of(port) {
+            Source::Stored => stored(self.devices, port),
+            Source::WorkingPointer => core.working.pointer(),
+            Source::ReturnPointer => core.returns.pointer(),
+        }
+    }
+
+    fn deo(&mut self, core: &mut Core, port: u8, value: u8) -> Result<(), Stop> {
+        store(self.devices, port, value);
+        match self.act(core, Action::of(port), value) {
+            Ok(()) => Ok(()),
+            Err(stop) => Err(stop),
+        }
+    }
+}
+
+impl<'a, T: Tree, O: Sink, E: Sink> Bus<'a, T, O, E> {
+    /// Does what a write of a byte does once the byte is stored.
+    #[inline(always)]
+    #[tactic(auto, using(crate::proofs::Acts::debug_made))]
+    fn act(&mut self, core: &mut Core, action: Action, value: u8) -> Result<(), Stop>
+        ensures ok { OnOk result (Acted T.told O.told E.told self.old core.old action value self.new core.new) }
+        ensures err { IfErr result (λ stop. ActStopped T.told O.told E.told self.old core.old action value stop self.new) }
+        ensures ledger { Ledger (bus_faults T.faults O.faults E.faults self.old) (bus_faults T.faults O.faults E.faults self.new) (blame_of result) }
+    {
+        match action {
+            Action::Stores => Ok(()),
+            Action::Expands => {
+                expansion(&mut core.memory, stored_short(self.devices, 0x02));
+                Ok(())
+            }
+            Action::SetsWorkingPointer => {
+                core.working.set_pointer(value);
+                Ok(())
+            }
+            Action::SetsReturnPointer => {
+                core.returns.set_pointer(value);
+                Ok(())
+            }
+            Action::PutsDebugText => { answer(put_debug_text(core, self.err, value)) }
+            Action::PutsOut => answer(console_write(self.out, self.err, 0x18, value)),
+            Action::PutsErr => answer(console_write(self.out, self.err, 0x19, value)),
+        }
+    }
+}

@@ -1,0 +1,115 @@
+//! The devices of one machine.
+ghost use Rattle.std.specs.Prelude.{◌≡◌, ℕ, ◌+◌, ◌*◌, ◌<◌, IfOk, [], ◌∷◌, slice_index, slice_set};
+ghost use Rattle.console_port.specs.Console.{given};
+ghost use Rattle.input_ports.specs.Page.{with_stores, stores_of, stores_after};
+ghost use Rattle.varvara_bus.specs.History.{at_first, stored};
+ghost use Rattle.varvara_bus.specs.State.{DeviceState, StandFor, new_state, storing};
+
+use console_port::give as give_page;
+use input_ports::{Input, apply as apply_page, settle as settle_page};
+use std::alloc::{AllocError, Global};
+use uxn_io::Path;
+
+/// The moment that a run begins at, and how far ahead of UTC the machine's clock is.
+#[derive(Clone, Copy, Debug, PartialEq, Eq)]
+pub struct Clock {
+    /// Seconds since 1970-01-01 00:00:00 UTC.
+    pub seconds: i64,
+    /// Minutes ahead of UTC.
+    pub offset: i32,
+}
+
+/// What the devices hold.
+#[derive(Drop)]
+pub struct Devices {
+    pub(crate) page: [u8; 256],
+    pub(crate) frames: u32,
+    pub(crate) clock: Clock,
+    pub(crate) root: Option<Path>,
+}
+
+impl Devices {
+    /// New devices: all ports hold 0 but 22 to 25, which hold the size of the screen; no frame has begun.
+    pub fn new(_alloc: Global, root: Option<Path>, clock: Clock) -> Result<Devices, AllocError>
+        ensures { IfOk result (λ devices. StandFor devices (new_state clock root)) }
+    {
+        Ok(Devices {
+            page: new_page(),
+            frames: 0,
+            clock,
+            root,
+        })
+    }
+}
+
+/// What ports hold at first.
+fn new_page() -> [u8; 256]
+    ensures { (port : ℕ) → slice_index result port ≡ at_first port }
+{
+    let mut page = [0; 256];
+    page[0x25] = 0x40;
+    page[0x24] = 0x01;
+    page[0x22] = 0x02;
+    page
+}
+
+/// The byte last stored in a port.
+#[inline(always)]
+pub(crate) fn stored(devices: &Devices, port: u8) -> u8
+    ensures held { result ≡ slice_index devices.now.page port }
+{
+    devices.page[usize::from(port)]
+}
+
+/// Stores a byte in a port, without acting.
+#[inline(always)]
+pub(crate) fn store(devices: &mut Devices, port: u8, value: u8)
+    ensures devices { devices.new ≡ record devices.old { page = slice_set devices.old.page port value } }
+    ensures stands { (state : DeviceState) → StandFor devices.old state → StandFor devices.new (storing ((port, value) ∷ []) state) }
+    ensures held { slice_index devices.new.page port ≡ value }
+    ensures frames { devices.new.frames ≡ devices.old.frames }
+    ensures clock { devices.new.clock ≡ devices.old.clock }
+    ensures root { devices.new.root ≡ devices.old.root }
+{
+    devices.page[usize::from(port)] = value;
+}
+
+/// Stores an event of the console.
+pub(crate) fn give(devices: &mut Devices, value: u8, kind: u8)
+    ensures devices { devices.new ≡ record devices.old { page = given devices.old.page value kind } }
+    ensures stands { (state : DeviceState) → StandFor devices.old state
+        → StandFor devices.new (storing ((0x12, value) ∷ (0x17, kind) ∷ []) state) }
+{
+    give_page(&mut devices.page, value, kind);
+}
+
+/// Stores an input at its ports.
+pub(crate) fn apply(devices: &mut Devices, input: &Input)
+    ensures devices { devices.new ≡ record devices.old {
+      page = with_stores devices.old.page (stores_of (slice_index devices.old.page) input.now);
+    } }
+    ensures stands { (state : DeviceState) → StandFor devices.old state
+        → StandFor devices.new (storing (stores_of (stored state.history) input.now) state) }
+{
+    apply_page(&mut devices.page, input);
+}
+
+/// Stores 0 at the ports of an input that are 0 again after its vector.
+pub(crate) fn settle(devices: &mut Devices, input: &Input)
+    ensures devices { devices.new ≡ record devices.old { page = with_stores devices.old.page (stores_after input.now) } }
+    ensures stands { (state : DeviceState) → StandFor devices.old state
+        → StandFor devices.new (storing (stores_after input.now) state) }
+{
+    settle_page(&mut devices.page, input);
+}
+
+/// The short in a port and the next one.
+#[inline(always)]
+pub(crate) fn stored_short(devices: &Devices, port: u8) -> u16
+    requires { port < 255 }
+    ensures { result ≡ slice_index devices.now.page port * 256 + slice_index devices.now.page (port + 1) }
+{
+    let high = devices.page[usize::from(port)];
+    let low = devices.page[usize::from(port) + 1];
+    u16::from(high) * 256 + u16::from(low)
+}

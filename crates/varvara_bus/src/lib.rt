@@ -1,0 +1,11 @@
+//! The ports of the computer: the devices behind them, lent a tree of files and two sinks.
+#![tactic(auto)]
+
+mod bus;
+mod devices;
+mod ports;
+#[cfg(test)]
+mod tests;
+
+pub use bus::Bus;
+pub use devices::{Clock, Devices};

@@ -1,0 +1,92 @@
+//! What ports do to the machine and to both outputs, and where a write stops.
+
+use super::*;
+use std::test::Fail;
+use uxn_io::{MemSink, MemTree};
+use uxn_opcodes::{Core, Ports, Stop, step};
+
+const NO_ROOT: Clock = Clock {
+    seconds: 0,
+    offset: 0,
+};
+
+/// A program, how many instructions of it are run, and the bytes then put on both outputs.
+type Run = (&'static [u8], u32, &'static [u8], &'static [u8]);
+
+const RUNS: [Run; 4] = [
+    (&[0xa0, 0x41, 0x42, 0x80, 0x18, 0x37], 3, b"A", b"B"),
+    (
+        &[
+            0xa0, 0x01, 0x0c, 0x80, 0x02, 0x37, 0x80, 0x41, 0x80, 0x18, 0x17, 0, 0, 0, 1, 0, 0, 1,
+            6,
+        ],
+        6,
+        b"",
+        b"",
+    ),
+    (
+        &[0x80, 0x12, 0x80, 0x34, 0x80, 0x01, 0x80, 0x0e, 0x17],
+        5,
+        b"",
+        b"WST 00 00 00 00 00 00 12 34\nRST 00 00 00 00 00 00 00 00\n",
+    ),
+    (&[0x80, 0x00, 0x80, 0x0e, 0x17], 3, b"", b""),
+];
+
+#[test]
+fn ports_put_and_fill(rt: HostRuntime) -> Result<(), Fail> {
+    for (rom, count, out_bytes, err_bytes) in &RUNS {
+        let mut devices = Devices::new(rt.alloc(), None, NO_ROOT)?;
+        let mut tree = MemTree::new(rt.alloc(), &[], 0, 0, &[])?;
+        let mut out = MemSink::new(rt.alloc(), 100, &[])?;
+        let mut err = MemSink::new(rt.alloc(), 100, &[])?;
+        let mut bus = Bus::new(&mut devices, &mut tree, &mut out, &mut err);
+        assert!(rt; rom.len() < 100);
+        let mut core = Core::new(rt.alloc(), rom)?;
+        for _ in 0..*count {
+            let _ = step(&mut core, &mut bus);
+        }
+        assert_eq!(rt; (out.bytes(), err.bytes()), (*out_bytes, *err_bytes));
+    }
+    Ok(())
+}
+
+#[test]
+fn pointers_are_set_and_read(rt: HostRuntime) -> Result<(), Fail> {
+    let mut devices = Devices::new(rt.alloc(), None, NO_ROOT)?;
+    let mut tree = MemTree::new(rt.alloc(), &[], 0, 0, &[])?;
+    let mut out = MemSink::new(rt.alloc(), 0, &[])?;
+    let mut err = MemSink::new(rt.alloc(), 40, &[1])?;
+    let mut bus = Bus::new(&mut devices, &mut tree, &mut out, &mut err);
+    let mut core = Core::new(rt.alloc(), &[0xa0, 0x30, 0x40, 0x80, 0x04, 0x37])?;
+    for _ in 0..3 {
+        let _ = step(&mut core, &mut bus);
+    }
+    assert_eq!(rt;
+        (core.working.pointer(), core.returns.pointer()),
+        (0x30, 0x40)
+    );
+    assert_eq!(rt; (bus.dei(&core, 0x04), bus.dei(&core, 0x05)), (0x30, 0x40));
+    for (port, value) in [
+        (0x21, 0x00),
+        (0x22, 0x02),
+        (0x23, 0x00),
+        (0x24, 0x01),
+        (0x25, 0x40),
+    ] {
+        assert_eq!(rt; bus.dei(&core, port), value);
+    }
+    bus.give(0x0a, 4);
+    bus.store(0x18, 0x41);
+    bus.frame_begins();
+    assert_eq!(rt;
+        (bus.stored(0x12), bus.stored(0x17), bus.stored(0x18)),
+        (0x0a, 4, 0x41)
+    );
+    assert_eq!(rt; bus.frames(), 1);
+    assert_eq!(rt; bus.deo(&mut core, 0x0e, 1), Err(Stop::SinkFault));
+    assert_eq!(rt; bus.deo(&mut core, 0x18, 1), Err(Stop::SinkFault));
+    assert_eq!(rt; (bus.stored(0x0e), bus.stored(0x18)), (1, 1));
+    assert_eq!(rt; (out.bytes(), err.bytes().len()), (b"".as_slice(), 40));
+    Ok(())
+}
