@@ -1,5 +1,6 @@
 -- Memory is a list of 65,536 bytes, and every address is taken modulo 65536 (Uxntal opcode reference).
-use Rattle.std.specs.Prelude.{ℕ, zero, suc, ◌+◌, ◌*◌, ◌/◌, ◌%◌, List, ◌++◌, length, take, drop, replicate, slice_index, slice_set}
+use Rattle.std.specs.Prelude.{ℕ, zero, suc, ◌+◌, ◌*◌, ◌/◌, ◌%◌, List, ◌++◌, length, take, drop, replicate}
+use Rattle.std.specs.Prelude.{slice_index, slice_set}
 
 -- this many bytes, all 0
 unfoldable pub zeros : ℕ → List ℕ
