@@ -8,7 +8,7 @@ use Rattle.uxn_opcodes.specs.declared.Stop.{Stop}
 use Rattle.uxn_opcodes.specs.declared.Stop.TheVariants.{NoMemory}
 use Rattle.uxn_opcodes.specs.Ports.{Rules}
 use Rattle.varvara_bus.specs.declared.bus.Bus.{Bus}
-use Rattle.varvara_bus.specs.State.{DeviceState, StandFor}
+use Rattle.varvara_bus.specs.State.{DeviceState, StandFor, clock_of}
 use Rattle.varvara_bus.specs.Reads.{read_of}
 use Rattle.varvara_bus.specs.declared.ports.Action.{Action}
 use Rattle.varvara_bus.specs.Effect.{Effect, act, effect}
@@ -23,8 +23,8 @@ pub record SameLent {T O E : Type 0} (before now : Bus T O E) : Type 0 where
 -- what no write changes: what is lent, the frames begun, the clock and the folder of the machine's files
 pub record SameBus {T O E : Type 0} (before now : Bus T O E) : Type 0 where
   pub lent : SameLent before now
-  pub frames : now.devices.now.frames ≡ before.devices.now.frames
-  pub clock : now.devices.now.clock ≡ before.devices.now.clock
+  pub frames : now.devices.now.time.frames ≡ before.devices.now.time.frames
+  pub clock : clock_of now.devices.now ≡ clock_of before.devices.now
   pub root : now.devices.now.root ≡ before.devices.now.root
 
 -- a bus stands for what its devices stand for
@@ -36,7 +36,7 @@ abbrev pub held : {T O E : Type 0} → Bus T O E → ℕ → ℕ
 held bus port = slice_index bus.devices.now.page port
 
 abbrev pub frames_begun : {T O E : Type 0} → Bus T O E → ℕ
-frames_begun bus = bus.devices.now.frames
+frames_begun bus = bus.devices.now.time.frames
 
 -- nothing but the ports and the number of frames changes
 pub record ChangesDevices {T O E : Type 0} (before now : Bus T O E) : Type 0 where
@@ -44,7 +44,7 @@ pub record ChangesDevices {T O E : Type 0} (before now : Bus T O E) : Type 0 whe
   pub tree : now.tree.now ≡ before.tree.now
   pub out : now.out.now ≡ before.out.now
   pub err : now.err.now ≡ before.err.now
-  pub clock : now.devices.now.clock ≡ before.devices.now.clock
+  pub clock : clock_of now.devices.now ≡ clock_of before.devices.now
   pub root : now.devices.now.root ≡ before.devices.now.root
 
 -- a read gives what the port reads in each state that the bus stands for
@@ -73,7 +73,8 @@ module _ {T O E : Type 0} (told_tree : T → Option Nodes) (told_out : O → Opt
 
   -- a write that stops has stored its byte, and made a front of its changes; want of memory does not stop it
   pub record Stopped (before : Bus T O E) (old : Core) (port byte : ℕ) (stop : Stop) (now : Bus T O E) (new : Core) : Type 0 where
-    pub cut : (state : DeviceState) → BusStandsFor before state → IsCutOff (world_of before) (world_of now) (effect state old port byte).changes
+    pub cut : (state : DeviceState) → BusStandsFor before state → IsCutOff (world_of before) (world_of now)
+        (effect state old port byte).changes
     pub stored : held now port ≡ byte
     pub fault : stop ≢ NoMemory
     pub same : SameBus before now
@@ -89,7 +90,8 @@ module _ {T O E : Type 0} (told_tree : T → Option Nodes) (told_out : O → Opt
 
   -- what an action leaves that stops
   pub record ActStopped (before : Bus T O E) (old : Core) (action : Action) (byte : ℕ) (stop : Stop) (now : Bus T O E) : Type 0 where
-    pub cut : (state : DeviceState) → BusStandsFor before state → IsCutOff (world_of before) (world_of now) (act action byte state old).changes
+    pub cut : (state : DeviceState) → BusStandsFor before state → IsCutOff (world_of before) (world_of now)
+        (act action byte state old).changes
     pub page : now.devices.now.page ≡ before.devices.now.page
     pub fault : stop ≢ NoMemory
     pub same : SameBus before now

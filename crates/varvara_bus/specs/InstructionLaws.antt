@@ -28,29 +28,37 @@ record Grows (before now : List Change) : Type 0 where
   more : List Change
   parts : now ≡ before ++ more
 
-writes-grow : (writes : List (ℕ × ℕ)) (machine : Machine Devised) → Grows machine.ports.changes (written_by varvara writes machine).ports.changes
+writes-grow : (writes : List (ℕ × ℕ)) (machine : Machine Devised) → Grows machine.ports.changes
+    (written_by varvara writes machine).ports.changes
 writes-grow [] machine = record { more = []; parts = sym (append-nil machine.ports.changes) }
 writes-grow (write ∷ writes) machine =
     let later = writes-grow writes (varvara.write machine.ports machine.core write.0 write.1) in
     record {
       more = (effect machine.ports.devices machine.core write.0 write.1).changes ++ later.more;
-      parts = later.parts ∙ append_assoc machine.ports.changes (effect machine.ports.devices machine.core write.0 write.1).changes later.more;
+      parts = later.parts ∙ append_assoc machine.ports.changes
+          (effect machine.ports.devices machine.core write.0 write.1).changes later.more;
     }
 
-written-append : (first more : List (ℕ × ℕ)) (machine : Machine Devised) → written_by varvara (first ++ more) machine ≡ written_by varvara more (written_by varvara first machine)
+written-append : (first more : List (ℕ × ℕ)) (machine : Machine Devised)
+    → written_by varvara (first ++ more) machine ≡ written_by varvara more (written_by varvara first machine)
 written-append [] more machine = refl
 written-append (write ∷ first) more machine = written-append first more (varvara.write machine.ports machine.core write.0 write.1)
 
 -- an access leaves the changes of its writes
 access-writes : (access : Access) (core : Core) (so_far : Devised)
-    → (access_done varvara access core so_far).ports.changes ≡ (written_by varvara (writes_in access) (record { core = core; ports = so_far })).ports.changes
+    → (access_done varvara access core so_far).ports.changes ≡ (written_by varvara (writes_in access)
+    (record { core = core; ports = so_far })).ports.changes
 access-writes Nothing core so_far = refl
 access-writes (Read port mode) core so_far = refl
 access-writes (Write port width value) core so_far = refl
 
 -- the changes of an instruction other than BRK are those of its writes
 instruction-writes : (devices : DeviceState) (core : Core) → opcode_at core ≢ 0
-    → (instruction_effect devices core).changes ≡ (written_by varvara (writes_in (begun core).access) (record { core = (begun core).core; ports = record { devices = devices; changes = [] } })).ports.changes
+    → (instruction_effect devices core).changes ≡ (written_by varvara (writes_in (begun core).access) (record {
+      core =
+          (begun core).core;
+      ports = record { devices = devices; changes = [] };
+    })).ports.changes
 unfolding instruction_effect after_instruction
 instruction-writes devices core goes_on =
     let e : (opcode_at core == 0) ≡ false = grind (arith, nat_tests) in
@@ -62,7 +70,13 @@ same-itself bus = record { lent = record { devices = refl; tree = refl; out = re
 
 pub same-again : {T O E : Type 0} (a b c : Bus T O E) → SameBus a b → SameBus b c → SameBus a c
 same-again a b c p q = record {
-  lent = record { devices = q.lent.devices ∙ p.lent.devices; tree = q.lent.tree ∙ p.lent.tree; out = q.lent.out ∙ p.lent.out; err = q.lent.err ∙ p.lent.err };
+  lent = record {
+    devices = q.lent.devices ∙ p.lent.devices;
+    tree = q.lent.tree ∙ p.lent.tree;
+    out = q.lent.out
+        ∙ p.lent.out;
+    err = q.lent.err ∙ p.lent.err;
+  };
   frames = q.frames ∙ p.frames;
   clock = q.clock ∙ p.clock;
   root = q.root ∙ p.root;
@@ -85,21 +99,27 @@ module _ {T O E : Type 0} (told_tree : T → Option Nodes) (told_out : O → Opt
             devices = done.devices;
             made = done.world
                 ∙ ap (λ w. changed_by w (effect so_far.devices core port byte).changes) stands.made
-                ∙ sym (changed_by-append (world_of told_tree told_out told_err start) so_far.changes (effect so_far.devices core port byte).changes);
+                ∙ sym (changed_by-append (world_of told_tree told_out told_err start) so_far.changes
+                (effect so_far.devices core port byte).changes);
           };
         };
   }
 
-  starts : (start : Bus T O E) (devices : DeviceState) → BusStandsFor start devices → StandsSince start start (record { devices = devices; changes = [] })
+  starts : (start : Bus T O E) (devices : DeviceState) → BusStandsFor start devices
+      → StandsSince start start (record { devices = devices; changes = [] })
   starts start devices stands = record { devices = stands; made = refl }
 
-  carried : (before : Bus T O E) (core core_new : Core) (now : Bus T O E) (turn : Turn) (devices : DeviceState) → BusStandsFor before devices
+  carried : (before : Bus T O E) (core core_new : Core) (now : Bus T O E) (turn : Turn) (devices : DeviceState)
+      → BusStandsFor before devices
       → Instruction (bus_rules told_tree told_out told_err) core before (Ok turn) core_new now
-      → StandsAt (bus_rules told_tree told_out told_err) (StandsSince before) varvara core_new now (after_instruction varvara core (record { devices = devices; changes = [] }))
+      → StandsAt (bus_rules told_tree told_out told_err) (StandsSince before) varvara core_new now (after_instruction varvara core
+      (record { devices = devices; changes = [] }))
   carried before core core_new now Ran devices stands ran =
-      carried-ran (bus_rules told_tree told_out told_err) (StandsSince before) varvara (carries before) core before (record { devices = devices; changes = [] }) core_new now (starts before devices stands) ran
+      carried-ran (bus_rules told_tree told_out told_err) (StandsSince before) varvara (carries before) core before
+      (record { devices = devices; changes = [] }) core_new now (starts before devices stands) ran
   carried before core core_new now Broke devices stands ran =
-      carried-broke (bus_rules told_tree told_out told_err) (StandsSince before) varvara core before (record { devices = devices; changes = [] }) core_new now (starts before devices stands) ran
+      carried-broke (bus_rules told_tree told_out told_err) (StandsSince before) varvara core before
+      (record { devices = devices; changes = [] }) core_new now (starts before devices stands) ran
 
   -- an instruction that ran over a bus has its effect, from each state that the bus stood for
   pub instruction-done : (core core_new : Core) (before now : Bus T O E) (turn : Turn) (devices : DeviceState) → BusStandsFor before devices
@@ -118,28 +138,34 @@ module _ {T O E : Type 0} (told_tree : T → Option Nodes) (told_out : O → Opt
   -- one that stopped has made a front of its changes
   pub instruction-cut : (core core_new : Core) (before now : Bus T O E) (stop : Stop) (devices : DeviceState) → BusStandsFor before devices
       → Instruction (bus_rules told_tree told_out told_err) core before (Err stop) core_new now
-      → IsCutOff (world_of told_tree told_out told_err before) (world_of told_tree told_out told_err now) (instruction_effect devices core).changes
+      → IsCutOff (world_of told_tree told_out told_err before) (world_of told_tree told_out told_err now)
+      (instruction_effect devices core).changes
   instruction-cut core core_new before now stop devices stands stopped =
       let begins : Machine Devised = record { core = (begun core).core; ports = record { devices = devices; changes = [] } } in
-      let at = carried-stopped (bus_rules told_tree told_out told_err) (StandsSince before) varvara (carries before) core before (record { devices = devices; changes = [] }) stop core_new now
+      let at = carried-stopped (bus_rules told_tree told_out told_err) (StandsSince before) varvara (carries before) core before
+      (record { devices = devices; changes = [] }) stop core_new now
       (starts before devices stands) stopped in
       let reached : Machine Devised = written_by varvara at.before begins in
       let last : Machine Devised = varvara.write reached.ports reached.core at.port at.byte in
       let grown = writes-grow at.after last in
-      let cut = cut-later (world_of told_tree told_out told_err before) (world_of told_tree told_out told_err at.ports) (world_of told_tree told_out told_err now)
-      reached.ports.changes (effect reached.ports.devices reached.core at.port at.byte).changes at.same_ports.made (at.stops.cut reached.ports.devices at.same_ports.devices) in
+      let cut = cut-later (world_of told_tree told_out told_err before) (world_of told_tree told_out told_err at.ports)
+      (world_of told_tree told_out told_err now)
+      reached.ports.changes (effect reached.ports.devices reached.core at.port at.byte).changes at.same_ports.made
+      (at.stops.cut reached.ports.devices at.same_ports.devices) in
       let whole : (instruction_effect devices core).changes ≡ last.ports.changes ++ grown.more =
       instruction-writes devices core (goes-on core core_new before now stop stopped)
       ∙ ap (λ writes. (written_by varvara writes begins).ports.changes) at.in_order
       ∙ ap (λ (m : Machine Devised). m.ports.changes) (written-append at.before ((at.port, at.byte) ∷ at.after) begins)
       ∙ grown.parts in
-      rw whole (cut-first (world_of told_tree told_out told_err before) (world_of told_tree told_out told_err now) last.ports.changes grown.more cut)
+      rw whole (cut-first (world_of told_tree told_out told_err before)
+      (world_of told_tree told_out told_err now) last.ports.changes grown.more cut)
 
   -- whatever became of an instruction, the same four are lent, and memory was not wanting
   unchanged : (before now : Bus T O E) → now ≡ before → SameBus before now
   unchanged before now is = rw is (same-itself before)
 
-  written-same : (writes : List (ℕ × ℕ)) (before : Bus T O E) (core : Core) (now : Bus T O E) (core_new : Core) → Written (bus_rules told_tree told_out told_err) writes before core now core_new → SameBus before now
+  written-same : (writes : List (ℕ × ℕ)) (before : Bus T O E) (core : Core) (now : Bus T O E) (core_new : Core)
+      → Written (bus_rules told_tree told_out told_err) writes before core now core_new → SameBus before now
   written-same [] before core now core_new written = unchanged before now written.0
   written-same (write ∷ writes) before core now core_new written =
       same-again before written.0 now written.1.1.0.same (written-same writes written.0 written.1.0 now core_new written.1.1.1)
@@ -154,27 +180,32 @@ module _ {T O E : Type 0} (told_tree : T → Option Nodes) (told_out : O → Opt
         (same-again before later.0 now later.1.1.0.same rest.0, rest.1)
   ]
 
-  finishes-same : (access : Access) (core core_new : Core) (before now : Bus T O E) → Finishes (bus_rules told_tree told_out told_err) access core before core_new now → SameBus before now
+  finishes-same : (access : Access) (core core_new : Core) (before now : Bus T O E)
+      → Finishes (bus_rules told_tree told_out told_err) access core before core_new now → SameBus before now
   unfolding Finishes
   finishes-same Nothing core core_new before now done = unchanged before now done.1
   finishes-same (Read port mode) core core_new before now done = unchanged before now done.0
-  finishes-same (Write port width value) core core_new before now done = written-same (writes_of width port value) before core now core_new done
+  finishes-same (Write port width value) core core_new before now done = written-same
+      (writes_of width port value) before core now core_new done
 
   stops-same : (access : Access) (core : Core) (stop : Stop) (core_new : Core) (before now : Bus T O E)
       → Stops (bus_rules told_tree told_out told_err) access core before stop core_new now → SameBus before now × (stop ≢ NoMemory)
   unfolding Stops
   stops-same Nothing core stop core_new before now stopped = absurd stopped
   stops-same (Read port mode) core stop core_new before now stopped = absurd stopped
-  stops-same (Write port width value) core stop core_new before now stopped = stopped-same (writes_of width port value) before core stop now core_new stopped
+  stops-same (Write port width value) core stop core_new before now stopped = stopped-same
+      (writes_of width port value) before core stop now core_new stopped
 
   pub instruction-lent : (core core_new : Core) (before now : Bus T O E) (result : Result Turn Stop)
       → Instruction (bus_rules told_tree told_out told_err) core before result core_new now → SameBus before now
   unfolding Instruction
   instruction-lent core core_new before now (Ok Broke) done = unchanged before now done.2
   instruction-lent core core_new before now (Ok Ran) done = finishes-same (begun core).access (begun core).core core_new before now done.1
-  instruction-lent core core_new before now (Err stop) done = (stops-same (begun core).access (begun core).core stop core_new before now done.1).0
+  instruction-lent core core_new before now (Err stop) done = (stops-same (begun core).access
+      (begun core).core stop core_new before now done.1).0
 
   pub instruction-fault : (core core_new : Core) (before now : Bus T O E) (stop : Stop)
       → Instruction (bus_rules told_tree told_out told_err) core before (Err stop) core_new now → stop ≢ NoMemory
   unfolding Instruction
-  instruction-fault core core_new before now stop done = (stops-same (begun core).access (begun core).core stop core_new before now done.1).1
+  instruction-fault core core_new before now stop done = (stops-same (begun core).access
+      (begun core).core stop core_new before now done.1).1

@@ -9,17 +9,17 @@ use Rattle.std.proofs.lemmas.List.{get_or_past, get_or-replicate, length-replica
 use Rattle.input_ports.specs.declared.Input.{Input}
 use Rattle.input_ports.specs.declared.Input.TheVariants.{Key, Down, Up, Mouse, Press, Release, Scroll}
 use Rattle.input_ports.specs.Page.{with_bits, without_bits, stores_of, stores_after, with_stores}
-use Rattle.varvara_bus.specs.declared.devices.Clock.{Clock}
 use Rattle.varvara_bus.specs.declared.devices.Devices.{Devices}
 use Rattle.varvara_bus.specs.History.{Store, History, at_first, stored}
 use Rattle.uxn_opcodes.specs.declared.Core.{Core}
 use Rattle.varvara_bus.specs.declared.ports.Source.{Source}
-use Rattle.varvara_bus.specs.declared.ports.Source.TheVariants.{Stored, WorkingPointer, ReturnPointer}
+use Rattle.varvara_bus.specs.declared.ports.Source.TheVariants.{Stored, WorkingPointer, ReturnPointer, Shows, Zero}
 use Rattle.varvara_bus.specs.State.{DeviceState, new_state, storing, StandFor}
-use Rattle.varvara_bus.specs.Reads.{source_of, read_from, read_of}
+use Rattle.varvara_bus.specs.Reads.{source_of, byte_of, shown_by, read_from, read_of}
 
 -- a byte set at a place is found there, and all else as before
-pub found : (page : List ℕ) (place byte port : ℕ) → place < length page → slice_index (slice_set page place byte) port ≡ (if port == place then byte else slice_index page port)
+pub found : (page : List ℕ) (place byte port : ℕ) → place < length page
+    → slice_index (slice_set page place byte) port ≡ (if port == place then byte else slice_index page port)
 found page place byte port within = grind (arith, nat_tests, common_steps)
 
 -- devices with one more byte stored stand for the state with one more store
@@ -38,7 +38,8 @@ AreAtPorts [] = Unit {0}
 AreAtPorts (store ∷ stores) = (store.0 < 256) × AreAtPorts stores
 
 -- the same for bytes stored one after the other
-pub stand-storing : (devices : Devices) (state : DeviceState) (stores : List Store) → length devices.page ≡ 256 → AreAtPorts stores → StandFor devices state
+pub stand-storing : (devices : Devices) (state : DeviceState) (stores : List Store) → length devices.page ≡ 256 → AreAtPorts stores
+    → StandFor devices state
     → StandFor (record devices { page = with_stores devices.page stores }) (storing stores state)
 stand-storing devices state [] size ports stands = stands
 stand-storing devices state (store ∷ stores) size ports stands =
@@ -87,7 +88,8 @@ settling-ports (Scroll x y) = (lit< tt, (lit< tt, (lit< tt, (lit< tt, tt))))
 
 -- devices that an input was stored at, and that it was settled at
 pub stand-applied : (devices : Devices) (state : DeviceState) (input : Input) → length devices.page ≡ 256 → StandFor devices state
-    → StandFor (record devices { page = with_stores devices.page (stores_of (slice_index devices.page) input) }) (storing (stores_of (stored state.history) input) state)
+    → StandFor (record devices { page = with_stores devices.page (stores_of (slice_index devices.page) input) }) (storing (stores_of
+    (stored state.history) input) state)
 stand-applied devices state input size stands =
     rw (← same_stores (slice_index devices.page) (stored state.history) input stands.page)
     (stand-storing devices state (stores_of (slice_index devices.page) input) size (input-ports (slice_index devices.page) input) stands)
@@ -114,16 +116,23 @@ page-with_size zeros size zero port =
     (found zeros 0x25 0x40 port (omega (arith, size)) ∙ ap (λ held. if port == 0x25 then 0x40 else held) (zero port)))
 
 -- a new page holds what ports hold at first
-pub first_page : (page : List ℕ) → page ≡ slice_set (slice_set (slice_set (replicate 256 0) 0x25 0x40) 0x24 0x01) 0x22 0x02 → (port : ℕ) → slice_index page port ≡ at_first port
+pub first_page : (page : List ℕ) → page ≡ slice_set (slice_set (slice_set (replicate 256 0) 0x25 0x40) 0x24 0x01) 0x22 0x02
+    → (port : ℕ) → slice_index page port ≡ at_first port
 first_page page is port =
     ap (λ p. slice_index p port) is ∙ page-with_size (replicate 256 0) (length-replicate {A = ℕ} 256 0) (zero-page 256) port
 
 -- whatever states devices stand for, their ports read the same in each
-same_from : (source : Source) (devices : Devices) (a b : DeviceState) (core : Core) (port : ℕ) → StandFor devices a → StandFor devices b → read_from source a core port ≡ read_from source b core port
+same_from : (source : Source) (devices : Devices) (a b : DeviceState) (core : Core) (port : ℕ) → StandFor devices a
+    → StandFor devices b → read_from source a core port ≡ read_from source b core port
 same_from Stored devices a b core port s t = sym (s.page port) ∙ t.page port
 same_from WorkingPointer devices a b core port s t = refl
 same_from ReturnPointer devices a b core port s t = refl
+same_from (Shows part) devices a b core port s t =
+    ap (λ clock. byte_of part (shown_by clock a.frames)) (sym s.clock ∙ t.clock)
+    ∙ ap (λ frames. byte_of part (shown_by b.clock frames)) (sym s.frames ∙ t.frames)
+same_from Zero devices a b core port s t = refl
 
-pub same_reads : (devices : Devices) (a b : DeviceState) (core : Core) (port : ℕ) → StandFor devices a → StandFor devices b → read_of a core port ≡ read_of b core port
+pub same_reads : (devices : Devices) (a b : DeviceState) (core : Core) (port : ℕ) → StandFor devices a → StandFor devices b
+    → read_of a core port ≡ read_of b core port
 unfolding read_of
 same_reads devices a b core port s t = same_from (source_of port) devices a b core port s t

@@ -1,16 +1,33 @@
 -- What ports read (Varvara device reference).
-use Rattle.std.specs.Prelude.{ℕ, ◌==◌, List, [], ◌∷◌, if◌then◌else◌}
+use Rattle.std.specs.Prelude.{ℕ, ◌/◌, ◌%◌, ◌==◌, pos, ◌+ℤ◌, List, [], ◌∷◌, if◌then◌else◌}
 use Rattle.uxn_opcodes.specs.declared.Core.{Core}
 use Rattle.varvara_bus.specs.declared.ports.Source.{Source}
-use Rattle.varvara_bus.specs.declared.ports.Source.TheVariants.{Stored, WorkingPointer, ReturnPointer}
+use Rattle.varvara_bus.specs.declared.ports.Source.TheVariants.{Stored, WorkingPointer, ReturnPointer, Shows, Zero}
+use Rattle.varvara_bus.specs.declared.ports.TimePart.{TimePart}
+use Rattle.varvara_bus.specs.declared.ports.TimePart.TheVariants.{YearHigh, YearLow, Month, Day, Hour, Minute, Second, Weekday}
+use Rattle.varvara_bus.specs.declared.ports.TimePart.TheVariants.{YearDayHigh, YearDayLow}
+use Rattle.varvara_bus.specs.declared.time.Clock.{Clock}
+use Rattle.clock_port.specs.declared.CivilFields.{CivilFields}
+use Rattle.clock_port.specs.Calendar.{civil_fields}
 use Rattle.varvara_bus.specs.History.{stored}
 use Rattle.varvara_bus.specs.State.{DeviceState}
 
--- the ports that read something else than the byte last stored
+-- the ports that read something else than the byte last stored; the last is that of daylight saving
 abbrev pub sources : List (ℕ × Source)
 sources =
     (0x04, WorkingPointer)
     ∷ (0x05, ReturnPointer)
+    ∷ (0xc0, Shows YearHigh)
+    ∷ (0xc1, Shows YearLow)
+    ∷ (0xc2, Shows Month)
+    ∷ (0xc3, Shows Day)
+    ∷ (0xc4, Shows Hour)
+    ∷ (0xc5, Shows Minute)
+    ∷ (0xc6, Shows Second)
+    ∷ (0xc7, Shows Weekday)
+    ∷ (0xc8, Shows YearDayHigh)
+    ∷ (0xc9, Shows YearDayLow)
+    ∷ (0xca, Zero)
     ∷ []
 
 abbrev pub source_in : List (ℕ × Source) → ℕ → Source
@@ -20,11 +37,30 @@ source_in (row ∷ rows) port = if port == row.0 then row.1 else source_in rows 
 abbrev pub source_of : ℕ → Source
 source_of port = source_in sources port
 
+-- a byte of what a clock shows; the year and the day of the year are shorts
+abbrev pub byte_of : TimePart → CivilFields → ℕ
+byte_of YearHigh shown = shown.year / 256
+byte_of YearLow shown = shown.year % 256
+byte_of Month shown = shown.month
+byte_of Day shown = shown.day
+byte_of Hour shown = shown.hour
+byte_of Minute shown = shown.minute
+byte_of Second shown = shown.second
+byte_of Weekday shown = shown.weekday
+byte_of YearDayHigh shown = shown.year_day / 256
+byte_of YearDayLow shown = shown.year_day % 256
+
+-- what the clock shows: a second passes in 60 frames
+abbrev pub shown_by : Clock → ℕ → CivilFields
+shown_by clock frames = civil_fields (clock.seconds +ℤ pos (frames / 60)) clock.offset
+
 -- what each source gives
 abbrev pub read_from : Source → DeviceState → Core → ℕ → ℕ
 read_from Stored state core port = stored state.history port
 read_from WorkingPointer state core port = core.working.pointer
 read_from ReturnPointer state core port = core.returns.pointer
+read_from (Shows part) state core port = byte_of part (shown_by state.clock state.frames)
+read_from Zero state core port = 0
 
 -- what a port reads
 unfoldable pub read_of : DeviceState → Core → ℕ → ℕ

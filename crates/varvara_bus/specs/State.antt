@@ -1,6 +1,6 @@
 -- What the devices of a machine stand for.
 use Rattle.std.specs.Prelude.{◌≡◌, ℕ, List, [], ◌∷◌, ◌+◌, Option, slice_index}
-use Rattle.varvara_bus.specs.declared.devices.Clock.{Clock}
+use Rattle.varvara_bus.specs.declared.time.Clock.{Clock}
 use Rattle.varvara_bus.specs.declared.devices.Devices.{Devices}
 use Rattle.varvara_bus.specs.History.{Store, History, stored, stored_after}
 
@@ -23,9 +23,13 @@ storing stores state = record state { history = stored_after state.history store
 abbrev pub next_frame : DeviceState → DeviceState
 next_frame state = record state { frames = state.frames + 1 }
 
+-- the clock that devices hold
+abbrev pub clock_of : Devices → Clock
+clock_of devices = record { seconds = devices.time.seconds; offset = devices.time.offset }
+
 -- devices hold in each port what was last stored there
 pub record StandFor (devices : Devices) (state : DeviceState) : Type 0 where
   pub page : (port : ℕ) → slice_index devices.page port ≡ stored state.history port
-  pub frames : devices.frames ≡ state.frames
-  pub clock : devices.clock ≡ state.clock
+  pub frames : devices.time.frames ≡ state.frames
+  pub clock : clock_of devices ≡ state.clock
   pub root : devices.root ≡ state.root

@@ -10,7 +10,8 @@ ghost use Rattle.varvara_bus.specs.Effect.{debug_bytes};
 ghost use Rattle.varvara_bus.specs.Bus.{BusStandsFor, ChangesDevices, held, frames_begun, bus_faults, Acted, ActStopped};
 
 use crate::devices::{
-    Devices, apply as apply_to, give as give_to, settle as settle_to, store, stored, stored_short,
+    Devices, apply as apply_to, give as give_to, settle as settle_to, shown, store, stored,
+    stored_short,
 };
 use crate::ports::{Action, Source};
 use console_port::console_write;
@@ -101,7 +102,7 @@ impl<'a, T: Tree, O: Sink, E: Sink> Bus<'a, T, O, E> {
         ensures others { ChangesDevices self.old self.new }
         ensures frames { frames_begun self.new ≡ frames_begun self.old }
     {
-        store(self.devices, port, value);
+        store(self.devices, port, value)
     }
 
     /// Stores an event of the console: its byte in port 12 and its kind in port 17.
@@ -141,7 +142,7 @@ impl<'a, T: Tree, O: Sink, E: Sink> Bus<'a, T, O, E> {
         ensures others { ChangesDevices self.old self.new }
         ensures frames { frames_begun self.new ≡ frames_begun self.old + 1 }
     {
-        self.devices.frames += 1;
+        self.devices.time.frames += 1;
     }
 
     /// How many frames have begun.
@@ -149,7 +150,7 @@ impl<'a, T: Tree, O: Sink, E: Sink> Bus<'a, T, O, E> {
         ensures begun { result ≡ frames_begun self.now }
         ensures frames { (state : DeviceState) → BusStandsFor self.now state → result ≡ state.frames }
     {
-        self.devices.frames
+        self.devices.time.frames
     }
 }
 
@@ -166,6 +167,8 @@ impl<'a, T: Tree, O: Sink, E: Sink> Ports for Bus<'a, T, O, E> {
             Source::Stored => stored(self.devices, port),
             Source::WorkingPointer => core.working.pointer(),
             Source::ReturnPointer => core.returns.pointer(),
+            Source::Shows(part) => shown(self.devices, part),
+            Source::Zero => 0,
         }
     }
 

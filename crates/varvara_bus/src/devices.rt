@@ -1,42 +1,42 @@
 //! The devices of one machine.
-ghost use Rattle.std.specs.Prelude.{◌≡◌, ℕ, ◌+◌, ◌*◌, ◌<◌, IfOk, [], ◌∷◌, slice_index, slice_set};
+ghost use Rattle.std.specs.Prelude.{◌≡◌, ℕ, ◌+◌, ◌*◌, ◌<◌, IfOk, [], ◌∷◌, slice_index, slice_set, pos, neg_ℤ, ◌≤ℤ◌};
 ghost use Rattle.console_port.specs.Console.{given};
 ghost use Rattle.input_ports.specs.Page.{with_stores, stores_of, stores_after};
 ghost use Rattle.varvara_bus.specs.History.{at_first, stored};
-ghost use Rattle.varvara_bus.specs.State.{DeviceState, StandFor, new_state, storing};
+ghost use Rattle.varvara_bus.specs.Reads.{byte_of, shown_by};
+ghost use Rattle.varvara_bus.specs.State.{DeviceState, StandFor, clock_of, new_state, storing};
 
+use crate::ports::{TimePart, byte_of};
+use crate::time::{Clock, Time};
 use console_port::give as give_page;
 use input_ports::{Input, apply as apply_page, settle as settle_page};
 use std::alloc::{AllocError, Global};
 use uxn_io::Path;
 
-/// The moment that a run begins at, and how far ahead of UTC the machine's clock is.
-#[derive(Clone, Copy, Debug, PartialEq, Eq)]
-pub struct Clock {
-    /// Seconds since 1970-01-01 00:00:00 UTC.
-    pub seconds: i64,
-    /// Minutes ahead of UTC.
-    pub offset: i32,
-}
-
 /// What the devices hold.
 #[derive(Drop)]
 pub struct Devices {
     pub(crate) page: [u8; 256],
-    pub(crate) frames: u32,
-    pub(crate) clock: Clock,
+    pub(crate) time: Time,
     pub(crate) root: Option<Path>,
 }
 
 impl Devices {
     /// New devices: all ports hold 0 but 22 to 25, which hold the size of the screen; no frame has begun.
     pub fn new(_alloc: Global, root: Option<Path>, clock: Clock) -> Result<Devices, AllocError>
+        requires seconds_from { pos 0 ≤ℤ clock.seconds }
+        requires seconds_to { clock.seconds ≤ℤ pos 253370000000 }
+        requires offset_from { neg_ℤ (pos 840) ≤ℤ clock.offset }
+        requires offset_to { clock.offset ≤ℤ pos 840 }
         ensures { IfOk result (λ devices. StandFor devices (new_state clock root)) }
     {
         Ok(Devices {
             page: new_page(),
-            frames: 0,
-            clock,
+            time: Time {
+                seconds: clock.seconds,
+                offset: clock.offset,
+                frames: 0,
+            },
             root,
         })
     }
@@ -67,8 +67,8 @@ pub(crate) fn store(devices: &mut Devices, port: u8, value: u8)
     ensures devices { devices.new ≡ record devices.old { page = slice_set devices.old.page port value } }
     ensures stands { (state : DeviceState) → StandFor devices.old state → StandFor devices.new (storing ((port, value) ∷ []) state) }
     ensures held { slice_index devices.new.page port ≡ value }
-    ensures frames { devices.new.frames ≡ devices.old.frames }
-    ensures clock { devices.new.clock ≡ devices.old.clock }
+    ensures frames { devices.new.time.frames ≡ devices.old.time.frames }
+    ensures clock { clock_of devices.new ≡ clock_of devices.old }
     ensures root { devices.new.root ≡ devices.old.root }
 {
     devices.page[usize::from(port)] = value;
@@ -112,4 +112,12 @@ pub(crate) fn stored_short(devices: &Devices, port: u8) -> u16
     let high = devices.page[usize::from(port)];
     let low = devices.page[usize::from(port) + 1];
     u16::from(high) * 256 + u16::from(low)
+}
+
+/// A byte of what the clock shows.
+#[inline(never)]
+pub(crate) fn shown(devices: &Devices, part: TimePart) -> u8
+    ensures { result ≡ byte_of part (shown_by (clock_of devices.now) devices.now.time.frames) }
+{
+    byte_of(part, &devices.time.shown())
 }

@@ -6,6 +6,8 @@ mod devices;
 mod ports;
 #[cfg(test)]
 mod tests;
+mod time;
 
 pub use bus::Bus;
-pub use devices::{Clock, Devices};
+pub use devices::Devices;
+pub use time::Clock;

@@ -5,9 +5,10 @@ use std::test::Fail;
 use uxn_io::{MemSink, MemTree};
 use uxn_opcodes::{Core, Ports, Stop, step};
 
-const NO_ROOT: Clock = Clock {
+/// The start of 1970 in UTC, at ten in the morning of 31 December 1969 far in the west.
+const CLOCK: Clock = Clock {
     seconds: 0,
-    offset: 0,
+    offset: -840,
 };
 
 /// A program, how many instructions of it are run, and the bytes then put on both outputs.
@@ -36,7 +37,7 @@ const RUNS: [Run; 4] = [
 #[test]
 fn ports_put_and_fill(rt: HostRuntime) -> Result<(), Fail> {
     for (rom, count, out_bytes, err_bytes) in &RUNS {
-        let mut devices = Devices::new(rt.alloc(), None, NO_ROOT)?;
+        let mut devices = Devices::new(rt.alloc(), None, CLOCK)?;
         let mut tree = MemTree::new(rt.alloc(), &[], 0, 0, &[])?;
         let mut out = MemSink::new(rt.alloc(), 100, &[])?;
         let mut err = MemSink::new(rt.alloc(), 100, &[])?;
@@ -53,7 +54,7 @@ fn ports_put_and_fill(rt: HostRuntime) -> Result<(), Fail> {
 
 #[test]
 fn pointers_are_set_and_read(rt: HostRuntime) -> Result<(), Fail> {
-    let mut devices = Devices::new(rt.alloc(), None, NO_ROOT)?;
+    let mut devices = Devices::new(rt.alloc(), None, CLOCK)?;
     let mut tree = MemTree::new(rt.alloc(), &[], 0, 0, &[])?;
     let mut out = MemSink::new(rt.alloc(), 0, &[])?;
     let mut err = MemSink::new(rt.alloc(), 40, &[1])?;
@@ -68,6 +69,17 @@ fn pointers_are_set_and_read(rt: HostRuntime) -> Result<(), Fail> {
     );
     assert_eq!(rt; (bus.dei(&core, 0x04), bus.dei(&core, 0x05)), (0x30, 0x40));
     for (port, value) in [
+        (0xc0, 0x07),
+        (0xc1, 0xb1),
+        (0xc2, 0x0b),
+        (0xc3, 0x1f),
+        (0xc4, 0x0a),
+        (0xc5, 0x00),
+        (0xc6, 0x00),
+        (0xc7, 0x03),
+        (0xc8, 0x01),
+        (0xc9, 0x6c),
+        (0xca, 0x00),
         (0x21, 0x00),
         (0x22, 0x02),
         (0x23, 0x00),
@@ -78,12 +90,17 @@ fn pointers_are_set_and_read(rt: HostRuntime) -> Result<(), Fail> {
     }
     bus.give(0x0a, 4);
     bus.store(0x18, 0x41);
-    bus.frame_begins();
+    for _ in 0..60 {
+        if bus.frames() < 1_000_000 {
+            bus.frame_begins();
+        }
+    }
+    assert_eq!(rt; bus.dei(&core, 0xc6), 1);
     assert_eq!(rt;
         (bus.stored(0x12), bus.stored(0x17), bus.stored(0x18)),
         (0x0a, 4, 0x41)
     );
-    assert_eq!(rt; bus.frames(), 1);
+    assert_eq!(rt; bus.frames(), 60);
     assert_eq!(rt; bus.deo(&mut core, 0x0e, 1), Err(Stop::SinkFault));
     assert_eq!(rt; bus.deo(&mut core, 0x18, 1), Err(Stop::SinkFault));
     assert_eq!(rt; (bus.stored(0x0e), bus.stored(0x18)), (1, 1));

@@ -1,0 +1,197 @@
+-- Words that are printed are read back.
+use Rattle.std.proofs.Common.{◌≡◌, ℕ, zero, suc, ◌/◌, ◌%◌, ◌<◌, ◌≤◌, Bool, true, false, ◌&&◌, ◌||◌, ◌-◌, ◌^◌, eqb, ltb, not, ℤ, pos, negsuc, neg_ℤ, ◌≤ℤ◌, List, [], ◌∷◌, ◌++◌, length, get_or, Some, inl, inr, refl, ap, ◌∙◌, arith}
+use Rattle.std.specs.Prelude.{decimal}
+use Rattle.std.specs.Fmt.{signed_decimal}
+use Rattle.std.specs.List.{All, list_all}
+use Rattle.std.proofs.lemmas.Bool.{cases_eq, cases_lt, lt-ltb, le-leb, and_from, and_parts}
+use Rattle.std.proofs.lemmas.Fmt.{digits_decimal, digits_value-decimal, decimal_nonempty, first_decimal, decimal_digit}
+use Rattle.std.proofs.lemmas.List.{get_or_past}
+use Rattle.std.proofs.lemmas.List.Elements.{All-head, All-tail, All-nil, All-cons}
+use Rattle.hex.specs.Hex.{encode_lower, encode_with, lower_digits, IsBytes}
+use Rattle.hex.proofs.HexLemmas.{length-encode_with, decode_of-encode_lower, decode_sized-encode_lower}
+use Rattle.play_script.specs.Limits.{IsBit}
+use Rattle.play_script.specs.PlainText.{text_word, button_name, mouse_button_number}
+use Rattle.play_script.specs.Values.{is_digit, is_number, number_within, integer_within, byte_of, text_of, begins_with, button_of, mouse_button_of}
+use Rattle.play_script.proofs.Numbers.{own}
+use borrow.Author.Differences.{le_out, neg_is}
+
+-- a word has bytes, and none that parts words or lines
+abbrev pub is_plain : List ℕ → Bool
+is_plain word = ltb 0 (length word) && list_all (λ byte. ltb 32 byte) word
+
+-- all bytes pass a weaker test too
+pub weaker : (p q : ℕ → Bool) → ((byte : ℕ) → p byte ≡ true → q byte ≡ true) → (word : List ℕ) → list_all p word ≡ true → list_all q word ≡ true
+weaker p q step [] all = refl
+weaker p q step (byte ∷ word) all = let parts = and_parts (p byte) (list_all p word) all in and_from (q byte) (list_all q word) (step byte parts.0) (weaker p q step word parts.1)
+
+pub all_append : (p : ℕ → Bool) (xs ys : List ℕ) → list_all p xs ≡ true → list_all p ys ≡ true → list_all p (xs ++ ys) ≡ true
+all_append p [] ys first second = second
+all_append p (x ∷ xs) ys first second = let parts = and_parts (p x) (list_all p xs) first in and_from (p x) (list_all p (xs ++ ys)) parts.0 (all_append p xs ys parts.1 second)
+
+-- decimal numbers
+decimal_digits : (n : ℕ) → n < 2 ^ 64 → list_all is_digit (decimal n) ≡ true
+decimal_digits n small = digits_decimal own n small
+
+pub plain_decimal : (n : ℕ) → n < 2 ^ 64 → is_plain (decimal n) ≡ true
+plain_decimal n small =
+    and_from _ _ (lt-ltb 0 (length (decimal n)) (decimal_nonempty n small))
+    (weaker is_digit (λ byte. ltb 32 byte) (λ byte digit. grind arith) (decimal n) (decimal_digits n small))
+
+leads : (n : ℕ) → n < 2 ^ 64 → (eqb (length (decimal n)) 1 || not (eqb (get_or (decimal n) 0 0) 48)) ≡ true
+leads zero small = rw (decimal_digit 0 (omega arith)) refl
+leads (suc n) small = let first = first_decimal (suc n) (omega arith) small in grind arith
+
+number_is : (n : ℕ) → n < 2 ^ 64 → is_number (decimal n) ≡ true
+number_is n small =
+    and_from _ _ (and_from _ _ (lt-ltb 0 (length (decimal n)) (decimal_nonempty n small)) (decimal_digits n small)) (leads n small)
+
+pub number_back : (low high n : ℕ) → low ≤ n → n ≤ high → n < 2 ^ 64 → number_within low high (decimal n) ≡ Some n
+unfolding number_within
+number_back low high n from to small =
+    rw (number_is n small, digits_value-decimal own n small, le-leb low n from, le-leb n high to) refl
+
+-- the first byte of a decimal number is no sign and no quote
+digit_first : (byte : ℕ) (word : List ℕ) → list_all (λ b. ltb 47 b) word ≡ true → byte < 48 → begins_with byte word ≡ false
+digit_first byte [] all low = refl
+digit_first byte (first ∷ more) all low = let parts = and_parts (ltb 47 first) (list_all (λ b. ltb 47 b) more) all in grind arith
+
+decimal_first : (byte n : ℕ) → n < 2 ^ 64 → byte < 48 → begins_with byte (decimal n) ≡ false
+decimal_first byte n small low =
+    digit_first byte (decimal n) (weaker is_digit (λ b. ltb 47 b) (λ b digit. grind arith) (decimal n) (decimal_digits n small)) low
+
+begins_head : (byte : ℕ) (word : List ℕ) → begins_with byte (byte ∷ word) ≡ true
+begins_head byte word = grind arith
+
+pub integer_back : (below high : ℕ) (z : ℤ) → below < 2 ^ 63 → high < 2 ^ 63 → neg_ℤ (pos below) ≤ℤ z → z ≤ℤ pos high → integer_within below high (signed_decimal z) ≡ Some z
+unfolding integer_within
+integer_back below high (pos n) wide tall from to =
+    let top : n ≤ high = omega (arith, le_out, to) in
+    rw (decimal_first 45 n (omega arith) (omega arith), number_back 0 high n (omega arith) top (omega arith)) refl
+integer_back below high (negsuc n) wide tall from to =
+    let top : suc n ≤ below = omega (arith, le_out, neg_is, from) in
+    rw (begins_head 45 (decimal (suc n)), number_back 0 below (suc n) (omega arith) top (omega arith)) refl
+
+pub plain_signed : (z : ℤ) (below : ℕ) → below < 2 ^ 63 → neg_ℤ (pos below) ≤ℤ z → z ≤ℤ pos below → is_plain (signed_decimal z) ≡ true
+plain_signed (pos n) below wide from to = plain_decimal n (omega (arith, le_out, to))
+plain_signed (negsuc n) below wide from to =
+    and_from _ _ (lt-ltb 0 (length (45 ∷ decimal (suc n))) (omega arith))
+    (and_parts _ _ (plain_decimal (suc n) (omega (arith, le_out, neg_is, from)))).1
+
+-- hexadecimal digits
+digit_high : (k : ℕ) → k < 16 → ltb 47 (get_or lower_digits k 0) ≡ true
+digit_high zero h = refl
+digit_high (suc zero) h = refl
+digit_high (suc (suc zero)) h = refl
+digit_high (suc (suc (suc zero))) h = refl
+digit_high (suc (suc (suc (suc zero)))) h = refl
+digit_high (suc (suc (suc (suc (suc zero))))) h = refl
+digit_high (suc (suc (suc (suc (suc (suc zero)))))) h = refl
+digit_high (suc (suc (suc (suc (suc (suc (suc zero))))))) h = refl
+digit_high (suc (suc (suc (suc (suc (suc (suc (suc zero)))))))) h = refl
+digit_high (suc (suc (suc (suc (suc (suc (suc (suc (suc zero))))))))) h = refl
+digit_high (suc (suc (suc (suc (suc (suc (suc (suc (suc (suc zero)))))))))) h = refl
+digit_high (suc (suc (suc (suc (suc (suc (suc (suc (suc (suc (suc zero))))))))))) h = refl
+digit_high (suc (suc (suc (suc (suc (suc (suc (suc (suc (suc (suc (suc zero)))))))))))) h = refl
+digit_high (suc (suc (suc (suc (suc (suc (suc (suc (suc (suc (suc (suc (suc zero))))))))))))) h = refl
+digit_high (suc (suc (suc (suc (suc (suc (suc (suc (suc (suc (suc (suc (suc (suc zero)))))))))))))) h = refl
+digit_high (suc (suc (suc (suc (suc (suc (suc (suc (suc (suc (suc (suc (suc (suc (suc zero))))))))))))))) h = refl
+digit_high (suc (suc (suc (suc (suc (suc (suc (suc (suc (suc (suc (suc (suc (suc (suc (suc k)))))))))))))))) h = absurd (omega arith)
+
+pairs_high : (bytes : List ℕ) → All (λ byte. byte < 256) bytes → list_all (λ b. ltb 47 b) (encode_lower bytes) ≡ true
+unfolding encode_with
+pairs_high [] small = refl
+pairs_high (byte ∷ bytes) small =
+    let here = All-head (λ b. b < 256) byte bytes small in
+    and_from _ _ (digit_high (byte / 16) (omega arith)) (and_from _ _ (digit_high (byte % 16) (omega arith)) (pairs_high bytes (All-tail (λ b. b < 256) byte bytes small)))
+
+pub plain_pairs : (bytes : List ℕ) → 0 < length bytes → All (λ byte. byte < 256) bytes → is_plain (encode_lower bytes) ≡ true
+plain_pairs bytes some small =
+    and_from _ _ (lt-ltb 0 (length (encode_lower bytes)) (omega (arith, length-encode_with lower_digits bytes)))
+    (weaker (λ b. ltb 47 b) (λ b. ltb 32 b) (λ b high. grind arith) (encode_lower bytes) (pairs_high bytes small))
+
+are_bytes : (bytes : List ℕ) → All (λ byte. byte < 256) bytes → IsBytes bytes
+are_bytes bytes small i = elim (cases_lt i (length bytes)) [
+  | inl within ↦ small i 0 within
+  | inr past ↦ rw (get_or_past bytes i 0 past) (omega arith)
+]
+
+pub pairs_back : (bytes : List ℕ) → All (λ byte. byte < 256) bytes → text_of (encode_lower bytes) ≡ Some bytes
+unfolding text_of
+pairs_back bytes small =
+    rw (digit_first 34 (encode_lower bytes) (pairs_high bytes small) (omega arith), decode_of-encode_lower bytes (are_bytes bytes small)) refl
+
+text_word_is : (byte : ℕ) (bytes : List ℕ) → text_word (byte ∷ bytes) ≡ encode_lower (byte ∷ bytes)
+text_word_is byte bytes = let filled : eqb (length (byte ∷ bytes)) 0 ≡ false = grind arith in rw filled refl
+
+pub text_back : (bytes : List ℕ) → All (λ byte. byte < 256) bytes → text_of (text_word bytes) ≡ Some bytes
+unfolding text_of
+text_back [] small = refl
+text_back (byte ∷ bytes) small = ap text_of (text_word_is byte bytes) ∙ pairs_back (byte ∷ bytes) small
+
+pub plain_text_word : (bytes : List ℕ) → All (λ byte. byte < 256) bytes → is_plain (text_word bytes) ≡ true
+plain_text_word [] small = refl
+plain_text_word (byte ∷ bytes) small = ap is_plain (text_word_is byte bytes) ∙ plain_pairs (byte ∷ bytes) (omega arith) small
+
+pub one_byte : (byte : ℕ) → byte < 256 → All (λ b. b < 256) (byte ∷ [])
+one_byte byte small = All-cons (λ b. b < 256) byte [] small (All-nil (λ b. b < 256))
+
+pub byte_back : (byte : ℕ) → byte < 256 → byte_of (encode_lower (byte ∷ [])) ≡ Some byte
+unfolding byte_of
+byte_back byte small = rw (decode_sized-encode_lower (byte ∷ []) 1 refl (are_bytes (byte ∷ []) (one_byte byte small))) refl
+
+-- the masks of one button
+pub by_bit : (P : ℕ → Type 0) → P 1 → P 2 → P 4 → P 8 → P 16 → P 32 → P 64 → P 128 → (mask : ℕ) → IsBit mask → P mask
+by_bit P p1 p2 p4 p8 p16 p32 p64 p128 mask bit =
+    elim (cases_eq mask 1) [
+      | inl e ↦ rw e p1
+      | inr n1 ↦
+          elim (cases_eq mask 2) [
+            | inl e ↦ rw e p2
+            | inr n2 ↦
+                elim (cases_eq mask 4) [
+                  | inl e ↦ rw e p4
+                  | inr n4 ↦
+                      elim (cases_eq mask 8) [
+                        | inl e ↦ rw e p8
+                        | inr n8 ↦
+                            elim (cases_eq mask 16) [
+                              | inl e ↦ rw e p16
+                              | inr n16 ↦
+                                  elim (cases_eq mask 32) [
+                                    | inl e ↦ rw e p32
+                                    | inr n32 ↦
+                                        elim (cases_eq mask 64) [
+                                          | inl e ↦ rw e p64
+                                          | inr n64 ↦
+                                              elim (cases_eq mask 128) [ inl e ↦ rw e p128 | inr n128 ↦ absurd (grind arith) ]
+                                        ]
+                                  ]
+                            ]
+                      ]
+                ]
+          ]
+    ]
+
+pub button_back : (mask : ℕ) → IsBit mask → button_of (button_name mask) ≡ Some mask
+unfolding button_of button_name
+button_back = by_bit (λ mask. button_of (button_name mask) ≡ Some mask) refl refl refl refl refl refl refl refl
+
+pub plain_button : (mask : ℕ) → IsBit mask → is_plain (button_name mask) ≡ true
+unfolding button_name
+plain_button = by_bit (λ mask. is_plain (button_name mask) ≡ true) refl refl refl refl refl refl refl refl
+
+number_of : (k mask : ℕ) → 1 ≤ k → k ≤ 8 → mouse_button_number mask ≡ k → 2 ^ (k - 1) ≡ mask → mouse_button_of (decimal (mouse_button_number mask)) ≡ Some mask
+unfolding mouse_button_of
+number_of k mask from to number power = rw (number, number_back 1 8 k from to (omega arith)) (ap Some power)
+
+pub mouse_button_back : (mask : ℕ) → IsBit mask → mouse_button_of (decimal (mouse_button_number mask)) ≡ Some mask
+unfolding mouse_button_number
+mouse_button_back = by_bit (λ mask. mouse_button_of (decimal (mouse_button_number mask)) ≡ Some mask)
+    (number_of 1 1 (omega arith) (omega arith) refl refl) (number_of 2 2 (omega arith) (omega arith) refl refl)
+    (number_of 3 4 (omega arith) (omega arith) refl refl) (number_of 4 8 (omega arith) (omega arith) refl refl)
+    (number_of 5 16 (omega arith) (omega arith) refl refl) (number_of 6 32 (omega arith) (omega arith) refl refl)
+    (number_of 7 64 (omega arith) (omega arith) refl refl) (number_of 8 128 (omega arith) (omega arith) refl refl)
+
+pub small_number : (mask : ℕ) → IsBit mask → mouse_button_number mask < 9
+unfolding mouse_button_number
+small_number = by_bit (λ mask. mouse_button_number mask < 9) (omega arith) (omega arith) (omega arith) (omega arith) (omega arith) (omega arith) (omega arith) (omega arith)

@@ -1,0 +1,15 @@
+use Rattle.std.proofs.Common.{◌≡◌, ◌+◌, ◌++◌, length}
+use Rattle.std.specs.Option.{option_map}
+use Rattle.play_script.specs.Held.{bytes_in}
+use Rattle.play_script.specs.Lines.{words_of}
+use Rattle.play_script.specs.Values.{texts_of}
+use Rattle.play_script.proofs.line.texts.Given as goal
+
+abbrev pub invariant-loop-word : goal.invariant-loop-word
+invariant-loop-word l = record {
+  collected : option_map (λ texts. bytes_in l.texts.items ++ texts) (texts_of (words_of l.left)) ≡ texts_of (words_of l.fn.values);
+  counted : length l.texts.items + length (words_of l.left) ≡ length (words_of l.fn.values);
+}
+
+abbrev pub decreases-loop-word : goal.decreases-loop-word
+decreases-loop-word l = length l.left

@@ -1,0 +1,9 @@
+-- The bytes of texts that are held.
+use Rattle.std.specs.Prelude.{ℕ, List, map, Option, option_map}
+use Rattle.uxn_io.specs.ByteList.{ByteList}
+
+abbrev pub bytes_in : List ByteList → List (List ℕ)
+bytes_in texts = map (λ text. text.list) texts
+
+abbrev pub bytes_if : Option ByteList → Option (List ℕ)
+bytes_if text = option_map (λ bytes. bytes.list) text

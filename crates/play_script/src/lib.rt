@@ -1,0 +1,16 @@
+//! Play scripts: the clock, the arguments and the events that a program is given, read from a text and printed as one.
+#![tactic(auto)]
+
+mod keyword;
+mod line;
+mod printing;
+mod reading;
+mod script;
+#[cfg(test)]
+mod tests;
+mod values;
+mod words;
+
+pub use printing::{print_script, printed_scripts_are_read};
+pub use reading::read_script;
+pub use script::{Clock, Event, Events, Script, ScriptKind, ScriptStop};

@@ -1,0 +1,215 @@
+//! Scripts and what they hold.
+
+ghost use Rattle.std.specs.Prelude.{◌≡◌, List};
+
+use input_ports::Input;
+use std::alloc::{AllocError, AllocFailed};
+use std::marker::Model;
+use thiserror::Error;
+use uxn_io::Bytes;
+
+/// The moment at which a script begins.
+#[derive(Debug, Clone, Copy, PartialEq, Eq)]
+pub struct Clock {
+    /// Seconds since 1970-01-01 00:00:00 UTC, 0 to 253,370,000,000.
+    pub seconds: i64,
+    /// How many minutes the clock is ahead of UTC, -840 to 840.
+    pub offset: i32,
+}
+
+/// What a program is given.
+#[derive(Debug, Clone, Copy, PartialEq, Eq)]
+pub enum Event {
+    /// A byte of the console's input.
+    Input(u8),
+    /// The end of the console's input.
+    EndInput,
+    /// A frame, the sixtieth part of a second.
+    Frame,
+    /// What a player does at the controller or the mouse.
+    Device(Input),
+    /// The picture is kept.
+    Shot,
+}
+
+/// Events in their order, which contracts see as a list.
+#[derive(Debug, Drop)]
+pub struct Events {
+    items: Vec<Event>,
+}
+
+impl Model for Events {
+    ghost use Rattle.std.specs.Prelude.{List};
+    ghost use Rattle.play_script.specs.declared.script.Event.{Event};
+
+    ghost Value = { List Event };
+
+    ghost view = { λ e. e.items.items };
+}
+
+impl Events {
+    /// The events that the vector holds, which are not copied.
+    pub fn from_vec(items: Vec<Event>) -> Events
+        ensures { result ≡ items.items }
+    {
+        Events { items }
+    }
+
+    /// The vector of the events, which are not copied.
+    pub fn into_vec(self) -> Vec<Event>
+        ensures { result.items ≡ self }
+    {
+        self.items
+    }
+
+    /// The events.
+    pub fn as_slice(&self) -> &[Event]
+        ensures { result.now ≡ self.now }
+    {
+        self.items.as_slice()
+    }
+}
+
+/// A script: a clock, the arguments of the program and the events.
+#[derive(Debug, Drop)]
+pub struct Script {
+    clock: Clock,
+    arguments: Vec<Bytes>,
+    events: Events,
+}
+
+impl Model for Script {
+    ghost use Rattle.play_script.specs.Scripts.{ScriptView};
+    ghost use Rattle.play_script.specs.Held.{bytes_in};
+    ghost use Rattle.play_script.specs.Limits.{IsScript};
+
+    ghost Value = { ScriptView };
+
+    ghost view = { λ s. record { clock = s.clock; arguments = bytes_in s.arguments.items; events = s.events } };
+
+    ghost invariant = { λ s. IsScript (record { clock = s.clock; arguments = bytes_in s.arguments.items; events = s.events }) };
+}
+
+impl Script {
+    ghost use Rattle.play_script.specs.Held.{bytes_in};
+    ghost use Rattle.play_script.specs.Limits.{IsScript};
+
+    /// A script of these parts.
+    pub(crate) fn new(clock: Clock, arguments: Vec<Bytes>, events: Events) -> Script
+        requires { IsScript (record { clock = clock; arguments = bytes_in arguments.items; events = events }) }
+        ensures clock { result.clock ≡ clock }
+        ensures arguments { result.arguments ≡ bytes_in arguments.items }
+        ensures events { result.events ≡ events }
+    {
+        Script {
+            clock,
+            arguments,
+            events,
+        }
+    }
+
+    /// Tells contracts what holds of every script: the ranges of its clock, at most 1,000,000 events, and at most
+    /// 4,194,304 bytes and spacers of arguments.
+    pub fn known(&self)
+        ensures { IsScript self.now }
+    {
+        let _clock = self.clock;
+    }
+
+    /// The arguments of the program, in order.
+    pub fn args(&self) -> &[Bytes]
+        ensures { bytes_in result.now ≡ self.now.arguments }
+    {
+        self.arguments.as_slice()
+    }
+
+    /// The moment at which the script begins.
+    pub fn clock(&self) -> Clock
+        ensures { result ≡ self.now.clock }
+    {
+        self.clock
+    }
+
+    /// The events, in order.
+    pub fn events(&self) -> &[Event]
+        ensures { result.now ≡ self.now.events }
+    {
+        self.events.as_slice()
+    }
+}
+
+/// What can be wrong with a line of a script, numbered from 1 in this order.
+#[derive(Clone, Copy, Debug, PartialEq, Eq)]
+pub enum ScriptKind {
+    /// The first word is no word of scripts.
+    Unknown,
+    /// A value is not of its form or not within its range.
+    BadValue,
+    /// There are too few values.
+    Missing,
+    /// There are too many values.
+    Extra,
+    /// `args` or `clock` stands after a line that gives an event, or after a line of the same word.
+    Late,
+    /// With this line there are more than 1,000,000 events.
+    ManyEvents,
+    /// The script has more than 4,194,304 bytes.
+    LongScript,
+}
+
+impl ScriptKind {
+    ghost use Rattle.play_script.specs.Kinds.{kind_name};
+
+    /// The name of the kind, as it is printed.
+    pub fn name(self) -> &'static str
+        ensures { result.now ≡ kind_name self }
+    {
+        match self {
+            ScriptKind::Unknown => "Unknown",
+            ScriptKind::BadValue => "BadValue",
+            ScriptKind::Missing => "Missing",
+            ScriptKind::Extra => "Extra",
+            ScriptKind::Late => "Late",
+            ScriptKind::ManyEvents => "ManyEvents",
+            ScriptKind::LongScript => "LongScript",
+        }
+    }
+}
+
+/// Why a script is not read.
+#[derive(Debug, Drop, Error)]
+pub enum ScriptStop {
+    /// The first faulty line, counted from 1, has this fault.
+    #[error("the script is refused at line {line}")]
+    Refused { line: u32, kind: ScriptKind },
+    /// Memory ran out.
+    #[error("out of memory")]
+    NoMemory,
+}
+
+// What stops a line.
+#[derive(Debug, Drop)]
+pub(crate) enum LineStop {
+    Faulty(ScriptKind),
+    NoMemory,
+}
+
+impl From<AllocError> for LineStop {
+    ghost use Rattle.play_script.specs.declared.script.LineStop.TheVariants.{NoMemory};
+
+    ghost from_gives = { λ _ stop. stop ≡ NoMemory };
+
+    fn from(_error: AllocError) -> LineStop {
+        LineStop::NoMemory
+    }
+}
+
+impl<T: Drop> From<AllocFailed<T>> for LineStop {
+    ghost use Rattle.play_script.specs.declared.script.LineStop.TheVariants.{NoMemory};
+
+    ghost from_gives = { λ _ stop. stop ≡ NoMemory };
+
+    fn from(_error: AllocFailed<T>) -> LineStop {
+        LineStop::NoMemory
+    }
+}

@@ -1,0 +1,39 @@
+//! The moment of a machine: its clock at the start, and the frames since.
+ghost use Rattle.std.specs.Prelude.{◌≡◌, ◌+◌, ◌/◌, ◌%◌, ◌<◌, ◌≤◌, pos, neg_ℤ, ◌+ℤ◌, ◌≤ℤ◌};
+ghost use Rattle.clock_port.specs.Calendar.{civil_fields};
+
+use clock_port::{CivilFields, fields};
+
+/// How many frames there are in a second.
+const RATE: u32 = 60;
+
+/// The moment that a run begins at, and how far ahead of UTC the machine's clock is.
+#[derive(Clone, Copy, Debug, PartialEq, Eq)]
+pub struct Clock {
+    /// Seconds since 1970-01-01 00:00:00 UTC, 0 to 253,370,000,000.
+    pub seconds: i64,
+    /// Minutes ahead of UTC, -840 to 840.
+    pub offset: i32,
+}
+
+/// A clock at the start of a run, and how many frames have begun since.
+#[derive(Drop)]
+pub(crate) struct Time {
+    pub(crate) seconds: i64,
+    pub(crate) offset: i32,
+    pub(crate) frames: u32,
+    ghost seconds_from: { pos 0 ≤ℤ seconds },
+    ghost seconds_to: { seconds ≤ℤ pos 253370000000 },
+    ghost offset_from: { neg_ℤ (pos 840) ≤ℤ offset },
+    ghost offset_to: { offset ≤ℤ pos 840 },
+    ghost frames_to: { frames ≤ 1000000 },
+}
+
+impl Time {
+    /// What the clock shows: a second passes in 60 frames.
+    pub(crate) fn shown(&self) -> CivilFields
+        ensures { result ≡ civil_fields (self.now.seconds +ℤ pos (self.now.frames / 60)) self.now.offset }
+    {
+        fields(self.seconds + i64::from(self.frames / RATE), self.offset)
+    }
+}

@@ -1,0 +1,5 @@
+pub mod Trails
+pub mod Along
+pub mod Vectors
+pub mod Events
+pub mod Runs

@@ -1,0 +1,51 @@
+-- What a part of a run answers: it was done, or it stopped.
+use Rattle.std.specs.Prelude.{◌≡◌, ℕ, ◌+◌, ◌≤◌, List, Option, Result, Ok, Err}
+use Rattle.uxn_io.specs.Files.{Nodes}
+use Rattle.uxn_io.specs.Faults.{Counts, Ledger}
+use Rattle.varvara_bus.specs.declared.bus.Bus.{Bus}
+use Rattle.uxn_opcodes.specs.declared.Core.{Core}
+use Rattle.uxn_opcodes.specs.declared.Stop.{Stop}
+use Rattle.uxn_opcodes.specs.declared.Stop.TheVariants.{NoMemory}
+use Rattle.uxn_opcodes.specs.Ports.{blame_of}
+use Rattle.varvara_bus.specs.Bus.{SameLent, frames_begun, bus_faults}
+use Rattle.vector_loop.specs.declared.watch.Moment.{Moment}
+use Rattle.vector_loop.specs.State.{State}
+use Rattle.vector_loop.specs.Trail.{Trail}
+use Rattle.vector_loop.specs.Follows.{Running, FollowsFrom, FallsShortFrom, HasGrown}
+
+-- what trees, sinks and a watcher tell, and how they count
+pub record Telling (T O E W H : Type 0) : Type 1 where
+  pub tree : T → Option Nodes
+  pub out : O → Option (List ℕ)
+  pub err : E → Option (List ℕ)
+  pub tree_faults : T → ℕ
+  pub out_faults : O → ℕ
+  pub err_faults : E → ℕ
+  pub held : W → H
+  pub shown : H → Core → List ℕ → Moment → H
+  pub may_refuse : Type 0
+
+module _ {T O E W H : Type 0} (telling : Telling T O E W H) where
+  -- the faults counted of what a bus is lent
+  abbrev pub faults_of : Bus T O E → Counts
+  faults_of bus = bus_faults telling.tree_faults telling.out_faults telling.err_faults bus
+
+  -- a part was done, with so many vectors and events at most; no fault was counted
+  pub record Done (before now : Running T O E W) (part : State → Trail) (begun given budget : ℕ) : Type 0 where
+    pub follows : FollowsFrom telling.tree telling.out telling.err telling.held telling.shown before now part
+    pub grown : HasGrown before.tally now.tally begun given budget
+    pub faults : faults_of now.bus ≡ faults_of before.bus
+    pub lent : SameLent before.bus now.bus
+    pub frames : frames_begun now.bus ≤ frames_begun before.bus + given
+
+  -- a part stopped: a front of it was done, and who is to blame counted a fault
+  pub record Stopped (before now : Running T O E W) (part : State → Trail) (stop : Stop) : Type 0 where
+    pub short : FallsShortFrom telling.tree telling.out telling.err telling.held telling.shown before now part
+    pub ledger : Ledger (faults_of before.bus) (faults_of now.bus) (blame_of {T = Unit {0}} (Err stop))
+    pub memory : stop ≡ NoMemory → telling.may_refuse
+    pub lent : SameLent before.bus now.bus
+
+  -- the one or the other, by the answer
+  abbrev pub Answers : Running T O E W → Running T O E W → (State → Trail) → ℕ → ℕ → ℕ → Result (Unit {0}) Stop → Type 0
+  Answers before now part begun given budget (Ok _) = Done before now part begun given budget
+  Answers before now part begun given budget (Err stop) = Stopped before now part stop

@@ -1,0 +1,80 @@
+-- What it is for a machine, its bus, a tally and a watcher to follow a trail.
+use Rattle.std.specs.Prelude.{◌≡◌, ℕ, ◌+◌, ◌*◌, ◌^◌, ◌≤◌, List, Option}
+use Rattle.uxn_io.specs.Files.{Nodes}
+use Rattle.uxn_io.specs.Outside.{World, changed_by, IsCutOff}
+use Rattle.uxn_opcodes.specs.declared.Core.{Core}
+use Rattle.varvara_bus.specs.declared.bus.Bus.{Bus}
+use Rattle.varvara_bus.specs.State.{DeviceState}
+use Rattle.varvara_bus.specs.Bus.{BusStandsFor, world_of}
+use Rattle.vector_loop.specs.declared.tally.Tally.{Tally}
+use Rattle.vector_loop.specs.declared.watch.Moment.{Moment}
+use Rattle.vector_loop.specs.State.{State}
+use Rattle.vector_loop.specs.Trail.{Trail}
+use Rattle.vector_loop.specs.Watch.{ports_read, moment_of, shown_all}
+
+-- what takes part in a run
+pub record Running (T O E W : Type 0) : Type 0 where
+  pub core : Core
+  pub bus : Bus T O E
+  pub tally : Tally
+  pub watcher : W
+
+abbrev pub running : {T O E W : Type 0} → Core → Bus T O E → Tally → W → Running T O E W
+running core bus tally watcher = record { core = core; bus = bus; tally = tally; watcher = watcher }
+
+-- the state that it is in, where its devices stand for this
+abbrev pub state_of : {T O E W : Type 0} → Running T O E W → DeviceState → State
+state_of now devices = record { core = now.core; devices = devices; tally = now.tally }
+
+-- so many vectors were begun at most, each of at most so many instructions and cut at most once, and so many events
+pub record HasGrown (before now : Tally) (begun given budget : ℕ) : Type 0 where
+  pub instructions : now.instructions ≤ before.instructions + begun * budget
+  pub vectors : now.vectors ≤ before.vectors + begun
+  pub cuts : now.cuts ≤ before.cuts + begun
+  pub events : now.events ≤ before.events + given
+  pub frames : now.frames ≤ before.frames + given
+  pub shots : now.shots ≤ before.shots + given
+  pub later : before.instructions ≤ now.instructions
+
+-- so many more vectors, each of at most so many instructions, and so many events can be counted
+pub record HasRoom (tally : Tally) (begun given budget : ℕ) : Type 0 where
+  pub instructions : tally.instructions + begun * budget ≤ 2 ^ 61
+  pub vectors : tally.vectors + begun ≤ 2 ^ 61
+  pub cuts : tally.cuts + begun ≤ 2 ^ 61
+  pub events : tally.events + given ≤ 2 ^ 61
+  pub frames : tally.frames + given ≤ 2 ^ 61
+  pub shots : tally.shots + given ≤ 2 ^ 61
+
+module _ {T O E W H : Type 0} (told_tree : T → Option Nodes) (told_out : O → Option (List ℕ)) (told_err : E
+    → Option (List ℕ)) (held : W → H) (shown : H → Core → List ℕ → Moment → H) where
+  -- all of a trail was done: the last state is reached, the changes are made, and the watcher was shown all moments
+  pub record Follows (before now : Running T O E W) (trail : Trail) : Type 0 where
+    pub core : now.core ≡ trail.last.core
+    pub devices : BusStandsFor now.bus trail.last.devices
+    pub tally : now.tally ≡ trail.last.tally
+    pub world : world_of told_tree told_out told_err now.bus ≡ changed_by (world_of told_tree told_out told_err before.bus) trail.changes
+    pub watcher : held now.watcher ≡ shown_all shown (held before.watcher) trail.moments
+
+  -- not all of it was done: a front of its changes is made
+  abbrev pub FallsShort : Running T O E W → Running T O E W → Trail → Type 0
+  FallsShort before now trail = IsCutOff (world_of told_tree told_out told_err before.bus)
+      (world_of told_tree told_out told_err now.bus) trail.changes
+
+  -- the same from each state that the bus stood for
+  pub record FollowsFrom (before now : Running T O E W) (part : State → Trail) : Type 0 where
+    pub from : (devices : DeviceState) → BusStandsFor before.bus devices → Follows before now (part (state_of before devices))
+
+  pub record FallsShortFrom (before now : Running T O E W) (part : State → Trail) : Type 0 where
+    pub from : (devices : DeviceState) → BusStandsFor before.bus devices → FallsShort before now (part (state_of before devices))
+
+  -- all of a run was done, and the watcher was shown its end
+  pub record Ends (ended : H → Core → List ℕ → Moment → H) (before now : Running T O E W) (trail : Trail) : Type 0 where
+    pub core : now.core ≡ trail.last.core
+    pub devices : BusStandsFor now.bus trail.last.devices
+    pub tally : now.tally ≡ trail.last.tally
+    pub world : world_of told_tree told_out told_err now.bus ≡ changed_by (world_of told_tree told_out told_err before.bus) trail.changes
+    pub watcher : held now.watcher ≡ ended (shown_all shown (held before.watcher) trail.moments) trail.last.core
+        (ports_read 256 trail.last) (moment_of trail.last)
+
+  pub record EndsFrom (ended : H → Core → List ℕ → Moment → H) (before now : Running T O E W) (part : State → Trail) : Type 0 where
+    pub from : (devices : DeviceState) → BusStandsFor before.bus devices → Ends ended before now (part (state_of before devices))

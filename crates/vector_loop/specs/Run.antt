@@ -1,0 +1,45 @@
+-- The reference run of a script: the reset vector, the arguments, the events, and no more once the state is not 0.
+use Rattle.std.specs.Prelude.{ℕ, ◌==◌, if◌then◌else◌, List, [], ◌∷◌, ◌++◌, length, map}
+use Rattle.play_script.specs.Scripts.{ScriptView}
+use Rattle.varvara_bus.specs.History.{Store}
+use Rattle.vector_loop.specs.State.{State, with_stored}
+use Rattle.vector_loop.specs.Trail.{Trail, stays, followed_by}
+use Rattle.vector_loop.specs.Vector.{vector}
+use Rattle.vector_loop.specs.Event.{unless_over, console, give}
+
+-- one thing after the other is given, each unless the run is over
+unfoldable pub give_each : {X : Type 0} → (X → State → Trail) → List X → State → Trail
+give_each given [] state = stays state
+give_each given (first ∷ rest) state = followed_by (unless_over (given first) state) (give_each given rest)
+
+-- a byte of the console with its kind
+abbrev pub ConsoleByte : Type 0
+ConsoleByte = ℕ × ℕ
+
+-- behind an argument that so many follow stands a newline, of kind 3, or of kind 4 behind the last
+abbrev pub kind_before : ℕ → ℕ
+kind_before following = if following == 0 then 4 else 3
+
+-- the bytes of an argument have kind 2
+abbrev pub argument_bytes : List ℕ → List ConsoleByte
+argument_bytes text = map (λ byte. (byte, 2)) text
+
+-- the bytes of all arguments
+unfoldable pub arguments_given : List (List ℕ) → List ConsoleByte
+arguments_given [] = []
+arguments_given (text ∷ texts) = (argument_bytes text ++ (10, kind_before (length texts)) ∷ []) ++ arguments_given texts
+
+abbrev pub console_byte : ℕ → ConsoleByte → State → Trail
+console_byte budget given = console budget given.0 given.1
+
+-- with arguments port 17 holds 1 in the reset vector
+abbrev pub made_ready : List (List ℕ) → List Store
+made_ready [] = []
+made_ready (text ∷ texts) = (0x17, 1) ∷ []
+
+-- the whole run from a state on
+unfoldable pub run : ℕ → ScriptView → State → Trail
+run budget script state =
+    followed_by (vector budget 0x0100 (with_stored (made_ready script.arguments) state)) (λ reset.
+    followed_by (give_each (console_byte budget) (arguments_given script.arguments) reset)
+    (give_each (give budget) script.events))

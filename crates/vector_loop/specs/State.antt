@@ -1,0 +1,48 @@
+-- A machine in the middle of a run.
+use Rattle.std.specs.Prelude.{ℕ, ◌+◌, ◌==◌, Bool, not, List}
+use Rattle.uxn_opcodes.specs.declared.Core.{Core}
+use Rattle.varvara_bus.specs.History.{Store, stored}
+use Rattle.varvara_bus.specs.State.{DeviceState, storing, next_frame}
+use Rattle.play_script.specs.declared.script.Event.{Event}
+use Rattle.play_script.specs.declared.script.Event.TheVariants.{Frame, Shot}
+use Rattle.vector_loop.specs.declared.tally.Tally.{Tally}
+
+-- the core, what the devices stand for, and what was counted so far
+pub record State : Type 0 where
+  pub core : Core
+  pub devices : DeviceState
+  pub tally : Tally
+
+-- nothing is counted yet
+abbrev pub new_tally : Tally
+new_tally = record { instructions = 0; vectors = 0; cuts = 0; events = 0; frames = 0; shots = 0 }
+
+-- bytes are stored in ports, and a frame begins
+abbrev pub with_stored : List Store → State → State
+with_stored stores state = record state { devices = storing stores state.devices }
+
+abbrev pub with_next_frame : State → State
+with_next_frame state = record state { devices = next_frame state.devices }
+
+-- the byte in port 0f is not 0, which ends the run
+abbrev pub is_over : State → Bool
+is_over state = not (stored state.devices.history 0x0f == 0)
+
+-- one more is counted
+abbrev pub counting_instruction : Tally → Tally
+counting_instruction tally = record tally { instructions = tally.instructions + 1 }
+
+abbrev pub counting_vector : Tally → Tally
+counting_vector tally = record tally { vectors = tally.vectors + 1 }
+
+abbrev pub counting_cut : Tally → Tally
+counting_cut tally = record tally { cuts = tally.cuts + 1 }
+
+-- an event of a script is counted as it begins, and so is a frame or a shot
+abbrev pub counting_event : Event → Tally → Tally
+counting_event Frame tally = record tally { events = tally.events + 1; frames = tally.frames + 1 }
+counting_event Shot tally = record tally { events = tally.events + 1; shots = tally.shots + 1 }
+counting_event _ tally = record tally { events = tally.events + 1 }
+
+abbrev pub with_counted : Event → State → State
+with_counted event state = record state { tally = counting_event event state.tally }

@@ -1,0 +1,16 @@
+//! Runs of the computer: vectors, events and whole scripts, watched or not.
+#![tactic(auto)]
+
+mod event;
+mod run;
+mod tally;
+#[cfg(test)]
+mod tests;
+mod vector;
+mod watch;
+
+pub use event::{Outputs, run_event};
+pub use run::run_script;
+pub use tally::{Tally, VectorEnd};
+pub use vector::run_vector;
+pub use watch::{Moment, NoWatch, Watcher};

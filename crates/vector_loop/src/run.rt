@@ -1,0 +1,315 @@
+//! Whole runs.
+ghost use Rattle.std.specs.Prelude.{◌≡◌, ◌+◌, ◌*◌, ◌<◌, ◌≤◌, ◌++◌, [], ◌∷◌, length, None, OnOk, OnErr, IfOk, IfErr};
+ghost use Rattle.uxn_io.specs.Faults.{Ledger};
+ghost use Rattle.uxn_opcodes.specs.Ports.{blame_of};
+ghost use Rattle.play_script.specs.Held.{bytes_in};
+ghost use Rattle.varvara_bus.specs.State.{DeviceState, storing};
+ghost use Rattle.varvara_bus.specs.Bus.{SameLent, BusStandsFor, ChangesDevices, frames_begun, bus_faults};
+ghost use Rattle.vector_loop.specs.State.{new_tally};
+ghost use Rattle.vector_loop.specs.Event.{unless_over, console, give};
+ghost use Rattle.vector_loop.specs.Run.{
+  give_each,
+  console_byte,
+  argument_bytes,
+  arguments_given,
+  kind_before,
+  made_ready,
+  run,
+};
+ghost use Rattle.vector_loop.specs.Follows.{running, FallsShortFrom, EndsFrom, HasRoom};
+ghost use Rattle.vector_loop.specs.Answers.{Answers};
+
+use crate::event::{Outputs, STATE, give_console, run_event};
+use crate::tally::Tally;
+use crate::vector::run_vector;
+use crate::watch::{Moment, Watcher};
+use play_script::{Event, Script};
+use uxn_io::{Bytes, Sink, Tree};
+use uxn_opcodes::{Core, Stop};
+use varvara_bus::Bus;
+
+/// Where the reset vector begins.
+const RESET: u16 = 0x0100;
+
+/// The port of the kind of the last console event.
+const KIND: u8 = 0x17;
+
+/// The kind of a byte of an argument.
+const ARGUMENT: u8 = 2;
+
+/// The kind of the newline between two arguments.
+const SPACER: u8 = 3;
+
+/// The kind of the newline behind the last argument.
+const LAST: u8 = 4;
+
+/// Gives the console a byte of a kind, unless the run is over.
+fn give_byte<'a, T: Tree, O: Sink, E: Sink, W: Watcher>(
+    core: &mut Core,
+    bus: &mut Bus<'a, T, O, E>,
+    byte: u8,
+    kind: u8,
+    budget: u32,
+    tally: &mut Tally,
+    watcher: &mut W,
+) -> Result<(), Stop>
+    requires budget { 1 ≤ budget }
+    requires room { HasRoom tally.old 1 0 budget }
+    ensures { Answers (record {
+      tree = T.told;
+      out = O.told;
+      err = E.told;
+      tree_faults = T.faults;
+      out_faults = O.faults;
+      err_faults = E.faults;
+      held = W.held;
+      shown = W.shown;
+      may_refuse = W.may_refuse;
+    })
+        (running core.old bus.old tally.old watcher.old) (running core.new bus.new tally.new watcher.new)
+        (unless_over (console budget byte kind)) 1 0 budget result }
+{
+    if bus.stored(STATE) != 0 {
+        return Ok(());
+    }
+    match give_console(core, bus, byte, kind, budget, tally, watcher) {
+        Ok(()) => Ok(()),
+        Err(stop) => Err(stop),
+    }
+}
+
+/// Gives the bytes of an argument and the newline behind it, each unless the run is over.
+fn give_argument<'a, T: Tree, O: Sink, E: Sink, W: Watcher>(
+    core: &mut Core,
+    bus: &mut Bus<'a, T, O, E>,
+    text: &[u8],
+    kind: u8,
+    budget: u32,
+    tally: &mut Tally,
+    watcher: &mut W,
+) -> Result<(), Stop>
+    requires budget { 1 ≤ budget }
+    requires room { HasRoom tally.old (length text.now + 1) 0 budget }
+    ensures { Answers (record {
+      tree = T.told;
+      out = O.told;
+      err = E.told;
+      tree_faults = T.faults;
+      out_faults = O.faults;
+      err_faults = E.faults;
+      held = W.held;
+      shown = W.shown;
+      may_refuse = W.may_refuse;
+    })
+        (running core.old bus.old tally.old watcher.old) (running core.new bus.new tally.new watcher.new)
+        (give_each (console_byte budget) (argument_bytes text.now ++ (10, kind) ∷ [])) (length text.now + 1) 0 budget result }
+{
+    for byte in text {
+        match give_byte(core, bus, *byte, ARGUMENT, budget, tally, watcher) {
+            Ok(()) => {}
+            Err(stop) => return Err(stop),
+        }
+    }
+    match give_byte(core, bus, b'\n', kind, budget, tally, watcher) {
+        Ok(()) => Ok(()),
+        Err(stop) => Err(stop),
+    }
+}
+
+/// The kind of the newline behind an argument that so many follow.
+fn kind_before(following: usize) -> u8
+    ensures { result ≡ kind_before following }
+{
+    if following == 0 { LAST } else { SPACER }
+}
+
+/// Gives the arguments, each byte unless the run is over.
+fn give_arguments<'a, T: Tree, O: Sink, E: Sink, W: Watcher>(
+    core: &mut Core,
+    bus: &mut Bus<'a, T, O, E>,
+    arguments: &[Bytes],
+    budget: u32,
+    tally: &mut Tally,
+    watcher: &mut W,
+) -> Result<(), Stop>
+    requires budget { 1 ≤ budget }
+    requires room { HasRoom tally.old (length (arguments_given (bytes_in arguments.now))) 0 budget }
+    ensures { Answers (record {
+      tree = T.told;
+      out = O.told;
+      err = E.told;
+      tree_faults = T.faults;
+      out_faults = O.faults;
+      err_faults = E.faults;
+      held = W.held;
+      shown = W.shown;
+      may_refuse = W.may_refuse;
+    })
+        (running core.old bus.old tally.old watcher.old) (running core.new bus.new tally.new watcher.new)
+        (give_each (console_byte budget) (arguments_given (bytes_in arguments.now))) (length (arguments_given (bytes_in arguments.now))) 0 budget result }
+{
+    let mut following = arguments.len();
+    for text in arguments {
+        following -= 1;
+        let kind = kind_before(following);
+        match give_argument(core, bus, text.as_slice(), kind, budget, tally, watcher) {
+            Ok(()) => {}
+            Err(stop) => return Err(stop),
+        }
+    }
+    Ok(())
+}
+
+/// Gives an event, unless the run is over.
+fn give_event<'a, T: Tree, O: Sink, E: Sink, W: Watcher>(
+    core: &mut Core,
+    bus: &mut Bus<'a, T, O, E>,
+    event: &Event,
+    outputs: &Outputs,
+    budget: u32,
+    tally: &mut Tally,
+    watcher: &mut W,
+) -> Result<(), Stop>
+    requires pictures { outputs.now.frames ≡ None }
+    requires samples { outputs.now.samples ≡ None }
+    requires frames { frames_begun bus.old < 1000000 }
+    requires budget { 1 ≤ budget }
+    requires room { HasRoom tally.old 5 1 budget }
+    ensures { Answers (record {
+      tree = T.told;
+      out = O.told;
+      err = E.told;
+      tree_faults = T.faults;
+      out_faults = O.faults;
+      err_faults = E.faults;
+      held = W.held;
+      shown = W.shown;
+      may_refuse = W.may_refuse;
+    })
+        (running core.old bus.old tally.old watcher.old) (running core.new bus.new tally.new watcher.new)
+        (unless_over (give budget event.now)) 5 1 budget result }
+{
+    if bus.stored(STATE) != 0 {
+        return Ok(());
+    }
+    match run_event(core, bus, event, outputs, budget, tally, watcher) {
+        Ok(()) => Ok(()),
+        Err(stop) => Err(stop),
+    }
+}
+
+/// Gives the events, each unless the run is over.
+fn give_events<'a, T: Tree, O: Sink, E: Sink, W: Watcher>(
+    core: &mut Core,
+    bus: &mut Bus<'a, T, O, E>,
+    events: &[Event],
+    outputs: &Outputs,
+    budget: u32,
+    tally: &mut Tally,
+    watcher: &mut W,
+) -> Result<(), Stop>
+    requires pictures { outputs.now.frames ≡ None }
+    requires samples { outputs.now.samples ≡ None }
+    requires frames { frames_begun bus.old + length events.now ≤ 1000000 }
+    requires budget { 1 ≤ budget }
+    requires room { HasRoom tally.old (length events.now * 5) (length events.now) budget }
+    ensures { Answers (record {
+      tree = T.told;
+      out = O.told;
+      err = E.told;
+      tree_faults = T.faults;
+      out_faults = O.faults;
+      err_faults = E.faults;
+      held = W.held;
+      shown = W.shown;
+      may_refuse = W.may_refuse;
+    })
+        (running core.old bus.old tally.old watcher.old) (running core.new bus.new tally.new watcher.new)
+        (give_each (give budget) events.now) (length events.now * 5) (length events.now) budget result }
+{
+    for event in events {
+        match give_event(core, bus, event, outputs, budget, tally, watcher) {
+            Ok(()) => {}
+            Err(stop) => return Err(stop),
+        }
+    }
+    Ok(())
+}
+
+/// Tells the program by port 17 whether arguments will come.
+fn make_ready<'a, T: Tree, O: Sink, E: Sink>(bus: &mut Bus<'a, T, O, E>, arguments: &[Bytes])
+    ensures devices { (state : DeviceState) → BusStandsFor bus.old state
+        → BusStandsFor bus.new (storing (made_ready (bytes_in arguments.now)) state) }
+    ensures others { ChangesDevices bus.old bus.new }
+    ensures frames { frames_begun bus.new ≡ frames_begun bus.old }
+{
+    if !arguments.is_empty() {
+        bus.store(KIND, 1);
+    }
+}
+
+/// Runs a program: its reset vector, the arguments and the events of a script, and then the watcher's `finish`.
+/// A vector that leaves a byte other than 0 in port 0f ends the run: nothing more is given.
+pub fn run_script<'a, T: Tree, O: Sink, E: Sink, W: Watcher>(
+    core: &mut Core,
+    bus: &mut Bus<'a, T, O, E>,
+    script: &Script,
+    outputs: &Outputs,
+    budget: u32,
+    watcher: &mut W,
+) -> Result<Tally, Stop>
+    requires pictures { outputs.now.frames ≡ None }
+    requires samples { outputs.now.samples ≡ None }
+    requires frames { frames_begun bus.old ≡ 0 }
+    requires budget { 1 ≤ budget }
+
+    // From each state that the bus stood for, all of the run was done, or a front of what it does.
+    ensures ok { IfOk result (λ tally. EndsFrom T.told O.told E.told W.held W.shown W.ended
+        (running core.old bus.old new_tally watcher.old) (running core.new bus.new tally watcher.new) (run budget script.now)) }
+    ensures err { OnErr result (FallsShortFrom T.told O.told E.told W.held W.shown
+        (running core.old bus.old new_tally watcher.old) (running core.new bus.new new_tally watcher.new) (run budget script.now)) }
+
+    // A fault comes only where its count rose; memory is wanting only to the watcher.
+    ensures ledger { Ledger (bus_faults T.faults O.faults E.faults bus.old) (bus_faults T.faults O.faults E.faults bus.new) (blame_of result) }
+    ensures memory { IfErr result (λ stop. stop ≡ Stop.NoMemory → W.may_refuse) }
+    ensures lent { SameLent bus.old bus.new }
+{
+    script.known();
+    let mut tally = Tally {
+        instructions: 0,
+        vectors: 0,
+        cuts: 0,
+        events: 0,
+        frames: 0,
+        shots: 0,
+    };
+    make_ready(bus, script.args());
+    match run_vector(core, bus, RESET, budget, &mut tally, watcher) {
+        Ok(_) => {}
+        Err(stop) => return Err(stop),
+    }
+    match give_arguments(core, bus, script.args(), budget, &mut tally, watcher) {
+        Ok(()) => {}
+        Err(stop) => return Err(stop),
+    }
+    match give_events(
+        core,
+        bus,
+        script.events(),
+        outputs,
+        budget,
+        &mut tally,
+        watcher,
+    ) {
+        Ok(()) => {}
+        Err(stop) => return Err(stop),
+    }
+    let moment = Moment {
+        instructions: tally.instructions,
+        address: core.at,
+    };
+    let Ok(()) = watcher.finish(core, bus, moment) else {
+        return Err(Stop::NoMemory);
+    };
+    Ok(tally)
+}

@@ -1,0 +1,179 @@
+//! Vectors and whole runs: what they put, and what they count.
+
+use super::*;
+use play_script::read_script;
+use std::test::Fail;
+use uxn_io::{MemSink, MemTree};
+use uxn_opcodes::Core;
+use varvara_bus::{Bus, Clock, Devices};
+
+/// The moment of every run.
+const CLOCK: Clock = Clock {
+    seconds: 0,
+    offset: 0,
+};
+
+const NOTHING: Outputs = Outputs {
+    frames: None,
+    samples: None,
+};
+
+/// A program, its script and budget; the bytes that it puts, its counts in the order of `Tally`, and its state.
+type Run = (
+    &'static [u8],
+    &'static [u8],
+    u32,
+    &'static [u8],
+    [u64; 6],
+    u8,
+);
+
+const RUNS: [Run; 11] = [
+    (
+        &[0x40, 0xff, 0xfd],
+        b"end",
+        1000,
+        b"",
+        [1000, 1, 1, 1, 0, 0],
+        0,
+    ),
+    (&[0x01, 0x00], b"", 2, b"", [2, 1, 0, 0, 0, 0], 0),
+    (&[0x01, 0x00], b"", 1, b"", [1, 1, 1, 0, 0, 0], 0),
+    (&[], b"", 1, b"", [1, 1, 0, 0, 0, 0], 0),
+    // The console's vector sets the state at its first byte.
+    (
+        &[
+            0xa0, 0x01, 0x07, 0x80, 0x10, 0x37, 0x00, 0x80, 0x81, 0x80, 0x0f, 0x17, 0x00,
+        ],
+        b"input \"abc",
+        100,
+        b"",
+        [8, 2, 0, 1, 0, 0],
+        0x81,
+    ),
+    // The reset vector sets the state: nothing is given.
+    (
+        &[0x80, 0x85, 0x80, 0x0f, 0x17, 0x00],
+        b"args \"a\ninput \"hi\nshot",
+        100,
+        b"",
+        [4, 1, 0, 0, 0, 0],
+        0x85,
+    ),
+    // The reset vector prints port 17, the console's vector ports 12 and 17.
+    (
+        &[
+            0x80, 0x17, 0x16, 0x80, 0x18, 0x17, 0xa0, 0x01, 0x0d, 0x80, 0x10, 0x37, 0x00, 0x80,
+            0x12, 0x16, 0x80, 0x18, 0x17, 0x80, 0x17, 0x16, 0x80, 0x18, 0x17, 0x00,
+        ],
+        b"args \"ab \"c\ninput \"x\nend",
+        100,
+        &[1, b'a', 2, b'b', 2, 10, 3, b'c', 2, 10, 4, b'x', 1, 0, 4],
+        [71, 8, 0, 2, 0, 0],
+        0,
+    ),
+    // The screen's vector runs in each frame; a shot runs none.
+    (
+        &[0xa0, 0x01, 0x07, 0x80, 0x20, 0x37, 0x00, 0x01, 0x00],
+        b"frame 2\nshot",
+        100,
+        b"",
+        [8, 3, 0, 3, 2, 1],
+        0,
+    ),
+    // It sets the state in the first of three frames.
+    (
+        &[
+            0xa0, 0x01, 0x07, 0x80, 0x20, 0x37, 0x00, 0x80, 0x01, 0x80, 0x0f, 0x17, 0x00,
+        ],
+        b"frame 3",
+        100,
+        b"",
+        [8, 2, 0, 1, 1, 0],
+        1,
+    ),
+    // The controller's vector prints the key, which is 0 again afterwards.
+    (
+        &[
+            0xa0, 0x01, 0x07, 0x80, 0x80, 0x37, 0x00, 0x80, 0x83, 0x16, 0x80, 0x18, 0x17, 0x00,
+        ],
+        b"key 61\nkey 62\ndown a",
+        100,
+        &[b'a', b'b', 0],
+        [19, 4, 0, 3, 0, 0],
+        0,
+    ),
+    // A cut vector goes on with the next event.
+    (
+        &[
+            0xa0, 0x01, 0x07, 0x80, 0x10, 0x37, 0x00, 0x80, 0x12, 0x16, 0x80, 0x18, 0x17, 0x40,
+            0xff, 0xfd,
+        ],
+        b"input \"ab",
+        7,
+        b"ab",
+        [18, 3, 2, 2, 0, 0],
+        0,
+    ),
+];
+
+#[test]
+fn runs_put_and_count(rt: HostRuntime) -> Result<(), Fail> {
+    for (rom, text, budget, put, counts, state) in &RUNS {
+        let script = read_script(rt.alloc(), text)?;
+        let mut devices = Devices::new(rt.alloc(), None, CLOCK)?;
+        let mut tree = MemTree::new(rt.alloc(), &[], 0, 0, &[])?;
+        let mut out = MemSink::new(rt.alloc(), 100, &[])?;
+        let mut err = MemSink::new(rt.alloc(), 0, &[])?;
+        let mut bus = Bus::new(&mut devices, &mut tree, &mut out, &mut err);
+        assert!(rt; rom.len() < 100);
+        assert!(rt; *budget > 0);
+        assert!(rt; bus.frames() == 0);
+        let mut core = Core::new(rt.alloc(), rom)?;
+        let ran = run_script(
+            &mut core,
+            &mut bus,
+            &script,
+            &NOTHING,
+            *budget,
+            &mut NoWatch,
+        );
+        let [instructions, vectors, cuts, events, frames, shots] = *counts;
+        assert_eq!(rt;
+            ran,
+            Ok(Tally {
+                instructions,
+                vectors,
+                cuts,
+                events,
+                frames,
+                shots,
+            }),
+            "{text:?}"
+        );
+        assert_eq!(rt; bus.stored(0x0f), *state);
+        assert_eq!(rt; out.bytes(), *put);
+    }
+    Ok(())
+}
+
+#[test]
+fn a_fault_ends_the_run(rt: HostRuntime) -> Result<(), Fail> {
+    let rom = [
+        0xa0, 0x01, 0x07, 0x80, 0x10, 0x37, 0x00, 0x80, 0x12, 0x16, 0x80, 0x18, 0x17, 0x00,
+    ];
+    let script = read_script(rt.alloc(), b"input \"abc")?;
+    let mut devices = Devices::new(rt.alloc(), None, CLOCK)?;
+    let mut tree = MemTree::new(rt.alloc(), &[], 0, 0, &[])?;
+    let mut out = MemSink::new(rt.alloc(), 100, &[1])?;
+    let mut err = MemSink::new(rt.alloc(), 0, &[])?;
+    let mut bus = Bus::new(&mut devices, &mut tree, &mut out, &mut err);
+    assert!(rt; bus.frames() == 0);
+    let mut core = Core::new(rt.alloc(), &rom)?;
+    assert_eq!(rt;
+        run_script(&mut core, &mut bus, &script, &NOTHING, 100, &mut NoWatch),
+        Err(uxn_opcodes::Stop::SinkFault)
+    );
+    assert_eq!(rt; out.bytes(), b"a".as_slice());
+    Ok(())
+}

@@ -1,0 +1,84 @@
+//! Watching a run: something that is shown the machine before each instruction.
+ghost use Rattle.std.specs.Prelude.{◌≡◌, ℕ, List, OnOk, OnErr};
+ghost use Rattle.vector_loop.specs.Watch.{IsPage};
+
+use std::alloc::AllocError;
+use uxn_opcodes::{Core, Ports};
+
+/// Where a run stands.
+#[derive(Clone, Copy, Debug, PartialEq, Eq)]
+pub struct Moment {
+    /// How many instructions were run before.
+    pub instructions: u64,
+    /// The address of the next instruction.
+    pub address: u16,
+}
+
+/// Is shown the machine and its ports before each instruction, and once at the end of the run.
+pub trait Watcher {
+    ghost use Rattle.std.specs.Prelude.{◌≡◌, ℕ, List, OnOk, OnErr};
+    ghost use Rattle.uxn_opcodes.specs.declared.Core.{Core};
+    ghost use Rattle.vector_loop.specs.declared.watch.Moment.{Moment};
+    ghost use Rattle.vector_loop.specs.Watch.{IsPage};
+
+    /// What watchers of this kind hold.
+    ghost Held: { Type 0 };
+
+    /// What it holds.
+    ghost held: { Self → Held };
+
+    /// What it holds after it was shown a core, what the 256 ports read, and a moment.
+    ghost shown: { Held → Core → List ℕ → Moment → Held };
+
+    /// What it holds after it was shown the end of the run.
+    ghost ended: { Held → Core → List ℕ → Moment → Held };
+
+    /// Memory may be wanting to a watcher of this kind.
+    ghost may_refuse: { Type 0 };
+
+    /// Is shown the machine before an instruction. Errors with want of memory.
+    fn before<P: Ports>(&mut self, core: &Core, ports: &P, moment: Moment) -> Result<(), AllocError>
+        ensures ok { OnOk result ((page : List ℕ) → IsPage (P.rules.reads ports.now core.now) page
+            → held self.new ≡ shown (held self.old) core.now page moment) }
+        ensures err { OnErr result may_refuse };
+
+    /// Is shown the machine at the end of the run. Errors with want of memory.
+    fn finish<P: Ports>(&mut self, core: &Core, ports: &P, moment: Moment) -> Result<(), AllocError>
+        ensures ok { OnOk result ((page : List ℕ) → IsPage (P.rules.reads ports.now core.now) page
+            → held self.new ≡ ended (held self.old) core.now page moment) }
+        ensures err { OnErr result may_refuse };
+}
+
+/// Watches nothing, holds nothing and takes no memory.
+#[derive(Clone, Copy, Debug, Default)]
+pub struct NoWatch;
+
+impl Watcher for NoWatch {
+    ghost Held = { Unit {0} };
+
+    ghost held = { λ _. tt };
+
+    ghost shown = { λ _ _ _ _. tt };
+
+    ghost ended = { λ _ _ _ _. tt };
+
+    ghost may_refuse = { ⊥ };
+
+    fn before<P: Ports>(
+        &mut self,
+        _core: &Core,
+        _ports: &P,
+        _moment: Moment,
+    ) -> Result<(), AllocError> {
+        Ok(())
+    }
+
+    fn finish<P: Ports>(
+        &mut self,
+        _core: &Core,
+        _ports: &P,
+        _moment: Moment,
+    ) -> Result<(), AllocError> {
+        Ok(())
+    }
+}
