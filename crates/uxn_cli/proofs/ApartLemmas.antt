@@ -1,9 +1,9 @@
-use Rattle.std.proofs.Common.{◌≡◌, ◌≢◌, ℕ, ◌+◌, ◌-◌, ◌<◌, ◌≤◌, Bool, true, false, true≢false, not, cond, List, [], ◌∷◌, ◌++◌, map, take, drop, length, refl, ap, sym, ◌∙◌, subst, inl, inr, arith, append_assoc, take-append-drop, length-drop, length-take}
+use Rattle.std.proofs.Common.{◌≡◌, ℕ, ◌+◌, ◌-◌, ◌<◌, ◌≤◌, Bool, true, false, true≢false, not, cond, List, [], ◌∷◌, ◌++◌, map, take, drop, length, refl, ap, sym, ◌∙◌, arith, append_assoc, take-append-drop, length-drop, length-take}
 use Rattle.std.specs.Prelude.{Option, Some, None, IsSome, IfSome, option_map, find, All, count_by, ◌||◌, ◌&&◌, nat_lt}
+use Rattle.std.specs.Option.{unwrap_or}
 use Rattle.std.specs.List.{list_any, join_with_byte}
 use Rattle.std.specs.Str.{bytes_eq}
 use Rattle.std.specs.FinMap as fin
-use Rattle.std.specs.Cmp.{IsTotalOrder}
 use Rattle.std.specs.Cmp.Lexicographic.{slice_cmp, nat_list_cmp_total}
 use Rattle.std.specs.declared.cmp.Ordering.{Ordering}
 use Rattle.std.specs.declared.cmp.Ordering.TheVariants.{Less, Equal, Greater}
@@ -12,13 +12,13 @@ use Rattle.std.specs.Cmp.{eq_by_cmp_equiv}
 use Rattle.std.proofs.lemmas.Bool.Decides.{nat_tests}
 use Rattle.std.proofs.lemmas.List.Sums.{sum_by-cons}
 use Rattle.std.proofs.lemmas.List.Splits.{join_with_byte-slice_split}
-use Rattle.std.proofs.lemmas.List.Elements.{All-cons, All-nil}
+use Rattle.std.proofs.lemmas.List.Elements.{All-cons, All-nil, All-head, All-tail}
 use Rattle.std.proofs.lemmas.Slice.Eq.{bytes_eq-Decides}
 use Rattle.uxn_io.specs.PathText.{components, all_but_last, parent_from, parent_of, is_under, ContinuesAfter}
 use Rattle.uxn_io.specs.Changes.{can_create, with_created, with_appended}
-use Rattle.uxn_io.specs.Files.{Nodes, Node, File, Folder, file_at, bytes_of, is_folder, is_folder_at, has_parent}
+use Rattle.uxn_io.specs.Files.{Nodes, Node, File, file_at, bytes_at, bytes_of, is_folder, is_folder_at, has_parent}
 use Rattle.uxn_io.proofs.ComponentLemmas.{under_answer}
-use Rattle.uxn_cli.specs.World.{Text, with_empty, with_bytes, with_texts, CanMake, AreFiles}
+use Rattle.uxn_cli.specs.World.{Text, with_empty, with_bytes, with_texts, CanMake, AreFiles, CanFill}
 use Rattle.uxn_cli.specs.Verdict.{meets, clashes}
 use Rattle.uxn_cli.proofs.OutputLemmas.{insert-file}
 
@@ -220,3 +220,60 @@ pub all_written : (texts : List Text) (before made now : Option Nodes) → made 
 unfolding with_texts
 all_written texts None made now e f = f ∙ ap (option_map (with_bytes texts)) e
 all_written texts (Some nodes) made now e f = f ∙ ap (option_map (with_bytes texts)) e
+
+-- ---- files that were made are empty, and can be filled one after the other
+
+AreEmpty : List Text → Nodes → Type 0
+AreEmpty [] nodes = Unit {0}
+AreEmpty (text ∷ texts) nodes = (bytes_at nodes text.path ≡ []) × AreEmpty texts nodes
+
+empty_or : (b : Bool) (o : Option Node) → unwrap_or (bytes_of o) [] ≡ [] → unwrap_or (bytes_of (cond b (Some (File [])) o)) [] ≡ []
+empty_or true o h = refl
+empty_or false o h = h
+
+created-empty : (nodes : Nodes) (path other : List ℕ) → bytes_at nodes other ≡ [] → bytes_at (with_created path nodes) other ≡ []
+created-empty nodes path other h =
+    elim (can_create nodes path) as (λ b. bytes_at (cond b (fin.insert nodes path (File [])) nodes) other ≡ []) [
+      | true ↦ rw (fin.get-insert nat_list_cmp_total nodes path (File []) other) (empty_or (eq_by_cmp (slice_cmp nat_cmp) other path) (fin.get nodes other) h)
+      | false ↦ h
+    ]
+
+created-is_empty : (nodes : Nodes) (path : List ℕ) → can_create nodes path ≡ true → bytes_at (with_created path nodes) path ≡ []
+created-is_empty nodes path can =
+    let here = fin.get-insert nat_list_cmp_total nodes path (File []) path ∙ ap (λ b. cond b (Some (File [])) (fin.get nodes path)) ((eq_by_cmp_equiv nat_list_cmp_total).refl path) in
+    rw (can, here) refl
+
+empty-stays : (texts : List Text) (nodes : Nodes) (path : List ℕ) → bytes_at nodes path ≡ [] → bytes_at (with_empty texts nodes) path ≡ []
+empty-stays [] nodes path h = h
+empty-stays (text ∷ texts) nodes path h = empty-stays texts (with_created text.path nodes) path (created-empty nodes text.path path h)
+
+are_empty : (texts : List Text) (nodes : Nodes) → CanMake texts nodes → AreEmpty texts (with_empty texts nodes)
+unfolding CanMake AreEmpty
+are_empty [] nodes can = tt
+are_empty (text ∷ texts) nodes can =
+    (empty-stays texts (with_created text.path nodes) text.path (created-is_empty nodes text.path can.0), are_empty texts (with_created text.path nodes) can.1)
+
+appended-other : (nodes : Nodes) (path other bytes : List ℕ) → (other ≡ path → ⊥) → bytes_at nodes other ≡ [] → bytes_at (with_appended path bytes nodes) other ≡ []
+appended-other nodes path other [] apart h = h
+appended-other nodes path other (byte ∷ more) apart h = ap (λ n. unwrap_or (bytes_of n) []) (other_node nodes path other _ apart) ∙ h
+
+empty_rest : (path bytes : List ℕ) (texts : List Text) (nodes : Nodes) → Avoids path (map (λ t. t.path) texts) → AreEmpty texts nodes → AreEmpty texts (with_appended path bytes nodes)
+unfolding Avoids AreEmpty
+empty_rest path bytes [] nodes avoid empty = tt
+empty_rest path bytes (text ∷ texts) nodes avoid empty =
+    (appended-other nodes path text.path bytes (not_same text.path path avoid.0) empty.0, empty_rest path bytes texts nodes avoid.1 empty.1)
+
+can_fill : (limit : ℕ) (texts : List Text) (nodes : Nodes) → AreApart (map (λ t. t.path) texts) → AreEmpty texts nodes → All (λ t. length t.bytes ≤ limit) texts → CanFill limit texts nodes
+unfolding AreApart AreEmpty CanFill
+can_fill limit [] nodes apart empty small = tt
+can_fill limit (text ∷ texts) nodes apart empty small = (
+  rw empty.0 (let one = All-head (λ (t : Text). length t.bytes ≤ limit) text texts small in omega (arith, one)),
+  can_fill limit texts (with_appended text.path text.bytes nodes) apart.1 (empty_rest text.path text.bytes texts nodes apart.0 empty.1) (All-tail (λ (t : Text). length t.bytes ≤ limit) text texts small),
+)
+
+pub fills_all : (inputs : List (List ℕ)) (texts : List Text) (nodes : Nodes) (limit : ℕ) → find (clashes inputs (map (λ t. t.path) texts)) (map (λ t. t.path) texts) ≡ None
+    → None ≡ find (λ path. not (can_create nodes path)) (map (λ t. t.path) texts) → All (λ t. length t.bytes ≤ limit) texts → CanFill limit texts (with_empty texts nodes)
+fills_all inputs texts nodes limit apart can small =
+    let paths = map (λ t. t.path) texts in
+    let all_apart = apart_from inputs paths paths apart (λ q. omega arith) in
+    can_fill limit texts (with_empty texts nodes) all_apart (are_empty texts nodes (can_make texts nodes all_apart (can_all nodes paths can))) small

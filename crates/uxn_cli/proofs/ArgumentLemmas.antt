@@ -1,24 +1,21 @@
 -- The rules of a command with one file and the options of a table, and what one use of each makes.
-use Rattle.std.proofs.Common.{◌≡◌, ◌∙◌, ◌+◌, ◌&&◌, ◌||◌, ℕ, Bool, cond, true, false, not, true≢false, refl, sym, ap, ap₂, subst, List, [], ◌∷◌, ◌++◌, map, length, Option, Some, None, append-nil, append_assoc, codes, is_some, option_map}
-use Rattle.std.specs.List.{find, list_any, list_all, fold}
+use Rattle.std.proofs.Common.{◌≡◌, ◌∙◌, ◌&&◌, ◌||◌, ℕ, Bool, cond, true, false, not, true≢false, refl, sym, ap, ap₂, subst, List, [], ◌∷◌, ◌++◌, map, Option, Some, None, append-nil, codes, is_some, option_map}
+use Rattle.std.specs.List.{find, list_all, fold}
 use Rattle.std.specs.Option.{option_map_or, unwrap_or}
 use Rattle.std.specs.Str.{bytes_eq}
 use Rattle.std.proofs.lemmas.List.{map-append}
 use Rattle.std.proofs.lemmas.Slice.Eq.{bytes_eq-Decides}
-use Rattle.clap.specs.Walk.{Held, Row, Rule, Text, arg_by_id, arg_by_index, arg_by_long, at_row, default_rows, first_of, has_row, more_values, reading_by, used, with_default}
-use Rattle.clap.specs.Simple.{App, Shape, built, filled, filled_from, new_rule, new_shape, with_index}
+use Rattle.clap.specs.Walk.{Row, Rule, Text, arg_by_id, arg_by_long, at_row, default_rows, first_of, has_row, more_values, used, with_default}
+use Rattle.clap.specs.Simple.{filled, filled_from, new_rule, with_index}
 use Rattle.clap.specs.Takes as takes
 use Rattle.clap.specs.Kinds.{Kinds, or_else}
-use Rattle.clap.specs.Faults.{check_fault, defaults_fault, use_fault, default_fault}
+use Rattle.clap.specs.Faults.{defaults_fault, use_fault, default_fault}
 use Rattle.clap.specs.Facts.{explicit_source}
-use Rattle.clap.specs.declared.builder.action.ArgAction.{ArgAction}
 use Rattle.clap.specs.declared.builder.action.ArgAction.TheVariants.{Set, SetTrue}
 use Rattle.clap.specs.declared.builder.value_parser.ValueParser.TheVariants as vp
 use Rattle.clap.specs.declared.builder.value_parser.Reading.TheVariants.{AsWritten}
 use Rattle.clap.specs.declared.parser.matches.ValueSource.TheVariants.{DefaultValue, CommandLine}
-use Rattle.clap.specs.declared.error.kind.ErrorKind.{ErrorKind}
 use Rattle.clap.specs.declared.error.kind.ErrorKind.TheVariants as kind
-use Rattle.clap.proofs.WalkLemmas.{list_any-map}
 use Rattle.std.specs.Prelude.{option_and_then, slice_get}
 use Rattle.uxn_cli.specs.Asked.{argument, choice_argument, file_argument}
 use Rattle.uxn_cli.specs.Words.{Choice, Given, choice_named, file_name, given, is_given, value_of}

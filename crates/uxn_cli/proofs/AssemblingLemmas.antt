@@ -1,23 +1,28 @@
-use Rattle.std.proofs.Common.{◌≡◌, ℕ, Bool, not, List, [], ◌∷◌, map, refl, ap, ap₂, sym, ◌∙◌, subst, inr}
+use Rattle.std.proofs.Common.{◌≡◌, ℕ, ◌<◌, length, arith, not, List, [], ◌∷◌, map, refl, ap, ap₂, sym, ◌∙◌, subst}
 use Rattle.std.specs.Prelude.{Option, Some, None, Result, Ok, Err, IfSome, option_map, option_to_list, find, ◌++◌}
-use Rattle.std.proofs.lemmas.List.{map-append}
+use Rattle.std.proofs.lemmas.List.{map-append, length-map}
 use Rattle.uxn_io.specs.declared.trees.FileBytes.{FileBytes}
 use Rattle.uxn_io.specs.declared.trees.FileBytes.TheVariants.{Missing as NoFile}
 use Rattle.uxn_io.specs.Changes.{can_create}
 use Rattle.uxn_io.specs.Files.{Nodes, file_at}
-use Rattle.uxn_io.specs.Told.{extended}
+use Rattle.uxn_io.specs.Room.{Room, Leaves}
 use Rattle.uxn_io.specs.WholeFile.{whole_file}
 use Rattle.uxn_opcodes.specs.declared.Stop.TheVariants.{TreeFault}
 use Rattle.uxn_cli.specs.declared.outputs.Output.{Output}
 use Rattle.uxn_cli.specs.declared.task.Task.{Task}
 use Rattle.uxn_cli.specs.declared.words.Command.TheVariants.{Assemble}
+use Rattle.uxn_cli.specs.declared.refusal.Refusal.{Refusal}
 use Rattle.uxn_cli.specs.declared.refusal.Refusal.TheVariants.{NoOutput}
-use Rattle.uxn_cli.specs.World.{World, world, Text, with_texts, CanMake, HasWrittenFront}
+use Rattle.uxn_cli.specs.World.{world, Text, with_empty, with_texts, CanMake, CanFill, HasWrittenFront}
 use Rattle.uxn_cli.specs.Outputs.{seen_text, seen_texts, paths_of}
-use Rattle.uxn_cli.specs.Verdict.{and_then, View, Work, Write, source_in, text_at, texts_of, inputs_by, outputs_by, outputs_of, clashes, blocked_seen, made_by, judged, verdict}
-use Rattle.uxn_cli.specs.Answer.{IsViewOf, Judges, HasEnded, IsRefused, HasCutWork, IsCutWrite}
+use Rattle.uxn_cli.specs.Verdict.{and_then, View, Work, Write, source_in, text_at, texts_of, inputs_by, outputs_by, outputs_of, clashes, blocked_seen, made_by, judged}
+use Rattle.uxn_cli.specs.Answer.{IsViewOf, Judges, HasEnded, IsRefused, HasCutWork}
 use Rattle.uxn_cli.proofs.Growth.{extended-nothing}
-use Rattle.uxn_cli.proofs.ApartLemmas.{makes_all}
+use Rattle.uxn_cli.specs.Causes.{verdict_on}
+use Rattle.uxn_cli.specs.Room.{Takes, TreeSuffices}
+use Rattle.uxn_cli.proofs.ApartLemmas.{makes_all, fills_all}
+use Rattle.uxn_cli.proofs.CauseLemmas.{told_verdict}
+use Rattle.uxn_cli.proofs.SureLemmas.{fills_more}
 
 -- the view of `asm`
 abbrev pub asm_view : FileBytes → Option (List ℕ) → View
@@ -86,6 +91,29 @@ module _ (task : Task) (asm : task.command ≡ Assemble) (tree : Option Nodes) (
       go : (t : Option Nodes) → IfSome t (λ nodes. None ≡ find (λ path. not (can_create nodes path)) (outputs_of task)) → IfSome t (CanMake (seen_texts outputs))
       go None l = tt
       go (Some nodes) l = makes_all (inputs_by task.command task) (seen_texts outputs) nodes (rw text_paths apart) (rw text_paths l)
+
+  -- the files that the verdict asks for are surely written
+  pub sure_files : (start here : Room) (P : Type 0) → find (clashes (inputs_by task.command task) (outputs_of task)) (outputs_of task) ≡ None
+      → IfSome tree (λ nodes. None ≡ find (λ path. not (can_create nodes path)) (paths_of outputs)) → Leaves start here 0 0
+      → IfSome tree (λ nodes. length outputs < here.files → CanFill here.bytes (seen_texts outputs) (with_empty (seen_texts outputs) nodes) → P)
+      → IfSome tree (λ nodes. TreeSuffices (verdict_on nodes (Ok task)) start → P)
+  sure_files start here P apart looked left sure = go tree (judges_asm None looked) (rw paths at looked) sure
+    where
+      go : (t : Option Nodes) → Judges (Ok task) t (Ok (Write (texts_of task source))) → IfSome t (λ nodes. None ≡ find (λ path. not (can_create nodes path)) (outputs_of task))
+          → IfSome t (λ nodes. length outputs < here.files → CanFill here.bytes (seen_texts outputs) (with_empty (seen_texts outputs) nodes) → P)
+          → IfSome t (λ nodes. TreeSuffices (verdict_on nodes (Ok task)) start → P)
+      go None j l s = tt
+      go (Some nodes) j l s = λ takes.
+          let V : Result Work Refusal → Type 0 = λ v. TreeSuffices v start in
+          let room : Takes start (texts_of task source) = subst V (sym (told_verdict nodes (Ok task) (Ok (Write (texts_of task source))) j)) takes in
+          let mine : Takes start (seen_texts outputs) = rw texts room in
+          let few = mine.files in
+          let count = length-map outputs seen_text in
+          let some : 0 < start.files = omega arith in
+          let more = left.files some in
+          let size = left.bytes some in
+          s (omega (arith, few, count, more)) (fills_more start.bytes here.bytes (seen_texts outputs) (with_empty (seen_texts outputs) nodes) size
+          (fills_all (inputs_by task.command task) (seen_texts outputs) nodes start.bytes (rw text_paths apart) (rw text_paths l) mine.bytes))
 
   module _ (out err : Option (List ℕ)) (now : Option Nodes) where
     -- an output that cannot be made

@@ -1,14 +1,10 @@
-use Rattle.std.proofs.Common.{◌≡◌, ℕ, ◌≤◌, ◌⊎◌, Bool, true, false, List, [], ◌++◌, refl, ap, sym, ◌∙◌, inl, inr, subst, arith}
-use Rattle.std.specs.Prelude.{Option, Some, None, Result, Ok, Err, IfSome, codes, decimal}
-use Rattle.tal_words.specs.Faults.{kind_name}
-use Rattle.tal_words.specs.declared.fault.Fault.{Fault}
+use Rattle.std.proofs.Common.{◌≡◌, ℕ, ◌≤◌, ◌⊎◌, Bool, true, false, List, refl, ap, sym, ◌∙◌, inl, inr, subst, arith}
+use Rattle.std.specs.Prelude.{Option, Some, None, Result, Ok, Err, IfSome}
 use Rattle.tal_rom.specs.Assembly.{first_fault, rom_of}
 use Rattle.uxn_io.specs.declared.trees.FileBytes.{FileBytes}
 use Rattle.uxn_io.specs.declared.trees.FileBytes.TheVariants.{Found, Missing as NoFile, TooLong}
 use Rattle.uxn_io.specs.ByteList.{ByteList}
-use Rattle.uxn_io.specs.Told.{extended}
 use Rattle.uxn_io.specs.Files.{Nodes}
-use Rattle.uxn_opcodes.specs.declared.Stop.{Stop}
 use Rattle.uxn_opcodes.specs.declared.Stop.TheVariants.{TreeFault, SinkFault, NoMemory}
 use Rattle.uxn_cli.specs.declared.words.Command.{Command}
 use Rattle.uxn_cli.specs.declared.words.Command.TheVariants.{Play, Assemble, Disassemble}
@@ -18,11 +14,11 @@ use Rattle.uxn_cli.specs.declared.refusal.Refusal.TheVariants.{NotUnderstood, No
 use Rattle.std.proofs.lemmas.Bool.Decides.{nat_tests}
 use Rattle.uxn_io.specs.Faults.{Nobody}
 use Rattle.uxn_cli.specs.Blame.{blame_at, early_status}
-use Rattle.uxn_cli.specs.Lines.{line, text_of, line_of, status_of}
+use Rattle.uxn_cli.specs.Lines.{text_of, status_of}
 use Rattle.uxn_cli.specs.World.{World}
 use Rattle.uxn_cli.specs.Verdict.{and_then, View, Work, Run, Write, Print, view_of, source_by, source_in, rom_in, labels_by, labels_in, program_in, texts_of, work_of, made_by, judged, verdict}
-use Rattle.uxn_cli.specs.Outcome.{Outcome, outcome_of}
-use Rattle.uxn_cli.specs.Answer.{IsViewOf, Judges, HasOutcome, HasEnded, IsCut, EndsEarly, Answers}
+use Rattle.uxn_cli.specs.Outcome.{outcome_of}
+use Rattle.uxn_cli.specs.Answer.{IsViewOf, Judges, HasOutcome, HasEnded, EndsEarly, Answers}
 use Rattle.uxn_cli.specs.Causes.{IsEarly, IsExactly, verdict_on, IsIllegal, IsPathless, IsMissing, IsFaulty, IsUnfit, IsBlocked, IsAccepted, PutsLine}
 use Rattle.tal_symbols.specs.Reading.{symbols_in}
 use Rattle.tal_listing.specs.Disassembly.{disassembly}
@@ -135,7 +131,7 @@ later-status (Err refusal) number later e large small = omega arith
 same_view : (nodes : Nodes) (task : Task) (view : View) → IsViewOf (Some nodes) task view → view ≡ view_of nodes task
 same_view nodes task view seen = rw (← seen.file, ← seen.symbols, ← seen.blocked) refl
 
-told_verdict : (nodes : Nodes) (asked : Result Task Refusal) (found : Result Work Refusal) → Judges asked (Some nodes) found → found ≡ verdict_on nodes asked
+pub told_verdict : (nodes : Nodes) (asked : Result Task Refusal) (found : Result Work Refusal) → Judges asked (Some nodes) found → found ≡ verdict_on nodes asked
 told_verdict nodes (Err refusal) found j = sym j.judged
 told_verdict nodes (Ok task) found j = sym j.judged ∙ ap (judged task) (same_view nodes task j.view j.seen)
 

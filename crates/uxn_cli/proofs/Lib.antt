@@ -8,6 +8,7 @@ pub mod VerdictLemmas
 pub mod CauseLemmas
 pub mod OutputLemmas
 pub mod ApartLemmas
+pub mod SureLemmas
 pub mod AssemblingLemmas
 pub mod OpcodeLemmas
 pub mod OthersLemmas

@@ -1,22 +1,21 @@
 -- A line of words as the parser walks over it, and the items that it gives.
-use Rattle.std.proofs.Common.{◌≡◌, ◌∙◌, ◌+◌, ◌==◌, ◌&&◌, ◌||◌, ◌⊎◌, inl, inr, ℕ, Bool, cond, true, false, not, true≢false, refl, sym, ap, ap₂, subst, List, [], ◌∷◌, ◌++◌, map, length, Option, Some, None, append-nil, append_assoc, codes, is_some, option_map, nat_lt, lt-ltb, arith}
-use Rattle.std.specs.List.{find, list_any, list_all, fold}
+use Rattle.std.proofs.Common.{◌≡◌, ◌∙◌, ◌==◌, ◌&&◌, ◌||◌, ◌⊎◌, inl, inr, ℕ, Bool, cond, true, false, not, true≢false, refl, sym, ap, ap₂, subst, List, [], ◌∷◌, ◌++◌, map, length, Option, Some, None, append-nil, append_assoc, codes, is_some, option_map, nat_lt, lt-ltb, arith}
+use Rattle.std.specs.List.{list_any, list_all, fold}
 use Rattle.std.specs.Option.{option_map_or, unwrap_or}
 use Rattle.std.specs.Prelude.{option_and_then}
 use Rattle.std.specs.Str.{bytes_eq}
 use Rattle.std.proofs.lemmas.Slice.Eq.{bytes_eq-Decides}
 use Rattle.clap.specs.Lexer.{long_of, long_of_rest, short_of, short_of_rest, strip_byte}
-use Rattle.clap.specs.Walk.{Held, option_word, plain_word as plain_met, long_word as long_met_of, Names, Outcome, Row, Rule, Step as WordStep, Text, Waiting, Walk, after_flag, after_step, arg_by_id, arg_by_index, arg_by_long, finished, idle, is_empty, nothing_held, rows_after, is_pending, long_met, next, option, positional, pushed, settled, subcommand_met, takes_several, takes_values, used, used_by_id, value as to_file, walk_from, walked, word_met}
+use Rattle.clap.specs.Walk.{Held, option_word, plain_word as plain_met, Row, Rule, Step as WordStep, Text, Waiting, Walk, after_flag, after_step, arg_by_id, arg_by_index, finished, idle, is_empty, nothing_held, rows_after, is_pending, long_met, option, positional, pushed, settled, subcommand_met, takes_several, used, used_by_id, walk_from, walked, word_met}
 use Rattle.clap.specs.Simple.{Shape, built, matches_of, names_of, new_shape}
-use Rattle.clap.specs.Takes as takes
-use Rattle.clap.specs.Kinds.{Kinds, or_else, check_kinds}
-use Rattle.clap.specs.Faults.{built_fault, check_fault, fault_of, word_fault, defaults_fault, level_fault, long_fault, settle_fault, step_fault, turn_fault, walk_fault, use_fault}
+use Rattle.clap.specs.Kinds.{Kinds, or_else}
+use Rattle.clap.specs.Faults.{built_fault, check_fault, fault_of, word_fault, defaults_fault, long_fault, settle_fault, step_fault, turn_fault, walk_fault, use_fault}
 use Rattle.clap.specs.declared.error.kind.ErrorKind.TheVariants as kind
 use Rattle.clap.proofs.FaultLemmas.{leaf_fault}
 use Rattle.clap.proofs.WalkLemmas.{list_any-map}
 use Rattle.uxn_cli.specs.Asked.{parser_for}
-use Rattle.uxn_cli.specs.Words.{Choice, Given, Step, gives, awaits, refuses, choice_named, choice_step, file_name, follow, given, is_given, is_legal, is_plain, is_whole, items_of, each_once, lacks_some, name_in, option_step, option_text, step_of, value_in, value_of}
-use Rattle.uxn_cli.proofs.ArgumentLemmas.{Fits, apart_named, by_id, by_long, choice_rule, default_row, defaults_pass, file_rule, filled_rules, is_apart, repeats, row, rows_given, ruled, rules_for, use_faults, use_rows, values_for, with_defaults}
+use Rattle.uxn_cli.specs.Words.{Choice, Given, Step, gives, awaits, refuses, choice_named, choice_step, file_name, follow, given, is_given, is_legal, is_plain, is_whole, items_of, each_once, lacks_some, name_in, option_step, option_text, step_of, value_in}
+use Rattle.uxn_cli.proofs.ArgumentLemmas.{Fits, apart_named, by_id, by_long, choice_rule, defaults_pass, file_rule, filled_rules, is_apart, repeats, row, rows_given, ruled, rules_for, use_faults, use_rows, values_for, with_defaults}
 
 is_false : (b : Bool) → not b ≡ true → b ≡ false
 is_false true e = absurd (true≢false (sym e))

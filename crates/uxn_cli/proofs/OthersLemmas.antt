@@ -1,19 +1,19 @@
 use Rattle.std.proofs.Common.{◌≡◌, ℕ, zero, suc, Bool, true, false, true≢false, cond, List, [], ◌∷◌, map, take, refl, ap, sym, ◌∙◌, subst, inl, inr}
-use Rattle.std.specs.Prelude.{Option, Some, None, Result, Ok, Err, IfSome, IfOk, option_map, ◌||◌, slice_get}
+use Rattle.std.specs.Prelude.{Option, Some, None, Result, Ok, Err, IfSome, option_map, ◌||◌, slice_get}
 use Rattle.std.specs.List.{list_any}
 use Rattle.std.specs.Str.{bytes_eq}
 use Rattle.std.specs.FinMap as fin
 use Rattle.std.proofs.lemmas.Slice.Eq.{bytes_eq-Decides}
 use Rattle.tal_listing.specs.Disassembly.{disassembly}
 use Rattle.uxn_io.specs.Changes.{can_create, with_created, with_appended}
-use Rattle.uxn_io.specs.Files.{Nodes, Node, File, bytes_at}
+use Rattle.uxn_io.specs.Files.{Nodes, File}
 use Rattle.uxn_opcodes.specs.declared.Stop.{Stop}
 use Rattle.uxn_opcodes.specs.declared.Stop.TheVariants.{TreeFault, SinkFault, NoMemory}
 use Rattle.uxn_cli.specs.declared.words.Command.{Command}
 use Rattle.uxn_cli.specs.declared.words.Command.TheVariants.{Play, Assemble, Disassemble}
 use Rattle.uxn_cli.specs.declared.task.Task.{Task}
 use Rattle.uxn_cli.specs.declared.refusal.Refusal.{Refusal}
-use Rattle.uxn_cli.specs.World.{World, Text, with_empty, with_bytes, with_texts, HasMadeFront, HasFilledFront, HasWrittenFront}
+use Rattle.uxn_cli.specs.World.{World, Text, with_empty, with_bytes, with_texts, HasWrittenFront}
 use Rattle.uxn_cli.specs.Verdict.{and_then, View, Work, Run, Write, Print, source_in, rom_in, labels_in, program_in, texts_of, outputs_by, outputs_of, work_of, made_by, judged, verdict}
 use Rattle.uxn_cli.specs.Outcome.{outcome_of}
 use Rattle.uxn_cli.specs.Answer.{IsCutWork, Judges, HasCutWork, IsCut, Answers}

@@ -1,5 +1,5 @@
-use Rattle.std.proofs.Common.{◌≡◌, ℕ, suc, ◌+◌, ◌<◌, ◌≤◌, Bool, true, false, true≢false, not, cond, List, [], ◌∷◌, map, take, drop, length, get_or, refl, ap, sym, ◌∙◌, subst, inl, inr, arith, add-one, drop-cons, drop_of_length-le}
-use Rattle.std.specs.Prelude.{Option, Some, None, IsSome, IfSome, ◌⊎◌, option_map, find, fold, All, slice_get}
+use Rattle.std.proofs.Common.{◌≡◌, ℕ, suc, ◌+◌, ◌<◌, ◌≤◌, Bool, true, false, true≢false, cond, List, [], ◌∷◌, map, take, drop, length, get_or, refl, ap, sym, ◌∙◌, subst, inl, inr, arith, add-one, drop-cons, drop_of_length-le}
+use Rattle.std.specs.Prelude.{Option, Some, None, IsSome, IfSome, ◌⊎◌, option_map, find}
 use Rattle.std.specs.FinMap as fin
 use Rattle.std.specs.Cmp.{IsTotalOrder}
 use Rattle.std.specs.Cmp.Lexicographic.{slice_cmp, nat_list_cmp_total}
@@ -9,7 +9,7 @@ use Rattle.std.proofs.lemmas.List.Sums.{fold_more}
 use Rattle.std.proofs.lemmas.List.Elements.{All-get_or, All-weaker}
 use Rattle.std.proofs.lemmas.Option.{slice_get-get_or}
 use Rattle.uxn_io.specs.Changes.{can_create, with_created, with_appended, HasAppendedFront}
-use Rattle.uxn_io.specs.Files.{Nodes, Node, File, Folder, bytes_of, bytes_at, file_at}
+use Rattle.uxn_io.specs.Files.{Nodes, Node, File, bytes_of, file_at}
 use Rattle.uxn_cli.specs.declared.outputs.Output.{Output}
 use Rattle.uxn_cli.specs.World.{Text, with_empty, with_bytes, CanMake, AreFiles, HasMadeFront, HasFilledFront}
 use Rattle.uxn_cli.specs.Outputs.{seen_text, seen_texts, paths_of}
@@ -69,7 +69,7 @@ module _ (outputs : List Output) (at : ℕ) (output : Output) (lt : at < length 
   made_front before now new e (inl same) = record { count = at; told = same ∙ e }
   made_front before now new e (inr made) = record { count = at + 1; told = made_more before now new e made }
 
-  rest_here : drop at texts ≡ seen_text output ∷ drop (at + 1) texts
+  pub rest_here : drop at texts ≡ seen_text output ∷ drop (at + 1) texts
   rest_here = drop-cons texts at (seen_text output) within ∙ ap (λ t. t ∷ drop (suc at) texts) text_here ∙ ap (λ n. seen_text output ∷ drop n texts) (sym (add-one at))
 
   can_here : (nodes : Nodes) → CanMake (drop at texts) nodes → (can_create nodes output.path ≡ true) × CanMake (drop (at + 1) texts) (with_created output.path nodes)

@@ -9,8 +9,7 @@ use Rattle.uxn_io.specs.WholeFile.{whole_file}
 use Rattle.uxn_opcodes.specs.declared.Stop.{Stop}
 use Rattle.uxn_opcodes.specs.declared.Stop.TheVariants.{TreeFault, SinkFault, NoMemory}
 use Rattle.uxn_cli.specs.declared.task.Task.{Task}
-use Rattle.uxn_cli.specs.declared.words.Command.{Command}
-use Rattle.uxn_cli.specs.declared.words.Command.TheVariants.{Play, Assemble, Disassemble}
+use Rattle.uxn_cli.specs.declared.words.Command.TheVariants.{Play, Disassemble}
 use Rattle.uxn_cli.specs.declared.refusal.Refusal.{Refusal}
 use Rattle.uxn_cli.specs.declared.refusal.Refusal.TheVariants.{NotUnderstood}
 use Rattle.uxn_cli.specs.declared.refusal.Halt.{Halt}
@@ -20,10 +19,10 @@ use Rattle.uxn_cli.specs.Lines.{status_of, line_of}
 use Rattle.uxn_cli.specs.Blame.{Stops}
 use Rattle.uxn_cli.proofs.Growth.{extended-nothing}
 use Rattle.uxn_cli.specs.Words.{settings}
-use Rattle.uxn_cli.specs.World.{World, world, Text, with_empty, with_bytes, with_texts}
-use Rattle.uxn_cli.specs.Verdict.{and_then, legal, paths_in, apart, request, View, Work, Run, Write, Print, source_in, rom_in, labels_in, symbols_by, program_in, work_of, made_by, judged, verdict}
+use Rattle.uxn_cli.specs.World.{World, world, with_texts}
+use Rattle.uxn_cli.specs.Verdict.{and_then, legal, paths_in, apart, request, View, Work, Run, Write, Print, source_in, rom_in, labels_in, symbols_by, made_by, judged, verdict}
 use Rattle.uxn_cli.specs.Follows.{Follows}
-use Rattle.uxn_cli.specs.Answer.{HasOutcome, IsCutWork, Works, IsViewOf, IsViewFor, Judges, HasEnded, IsRefused, HasCutWork, Performs, Ends}
+use Rattle.uxn_cli.specs.Answer.{IsCutWork, Works, IsViewOf, IsViewFor, IsRefused, Performs, Ends}
 
 -- what the words ask for, where they are not legal and where they are
 pub request-illegal : (words : List (List ℕ)) → None ≡ settings words → request words ≡ Err NotUnderstood

@@ -1,12 +1,11 @@
 -- What a parse of the words gives, as what they ask for.
-use Rattle.std.proofs.Common.{◌≡◌, ◌∙◌, ◌<◌, ◌-◌, ◌⊎◌, ◌||◌, ◌&&◌, not, inl, inr, ℕ, Bool, cond, true, false, true≢false, refl, ap, ap₂, sym, subst, List, [], ◌∷◌, ◌+◌, ◌==◌, map, length, take, drop, take_all, length-drop, get_or, arith, suc, drop-cons, add-one, codes, Option, Some, None, option_map, nat_lt, Ok, Err, lt-ltb}
+use Rattle.std.proofs.Common.{◌≡◌, ◌∙◌, ◌<◌, ◌-◌, ◌||◌, ◌&&◌, not, inl, inr, ℕ, Bool, cond, true, false, true≢false, refl, ap, sym, subst, List, [], ◌∷◌, ◌+◌, ◌==◌, map, length, take, drop, take_all, length-drop, get_or, arith, suc, drop-cons, add-one, codes, Option, Some, None, option_map, nat_lt, lt-ltb}
 use Rattle.std.specs.Prelude.{option_and_then, position, slice_get}
-use Rattle.std.specs.List.{list_any, list_all, position_or_len, find}
-use Rattle.std.specs.Option.{option_map_or}
+use Rattle.std.specs.List.{list_any, list_all, position_or_len}
 use Rattle.std.specs.Str.{bytes_eq}
 use Rattle.std.proofs.lemmas.Bool.Decides.{nat_tests}
-use Rattle.clap.specs.Words.{App, FailsBy, HasMatchesOf, Row, Text, fault_of, first_of, first_value, found_of, is_simple, is_simple_and_free, kind_of, matches_of, rows_of}
-use Rattle.clap.specs.Kinds.{HasKind, IsAmong, Kinds}
+use Rattle.clap.specs.Words.{App, HasMatchesOf, Row, Text, fault_of, first_of, first_value, found_of, is_simple, is_simple_and_free, kind_of, matches_of, rows_of}
+use Rattle.clap.specs.Kinds.{HasKind, IsAmong}
 use Rattle.clap.specs.Walk.{is_empty}
 use Rattle.clap.specs.declared.error.Error.{Error}
 use Rattle.clap.specs.declared.error.kind.ErrorKind.TheVariants.{OutOfMemory}
@@ -15,7 +14,7 @@ use Rattle.clap.proofs.WalkLemmas.{first_value-rows}
 use Rattle.uxn_cli.specs.declared.words.Command.{Command}
 use Rattle.uxn_cli.specs.declared.words.Command.TheVariants.{Play, Assemble, Disassemble}
 use Rattle.uxn_cli.specs.declared.task.Task.{Task}
-use Rattle.uxn_cli.specs.Words.{Given, asked_by, asked_with, choices_of, command_of, file_name, is_legal, is_on, is_plain, is_whole, items_of, settings, task_in, value_in, value_of}
+use Rattle.uxn_cli.specs.Words.{Given, asked_by, asked_with, choices_of, command_of, file_name, is_legal, is_on, is_whole, items_of, settings, task_in, value_in, value_of}
 use Rattle.uxn_cli.specs.Asked.{parser_for}
 use Rattle.uxn_cli.proofs.ArgumentLemmas.{blind, is_apart, items_first, no_switch_unseen, row, unseen, with_defaults}
 use Rattle.uxn_cli.proofs.LineLemmas.{Reads, Rejects, illegal, parsed}

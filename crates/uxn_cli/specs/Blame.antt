@@ -29,6 +29,12 @@ blame_by (Err stop) = blame_of stop
 abbrev pub blame_at : ℕ → Blame
 blame_at status = if status == 136 then TheTree else if status == 137 then ASink else Nobody
 
+-- this holds where a step is refused
+abbrev pub OnRefused : {A : Type 0} → Result A Halt → Type 0 → Type 0
+OnRefused (Ok value) P = Unit {0}
+OnRefused (Err (Refused refusal)) P = P
+OnRefused (Err (Stopped stop)) P = Unit {0}
+
 abbrev pub early_status : Stop → ℕ
 early_status TreeFault = 136
 early_status SinkFault = 137

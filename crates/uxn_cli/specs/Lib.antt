@@ -9,6 +9,7 @@ pub mod Blame
 pub mod Run
 pub mod Console
 pub mod Outcome
+pub mod Room
 pub mod Answer
 pub mod Causes
 pub mod OpcodeNames

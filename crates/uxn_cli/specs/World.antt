@@ -1,7 +1,8 @@
 -- What a call can see and change.
-use Rattle.std.specs.Prelude.{◌≡◌, ℕ, true, List, [], ◌∷◌, take, fold, All, slice_get, Option, Some, IsSome}
+use Rattle.std.specs.Prelude.{◌≡◌, ℕ, ◌+◌, ◌≤◌, true, List, [], ◌∷◌, length, take, fold, All, slice_get}
+use Rattle.std.specs.Prelude.{Option, Some, IsSome}
 use Rattle.std.specs.Prelude.{option_map, ◌⊎◌}
-use Rattle.uxn_io.specs.Files.{Nodes, file_at}
+use Rattle.uxn_io.specs.Files.{Nodes, file_at, bytes_at}
 use Rattle.uxn_io.specs.Changes.{can_create, with_created, with_appended, HasAppendedFront}
 
 -- the files of the tree and the bytes that the two outputs took, where they are told
@@ -54,3 +55,9 @@ CanMake (text ∷ texts) nodes = (can_create nodes text.path ≡ true) × CanMak
 -- a file is at each path
 abbrev pub AreFiles : List Text → Nodes → Type 0
 AreFiles texts nodes = All (λ text. IsSome (file_at nodes text.path)) texts
+
+-- files that get their bytes one after the other, and none gets over so many bytes
+unfoldable pub CanFill : ℕ → List Text → Nodes → Type 0
+CanFill limit [] nodes = Unit {0}
+CanFill limit (text ∷ texts) nodes =
+    (length (bytes_at nodes text.path) + length text.bytes ≤ limit) × CanFill limit texts (with_appended text.path text.bytes nodes)

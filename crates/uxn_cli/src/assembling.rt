@@ -1,14 +1,16 @@
 //! What `asm` writes.
-ghost use Rattle.std.specs.Prelude.{◌≡◌, ℕ, ◌++◌, List, Option, Ok, IfOk, OnOk};
+ghost use Rattle.std.specs.Prelude.{◌≡◌, ℕ, ◌++◌, List, Option, Ok, IfOk, IfSome, OnOk};
 ghost use Rattle.tal_rom.specs.Assembly.{IsAssembled};
 ghost use Rattle.tal_symbols.specs.SymbolFile.{symbol_file};
 ghost use Rattle.tal_listing.specs.Listing.{listing_of};
-ghost use Rattle.uxn_io.specs.Faults.{Ledger, counts};
+ghost use Rattle.uxn_io.specs.Faults.{Ledger, TheTree, ASink, counts};
 ghost use Rattle.uxn_cli.specs.World.{world};
 ghost use Rattle.uxn_cli.specs.Outputs.{seen_texts};
 ghost use Rattle.uxn_cli.specs.Verdict.{HasApartOutputs, text_at, texts_of};
 ghost use Rattle.uxn_cli.specs.Answer.{Performs};
 ghost use Rattle.uxn_cli.specs.Blame.{blame_in};
+ghost use Rattle.uxn_cli.specs.Causes.{verdict_on};
+ghost use Rattle.uxn_cli.specs.Room.{TreeSuffices};
 
 use super::commands::{Accepted, SOURCE_LIMIT, accept_source};
 use super::outputs::{Output, first_blocked, write_all};
@@ -92,6 +94,8 @@ pub fn assemble_files<T: Tree>(alloc: Global, task: &Task, tree: &mut T) -> Resu
     requires apart { HasApartOutputs task.now }
     ensures performs { (out err : Option (List ℕ)) → Performs (Ok task.now) (world (T.told tree.old) out err) (world (T.told tree.new) out err) result }
     ensures ledger { Ledger (counts (T.faults tree.old) 0 0) (counts (T.faults tree.new) 0 0) (blame_in result) }
+    ensures no_sink { blame_in result ≡ ASink → ⊥ }
+    ensures sure { IfSome (T.told tree.old) (λ nodes. TreeSuffices (verdict_on nodes (Ok task.now)) (T.sure tree.old) → blame_in result ≡ TheTree → ⊥) }
 {
     let file = read_file(alloc, tree, &task.file, SOURCE_LIMIT)?;
     let accepted = accept_source(alloc, &task.file, file)?;

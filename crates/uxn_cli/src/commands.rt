@@ -1,13 +1,16 @@
 //! The commands.
-ghost use Rattle.std.specs.Prelude.{◌≡◌, ◌≤◌, Ok, None, length, IfOk, IfSome};
-ghost use Rattle.uxn_io.specs.Faults.{Counted, Ledger, counts};
+ghost use Rattle.std.specs.Prelude.{◌≡◌, ◌<◌, ◌≤◌, Ok, None, false, length, IfOk, IfSome};
+ghost use Rattle.uxn_io.specs.Faults.{Counted, Ledger, TheTree, ASink, counts};
+ghost use Rattle.uxn_io.specs.Room.{Leaves};
 ghost use Rattle.uxn_io.specs.WholeFile.{KeepsLimit, has_failed};
 ghost use Rattle.tal_rom.specs.Assembly.{IsAssembled};
 ghost use Rattle.uxn_cli.specs.World.{world};
 ghost use Rattle.uxn_cli.specs.Verdict.{source_in, rom_in, labels_in, symbols_by, Run, Print};
 ghost use Rattle.uxn_cli.specs.Follows.{Follows};
 ghost use Rattle.uxn_cli.specs.Answer.{Works, Performs};
-ghost use Rattle.uxn_cli.specs.Blame.{blame_in};
+ghost use Rattle.uxn_cli.specs.Blame.{blame_in, OnRefused};
+ghost use Rattle.uxn_cli.specs.Causes.{verdict_on};
+ghost use Rattle.uxn_cli.specs.Room.{SinksSuffice};
 
 use super::console::Console;
 use super::refusal::{Halt, Refusal};
@@ -97,6 +100,8 @@ fn run_rom<O: Sink, E: Sink>(
     requires { length rom.now ≤ 65280 }
     ensures works { Works (Run rom.now) (world None (O.told out.old) (E.told err.old)) (world None (O.told out.new) (E.told err.new)) result }
     ensures ledger { Ledger (counts 0 (O.faults out.old) (E.faults err.old)) (counts 0 (O.faults out.new) (E.faults err.new)) (blame_in result) }
+    ensures no_tree { blame_in result ≡ TheTree → ⊥ }
+    ensures accepted { OnRefused result ⊥ }
 {
     let mut core = Core::new(alloc, rom)?;
     let mut console = Console::new(out, err);
@@ -119,6 +124,10 @@ pub fn play<T: Tree, O: Sink, E: Sink>(
         (world (T.told tree.new) (O.told out.new) (E.told err.new)) result }
     ensures ledger { Ledger (counts (T.faults tree.old) (O.faults out.old) (E.faults err.old))
         (counts (T.faults tree.new) (O.faults out.new) (E.faults err.new)) (blame_in result) }
+    ensures kept { OnRefused result (err.new ≡ err.old) }
+    ensures sure_tree { 0 < (T.sure tree.old).files → blame_in result ≡ TheTree → ⊥ }
+    ensures sure_out { IfSome (T.told tree.old) (λ nodes. SinksSuffice (verdict_on nodes (Ok task.now)) (O.sure out.old) (E.sure err.old)
+        → blame_in result ≡ ASink → ⊥) }
 {
     if task.rom {
         let file = read_file(alloc, tree, &task.file, ROM_LIMIT)?;
@@ -140,6 +149,8 @@ fn read_optional<T: Tree>(
     ensures same { T.told tree.new ≡ T.told tree.old }
     ensures answer { IfOk result (λ answer. IfSome (T.told tree.old) (λ nodes. answer ≡ symbols_by nodes path.now)) }
     ensures ledger { Counted (T.faults tree.old) (T.faults tree.new) (has_failed result) }
+    ensures sure { 0 < (T.sure tree.old).files → has_failed result ≡ false }
+    ensures left { has_failed result ≡ false → Leaves (T.sure tree.old) (T.sure tree.new) 0 0 }
 {
     match path {
         Some(path) => read_file(alloc, tree, path, SYMBOLS_LIMIT),
@@ -171,6 +182,9 @@ fn accept_labels(alloc: Global, path: &Option<Path>, file: FileBytes) -> Result<
 fn print<O: Sink, E: Sink>(text: &[u8], out: &mut O, err: &mut E) -> Result<u8, Halt>
     ensures works { Works (Print text.now) (world None (O.told out.old) (E.told err.old)) (world None (O.told out.new) (E.told err.new)) result }
     ensures ledger { Ledger (counts 0 (O.faults out.old) (E.faults err.old)) (counts 0 (O.faults out.new) (E.faults err.new)) (blame_in result) }
+    ensures no_tree { blame_in result ≡ TheTree → ⊥ }
+    ensures accepted { OnRefused result ⊥ }
+    ensures sure { length text.now < O.sure out.old → blame_in result ≡ ASink → ⊥ }
 {
     match put_all(out, text) {
         Ok(()) => Ok(0),
@@ -191,6 +205,10 @@ pub fn disassemble_rom<T: Tree, O: Sink, E: Sink>(
         (world (T.told tree.new) (O.told out.new) (E.told err.new)) result }
     ensures ledger { Ledger (counts (T.faults tree.old) (O.faults out.old) (E.faults err.old))
         (counts (T.faults tree.new) (O.faults out.new) (E.faults err.new)) (blame_in result) }
+    ensures kept { OnRefused result (err.new ≡ err.old) }
+    ensures sure_tree { 0 < (T.sure tree.old).files → blame_in result ≡ TheTree → ⊥ }
+    ensures sure_out { IfSome (T.told tree.old) (λ nodes. SinksSuffice (verdict_on nodes (Ok task.now)) (O.sure out.old) (E.sure err.old)
+        → blame_in result ≡ ASink → ⊥) }
 {
     let file = read_file(alloc, tree, &task.file, ROM_LIMIT)?;
     let rom = accept_rom(&task.file, file)?;

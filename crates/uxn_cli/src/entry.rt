@@ -1,11 +1,12 @@
 //! The top call, from the words to the status.
 ghost use Rattle.std.specs.Prelude.{◌≡◌, ◌≤◌, ◌⊎◌, map, string_bytes, IfOk, IfSome};
-ghost use Rattle.uxn_io.specs.Faults.{Rose, Ledger, counts};
+ghost use Rattle.uxn_io.specs.Faults.{Rose, Ledger, TheTree, ASink, counts};
 ghost use Rattle.uxn_cli.specs.World.{world};
 ghost use Rattle.uxn_cli.specs.Verdict.{request, HasApartOutputs};
 ghost use Rattle.uxn_cli.specs.Follows.{Follows};
 ghost use Rattle.uxn_cli.specs.Answer.{Performs, Ends, Answers};
-ghost use Rattle.uxn_cli.specs.Blame.{blame_in, blame_by, blame_at, early_status};
+ghost use Rattle.uxn_cli.specs.Blame.{blame_in, blame_by, blame_at, early_status, OnRefused};
+ghost use Rattle.uxn_cli.specs.Room.{TreeSuffices, SinksSuffice};
 ghost use Rattle.uxn_cli.specs.Causes.{IsExactly, verdict_on, IsIllegal, IsPathless, IsMissing, IsFaulty, IsUnfit, IsBlocked, IsAccepted, KeepsOthers, PutsLine};
 
 use super::assembling::assemble_files;
@@ -44,6 +45,11 @@ fn perform<T: Tree, O: Sink, E: Sink>(
         (world (T.told tree.new) (O.told out.new) (E.told err.new)) result }
     ensures ledger { Ledger (counts (T.faults tree.old) (O.faults out.old) (E.faults err.old))
         (counts (T.faults tree.new) (O.faults out.new) (E.faults err.new)) (blame_in result) }
+    ensures kept { OnRefused result (err.new ≡ err.old) }
+    ensures sure_tree { IfSome (T.told tree.old) (λ nodes. TreeSuffices (verdict_on nodes (request (map string_bytes words.now))) (T.sure tree.old)
+        → blame_in result ≡ TheTree → ⊥) }
+    ensures sure_sinks { IfSome (T.told tree.old) (λ nodes. SinksSuffice (verdict_on nodes (request (map string_bytes words.now))) (O.sure out.old) (E.sure err.old)
+        → blame_in result ≡ ASink → ⊥) }
 {
     let task = request(alloc, words)?;
     match task.command {
@@ -65,6 +71,10 @@ fn answer<T: Tree, O: Sink, E: Sink>(
         (world (T.told tree.new) (O.told out.new) (E.told err.new)) result }
     ensures ledger { Ledger (counts (T.faults tree.old) (O.faults out.old) (E.faults err.old))
         (counts (T.faults tree.new) (O.faults out.new) (E.faults err.new)) (blame_by result) }
+    ensures sure_tree { IfSome (T.told tree.old) (λ nodes. TreeSuffices (verdict_on nodes (request (map string_bytes words.now))) (T.sure tree.old)
+        → blame_by result ≡ TheTree → ⊥) }
+    ensures sure_sinks { IfSome (T.told tree.old) (λ nodes. SinksSuffice (verdict_on nodes (request (map string_bytes words.now))) (O.sure out.old) (E.sure err.old)
+        → blame_by result ≡ ASink → ⊥) }
 {
     match perform(alloc, words, tree, out, err) {
         Ok(status) => Ok(status),
@@ -96,6 +106,10 @@ fn status_of<T: Tree, O: Sink, E: Sink>(
         (world (T.told tree.new) (O.told out.new) (E.told err.new)) result }
     ensures ledger { Ledger (counts (T.faults tree.old) (O.faults out.old) (E.faults err.old))
         (counts (T.faults tree.new) (O.faults out.new) (E.faults err.new)) (blame_at result) }
+    ensures sure_tree { IfSome (T.told tree.old) (λ nodes. TreeSuffices (verdict_on nodes (request (map string_bytes words.now))) (T.sure tree.old)
+        → result ≡ 136 → ⊥) }
+    ensures sure_sinks { IfSome (T.told tree.old) (λ nodes. SinksSuffice (verdict_on nodes (request (map string_bytes words.now))) (O.sure out.old) (E.sure err.old)
+        → result ≡ 137 → ⊥) }
 {
     match answer(alloc, words, tree, out, err) {
         Ok(status) => status,
@@ -152,6 +166,13 @@ pub fn uxn<T: Tree, O: Sink, E: Sink>(
     ensures complete { IfSome (T.told tree.old) (λ nodes. IsAccepted (verdict_on nodes (request (map string_bytes words.now)))
         → (Rose (T.faults tree.old) (T.faults tree.new) → ⊥) → (Rose (O.faults out.old) (O.faults out.new) → ⊥)
         → (Rose (E.faults err.old) (E.faults err.new) → ⊥) → (result ≡ 0) ⊎ (result ≡ 138)) }
+
+    // Where the tree and the sinks surely take what the verdict asks of them, none of them fails. Of the
+    // bytes that a run puts nothing is said.
+    ensures sure_tree { IfSome (T.told tree.old) (λ nodes. TreeSuffices (verdict_on nodes (request (map string_bytes words.now))) (T.sure tree.old)
+        → result ≡ 136 → ⊥) }
+    ensures sure_sinks { IfSome (T.told tree.old) (λ nodes. SinksSuffice (verdict_on nodes (request (map string_bytes words.now))) (O.sure out.old) (E.sure err.old)
+        → result ≡ 137 → ⊥) }
 {
     status_of(alloc, words, tree, out, err)
 }

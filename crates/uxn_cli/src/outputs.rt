@@ -1,10 +1,11 @@
 //! The files that a command writes.
-ghost use Rattle.std.specs.Prelude.{◌≡◌, None, Some, not, find, IfOk, IfSome, OnOk, OnErr, MatchOption, is_err};
+ghost use Rattle.std.specs.Prelude.{◌≡◌, ◌<◌, ◌≤◌, None, Some, not, find, length, IfOk, IsOk, IfSome, OnOk, OnErr, MatchOption, is_err};
 ghost use Rattle.std.specs.Option.{option_map};
 ghost use Rattle.uxn_io.specs.Changes.{can_create};
 ghost use Rattle.uxn_io.specs.Faults.{Counted};
 ghost use Rattle.uxn_io.specs.Files.{is_folder_at, has_parent};
-ghost use Rattle.uxn_cli.specs.World.{with_empty, with_bytes, CanMake, AreFiles, HasMadeFront, HasFilledFront, HasWrittenFront, with_texts};
+ghost use Rattle.uxn_io.specs.Room.{Leaves};
+ghost use Rattle.uxn_cli.specs.World.{with_empty, with_bytes, CanMake, AreFiles, HasMadeFront, HasFilledFront, HasWrittenFront, with_texts, CanFill};
 ghost use Rattle.uxn_cli.specs.Outputs.{seen_texts, paths_of};
 
 use uxn_io::{Failed, Kind, Path, Tree, append_all};
@@ -23,6 +24,8 @@ fn is_folder<T: Tree>(tree: &mut T, path: &Path) -> Result<bool, Failed>
     ensures answer { IfOk result (λ answer. IfSome (T.told tree.old) (λ nodes. answer ≡ is_folder_at nodes (Some path.now))) }
     ensures same { T.told tree.new ≡ T.told tree.old }
     ensures ledger { Counted (T.faults tree.old) (T.faults tree.new) (is_err result) }
+    ensures sure { 0 < (T.sure tree.old).files → IsOk result }
+    ensures left { OnOk result (Leaves (T.sure tree.old) (T.sure tree.new) 0 0) }
 {
     match tree.kind(path)? {
         Kind::Folder => Ok(true),
@@ -35,6 +38,8 @@ fn has_parent<T: Tree>(tree: &mut T, path: &Path) -> Result<bool, Failed>
     ensures answer { IfOk result (λ answer. IfSome (T.told tree.old) (λ nodes. answer ≡ has_parent nodes path.now)) }
     ensures same { T.told tree.new ≡ T.told tree.old }
     ensures ledger { Counted (T.faults tree.old) (T.faults tree.new) (is_err result) }
+    ensures sure { 0 < (T.sure tree.old).files → IsOk result }
+    ensures left { OnOk result (Leaves (T.sure tree.old) (T.sure tree.new) 0 0) }
 {
     match path.parent() {
         Some(parent) => is_folder(tree, &parent),
@@ -47,6 +52,8 @@ fn can_create<T: Tree>(tree: &mut T, path: &Path) -> Result<bool, Failed>
     ensures answer { IfOk result (λ answer. IfSome (T.told tree.old) (λ nodes. answer ≡ can_create nodes path.now)) }
     ensures same { T.told tree.new ≡ T.told tree.old }
     ensures ledger { Counted (T.faults tree.old) (T.faults tree.new) (is_err result) }
+    ensures sure { 0 < (T.sure tree.old).files → IsOk result }
+    ensures left { OnOk result (Leaves (T.sure tree.old) (T.sure tree.new) 0 0) }
 {
     let parent_is_folder = has_parent(tree, path)?;
     let is_folder = is_folder(tree, path)?;
@@ -59,6 +66,8 @@ pub fn first_blocked<T: Tree>(tree: &mut T, outputs: &[Output]) -> Result<Option
         answer ≡ find (λ path. not (can_create nodes path)) (paths_of outputs.now))) }
     ensures same { T.told tree.new ≡ T.told tree.old }
     ensures ledger { Counted (T.faults tree.old) (T.faults tree.new) (is_err result) }
+    ensures sure { 0 < (T.sure tree.old).files → IsOk result }
+    ensures left { OnOk result (Leaves (T.sure tree.old) (T.sure tree.new) 0 0) }
 {
     for output in outputs {
         if !can_create(tree, &output.path)? {
@@ -76,6 +85,9 @@ fn make_all<T: Tree>(tree: &mut T, outputs: &[Output]) -> Result<Option<Path>, F
         (T.told tree.new ≡ option_map (with_empty (seen_texts outputs.now)) (T.told tree.old)) (λ path. (T.told tree.old ≡ None) × (T.told tree.new ≡ None))) }
     ensures err { OnErr result (HasMadeFront (T.told tree.old) (T.told tree.new) (seen_texts outputs.now)) }
     ensures ledger { Counted (T.faults tree.old) (T.faults tree.new) (is_err result) }
+    ensures sure { IfSome (T.told tree.old) (λ nodes. length outputs.now < (T.sure tree.old).files → IsOk result) }
+    ensures left { OnOk result (IfSome (T.told tree.old) (λ nodes. length outputs.now < (T.sure tree.old).files
+        → (0 < (T.sure tree.new).files) × ((T.sure tree.old).bytes ≤ (T.sure tree.new).bytes))) }
 {
     for output in outputs {
         if !tree.create(&output.path)? {
@@ -91,6 +103,8 @@ fn fill_all<T: Tree>(tree: &mut T, outputs: &[Output]) -> Result<(), Failed>
     ensures ok { OnOk result (T.told tree.new ≡ option_map (with_bytes (seen_texts outputs.now)) (T.told tree.old)) }
     ensures err { OnErr result (HasFilledFront (T.told tree.old) (T.told tree.new) (seen_texts outputs.now)) }
     ensures ledger { Counted (T.faults tree.old) (T.faults tree.new) (is_err result) }
+    ensures sure { IfSome (T.told tree.old) (λ nodes. 0 < (T.sure tree.old).files
+        → CanFill (T.sure tree.old).bytes (seen_texts outputs.now) nodes → IsOk result) }
 {
     for output in outputs {
         append_all(tree, &output.path, &output.bytes)?;
@@ -106,6 +120,8 @@ pub fn write_all<T: Tree>(tree: &mut T, outputs: &[Output]) -> Result<Option<Pat
         (T.told tree.new ≡ option_map (with_texts (seen_texts outputs.now)) (T.told tree.old)) (λ path. (T.told tree.old ≡ None) × (T.told tree.new ≡ None))) }
     ensures err { OnErr result (HasWrittenFront (T.told tree.old) (T.told tree.new) (seen_texts outputs.now)) }
     ensures ledger { Counted (T.faults tree.old) (T.faults tree.new) (is_err result) }
+    ensures sure { IfSome (T.told tree.old) (λ nodes. length outputs.now < (T.sure tree.old).files
+        → CanFill (T.sure tree.old).bytes (seen_texts outputs.now) (with_empty (seen_texts outputs.now) nodes) → IsOk result) }
 {
     match make_all(tree, outputs)? {
         Some(path) => Ok(Some(path)),

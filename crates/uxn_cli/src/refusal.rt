@@ -1,6 +1,6 @@
 //! Why a call ends before its work is done, and the line of a refusal.
-ghost use Rattle.std.specs.Prelude.{◌≡◌, [], ◌∷◌, ◌++◌, IfOk, IfErr};
-ghost use Rattle.uxn_io.specs.Faults.{Ledger, counts};
+ghost use Rattle.std.specs.Prelude.{◌≡◌, ◌<◌, [], ◌∷◌, ◌++◌, length, IfOk, IfErr};
+ghost use Rattle.uxn_io.specs.Faults.{Ledger, ASink, counts};
 ghost use Rattle.uxn_io.specs.Told.{extended};
 ghost use Rattle.uxn_cli.specs.Lines.{line, fault_text, line_of, status_of};
 ghost use Rattle.uxn_cli.specs.Blame.{blame_by, Stops};
@@ -112,6 +112,7 @@ impl Refusal {
         ensures ok { IfOk result (λ status. (status ≡ status_of self.now) × (E.told err.new ≡ extended (E.told err.old) (line_of self.now))) }
         ensures stops { IfErr result (Stops (E.told err.old) (E.told err.new) (line_of self.now)) }
         ensures ledger { Ledger (counts 0 0 (E.faults err.old)) (counts 0 0 (E.faults err.new)) (blame_by result) }
+        ensures sure { length (line_of self.now) < E.sure err.old → blame_by result ≡ ASink → ⊥ }
     {
         let Ok(line) = self.line(alloc) else {
             return Err(Stop::NoMemory);

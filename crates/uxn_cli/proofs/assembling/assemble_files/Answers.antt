@@ -1,12 +1,12 @@
-use Rattle.std.proofs.Common.{◌≡◌, ◌∙◌, ap, sym, inr, rules}
-use Rattle.std.specs.Prelude.{Ok, Err, Option, None, Some}
+use Rattle.std.proofs.Common.{◌≡◌, ◌∙◌, refl, sym, inr, rules}
+use Rattle.std.specs.Prelude.{Ok, Err}
 use Rattle.uxn_opcodes.specs.declared.Stop.TheVariants.{TreeFault}
 use Rattle.uxn_cli.specs.declared.commands.Accepted.{Accepted}
 use Rattle.uxn_cli.specs.declared.refusal.Halt.TheVariants.{Stopped}
-use Rattle.uxn_cli.specs.Outputs.{seen_texts, paths_of}
-use Rattle.uxn_cli.specs.Verdict.{and_then, source_in, texts_of, made_by, Work, Write}
+use Rattle.uxn_cli.specs.Verdict.{source_in, texts_of, made_by, Write}
 use Rattle.uxn_cli.proofs.VerdictLemmas.{failed_then, step_failed}
-use Rattle.uxn_cli.proofs.AssemblingLemmas.{asm_view, sees_asm, unlooked, judged-asm, can_write, is_blocked, is_cut, is_written, is_unmade}
+use Rattle.uxn_cli.proofs.AssemblingLemmas.{asm_view, sees_asm, unlooked, judged-asm, can_write, is_blocked, is_cut, is_written, is_unmade, sure_files}
+use Rattle.uxn_cli.proofs.SureLemmas.{leaves_same, never}
 use Rattle.uxn_cli.proofs.assembling.assemble_files.Goals as goal
 
 pub returns-in_err-accepted-clause-performs : goal.returns-in_err-accepted-clause-performs
@@ -52,3 +52,12 @@ returns-clause-performs g c = λ out err.
     c.in_ok-file.ensures.answer c.in_ok-accepted.ensures.follows c.in_ok-outputs.ensures out err (g.T.Tree.told c.write_all.new.tree)
     (rw (c.read_file.ensures.same, c.in-None.is, c.deref.ensures.value) at c.in_ok-path.ensures.answer)
     (rw (c.in-None-2.is, c.in_ok-path.ensures.same ∙ c.read_file.ensures.same, c.deref-in-None.ensures.value) at c.in_ok-path-in-None.ensures.ok)
+
+pub returns-in_err-path-in-None-clause-sure : goal.returns-in_err-path-in-None-clause-sure
+returns-in_err-path-in-None-clause-sure g c =
+    let sure = sure_files c.args.task.now c.requires.command (g.T.Tree.told c.args.tree.now) c.in_ok-file.file c.in_ok-accepted.accepted.source.list c.in_ok-outputs.outputs.items
+    c.in_ok-file.ensures.answer c.in_ok-accepted.ensures.follows c.in_ok-outputs.ensures _ _ _ c.requires.apart
+    (rw (c.read_file.ensures.same, c.in-None.is, c.deref.ensures.value) at c.in_ok-path.ensures.answer)
+    (leaves_same _ _ _ (c.in_ok-file.ensures.left refl) c.in_ok-path.ensures.left)
+    (rw (c.in_ok-path.ensures.same ∙ c.read_file.ensures.same, c.deref-in-None.ensures.value) at c.in_err-path-in-None.ensures.sure) in
+    never (g.T.Tree.told c.args.tree.now) _ _ _ (λ p. absurd cc) sure

@@ -1,10 +1,9 @@
-use Rattle.std.proofs.Common.{◌≡◌, ◌∙◌, true, false, rules, refl, ap, sym, subst}
+use Rattle.std.proofs.Common.{◌≡◌, ◌∙◌, true, false, rules, refl, ap}
 use Rattle.std.specs.Prelude.{Ok, Err}
 use Rattle.tal_rom.specs.Assembly.{rom_of}
 use Rattle.uxn_io.specs.ByteList.{ByteList}
 use Rattle.uxn_cli.specs.declared.commands.Accepted.{Accepted}
-use Rattle.uxn_cli.specs.Verdict.{and_then, source_in, rom_in, Work, Run}
-use Rattle.uxn_cli.specs.Follows.{Follows}
+use Rattle.uxn_cli.specs.Verdict.{and_then, source_in, rom_in, Run}
 use Rattle.uxn_cli.proofs.VerdictLemmas.{failed_then, step_failed, work_done, play_view, sees_play, judged-rom, judged-source}
 use Rattle.uxn_cli.proofs.commands.play.Goals as goal
 

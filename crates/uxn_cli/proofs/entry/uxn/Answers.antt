@@ -1,4 +1,3 @@
-use Rattle.std.proofs.Common.{rules}
 use Rattle.uxn_cli.proofs.CauseLemmas.{exactly_illegal, exactly_pathless, exactly_missing, exactly_faulty, exactly_unfit, exactly_blocked, exactly_accepted, is_untouched, is_quiet, puts_line}
 use Rattle.uxn_cli.proofs.OthersLemmas.{keeps_others}
 use Rattle.uxn_cli.proofs.entry.uxn.Goals as goal

@@ -1,7 +1,8 @@
-use Rattle.std.proofs.Common.{◌≡◌, ◌∙◌, ◌+◌, ap, inl, inr, rules}
+use Rattle.std.proofs.Common.{◌≡◌, ◌∙◌, ap, rules}
 use Rattle.std.specs.Prelude.{Err, option_map}
 use Rattle.uxn_io.specs.Changes.{with_created}
 use Rattle.uxn_cli.proofs.OutputLemmas.{made_more, can_rest, untold, made_front}
+use Rattle.uxn_cli.proofs.SureLemmas.{leaves_made}
 use Rattle.uxn_cli.proofs.outputs.make_all.Goals as goal
 
 pub returns-in_err-create-clause-err : goal.returns-in_err-create-clause-err
@@ -20,4 +21,5 @@ loop-output-preserved g c = record {
   made = made_more c.args.outputs.now c.loop-output.output-index c.output-item.result c.loop-output-test.true c.output-item.is _ _ _ c.loop-output.invariant.made c.in_ok-create.ensures.ok;
   can = can_rest c.args.outputs.now c.loop-output.output-index c.output-item.result c.loop-output-test.true c.output-item.is _ _ c.in_ok-create.ensures.ok c.loop-output.invariant.can;
   faults = c.in_ok-create.ensures.ledger ∙ c.loop-output.invariant.faults;
+  left = leaves_made c.output-item.result.path _ _ c.loop-output.output-index c.loop-output-test.true _ _ _ _ _ c.loop-output.invariant.made c.loop-output.invariant.left c.in_ok-create.ensures.left;
 }

@@ -1,3 +1,6 @@
+use Rattle.std.proofs.Common.{◌≡◌, rules}
+use Rattle.std.specs.Prelude.{Err}
+use Rattle.uxn_cli.proofs.SureLemmas.{sure_written}
 use Rattle.uxn_cli.specs.Outputs.{seen_texts}
 use Rattle.uxn_cli.proofs.ApartLemmas.{made_files, all_written}
 use Rattle.uxn_cli.proofs.outputs.write_all.Goals as goal
@@ -8,3 +11,8 @@ fill_all-requires g c = made_files (seen_texts c.args.outputs.now) (g.T.Tree.tol
 pub returns-in_ok-fill_all-in-None-clause-ok : goal.returns-in_ok-fill_all-in-None-clause-ok
 returns-in_ok-fill_all-in-None-clause-ok g c =
     all_written (seen_texts c.args.outputs.now) (g.T.Tree.told c.args.tree.now) _ _ (rw c.in-None.is at c.in_ok-path.ensures.ok) c.in_ok-fill_all-in-None.ensures.ok
+
+pub returns-in_err-fill_all-in-None-clause-sure : goal.returns-in_err-fill_all-in-None-clause-sure
+returns-in_err-fill_all-in-None-clause-sure g c =
+    let result : c.from_residual-in_err-fill_all-in-None.result ≡ Err c.in_err-fill_all-in-None.field-0.0 = search rules in
+    rw result (sure_written (seen_texts c.args.outputs.now) _ _ _ _ _ _ (rw c.in-None.is at c.in_ok-path.ensures.ok) c.in_ok-path.ensures.left c.in_err-fill_all-in-None.ensures.sure)

@@ -1,6 +1,5 @@
-use Rattle.std.proofs.Common.{◌≡◌, ◌∙◌, ◌+◌, ◌==◌, rules, tests, refl, ap, sym, drop, true, length, ℕ, ◌-◌, take, take_all, length-drop, arith}
+use Rattle.std.proofs.Common.{◌≡◌, ◌∙◌, ◌+◌, ◌==◌, rules, tests, refl, ap, sym, drop, length, ℕ, ◌-◌, take, take_all, length-drop, arith}
 use Rattle.std.specs.Prelude.{Some, None, position, option_map}
-use Rattle.std.specs.Option.{option_map_or}
 use Rattle.std.proofs.lemmas.Iterator.{YieldsList-from_slice}
 use Rattle.std.proofs.lemmas.Iterator.Search.{position_from_yields_List}
 use Rattle.uxn_cli.specs.Words.{is_plain, value_in}

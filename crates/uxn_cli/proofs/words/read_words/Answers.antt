@@ -1,5 +1,5 @@
 use Rattle.std.proofs.Common.{◌≡◌, ◌∙◌, ap, sym, map, ◌-◌, length, take, drop, string_bytes, arith}
-use Rattle.std.specs.Prelude.{Some, None, option_map}
+use Rattle.std.specs.Prelude.{Some}
 use Rattle.std.proofs.lemmas.Result.{IfOk-weaker}
 use Rattle.uxn_cli.specs.Words.{asked_with, command_of}
 use Rattle.uxn_cli.proofs.WordLemmas.{settings_at, settings_empty}

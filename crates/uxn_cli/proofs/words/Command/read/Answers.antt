@@ -1,4 +1,4 @@
-use Rattle.std.proofs.Common.{◌≡◌, ◌∙◌, map, string_bytes, sym}
+use Rattle.std.proofs.Common.{◌∙◌, map, string_bytes, sym}
 use Rattle.clap.specs.Words.{app_of}
 use Rattle.uxn_cli.proofs.WordLemmas.{read_err, read_illegal, read_ok}
 use Rattle.uxn_cli.proofs.words.Command.read.Goals as goal
