@@ -142,28 +142,6 @@ fn refuses_with_one_line(rt: HostRuntime) -> Result<(), Fail> {
     Ok(())
 }
 
-/// The source that prints A.
-const PRINTS_A: &[u8] = b"|0100 LIT \"A #18 DEO BRK";
-
-#[test]
-fn writes_what_was_asked_for(rt: HostRuntime) -> Result<(), Fail> {
-    let words = ["asm", "--listing=l", "a.tal", "--out", "o"].as_slice();
-    let given = call(&rt, words, PRINTS_A, NONE)?;
-    assert_eq!(rt; given.status, 0);
-    assert_eq!(rt; given.err.bytes(), b"".as_slice());
-    assert_eq!(rt;
-        held(&given, b"o"),
-        Some([0x80, 0x41, 0x80, 0x18, 0x17].as_slice())
-    );
-    assert_eq!(rt;
-        held(&given, b"l"),
-        Some(
-            b"0100 80  1:7 LIT\n0101 41  1:11 \"A\n0102 80 18  1:14 #18\n0104 17  1:18 DEO\n0105 00  1:22 BRK\n".as_slice()
-        )
-    );
-    Ok(())
-}
-
 #[test]
 fn prints_a_disassembly(rt: HostRuntime) -> Result<(), Fail> {
     let rom = [0x80, 0x41, 0x80, 0x18, 0x17].as_slice();
