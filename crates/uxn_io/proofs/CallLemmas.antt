@@ -6,7 +6,7 @@ use Rattle.std.specs.FinMap as map
 use Rattle.uxn_io.specs.declared.trees.Kind.TheVariants.{File as FileOf, Folder as FolderThere}
 use Rattle.uxn_io.specs.Files.{Node, File, Folder, Nodes, kind_of, kind_at, file_at, bytes_of, is_folder}
 use Rattle.uxn_io.specs.Changes.{can_create, with_created}
-use Rattle.uxn_io.proofs.AppendLemmas.{get_put}
+use Rattle.uxn_io.specs.Appending.{get_put}
 
 file_there : (node : Option Node) (n : ℕ) → FileOf n ≡ kind_of node → IsSome (bytes_of node)
 file_there None n is = cc

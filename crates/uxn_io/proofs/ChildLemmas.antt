@@ -4,7 +4,6 @@ use Rattle.std.specs.Option.{option_to_list}
 use Rattle.std.proofs.lemmas.List.{drop_more, append-nil}
 use Rattle.uxn_io.specs.declared.trees.Entry.{Entry}
 use Rattle.std.specs.List.{filter_map, cons_option}
-use Rattle.std.specs.FinMap as map
 use Rattle.uxn_io.specs.declared.memory_trees.Node.{Node as HeldNode}
 use Rattle.uxn_io.specs.Children.{children, entry_in}
 use Rattle.uxn_io.specs.Places.{entry_of, nodes_of, AreOrdered}

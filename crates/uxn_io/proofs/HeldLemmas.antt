@@ -1,5 +1,5 @@
 -- Places stay places where a file is put or taken away, and what they then stand for.
-use Rattle.std.proofs.Common.{◌≡◌, ℕ, suc, ◌+◌, ◌-◌, ◌<◌, ◌≤◌, Bool, true, false, List, [], ◌∷◌, ◌++◌, take, drop, length, get_or, set, Option, Some, None, Result, Ok, Err, refl, ap, sym, subst, ◌∙◌, arith, length-append}
+use Rattle.std.proofs.Common.{◌≡◌, ℕ, suc, ◌+◌, ◌≤◌, true, false, List, ◌∷◌, take, drop, length, get_or, set, Ok, Err, ap, sym, subst, ◌∙◌, arith}
 use Rattle.std.specs.List.{All, insert, remove}
 use Rattle.std.specs.FinMap as map
 use Rattle.std.proofs.Math.ListN.{length-set}
@@ -7,7 +7,7 @@ use Rattle.std.proofs.lemmas.List.Elements.{All-set, All-get_or, All-append, All
 use Rattle.std.proofs.lemmas.List.Edits.{length-insert, length-remove}
 use Rattle.uxn_io.specs.declared.memory_trees.Node.{Node as HeldNode}
 use Rattle.uxn_io.specs.ByteList.{HasRoom, ByteList}
-use Rattle.uxn_io.specs.Files.{Node, File, Folder, Nodes, IsTree, is_folder, has_parent}
+use Rattle.uxn_io.specs.Files.{Node, File, Nodes, IsTree, is_folder, has_parent}
 use Rattle.uxn_io.specs.PathText.{path_of}
 use Rattle.uxn_io.specs.Places.{node_of, nodes_of, place_of, AreOrdered, IsPlace, IsFree, ArePlaces}
 use Rattle.uxn_io.proofs.PlaceLemmas.{put_there, put_new, put_as, ordered_as, nodes_as, within_there, within_new, remove_nodes, remove_ordered}

@@ -1,11 +1,11 @@
 -- Looking for a path from the front of a list of nodes.
-use Rattle.std.proofs.Common.{◌≡◌, ℕ, ◌+◌, ◌<◌, ◌≤◌, Bool, cond, List, ◌∷◌, drop, length, get_or, map as list_map, Option, Some, None, ap, sym, ◌∙◌}
+use Rattle.std.proofs.Common.{◌≡◌, ℕ, ◌+◌, ◌<◌, Bool, cond, List, ◌∷◌, drop, length, get_or, map as list_map, Option, Some, ap, sym, ◌∙◌}
 use Rattle.std.specs.Ordering.{nat_cmp}
 use Rattle.std.specs.Cmp.Lexicographic.{slice_cmp, nat_list_cmp_total, lists_ties, pointwise}
 use Rattle.std.specs.Prelude.{nat_eq}
 use Rattle.std.specs.Cmp.{unsigned_ties}
 use Rattle.std.specs.FinMap as map
-use Rattle.std.proofs.lemmas.List.{drop_more, drop_all}
+use Rattle.std.proofs.lemmas.List.{drop_more}
 use Rattle.uxn_io.specs.declared.memory_trees.Node.{Node as HeldNode}
 use Rattle.uxn_io.specs.Files.{Node}
 use Rattle.uxn_io.specs.Places.{node_of, entry_of, nodes_of}

@@ -1,17 +1,11 @@
 -- What has been read of a file, chunk by chunk, and what that says of the whole.
-use Rattle.std.proofs.Common.{◌≡◌, ℕ, ◌+◌, ◌-◌, ◌<◌, ◌≤◌, List, [], ◌++◌, take, drop, length, Option, Some, None, IfSome, refl, ap, sym, subst, ◌∙◌, arith, zero, suc}
-use Rattle.std.specs.Option.{unwrap_or}
-use Rattle.std.specs.FinMap as map
+use Rattle.std.proofs.Common.{◌≡◌, ℕ, ◌+◌, ◌-◌, ◌<◌, ◌≤◌, List, ◌++◌, take, drop, length, Option, Some, None, IfSome, refl, ap, sym, subst, ◌∙◌, arith, zero, suc}
 use Rattle.std.proofs.lemmas.List.{length-append, length-take-le, length-drop, take_all}
-use Rattle.std.proofs.lemmas.Bool.{lt-ltb, le-ltb}
 use Rattle.std.proofs.Math.Seq.{take-add}
-use Rattle.uxn_io.specs.declared.trees.Kind.{Kind}
-use Rattle.uxn_io.specs.declared.trees.Kind.TheVariants.{File as FileOf}
-use Rattle.uxn_io.specs.declared.trees.FileBytes.{FileBytes}
-use Rattle.uxn_io.specs.declared.trees.FileBytes.TheVariants.{Found, Missing as NoFile, TooLong}
+use Rattle.uxn_io.specs.declared.trees.FileBytes.TheVariants.{Found}
 use Rattle.uxn_io.specs.ByteList.{ByteList, tight}
-use Rattle.uxn_io.specs.Files.{Node, File, Folder, Nodes, bytes_of, file_at, kind_of, kind_at, bytes_from, Reads}
-use Rattle.uxn_io.specs.WholeFile.{whole_file, IsAllOf}
+use Rattle.uxn_io.specs.Files.{Nodes, bytes_from, Reads}
+use Rattle.uxn_io.specs.WholeFile.{IsAllOf}
 
 -- these bytes are the first of all
 pub record IsFront (bytes all : List ℕ) : Type 0 where

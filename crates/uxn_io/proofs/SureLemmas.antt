@@ -1,12 +1,12 @@
 -- What is not listed later is not listed now.
-use Rattle.std.proofs.Common.{◌≡◌, ℕ, ◌+◌, ◌-◌, ◌<◌, ◌≤◌, Bool, true, false, ◌||◌, ◌&&◌, eqb, List, [], ◌∷◌, length, refl, ap, sym, subst, ◌∙◌, arith, min}
-use Rattle.std.specs.Prelude.{nat_le, nat_lt, ◌==◌, if◌then◌else◌}
+use Rattle.std.proofs.Common.{◌≡◌, ℕ, ◌+◌, ◌<◌, ◌≤◌, Bool, true, false, ◌&&◌, eqb, List, [], ◌∷◌, length, refl, ap, arith}
+use Rattle.std.specs.Prelude.{nat_le}
 use Rattle.std.specs.List.{list_any}
 use Rattle.std.proofs.lemmas.Bool.Decides.{nat_tests}
 use Rattle.uxn_io.specs.declared.memory_trees.TreeCall.{TreeCall}
 use Rattle.uxn_io.specs.declared.memory_trees.TreeCall.TheVariants.{Kind, Read, Create, Append, Remove, Names}
 use Rattle.uxn_io.specs.TreeInMemory.{TreeInMemory, Calls, number_of, same_call, is_listed, is_listed_later}
-use Rattle.uxn_io.specs.SinkInMemory.{SinkInMemory, sure_of, fails_at, counted, fitting, after_put}
+use Rattle.uxn_io.specs.SinkInMemory.{SinkInMemory, sure_of, fails_at}
 
 -- where a test is weaker and passes nowhere, the stronger passes nowhere
 pub any_less : {X : Type 0} (p q : X → Bool) → ((x : X) → p x ≡ true → q x ≡ true) → (xs : List X) → list_any q xs ≡ false → list_any p xs ≡ false

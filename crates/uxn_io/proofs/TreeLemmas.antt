@@ -5,9 +5,9 @@ use Rattle.std.specs.declared.cmp.Ordering.{Ordering}
 use Rattle.std.specs.declared.cmp.Ordering.TheVariants.{Less, Equal, Greater}
 use Rattle.std.specs.Cmp.Lexicographic.{slice_cmp, nat_list_cmp_total}
 use Rattle.std.specs.FinMap as map
-use Rattle.uxn_io.specs.Files.{Node, File, Folder, Nodes, IsTree, is_folder, is_folder_at, has_parent}
+use Rattle.uxn_io.specs.Files.{Node, File, Nodes, IsTree, is_folder, is_folder_at, has_parent}
 use Rattle.uxn_io.specs.PathText.{path_of, parent_of}
-use Rattle.uxn_io.proofs.AppendLemmas.{same_key}
+use Rattle.uxn_io.specs.Appending.{same_key}
 
 is_equal : (o : Ordering) → is_eq o ≡ true → o ≡ Equal
 is_equal Less e = cc

@@ -1,10 +1,10 @@
 -- What the calls of a tree change (profile).
-use Rattle.std.specs.Prelude.{◌≡◌, ℕ, ◌+◌, ◌≤◌, Bool, true, false, not, ◌&&◌, List, [], ◌∷◌, ◌++◌}
+use Rattle.std.specs.Prelude.{◌≡◌, ℕ, ◌≤◌, Bool, not, ◌&&◌, List, [], ◌∷◌, ◌++◌}
 use Rattle.std.specs.Prelude.{length, take, Option}
 use Rattle.std.specs.Prelude.{is_some, is_none, if◌then◌else◌}
 use Rattle.std.specs.Option.{option_map}
 use Rattle.std.specs.FinMap as map
-use Rattle.uxn_io.specs.Files.{Nodes, Node, File, bytes_at, file_at, is_folder, has_parent}
+use Rattle.uxn_io.specs.Files.{Nodes, File, bytes_at, file_at, is_folder, has_parent}
 
 -- a file can be created where the parent is a folder and the path is none
 abbrev pub can_create : Nodes → List ℕ → Bool

@@ -3,7 +3,6 @@ use Rattle.std.specs.Prelude.{◌≡◌, ◌≢◌, ℕ, Bool, true, false, List
 use Rattle.std.specs.List.{filter_map}
 use Rattle.std.specs.Option.{option_map}
 use Rattle.std.specs.FinMap as map
-use Rattle.uxn_io.specs.declared.trees.Kind.{Kind}
 use Rattle.uxn_io.specs.declared.trees.Kind.TheVariants.{Missing}
 use Rattle.uxn_io.specs.declared.trees.Entry.{Entry}
 use Rattle.uxn_io.specs.declared.trees.NamesStop.{NamesStop}

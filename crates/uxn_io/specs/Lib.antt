@@ -13,3 +13,4 @@ pub mod WholeFile
 pub mod SinkInMemory
 pub mod Places
 pub mod TreeInMemory
+pub mod Appending

@@ -1,5 +1,5 @@
 -- The nodes of a tree in memory: held in the order of their paths, each with room for the bytes of a file.
-use Rattle.std.specs.Prelude.{◌≡◌, ℕ, ◌+◌, ◌-◌, ◌≤◌, suc, Bool, T, List, [], ◌∷◌, ◌++◌, length}
+use Rattle.std.specs.Prelude.{◌≡◌, ℕ, ◌+◌, ◌-◌, ◌≤◌, suc, T, List, [], ◌∷◌, ◌++◌, length}
 use Rattle.std.specs.Prelude.{map as list_map, Option}
 use Rattle.std.specs.Prelude.{Result, Ok, Err, Some, None, if◌then◌else◌, refl}
 use Rattle.std.specs.List.{All}

@@ -1,19 +1,16 @@
 -- A tree in memory, call by call.
 use Rattle.std.specs.Prelude.{◌≡◌, ℕ, zero, suc, ◌+◌, ◌-◌, ◌==◌, ◌&&◌, ◌||◌, Bool, true, false}
 use Rattle.std.specs.Prelude.{nat_le, nat_lt, min}
-use Rattle.std.specs.Prelude.{List, [], ◌++◌, length, take, drop, count_by, Option, Some, None, Result, Ok, Err}
+use Rattle.std.specs.Prelude.{List, ◌++◌, length, take, drop, count_by, Option, Some, Result, Ok, Err}
 use Rattle.std.specs.Prelude.{is_some, refl, if◌then◌else◌}
 use Rattle.std.specs.List.{list_any, list_all}
 use Rattle.std.specs.Str.{bytes_eq}
-use Rattle.std.specs.FinMap as map
 use Rattle.std.specs.Coded.{Coded, code_by, coded×, coded_ℕ, coded_list}
 use Rattle.uxn_io.specs.declared.sinks.Failed.{Failed}
-use Rattle.uxn_io.specs.declared.trees.Kind.{Kind as KindThere}
-use Rattle.uxn_io.specs.declared.trees.Entry.{Entry}
 use Rattle.uxn_io.specs.declared.memory_trees.Node.{Node as HeldNode}
 use Rattle.uxn_io.specs.declared.memory_trees.TreeCall.{TreeCall}
 use Rattle.uxn_io.specs.declared.memory_trees.TreeCall.TheVariants.{Kind, Read, Create, Append, Remove, Names}
-use Rattle.uxn_io.specs.Files.{Nodes, kind_at, file_at, bytes_at, bytes_from, has_parent}
+use Rattle.uxn_io.specs.Files.{Nodes, file_at, bytes_at, bytes_from, has_parent}
 use Rattle.uxn_io.specs.Changes.{makes_file, with_created, new_files, with_appended, with_removed}
 use Rattle.uxn_io.specs.Places.{Places, nodes_of, places_code}
 use Rattle.uxn_io.specs.Room.{Room}

@@ -1,4 +1,4 @@
-use Rattle.std.proofs.Common.{◌≡◌, ◌-◌, ap, ◌∙◌, arith}
+use Rattle.std.proofs.Common.{◌-◌, ap, ◌∙◌, arith}
 use Rattle.uxn_io.specs.ByteList.{ByteList}
 use Rattle.uxn_io.proofs.SoundLemmas.{copied}
 use Rattle.uxn_io.proofs.places.copies.Goals as goal

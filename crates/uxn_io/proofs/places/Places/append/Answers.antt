@@ -1,4 +1,4 @@
-use Rattle.std.proofs.Common.{◌≡◌, ℕ, ◌+◌, ◌-◌, ◌<◌, ◌≤◌, min, take, List, [], ◌∷◌, ◌++◌, Ok, Err, IsSome, is_some, false, length, vec_len, vec_capacity, refl, ap, sym, subst, ◌∙◌, arith}
+use Rattle.std.proofs.Common.{◌≡◌, ℕ, ◌-◌, ◌≤◌, take, List, [], Ok, IsSome, is_some, false, length, vec_len, vec_capacity, ap, sym, ◌∙◌, arith}
 use Rattle.std.proofs.lemmas.List.{length-take-le}
 use Rattle.uxn_io.specs.declared.memory_trees.Node.{Node as HeldNode}
 use Rattle.uxn_io.specs.Files.{file_at, bytes_at}
