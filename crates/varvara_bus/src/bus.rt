@@ -14,6 +14,8 @@ use crate::devices::{
     stored_short,
 };
 use crate::ports::{Action, Source};
+use crate::screen::{ask_height, ask_width, draw_pixel, draw_sprite, size_shown};
+use crate::voices::{start_note, voice_shown};
 use console_port::console_write;
 use input_ports::Input;
 use system_port::{debug_text, expansion};
@@ -82,7 +84,7 @@ impl<'a, T: Tree, O: Sink, E: Sink> Bus<'a, T, O, E> {
     /// The byte last stored in a port.
     pub fn stored(&self, port: u8) -> u8
         ensures held { result ≡ held self.now port }
-        ensures stored { (state : DeviceState) → BusStandsFor self.now state → result ≡ stored state.history port }
+        ensures stored { (state : DeviceState) → BusStandsFor T.told self.now state → result ≡ stored state.history port }
     {
         stored(self.devices, port)
     }
@@ -90,15 +92,15 @@ impl<'a, T: Tree, O: Sink, E: Sink> Bus<'a, T, O, E> {
     /// The short in a port and the next one, its high byte first.
     pub fn stored_short(&self, port: u8) -> u16
         requires { port < 255 }
-        ensures { (state : DeviceState) → BusStandsFor self.now state → result ≡ stored_short state.history port }
+        ensures { (state : DeviceState) → BusStandsFor T.told self.now state → result ≡ stored_short state.history port }
     {
         stored_short(self.devices, port)
     }
 
     /// Stores a byte in a port, without acting.
     pub fn store(&mut self, port: u8, value: u8)
-        ensures devices { (state : DeviceState) → BusStandsFor self.old state
-            → BusStandsFor self.new (storing ((port, value) ∷ []) state) }
+        ensures devices { (state : DeviceState) → BusStandsFor T.told self.old state
+            → BusStandsFor T.told self.new (storing ((port, value) ∷ []) state) }
         ensures others { ChangesDevices self.old self.new }
         ensures frames { frames_begun self.new ≡ frames_begun self.old }
     {
@@ -107,8 +109,8 @@ impl<'a, T: Tree, O: Sink, E: Sink> Bus<'a, T, O, E> {
 
     /// Stores an event of the console: its byte in port 12 and its kind in port 17.
     pub fn give(&mut self, value: u8, kind: u8)
-        ensures devices { (state : DeviceState) → BusStandsFor self.old state
-            → BusStandsFor self.new (storing ((0x12, value) ∷ (0x17, kind) ∷ []) state) }
+        ensures devices { (state : DeviceState) → BusStandsFor T.told self.old state
+            → BusStandsFor T.told self.new (storing ((0x12, value) ∷ (0x17, kind) ∷ []) state) }
         ensures others { ChangesDevices self.old self.new }
         ensures frames { frames_begun self.new ≡ frames_begun self.old }
     {
@@ -117,8 +119,8 @@ impl<'a, T: Tree, O: Sink, E: Sink> Bus<'a, T, O, E> {
 
     /// Stores an input at its ports, as its vector finds them.
     pub fn apply(&mut self, input: &Input)
-        ensures devices { (state : DeviceState) → BusStandsFor self.old state
-            → BusStandsFor self.new (storing (stores_of (stored state.history) input.now) state) }
+        ensures devices { (state : DeviceState) → BusStandsFor T.told self.old state
+            → BusStandsFor T.told self.new (storing (stores_of (stored state.history) input.now) state) }
         ensures others { ChangesDevices self.old self.new }
         ensures frames { frames_begun self.new ≡ frames_begun self.old }
     {
@@ -127,8 +129,8 @@ impl<'a, T: Tree, O: Sink, E: Sink> Bus<'a, T, O, E> {
 
     /// Stores 0 at the ports of an input that are 0 again after its vector.
     pub fn settle(&mut self, input: &Input)
-        ensures devices { (state : DeviceState) → BusStandsFor self.old state
-            → BusStandsFor self.new (storing (stores_after input.now) state) }
+        ensures devices { (state : DeviceState) → BusStandsFor T.told self.old state
+            → BusStandsFor T.told self.new (storing (stores_after input.now) state) }
         ensures others { ChangesDevices self.old self.new }
         ensures frames { frames_begun self.new ≡ frames_begun self.old }
     {
@@ -138,7 +140,7 @@ impl<'a, T: Tree, O: Sink, E: Sink> Bus<'a, T, O, E> {
     /// Counts a frame that begins.
     pub fn frame_begins(&mut self)
         requires { frames_begun self.old < 1000000 }
-        ensures devices { (state : DeviceState) → BusStandsFor self.old state → BusStandsFor self.new (next_frame state) }
+        ensures devices { (state : DeviceState) → BusStandsFor T.told self.old state → BusStandsFor T.told self.new (next_frame state) }
         ensures others { ChangesDevices self.old self.new }
         ensures frames { frames_begun self.new ≡ frames_begun self.old + 1 }
     {
@@ -148,7 +150,7 @@ impl<'a, T: Tree, O: Sink, E: Sink> Bus<'a, T, O, E> {
     /// How many frames have begun.
     pub fn frames(&self) -> u32
         ensures begun { result ≡ frames_begun self.now }
-        ensures frames { (state : DeviceState) → BusStandsFor self.now state → result ≡ state.frames }
+        ensures frames { (state : DeviceState) → BusStandsFor T.told self.now state → result ≡ state.frames }
     {
         self.devices.time.frames
     }
@@ -167,6 +169,8 @@ impl<'a, T: Tree, O: Sink, E: Sink> Ports for Bus<'a, T, O, E> {
             Source::Stored => stored(self.devices, port),
             Source::WorkingPointer => core.working.pointer(),
             Source::ReturnPointer => core.returns.pointer(),
+            Source::ScreenSize(part) => size_shown(self.devices, part),
+            Source::VoiceShows(voice, part) => voice_shown(self.devices, voice, part),
             Source::Shows(part) => shown(self.devices, part),
             Source::Zero => 0,
         }
@@ -207,6 +211,26 @@ impl<'a, T: Tree, O: Sink, E: Sink> Bus<'a, T, O, E> {
             Action::PutsDebugText => { answer(put_debug_text(core, self.err, value)) }
             Action::PutsOut => answer(console_write(self.out, self.err, 0x18, value)),
             Action::PutsErr => answer(console_write(self.out, self.err, 0x19, value)),
+            Action::AsksWidth => {
+                ask_width(self.devices);
+                Ok(())
+            }
+            Action::AsksHeight => {
+                ask_height(self.devices);
+                Ok(())
+            }
+            Action::DrawsPixel => {
+                draw_pixel(self.devices, value);
+                Ok(())
+            }
+            Action::DrawsSprite => {
+                draw_sprite(self.devices, &core.memory, value);
+                Ok(())
+            }
+            Action::StartsNote(voice) => {
+                start_note(self.devices, voice);
+                Ok(())
+            }
         }
     }
 }

@@ -30,7 +30,7 @@ use Rattle.vector_loop.specs.Run.{give_each, ConsoleByte, console_byte, argument
 use Rattle.vector_loop.specs.Follows.{Running, running, state_of, Follows, FollowsFrom, FallsShortFrom, Ends, EndsFrom, HasGrown, HasRoom}
 use Rattle.vector_loop.specs.Answers.{Telling, Done, Stopped, Answers}
 use Rattle.vector_loop.proofs.Trails.{followed_by-again, followed_by-at}
-use Rattle.vector_loop.proofs.Events.{follows-then, short-then, short-at-first, follows-as, short-as, follows-nothing, over, not-over, Prepared, follows-prepared, short-prepared}
+use Rattle.vector_loop.proofs.Events.{follows-then, short-then, short-at-first, follows-as, short-as, follows-nothing, over, not-over, Prepared, follows-prepared, short-prepared, files-kept}
 
 -- a part and nothing more
 stays-after : (part : Trail) → followed_by part stays ≡ part
@@ -209,6 +209,7 @@ module _ {T O E W H : Type 0} (telling : Telling T O E W H) where
     grown = grown-none now.tally budget;
     faults = refl;
     lent = record { devices = refl; tree = refl; out = refl; err = refl };
+    files = record { stays = λ path there. there };
     frames = omega arith;
   }
 
@@ -219,6 +220,7 @@ module _ {T O E W H : Type 0} (telling : Telling T O E W H) where
     grown = grown-both a.tally b.tally c.tally b1 g1 b2 g2 budget p.grown q.grown;
     faults = q.faults ∙ p.faults;
     lent = lent-both a.bus b.bus c.bus p.lent q.lent;
+    files = record { stays = λ path there. q.files.stays path (p.files.stays path there) };
     frames = omega (arith, p.frames, q.frames);
   }
 
@@ -245,6 +247,7 @@ module _ {T O E W H : Type 0} (telling : Telling T O E W H) where
     grown = p.grown;
     faults = p.faults;
     lent = p.lent;
+    files = p.files;
     frames = p.frames;
   }
 
@@ -262,11 +265,12 @@ module _ {T O E W H : Type 0} (telling : Telling T O E W H) where
     grown = grown-within a.tally b.tally b1 g1 b2 g2 budget p q d.grown;
     faults = d.faults;
     lent = d.lent;
+    files = d.files;
     frames = omega (arith, d.frames, q);
   }
 
   -- where the run is over, and where it is not
-  pub done-over : (now : Running T O E W) (rest : State → Trail) (byte begun given budget : ℕ) → ((devices : DeviceState) → BusStandsFor now.bus devices → byte ≡ stored devices.history 0x0f) → byte ≢ 0
+  pub done-over : (now : Running T O E W) (rest : State → Trail) (byte begun given budget : ℕ) → ((devices : DeviceState) → BusStandsFor telling.tree now.bus devices → byte ≡ stored devices.history 0x0f) → byte ≢ 0
       → Done telling now now (unless_over rest) begun given budget
   done-over now rest byte begun given budget is some = done-within now now (unless_over rest) 0 0 begun given budget (omega arith) (omega arith) (record {
     follows = follows-as telling.tree telling.out telling.err telling.held telling.shown now now (unless_over rest) stays (λ devices stands. over rest (state_of now devices) byte (is devices stands) some)
@@ -274,20 +278,22 @@ module _ {T O E W H : Type 0} (telling : Telling T O E W H) where
     grown = grown-none now.tally budget;
     faults = refl;
     lent = record { devices = refl; tree = refl; out = refl; err = refl };
+    files = record { stays = λ path there. there };
     frames = omega arith;
   })
 
-  pub done-not_over : (a b : Running T O E W) (rest : State → Trail) (byte begun given budget : ℕ) → ((devices : DeviceState) → BusStandsFor a.bus devices → byte ≡ stored devices.history 0x0f) → byte ≡ 0
+  pub done-not_over : (a b : Running T O E W) (rest : State → Trail) (byte begun given budget : ℕ) → ((devices : DeviceState) → BusStandsFor telling.tree a.bus devices → byte ≡ stored devices.history 0x0f) → byte ≡ 0
       → Done telling a b rest begun given budget → Done telling a b (unless_over rest) begun given budget
   done-not_over a b rest byte begun given budget is none d = record {
     follows = follows-as telling.tree telling.out telling.err telling.held telling.shown a b (unless_over rest) rest (λ devices stands. not-over rest (state_of a devices) byte (is devices stands) none) d.follows;
     grown = d.grown;
     faults = d.faults;
     lent = d.lent;
+    files = d.files;
     frames = d.frames;
   }
 
-  pub stopped-not_over : (a b : Running T O E W) (rest : State → Trail) (byte : ℕ) (stop : Stop) → ((devices : DeviceState) → BusStandsFor a.bus devices → byte ≡ stored devices.history 0x0f) → byte ≡ 0
+  pub stopped-not_over : (a b : Running T O E W) (rest : State → Trail) (byte : ℕ) (stop : Stop) → ((devices : DeviceState) → BusStandsFor telling.tree a.bus devices → byte ≡ stored devices.history 0x0f) → byte ≡ 0
       → Stopped telling a b rest stop → Stopped telling a b (unless_over rest) stop
   stopped-not_over a b rest byte stop is none d = record {
     short = short-as telling.tree telling.out telling.err telling.held telling.shown a b (unless_over rest) rest (λ devices stands. not-over rest (state_of a devices) byte (is devices stands) none) d.short;
@@ -397,6 +403,7 @@ module _ {T O E W H : Type 0} (telling : Telling T O E W H) where
     grown = done.grown;
     faults = done.faults ∙ same_faults bus middle prepared.others;
     lent = lent-both bus middle now.bus prepared.others.lent done.lent;
+    files = record { stays = λ path there. done.files.stays path ((files-kept telling.tree bus middle prepared.others).stays path there) };
     frames = omega (arith, done.frames, frames);
   }
 
@@ -438,7 +445,7 @@ module _ {T O E W H : Type 0} (telling : Telling T O E W H) where
 
   -- the end was shown, or not
   pub ends-run : (ended : H → Core → List ℕ → Moment → H) (before now : Running T O E W) (part : State → Trail) (watcher_new : W) → FollowsFrom telling.tree telling.out telling.err telling.held telling.shown before now part
-      → ((page : List ℕ) → IsPage (Reads now.bus now.core) page → telling.held watcher_new ≡ ended (telling.held now.watcher) now.core page (record { instructions = now.tally.instructions; address = now.core.at }))
+      → ((page : List ℕ) → IsPage (Reads telling.tree now.bus now.core) page → telling.held watcher_new ≡ ended (telling.held now.watcher) now.core page (record { instructions = now.tally.instructions; address = now.core.at }))
       → EndsFrom telling.tree telling.out telling.err telling.held telling.shown ended before (running now.core now.bus now.tally watcher_new) part
   ends-run ended before now part watcher_new follows shown_end = record {
     from = λ devices stands.
@@ -449,7 +456,7 @@ module _ {T O E W H : Type 0} (telling : Telling T O E W H) where
           devices = f.devices;
           tally = f.tally;
           world = f.world;
-          watcher = shown_end (ports_read 256 (state_of now last.devices)) (is_page now.bus (state_of now last.devices) f.devices)
+          watcher = shown_end (ports_read 256 (state_of now last.devices)) (is_page telling.tree now.bus (state_of now last.devices) f.devices)
               ∙ ap (λ h. ended h now.core (ports_read 256 (state_of now last.devices)) (moment_of (state_of now last.devices))) f.watcher
               ∙ ap (λ (s : State). ended (shown_all telling.shown (telling.held before.watcher) (part (state_of before devices)).moments) s.core (ports_read 256 s) (moment_of s))
               (reached telling.tree telling.out telling.err telling.held telling.shown before now (part (state_of before devices)) f);

@@ -7,7 +7,7 @@ use Rattle.uxn_opcodes.specs.declared.Core.{Core}
 use Rattle.uxn_opcodes.specs.declared.Stop.{Stop}
 use Rattle.uxn_opcodes.specs.declared.Stop.TheVariants.{NoMemory}
 use Rattle.uxn_opcodes.specs.Ports.{blame_of}
-use Rattle.varvara_bus.specs.Bus.{SameLent, frames_begun, bus_faults}
+use Rattle.varvara_bus.specs.Bus.{SameLent, FilesStay, frames_begun, bus_faults}
 use Rattle.vector_loop.specs.declared.watch.Moment.{Moment}
 use Rattle.vector_loop.specs.State.{State}
 use Rattle.vector_loop.specs.Trail.{Trail}
@@ -36,6 +36,7 @@ module _ {T O E W H : Type 0} (telling : Telling T O E W H) where
     pub grown : HasGrown before.tally now.tally begun given budget
     pub faults : faults_of now.bus ≡ faults_of before.bus
     pub lent : SameLent before.bus now.bus
+    pub files : FilesStay (telling.tree before.bus.tree.now) (telling.tree now.bus.tree.now)
     pub frames : frames_begun now.bus ≤ frames_begun before.bus + given
 
   -- a part stopped: a front of it was done, and who is to blame counted a fault

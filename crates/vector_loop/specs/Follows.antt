@@ -50,7 +50,7 @@ module _ {T O E W H : Type 0} (told_tree : T → Option Nodes) (told_out : O →
   -- all of a trail was done: the last state is reached, the changes are made, and the watcher was shown all moments
   pub record Follows (before now : Running T O E W) (trail : Trail) : Type 0 where
     pub core : now.core ≡ trail.last.core
-    pub devices : BusStandsFor now.bus trail.last.devices
+    pub devices : BusStandsFor told_tree now.bus trail.last.devices
     pub tally : now.tally ≡ trail.last.tally
     pub world : world_of told_tree told_out told_err now.bus ≡ changed_by (world_of told_tree told_out told_err before.bus) trail.changes
     pub watcher : held now.watcher ≡ shown_all shown (held before.watcher) trail.moments
@@ -62,19 +62,19 @@ module _ {T O E W H : Type 0} (told_tree : T → Option Nodes) (told_out : O →
 
   -- the same from each state that the bus stood for
   pub record FollowsFrom (before now : Running T O E W) (part : State → Trail) : Type 0 where
-    pub from : (devices : DeviceState) → BusStandsFor before.bus devices → Follows before now (part (state_of before devices))
+    pub from : (devices : DeviceState) → BusStandsFor told_tree before.bus devices → Follows before now (part (state_of before devices))
 
   pub record FallsShortFrom (before now : Running T O E W) (part : State → Trail) : Type 0 where
-    pub from : (devices : DeviceState) → BusStandsFor before.bus devices → FallsShort before now (part (state_of before devices))
+    pub from : (devices : DeviceState) → BusStandsFor told_tree before.bus devices → FallsShort before now (part (state_of before devices))
 
   -- all of a run was done, and the watcher was shown its end
   pub record Ends (ended : H → Core → List ℕ → Moment → H) (before now : Running T O E W) (trail : Trail) : Type 0 where
     pub core : now.core ≡ trail.last.core
-    pub devices : BusStandsFor now.bus trail.last.devices
+    pub devices : BusStandsFor told_tree now.bus trail.last.devices
     pub tally : now.tally ≡ trail.last.tally
     pub world : world_of told_tree told_out told_err now.bus ≡ changed_by (world_of told_tree told_out told_err before.bus) trail.changes
     pub watcher : held now.watcher ≡ ended (shown_all shown (held before.watcher) trail.moments) trail.last.core
         (ports_read 256 trail.last) (moment_of trail.last)
 
   pub record EndsFrom (ended : H → Core → List ℕ → Moment → H) (before now : Running T O E W) (part : State → Trail) : Type 0 where
-    pub from : (devices : DeviceState) → BusStandsFor before.bus devices → Ends ended before now (part (state_of before devices))
+    pub from : (devices : DeviceState) → BusStandsFor told_tree before.bus devices → Ends ended before now (part (state_of before devices))

@@ -3,7 +3,7 @@ ghost use Rattle.std.specs.Prelude.{◌≡◌, ◌+◌, ◌*◌, ◌^◌, ◌<�
 ghost use Rattle.play_script.specs.declared.script.Event.TheVariants as events;
 ghost use Rattle.uxn_io.specs.Faults.{Ledger};
 ghost use Rattle.uxn_opcodes.specs.Ports.{blame_of};
-ghost use Rattle.varvara_bus.specs.Bus.{SameLent, SameBus, frames_begun, bus_faults};
+ghost use Rattle.varvara_bus.specs.Bus.{SameLent, SameBus, FilesStay, frames_begun, bus_faults};
 ghost use Rattle.vector_loop.specs.Event.{vector_in, console, device, frame, give};
 ghost use Rattle.vector_loop.specs.Follows.{running, FollowsFrom, FallsShortFrom, HasGrown};
 
@@ -61,7 +61,7 @@ fn run_vector_in<'a, T: Tree, O: Sink, E: Sink, W: Watcher>(
     ensures grown { HasGrown tally.old tally.new 1 0 budget }
     ensures ledger { Ledger (bus_faults T.faults O.faults E.faults bus.old) (bus_faults T.faults O.faults E.faults bus.new) (blame_of result) }
     ensures memory { IfErr result (λ stop. stop ≡ Stop.NoMemory → W.may_refuse) }
-    ensures same { SameBus bus.old bus.new }
+    ensures same { SameBus T.told bus.old bus.new }
 {
     let at = bus.stored_short(port);
     if at == 0 {
@@ -94,7 +94,7 @@ pub(crate) fn give_console<'a, T: Tree, O: Sink, E: Sink, W: Watcher>(
     ensures grown { HasGrown tally.old tally.new 1 0 budget }
     ensures ledger { Ledger (bus_faults T.faults O.faults E.faults bus.old) (bus_faults T.faults O.faults E.faults bus.new) (blame_of result) }
     ensures memory { IfErr result (λ stop. stop ≡ Stop.NoMemory → W.may_refuse) }
-    ensures same { SameBus bus.old bus.new }
+    ensures same { SameBus T.told bus.old bus.new }
 {
     bus.give(byte, kind);
     match run_vector_in(core, bus, CONSOLE_VECTOR, budget, tally, watcher) {
@@ -123,7 +123,7 @@ fn give_device<'a, T: Tree, O: Sink, E: Sink, W: Watcher>(
     ensures grown { HasGrown tally.old tally.new 1 0 budget }
     ensures ledger { Ledger (bus_faults T.faults O.faults E.faults bus.old) (bus_faults T.faults O.faults E.faults bus.new) (blame_of result) }
     ensures memory { IfErr result (λ stop. stop ≡ Stop.NoMemory → W.may_refuse) }
-    ensures same { SameBus bus.old bus.new }
+    ensures same { SameBus T.told bus.old bus.new }
 {
     bus.apply(input);
     match run_vector_in(core, bus, vector_port(input), budget, tally, watcher) {
@@ -158,6 +158,7 @@ fn give_frame<'a, T: Tree, O: Sink, E: Sink, W: Watcher>(
     ensures ledger { Ledger (bus_faults T.faults O.faults E.faults bus.old) (bus_faults T.faults O.faults E.faults bus.new) (blame_of result) }
     ensures memory { IfErr result (λ stop. stop ≡ Stop.NoMemory → W.may_refuse) }
     ensures lent { SameLent bus.old bus.new }
+    ensures files { FilesStay (T.told bus.old.tree.now) (T.told bus.new.tree.now) }
     ensures begun { frames_begun bus.new ≤ frames_begun bus.old + 1 }
 {
     bus.frame_begins();
@@ -200,6 +201,7 @@ pub fn run_event<'a, T: Tree, O: Sink, E: Sink, W: Watcher>(
     ensures ledger { Ledger (bus_faults T.faults O.faults E.faults bus.old) (bus_faults T.faults O.faults E.faults bus.new) (blame_of result) }
     ensures memory { IfErr result (λ stop. stop ≡ Stop.NoMemory → W.may_refuse) }
     ensures lent { SameLent bus.old bus.new }
+    ensures files { FilesStay (T.told bus.old.tree.now) (T.told bus.new.tree.now) }
     ensures begun { frames_begun bus.new ≤ frames_begun bus.old + 1 }
 {
     tally.events += 1;

@@ -238,8 +238,8 @@ fn give_events<'a, T: Tree, O: Sink, E: Sink, W: Watcher>(
 
 /// Tells the program by port 17 whether arguments will come.
 fn make_ready<'a, T: Tree, O: Sink, E: Sink>(bus: &mut Bus<'a, T, O, E>, arguments: &[Bytes])
-    ensures devices { (state : DeviceState) → BusStandsFor bus.old state
-        → BusStandsFor bus.new (storing (made_ready (bytes_in arguments.now)) state) }
+    ensures devices { (state : DeviceState) → BusStandsFor T.told bus.old state
+        → BusStandsFor T.told bus.new (storing (made_ready (bytes_in arguments.now)) state) }
     ensures others { ChangesDevices bus.old bus.new }
     ensures frames { frames_begun bus.new ≡ frames_begun bus.old }
 {

@@ -12,6 +12,7 @@ returns-in-Ok g c = done-not_over _ _ _ (console c.args.budget c.args.byte c.arg
   grown = c.in-Ok.ensures.grown;
   faults = c.in-Ok.ensures.ledger;
   lent = c.in-Ok.ensures.same.lent;
+  files = c.in-Ok.ensures.same.files;
   frames = omega (arith, c.in-Ok.ensures.same.frames);
 })
 

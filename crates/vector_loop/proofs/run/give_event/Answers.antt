@@ -11,6 +11,7 @@ returns-in-Ok g c = done-not_over _ _ _ (give c.args.budget c.args.event.now) c.
   grown = c.in-Ok.ensures.grown;
   faults = c.in-Ok.ensures.ledger;
   lent = c.in-Ok.ensures.lent;
+  files = c.in-Ok.ensures.files;
   frames = c.in-Ok.ensures.begun;
 })
 

@@ -58,7 +58,7 @@ returns-in-Err-give_arguments-clause-err g c =
     (done-prepared _ _ _ _ _ _ _ (with_stored (made_ready c.args.script.now.arguments)) (vector c.args.budget 0x0100) 1 0 c.args.budget
     (record { devices = rw c.args-2.ensures at c.make_ready.ensures.devices; state = λ devices. refl; others = c.make_ready.ensures.others; watcher = refl })
     c.make_ready.ensures.frames
-    (record { follows = c.in-Ok.ensures.ok; grown = c.in-Ok.ensures.grown; faults = c.in-Ok.ensures.ledger; lent = c.in-Ok.ensures.same.lent; frames = omega (arith, c.in-Ok.ensures.same.frames) }))
+    (record { follows = c.in-Ok.ensures.ok; grown = c.in-Ok.ensures.grown; faults = c.in-Ok.ensures.ledger; lent = c.in-Ok.ensures.same.lent; files = c.in-Ok.ensures.same.files; frames = omega (arith, c.in-Ok.ensures.same.frames) }))
     (rw c.args-3.ensures at c.in-Err-give_arguments.ensures)).short
 
 pub give_events-requires-clause-room : goal.give_events-requires-clause-room
@@ -86,7 +86,7 @@ returns-in-Err-give_events-clause-err g c =
     (done-prepared _ _ _ _ _ _ _ (with_stored (made_ready c.args.script.now.arguments)) (vector c.args.budget 0x0100) 1 0 c.args.budget
     (record { devices = rw c.args-2.ensures at c.make_ready.ensures.devices; state = λ devices. refl; others = c.make_ready.ensures.others; watcher = refl })
     c.make_ready.ensures.frames
-    (record { follows = c.in-Ok.ensures.ok; grown = c.in-Ok.ensures.grown; faults = c.in-Ok.ensures.ledger; lent = c.in-Ok.ensures.same.lent; frames = omega (arith, c.in-Ok.ensures.same.frames) }))
+    (record { follows = c.in-Ok.ensures.ok; grown = c.in-Ok.ensures.grown; faults = c.in-Ok.ensures.ledger; lent = c.in-Ok.ensures.same.lent; files = c.in-Ok.ensures.same.files; frames = omega (arith, c.in-Ok.ensures.same.frames) }))
     (rw c.args-3.ensures at c.in-Ok-give_arguments.ensures)
     (rw c.events.ensures at c.in-Err-give_events.ensures)).short
 
@@ -107,7 +107,7 @@ returns-in_default-clause-err g c =
     (done-prepared _ _ _ _ _ _ _ (with_stored (made_ready c.args.script.now.arguments)) (vector c.args.budget 0x0100) 1 0 c.args.budget
     (record { devices = rw c.args-2.ensures at c.make_ready.ensures.devices; state = λ devices. refl; others = c.make_ready.ensures.others; watcher = refl })
     c.make_ready.ensures.frames
-    (record { follows = c.in-Ok.ensures.ok; grown = c.in-Ok.ensures.grown; faults = c.in-Ok.ensures.ledger; lent = c.in-Ok.ensures.same.lent; frames = omega (arith, c.in-Ok.ensures.same.frames) }))
+    (record { follows = c.in-Ok.ensures.ok; grown = c.in-Ok.ensures.grown; faults = c.in-Ok.ensures.ledger; lent = c.in-Ok.ensures.same.lent; files = c.in-Ok.ensures.same.files; frames = omega (arith, c.in-Ok.ensures.same.frames) }))
     (rw c.args-3.ensures at c.in-Ok-give_arguments.ensures)
     (rw c.events.ensures at c.in-Ok-give_events.ensures)).follows
 
@@ -128,7 +128,7 @@ returns-clause-ok g c =
     (done-prepared _ _ _ _ _ _ _ (with_stored (made_ready c.args.script.now.arguments)) (vector c.args.budget 0x0100) 1 0 c.args.budget
     (record { devices = rw c.args-2.ensures at c.make_ready.ensures.devices; state = λ devices. refl; others = c.make_ready.ensures.others; watcher = refl })
     c.make_ready.ensures.frames
-    (record { follows = c.in-Ok.ensures.ok; grown = c.in-Ok.ensures.grown; faults = c.in-Ok.ensures.ledger; lent = c.in-Ok.ensures.same.lent; frames = omega (arith, c.in-Ok.ensures.same.frames) }))
+    (record { follows = c.in-Ok.ensures.ok; grown = c.in-Ok.ensures.grown; faults = c.in-Ok.ensures.ledger; lent = c.in-Ok.ensures.same.lent; files = c.in-Ok.ensures.same.files; frames = omega (arith, c.in-Ok.ensures.same.frames) }))
     (rw c.args-3.ensures at c.in-Ok-give_arguments.ensures)
     (rw c.events.ensures at c.in-Ok-give_events.ensures)).follows
     c.in-Ok-finish.ensures.ok
