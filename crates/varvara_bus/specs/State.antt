@@ -2,7 +2,7 @@
 use Rattle.std.specs.Prelude.{◌≡◌, ℕ, List, [], ◌∷◌, ◌+◌, Option, slice_index}
 use Rattle.screen_layers.specs.Pictures.{Picture, new_picture}
 use Rattle.screen_layers.specs.Layers.{StandsFor as ScreenStandsFor}
-use Rattle.audio_mixer.specs.Sounds.{Sound, Silence}
+use Rattle.audio_mixer.specs.Sounds.{Sound, Silence, later}
 use Rattle.audio_mixer.specs.Voices.{StandsFor as MixerStandsFor}
 use Rattle.varvara_bus.specs.declared.time.Clock.{Clock}
 use Rattle.varvara_bus.specs.declared.devices.Devices.{Devices}
@@ -36,6 +36,10 @@ storing stores state = record state { history = stored_after state.history store
 -- one more frame has begun
 abbrev pub next_frame : DeviceState → DeviceState
 next_frame state = record state { frames = state.frames + 1 }
+
+-- a frame of samples was rendered: 735 of each voice
+abbrev pub rendered : DeviceState → DeviceState
+rendered state = record state { sounds = λ voice. later 735 (state.sounds voice) }
 
 -- the clock that devices hold
 abbrev pub clock_of : Devices → Clock

@@ -1,25 +1,43 @@
 //! The bus: what the machine's ports are.
-ghost use Rattle.std.specs.Prelude.{◌≡◌, ◌+◌, ◌<◌, [], ◌∷◌, Err, OnOk, OnErr, IfErr, is_err};
-ghost use Rattle.varvara_bus.specs.State.{DeviceState, storing, next_frame};
+ghost use Rattle.std.specs.Prelude.{◌≡◌, ◌+◌, ◌<◌, [], ◌∷◌, map, Err, OnOk, OnErr, IfErr, is_err};
+ghost use Rattle.varvara_bus.specs.State.{DeviceState, storing, next_frame, rendered};
+ghost use Rattle.screen_frame.specs.Colours.{colours_of};
+ghost use Rattle.screen_layers.specs.Layers as layers;
+ghost use Rattle.audio_mixer.specs.Sounds.{frame_of, endings};
 ghost use Rattle.input_ports.specs.Page.{stores_of, stores_after};
-ghost use Rattle.varvara_bus.specs.History.{stored, stored_short};
+ghost use Rattle.varvara_bus.specs.History.{stored, stored_short, colour_bytes};
 ghost use Rattle.uxn_io.specs.Faults.{Counted, Ledger};
 ghost use Rattle.uxn_opcodes.specs.Ports.{blame_of};
 ghost use Rattle.uxn_io.specs.Told.{extended, HasTakenFront};
+ghost use Rattle.uxn_io.specs.Outside.{ToFile, changed_by, IsCutOff};
 ghost use Rattle.varvara_bus.specs.Effect.{debug_bytes};
-ghost use Rattle.varvara_bus.specs.Bus.{BusStandsFor, ChangesDevices, held, frames_begun, bus_faults, Acted, ActStopped};
+ghost use Rattle.varvara_bus.specs.Bus.{
+  BusStandsFor,
+  SameBus,
+  ChangesDevices,
+  IsFileWhereTold,
+  held,
+  frames_begun,
+  bus_faults,
+  world_of,
+  Acted,
+  ActStopped,
+};
 
 use crate::devices::{
     Devices, apply as apply_to, give as give_to, settle as settle_to, shown, store, stored,
     stored_short,
 };
 use crate::ports::{Action, Source};
-use crate::screen::{ask_height, ask_width, draw_pixel, draw_sprite, size_shown};
-use crate::voices::{start_note, voice_shown};
+use crate::screen::{ask_height, ask_width, draw_pixel, draw_sprite, palette, size_shown};
+use crate::voices::{render, start_note, voice_shown};
 use console_port::console_write;
 use input_ports::Input;
+use screen_frame::Palette;
+use screen_layers::Screen;
 use system_port::{debug_text, expansion};
-use uxn_io::{Failed, Sink, Tree, put_all};
+use uxn_io::{Failed, Path, Sink, Tree, append_all, put_all};
+use uxn_memory::Memory;
 use uxn_opcodes::{Core, Ports, Stop};
 
 /// The devices of a machine over a tree of files and two outputs.
@@ -153,6 +171,52 @@ impl<'a, T: Tree, O: Sink, E: Sink> Bus<'a, T, O, E> {
         ensures frames { (state : DeviceState) → BusStandsFor T.told self.now state → result ≡ state.frames }
     {
         self.devices.time.frames
+    }
+
+    /// The screen.
+    pub fn screen(&self) -> &Screen
+        ensures { (state : DeviceState) → BusStandsFor T.told self.now state → layers.StandsFor result.now state.picture }
+    {
+        &self.devices.screen
+    }
+
+    /// The four colours that ports 08 to 0d hold.
+    pub fn palette(&self) -> Palette
+        ensures { (state : DeviceState) → BusStandsFor T.told self.now state → result.colours ≡ colours_of (colour_bytes state.history) }
+    {
+        palette(self.devices)
+    }
+
+    /// Renders a frame: 735 pairs of samples, left then right, and true for each voice whose note ended in it.
+    pub fn audio_frame(&mut self, memory: &Memory, into: &mut [i16; 1470]) -> [bool; 4]
+        ensures frame { (state : DeviceState) → BusStandsFor T.told self.old state → into.new ≡ frame_of memory.now state.sounds }
+        ensures ends { (state : DeviceState) → BusStandsFor T.told self.old state → result ≡ endings 735 state.sounds }
+        ensures devices { (state : DeviceState) → BusStandsFor T.told self.old state → BusStandsFor T.told self.new (rendered state) }
+        ensures others { ChangesDevices self.old self.new }
+        ensures frames { frames_begun self.new ≡ frames_begun self.old }
+    {
+        render(self.devices, memory, into)
+    }
+
+    /// Appends the whole piece to the file at the path. After `TreeFault` a front of it was appended.
+    pub fn append(&mut self, path: &Path, piece: &[u8]) -> Result<(), Stop>
+        requires { IsFileWhereTold (T.told self.old.tree.now) path.now }
+        ensures ok { OnOk result (world_of T.told O.told E.told self.new
+            ≡ changed_by (world_of T.told O.told E.told self.old) (map (λ byte. ToFile path.now byte) piece.now)) }
+        ensures err { OnErr result (result ≡ Err Stop.TreeFault) }
+        ensures cut { OnErr result (IsCutOff (world_of T.told O.told E.told self.old) (world_of T.told O.told E.told self.new)
+            (map (λ byte. ToFile path.now byte) piece.now)) }
+        ensures ledger { Ledger (bus_faults T.faults O.faults E.faults self.old) (bus_faults T.faults O.faults E.faults self.new) (blame_of result) }
+
+        // The devices stay as they are, and each file that was there is there still.
+        ensures devices { self.new.devices.now ≡ self.old.devices.now }
+        ensures stands { (state : DeviceState) → BusStandsFor T.told self.old state → BusStandsFor T.told self.new state }
+        ensures same { SameBus T.told self.old self.new }
+    {
+        match append_all(self.tree, path, piece) {
+            Ok(()) => Ok(()),
+            Err(Failed) => Err(Stop::TreeFault),
+        }
     }
 }
 

@@ -2,10 +2,13 @@
 ghost use Rattle.std.specs.Prelude.{◌≡◌, ◌<◌};
 ghost use Rattle.varvara_bus.specs.State.{DeviceState, StandFor, clock_of};
 ghost use Rattle.varvara_bus.specs.Reads.{size_byte};
+ghost use Rattle.screen_frame.specs.Colours.{colours_of};
+ghost use Rattle.varvara_bus.specs.History.{colour_bytes};
 ghost use Rattle.varvara_bus.specs.Effect.{width_asked, height_asked, pixel_drawn, sprite_drawn};
 
 use crate::devices::{Devices, store_short, stored, stored_short};
 use crate::ports::SizePart;
+use screen_frame::Palette;
 use uxn_memory::Memory;
 
 /// The port of the width, a short.
@@ -51,6 +54,20 @@ pub(crate) fn size_shown(devices: &Devices, part: SizePart) -> u8
         SizePart::HeightHigh => (height_of(devices) / 256) as u8,
         SizePart::HeightLow => (height_of(devices) % 256) as u8,
     }
+}
+
+/// The four colours that are stored.
+pub(crate) fn palette(devices: &Devices) -> Palette
+    ensures { (state : DeviceState) → StandFor devices.now state → result.colours ≡ colours_of (colour_bytes state.history) }
+{
+    Palette::of(&[
+        stored(devices, 0x08),
+        stored(devices, 0x09),
+        stored(devices, 0x0a),
+        stored(devices, 0x0b),
+        stored(devices, 0x0c),
+        stored(devices, 0x0d),
+    ])
 }
 
 /// Asks the screen for the width that is stored, with the height that it has.

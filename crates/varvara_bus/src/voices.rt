@@ -1,12 +1,14 @@
 //! The ports of the voices.
 ghost use Rattle.std.specs.Prelude.{◌≡◌, ◌≤◌};
-ghost use Rattle.varvara_bus.specs.State.{DeviceState, StandFor, clock_of};
+ghost use Rattle.audio_mixer.specs.Sounds.{frame_of, endings};
+ghost use Rattle.varvara_bus.specs.State.{DeviceState, StandFor, clock_of, rendered};
 ghost use Rattle.varvara_bus.specs.Voices.{number_of, note_at, voice_byte};
 ghost use Rattle.varvara_bus.specs.Effect.{note_started};
 
 use crate::devices::{Devices, stored, stored_short};
 use crate::ports::{Voice, VoicePart};
 use audio_mixer::Start;
+use uxn_memory::Memory;
 
 /// The note that is stored at the ports of a voice, the first of which is given.
 fn note_at(devices: &Devices, base: u8) -> Start
@@ -45,4 +47,17 @@ pub(crate) fn voice_shown(devices: &Devices, voice: Voice, part: VoicePart) -> u
         VoicePart::PositionLow => (devices.mixer.position(voice) % 256) as u8,
         VoicePart::Output => devices.mixer.output(voice),
     }
+}
+
+/// Renders a frame of samples, and says which voices' notes ended in it.
+pub(crate) fn render(devices: &mut Devices, memory: &Memory, into: &mut [i16; 1470]) -> [bool; 4]
+    ensures frame { (state : DeviceState) → StandFor devices.old state → into.new ≡ frame_of memory.now state.sounds }
+    ensures ends { (state : DeviceState) → StandFor devices.old state → result ≡ endings 735 state.sounds }
+    ensures stands { (state : DeviceState) → StandFor devices.old state → StandFor devices.new (rendered state) }
+    ensures page { devices.new.page ≡ devices.old.page }
+    ensures frames { devices.new.time.frames ≡ devices.old.time.frames }
+    ensures clock { clock_of devices.new ≡ clock_of devices.old }
+    ensures root { devices.new.root ≡ devices.old.root }
+{
+    devices.mixer.render(memory, into)
 }
