@@ -7,6 +7,7 @@ use Rattle.uxn_opcodes.specs.declared.Core.{Core}
 use Rattle.uxn_opcodes.specs.declared.Stop.{Stop}
 use Rattle.uxn_opcodes.specs.declared.Stop.TheVariants.{NoMemory}
 use Rattle.uxn_opcodes.specs.Ports.{Rules}
+use Rattle.screen_layers.specs.Layers.{Layers}
 use Rattle.varvara_bus.specs.declared.bus.Bus.{Bus}
 use Rattle.varvara_bus.specs.State.{DeviceState, StandFor, clock_of}
 use Rattle.varvara_bus.specs.Reads.{read_of}
@@ -46,6 +47,10 @@ held bus port = slice_index bus.devices.now.page port
 
 abbrev pub frames_begun : {T O E : Type 0} → Bus T O E → ℕ
 frames_begun bus = bus.devices.now.time.frames
+
+-- the screen, as the bus holds it
+abbrev pub screen_of : {T O E : Type 0} → Bus T O E → Layers
+screen_of bus = bus.devices.now.screen
 
 -- nothing but what the devices stand for changes
 pub record ChangesDevices {T O E : Type 0} (before now : Bus T O E) : Type 0 where

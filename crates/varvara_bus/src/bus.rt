@@ -18,6 +18,7 @@ ghost use Rattle.varvara_bus.specs.Bus.{
   IsFileWhereTold,
   held,
   frames_begun,
+  screen_of,
   bus_faults,
   world_of,
   Acted,
@@ -175,7 +176,8 @@ impl<'a, T: Tree, O: Sink, E: Sink> Bus<'a, T, O, E> {
 
     /// The screen.
     pub fn screen(&self) -> &Screen
-        ensures { (state : DeviceState) → BusStandsFor T.told self.now state → layers.StandsFor result.now state.picture }
+        ensures held { result.now ≡ screen_of self.now }
+        ensures screen { (state : DeviceState) → BusStandsFor T.told self.now state → layers.StandsFor result.now state.picture }
     {
         &self.devices.screen
     }

@@ -11,6 +11,7 @@ use Rattle.varvara_bus.specs.declared.bus.Bus.{Bus}
 use Rattle.varvara_bus.specs.History.{Store, stored, stored_short}
 use Rattle.varvara_bus.specs.State.{DeviceState, storing, next_frame}
 use Rattle.varvara_bus.specs.Bus.{ChangesDevices, FilesStay, BusStandsFor, world_of}
+use Rattle.vector_loop.specs.declared.output.Outputs.{Outputs}
 use Rattle.vector_loop.specs.declared.tally.Tally.{Tally}
 use Rattle.vector_loop.specs.declared.watch.Moment.{Moment}
 use Rattle.play_script.specs.declared.script.Event.{Event}
@@ -171,23 +172,23 @@ module _ {T O E W H : Type 0} (told_tree : T → Option Nodes) (told_out : O →
     watcher = refl;
   }
 
-  give-is : (budget : ℕ) (event : Event) (state : State) → give budget event state ≡ happens budget event (with_counted event state)
+  give-is : (budget : ℕ) (outputs : Outputs) (event : Event) (state : State) → give budget outputs event state ≡ happens budget outputs event (with_counted event state)
   unfolding give
-  give-is budget event state = refl
+  give-is budget outputs event state = refl
 
-  pub follows-given : (core : Core) (bus : Bus T O E) (tally : Tally) (watcher : W) (now : Running T O E W) (budget : ℕ) (event : Event)
-      → FollowsFrom told_tree told_out told_err held shown (running core bus (counting_event event tally) watcher) now (happens budget event)
-      → FollowsFrom told_tree told_out told_err held shown (running core bus tally watcher) now (give budget event)
-  follows-given core bus tally watcher now budget event follows =
-      follows-as (running core bus tally watcher) now (give budget event) (λ s. happens budget event (with_counted event s)) (λ devices stands. give-is budget event (state_of (running core bus tally watcher) devices))
-      (follows-prepared (running core bus tally watcher) (running core bus (counting_event event tally) watcher) now (with_counted event) (happens budget event) (counted core bus tally watcher event) follows)
+  pub follows-given : (core : Core) (bus : Bus T O E) (tally : Tally) (watcher : W) (now : Running T O E W) (budget : ℕ) (outputs : Outputs) (event : Event)
+      → FollowsFrom told_tree told_out told_err held shown (running core bus (counting_event event tally) watcher) now (happens budget outputs event)
+      → FollowsFrom told_tree told_out told_err held shown (running core bus tally watcher) now (give budget outputs event)
+  follows-given core bus tally watcher now budget outputs event follows =
+      follows-as (running core bus tally watcher) now (give budget outputs event) (λ s. happens budget outputs event (with_counted event s)) (λ devices stands. give-is budget outputs event (state_of (running core bus tally watcher) devices))
+      (follows-prepared (running core bus tally watcher) (running core bus (counting_event event tally) watcher) now (with_counted event) (happens budget outputs event) (counted core bus tally watcher event) follows)
 
-  pub short-given : (core : Core) (bus : Bus T O E) (tally : Tally) (watcher : W) (now : Running T O E W) (budget : ℕ) (event : Event)
-      → FallsShortFrom told_tree told_out told_err held shown (running core bus (counting_event event tally) watcher) now (happens budget event)
-      → FallsShortFrom told_tree told_out told_err held shown (running core bus tally watcher) now (give budget event)
-  short-given core bus tally watcher now budget event short =
-      short-as (running core bus tally watcher) now (give budget event) (λ s. happens budget event (with_counted event s)) (λ devices stands. give-is budget event (state_of (running core bus tally watcher) devices))
-      (short-prepared (running core bus tally watcher) (running core bus (counting_event event tally) watcher) now (with_counted event) (happens budget event) (counted core bus tally watcher event) short)
+  pub short-given : (core : Core) (bus : Bus T O E) (tally : Tally) (watcher : W) (now : Running T O E W) (budget : ℕ) (outputs : Outputs) (event : Event)
+      → FallsShortFrom told_tree told_out told_err held shown (running core bus (counting_event event tally) watcher) now (happens budget outputs event)
+      → FallsShortFrom told_tree told_out told_err held shown (running core bus tally watcher) now (give budget outputs event)
+  short-given core bus tally watcher now budget outputs event short =
+      short-as (running core bus tally watcher) now (give budget outputs event) (λ s. happens budget outputs event (with_counted event s)) (λ devices stands. give-is budget outputs event (state_of (running core bus tally watcher) devices))
+      (short-prepared (running core bus tally watcher) (running core bus (counting_event event tally) watcher) now (with_counted event) (happens budget outputs event) (counted core bus tally watcher event) short)
 
   pub follows-device : (before middle now : Running T O E W) (budget : ℕ) (input : Input)
       → FollowsFrom told_tree told_out told_err held shown before middle (λ s. vector_in budget (vector_of input) (applying input s)) → FollowsFrom told_tree told_out told_err held shown middle now (settling input)

@@ -1,5 +1,5 @@
 -- What it is for a machine, its bus, a tally and a watcher to follow a trail.
-use Rattle.std.specs.Prelude.{◌≡◌, ℕ, ◌+◌, ◌*◌, ◌^◌, ◌≤◌, List, Option}
+use Rattle.std.specs.Prelude.{◌≡◌, ℕ, ◌+◌, ◌*◌, ◌≤◌, List, Option}
 use Rattle.uxn_io.specs.Files.{Nodes}
 use Rattle.uxn_io.specs.Outside.{World, changed_by, IsCutOff}
 use Rattle.uxn_opcodes.specs.declared.Core.{Core}
@@ -36,14 +36,14 @@ pub record HasGrown (before now : Tally) (begun given budget : ℕ) : Type 0 whe
   pub shots : now.shots ≤ before.shots + given
   pub later : before.instructions ≤ now.instructions
 
--- so many more vectors, each of at most so many instructions, and so many events can be counted
-pub record HasRoom (tally : Tally) (begun given budget : ℕ) : Type 0 where
-  pub instructions : tally.instructions + begun * budget ≤ 2 ^ 61
-  pub vectors : tally.vectors + begun ≤ 2 ^ 61
-  pub cuts : tally.cuts + begun ≤ 2 ^ 61
-  pub events : tally.events + given ≤ 2 ^ 61
-  pub frames : tally.frames + given ≤ 2 ^ 61
-  pub shots : tally.shots + given ≤ 2 ^ 61
+-- so many more vectors, each of at most so many instructions, and so many events can be counted up to a limit
+pub record HasRoom (limit : ℕ) (tally : Tally) (begun given budget : ℕ) : Type 0 where
+  pub instructions : tally.instructions + begun * budget ≤ limit
+  pub vectors : tally.vectors + begun ≤ limit
+  pub cuts : tally.cuts + begun ≤ limit
+  pub events : tally.events + given ≤ limit
+  pub frames : tally.frames + given ≤ limit
+  pub shots : tally.shots + given ≤ limit
 
 module _ {T O E W H : Type 0} (told_tree : T → Option Nodes) (told_out : O → Option (List ℕ)) (told_err : E
     → Option (List ℕ)) (held : W → H) (shown : H → Core → List ℕ → Moment → H) where
