@@ -1,6 +1,6 @@
 -- What one more store changes: the port that it goes to, and no other; and what new devices hold.
 use Rattle.std.specs.Prelude.{◌≡◌, ◌≢◌, ℕ, ◌/◌, ◌%◌, ◌<◌, ◌==◌, Bool, true, false, List, [], ◌∷◌, Option}
-use Rattle.std.specs.Prelude.{length, replicate, slice_index, slice_set, refl, if◌then◌else◌}
+use Rattle.std.specs.Prelude.{Some, None, IfSome, IsSome, length, replicate, slice_index, slice_set, refl, if◌then◌else◌}
 use Rattle.std.proofs.Common.{ap, sym, ◌∙◌, arith, inl, inr, lit<}
 use Rattle.std.proofs.lemmas.Bool.{cases_lt}
 use Rattle.std.proofs.lemmas.Bool.Decides.{nat_tests}
@@ -9,6 +9,10 @@ use Rattle.std.proofs.lemmas.List.{get_or_past, get_or-replicate, length-replica
 use Rattle.input_ports.specs.declared.Input.{Input}
 use Rattle.input_ports.specs.declared.Input.TheVariants.{Key, Down, Up, Mouse, Press, Release, Scroll}
 use Rattle.input_ports.specs.Page.{with_bits, without_bits, stores_of, stores_after, with_stores}
+use Rattle.std.specs.FinMap as nodes_map
+use Rattle.uxn_io.specs.declared.trees.Kind.TheVariants.{File as FileOf}
+use Rattle.uxn_io.specs.Files.{Node, Nodes, File, Folder, bytes_of, kind_of, kind_at}
+use Rattle.varvara_bus.specs.Bus.{IsFileWhereTold}
 use Rattle.varvara_bus.specs.declared.devices.Devices.{Devices}
 use Rattle.varvara_bus.specs.History.{Store, History, at_first, stored}
 use Rattle.uxn_opcodes.specs.declared.Core.{Core}
@@ -173,3 +177,13 @@ pub same_reads : (devices : Devices) (a b : DeviceState) (core : Core) (port : �
     → read_of a core port ≡ read_of b core port
 unfolding read_of
 same_reads devices a b core port s t = same_from (source_of port) devices a b core port s t
+
+-- where a tree told of a file, a file is there
+file_there : (node : Option Node) (size : ℕ) → FileOf size ≡ kind_of node → IsSome (bytes_of node)
+file_there None size is = cc
+file_there (Some (File bytes)) size is = refl
+file_there (Some Folder) size is = cc
+
+pub told_file : (told : Option Nodes) (path : List ℕ) (size : ℕ) → IfSome told (λ nodes. FileOf size ≡ kind_at nodes path) → IsFileWhereTold told path
+told_file None path size is = tt
+told_file (Some nodes) path size is = file_there (nodes_map.get nodes path) size is
