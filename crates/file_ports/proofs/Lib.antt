@@ -1,0 +1,4 @@
+pub mod MemoryLemmas
+pub mod NameLemmas
+pub mod SignLemmas
+pub mod ReadLemmas
