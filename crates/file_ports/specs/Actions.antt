@@ -9,6 +9,7 @@ use Rattle.uxn_io.specs.declared.trees.Kind.TheVariants.{Missing, File, Folder}
 use Rattle.uxn_io.specs.declared.trees.Entry.{Entry}
 use Rattle.uxn_io.specs.Files.{Nodes, kind_at, bytes_at, is_folder, has_parent}
 use Rattle.uxn_io.specs.Children.{children}
+use Rattle.uxn_io.specs.Changes.{can_create}
 use Rattle.uxn_io.specs.Outside.{Change, Creates, ToFile, Removes}
 use Rattle.uxn_memory.specs.Bytes.{with_bytes}
 use Rattle.file_ports.specs.declared.mode.Mode.{Mode}
@@ -54,6 +55,16 @@ seen_in root part parent path = record {
   bytes = bytes_at part path;
   entries = children part path;
   can_make = can_make_in root part parent path;
+}
+
+-- what a device sees of a whole tree
+abbrev pub seen_of : Nodes → List ℕ → Seen
+seen_of nodes path = record {
+  path = path;
+  kind = kind_at nodes path;
+  bytes = bytes_at nodes path;
+  entries = children nodes path;
+  can_make = can_create nodes path;
 }
 
 -- a value of the success port, and no change
@@ -110,14 +121,15 @@ is_file Missing = false
 is_file (File size) = true
 is_file Folder = false
 
--- a write goes on where the device is writing, or is to keep a file that is there; else it makes its file empty. Or it cannot.
-abbrev pub begun : Mode → Bool → Seen → Option (List Change)
-begun mode keep seen =
-    if (is_writing mode || keep) && is_file seen.kind then Some []
-    else if not (is_writing mode) && seen.can_make then Some (Creates seen.path ∷ [])
+-- a writing device goes on with its file, and one that keeps its file with the one that is there; else the file is made empty
+-- first. What is done to begin, if it can begin
+abbrev pub begun : Bool → Bool → Seen → Option (List Change)
+begun goes_on keep seen =
+    if (goes_on || keep) && is_file seen.kind then Some []
+    else if not goes_on && seen.can_make then Some (Creates seen.path ∷ [])
     else None
 
--- bytes of memory are then added to the file
+-- bytes of memory are added to the file, where a write can begin
 abbrev pub adds : List ℕ → List ℕ → List ℕ → Option (List Change) → Outcome
 adds path memory piece None = quiet 0 (idle_at (Some path)) memory
 adds path memory piece (Some first) = record {
@@ -130,7 +142,7 @@ adds path memory piece (Some first) = record {
 abbrev pub writes : ℕ → ℕ → Bool → FileState → List ℕ → Option Seen → Outcome
 writes at count keep device memory None = quiet 0 device memory
 writes at count keep device memory (Some seen) =
-    adds seen.path memory (take count (drop at memory)) (begun device.mode keep seen)
+    adds seen.path memory (take count (drop at memory)) (begun (is_writing device.mode) keep seen)
 
 -- a stat puts signs in memory, and tells their number where something is there (profile); the device goes on as before
 abbrev pub stat_success : Kind → ℕ → ℕ

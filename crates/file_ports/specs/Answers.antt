@@ -1,17 +1,15 @@
 -- What a call of a file device answers, and what it leaves.
-use Rattle.std.specs.Prelude.{◌≡◌, ℕ, ◌++◌, Bool, true, false, List, Option, Some, None, IfSome, Result, Ok, Err, length}
+use Rattle.std.specs.Prelude.{◌≡◌, ℕ, ◌++◌, Bool, true, false, List, [], Option, Some, None, IfSome, Result, Ok, Err, length, is_some}
 use Rattle.std.specs.FinMap as map
 use Rattle.uxn_io.specs.declared.trees.Kind.TheVariants.{Folder}
-use Rattle.uxn_io.specs.Files.{Nodes, kind_at, bytes_at}
-use Rattle.uxn_io.specs.Children.{children}
-use Rattle.uxn_io.specs.Changes.{can_create}
+use Rattle.uxn_io.specs.Files.{Nodes, kind_at}
 use Rattle.uxn_io.specs.Outside.{Change}
 use Rattle.uxn_memory.specs.Bytes.{with_bytes}
 use Rattle.file_ports.specs.declared.stop.FileStop.{FileStop}
 use Rattle.file_ports.specs.declared.stop.FileStop.TheVariants.{TreeFault, NoMemory}
 use Rattle.file_ports.specs.RootPart.{below, parent_is_folder, files_by}
 use Rattle.file_ports.specs.Device.{FileState, Suits, is_reading}
-use Rattle.file_ports.specs.Actions.{FileAction, Outcome, Seen, act}
+use Rattle.file_ports.specs.Actions.{FileAction, Outcome, act}
 
 -- the answer, the device and memory are those of an outcome
 pub record Answers (outcome : Outcome) (result : Result ℕ FileStop) (device_now : FileState) (memory_now : List ℕ) : Type 0 where
@@ -61,17 +59,17 @@ pub record TakesNames (device : FileState) (before : Option Nodes) : Type 0 wher
   pub looks : is_reading device.mode ≡ false
   pub folder : IfSome before (λ nodes. IfSome device.path (λ path. kind_at nodes path ≡ Folder))
 
--- what a device sees of a whole tree
-abbrev pub seen_of : Nodes → List ℕ → Seen
-seen_of nodes path = record {
-  path = path;
-  kind = kind_at nodes path;
-  bytes = bytes_at nodes path;
-  entries = children nodes path;
-  can_make = can_create nodes path;
-}
-
 -- a piece was put in memory, and its length is told
 pub record GivesPiece (piece before : List ℕ) (at taken : ℕ) (now : List ℕ) : Type 0 where
   pub count : taken ≡ length piece
   pub memory : now ≡ with_bytes before at piece
+
+-- the changes of what begins, and then more; of what does not begin none
+abbrev pub and_then : Option (List Change) → List Change → List Change
+and_then None more = []
+and_then (Some first) more = first ++ more
+
+-- whether a write began, and the changes that it has made
+pub record Adds (first : Option (List Change)) (more : List Change) (goes : Bool) (before : Nodes) (now : Option Nodes) : Type 0 where
+  pub begins : goes ≡ is_some first
+  pub told : now ≡ Some (files_by before (and_then first more))

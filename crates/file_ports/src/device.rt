@@ -1,5 +1,5 @@
 //! A file device.
-ghost use Rattle.std.specs.Prelude.{◌≡◌, ℕ, ◌+◌, ◌≤◌, None, Err, IfSome, OnOk, OnErr, is_err};
+ghost use Rattle.std.specs.Prelude.{◌≡◌, ℕ, ◌+◌, ◌≤◌, List, None, Err, IfSome, OnOk, OnErr, is_err};
 ghost use Rattle.std.specs.Option.{option_copied};
 ghost use Rattle.uxn_io.specs.Faults.{Counted};
 ghost use Rattle.file_ports.specs.Device.{idle_at, Suits};
@@ -12,11 +12,11 @@ use crate::names::path_named;
 use crate::reading::{read_on, reading};
 use crate::signs::put_signs;
 use crate::stop::FileStop;
-use crate::writing::begin;
+use crate::writing::add;
 use std::alloc::Global;
 use std::marker::Model;
 use std::mem;
-use uxn_io::{Kind, Path, Tree, append_all};
+use uxn_io::{Kind, Path, Tree};
 use uxn_memory::Memory;
 
 /// A file device: the path that was named, if there is one, and what it is doing.
@@ -45,7 +45,9 @@ fn count_from(at: u16, length: u16) -> u16
 
 impl FileDevice {
     /// A device without a path. It takes no memory.
-    pub fn new(alloc: Global) -> FileDevice {
+    pub fn new(alloc: Global) -> FileDevice
+        ensures { result ≡ idle_at None }
+    {
         FileDevice {
             alloc,
             path: None,
@@ -53,20 +55,34 @@ impl FileDevice {
         }
     }
 
-    /// Takes the name at an address.
-    pub fn name(&mut self, memory: &Memory, at: u16, root: Option<&Path>) {
+    /// Takes the name at an address: its path beneath the root, or none. The device does nothing then. The
+    /// success is 0.
+    pub fn name(&mut self, memory: &Memory, at: u16, root: Option<&Path>)
+        ensures named { self.new ≡ idle_at (path_named (option_copied root.entry) memory.now at) }
+        ensures suits { Suits (option_copied root.entry) self.new }
+    {
         self.path = path_named(memory, at, root);
         self.mode = Mode::Idle;
     }
 
-    /// Reads.
+    /// Puts bytes of the file, or of the folder's listing, in memory, and answers how many. After a stop the
+    /// device does nothing.
     pub fn read<T: Tree>(
         &mut self,
         tree: &mut T,
         memory: &mut Memory,
         at: u16,
         length: u16,
-    ) -> Result<u16, FileStop> {
+    ) -> Result<u16, FileStop>
+        ensures ok { OnOk result (Acted (Read at length) self.old memory.old (T.told tree.old) (T.told tree.new) result self.new memory.new) }
+        ensures nowhere { ActedNowhere (Read at length) self.old memory.old result self.new memory.new }
+        ensures untouched { self.old.path ≡ None → tree.new ≡ tree.old }
+        ensures same { T.told tree.new ≡ T.told tree.old }
+        ensures names { result ≡ Err FileStop.NoMemory → TakesNames self.old (T.told tree.old) }
+        ensures stopped { OnErr result (self.new ≡ idle_at self.old.path) }
+        ensures path { self.new.path ≡ self.old.path }
+        ensures ledger { Counted (T.faults tree.old) (T.faults tree.new) (has_failed result) }
+    {
         match self.path {
             Some(path) => {
                 let mode = mem::replace(&mut self.mode, Mode::Idle);
@@ -80,7 +96,8 @@ impl FileDevice {
         }
     }
 
-    /// Writes.
+    /// Adds bytes of memory to the file, and answers how many: to one that is made empty first, unless the device is
+    /// writing already, or is to keep a file that is there. After a stop the device does nothing.
     pub fn write<T: Tree>(
         &mut self,
         tree: &mut T,
@@ -88,15 +105,24 @@ impl FileDevice {
         at: u16,
         length: u16,
         keep: bool,
-    ) -> Result<u16, FileStop> {
+    ) -> Result<u16, FileStop>
+        ensures ok { OnOk result (Acted (Write at length keep) self.old memory.now (T.told tree.old) (T.told tree.new) result self.new memory.now) }
+        ensures err { OnErr result (CutOff (Write at length keep) self.old memory.now (T.told tree.old) (T.told tree.new)) }
+        ensures nowhere { ActedNowhere (Write at length keep) self.old memory.now result self.new memory.now }
+        ensures untouched { self.old.path ≡ None → tree.new ≡ tree.old }
+        ensures fault { OnErr result (result ≡ Err FileStop.TreeFault) }
+        ensures stopped { OnErr result (self.new ≡ idle_at self.old.path) }
+        ensures path { self.new.path ≡ self.old.path }
+        ensures ledger { Counted (T.faults tree.old) (T.faults tree.new) (has_failed result) }
+    {
         match self.path {
             Some(path) => {
-                let mode = mem::replace(&mut self.mode, Mode::Idle);
-                if !begin(tree, &path, matches!(mode, Mode::Writing), keep)? {
+                let is_writing = self.mode.is_writing();
+                self.mode = Mode::Idle;
+                let piece = memory.slice(at, count_from(at, length));
+                if !add(tree, &path, piece, is_writing, keep)? {
                     return Ok(0);
                 }
-                let piece = memory.slice(at, length);
-                append_all(tree, &path, piece)?;
                 self.mode = Mode::Writing;
                 Ok(piece.len() as u16)
             }
@@ -104,28 +130,42 @@ impl FileDevice {
         }
     }
 
-    /// Stats.
+    /// Puts signs for what is there in memory, and answers their number, or 0 where nothing is there.
     pub fn stat<T: Tree>(
         &mut self,
         tree: &mut T,
         memory: &mut Memory,
         at: u16,
         length: u16,
-    ) -> Result<u16, FileStop> {
+    ) -> Result<u16, FileStop>
+        ensures ok { OnOk result (Acted (Stat at length) self.old memory.old (T.told tree.old) (T.told tree.new) result self.new memory.new) }
+        ensures nowhere { ActedNowhere (Stat at length) self.old memory.old result self.new memory.new }
+        ensures untouched { self.old.path ≡ None → tree.new ≡ tree.old }
+        ensures same { T.told tree.new ≡ T.told tree.old }
+        ensures fault { OnErr result (result ≡ Err FileStop.TreeFault) }
+        ensures stopped { OnErr result (memory.new ≡ memory.old) }
+        ensures device { self.new ≡ self.old }
+        ensures ledger { Counted (T.faults tree.old) (T.faults tree.new) (has_failed result) }
+    {
         let count = count_from(at, length);
-        let kind = match self.path {
-            Some(path) => tree.kind(&path)?,
-            None => Kind::Missing,
-        };
-        put_signs(memory, at, count, kind);
-        match kind {
-            Kind::Missing => Ok(0),
-            Kind::File(_) | Kind::Folder => Ok(count),
+        if let Some(path) = self.path {
+            let kind = tree.kind(&path)?;
+            return Ok(put_signs(memory, at, count, kind));
         }
+        Ok(put_signs(memory, at, count, Kind::Missing))
     }
 
-    /// Deletes.
-    pub fn delete<T: Tree>(&mut self, tree: &mut T) -> Result<u16, FileStop> {
+    /// Takes the file away, and answers 1, or 0 where none is there. The device does nothing then.
+    pub fn delete<T: Tree>(&mut self, tree: &mut T) -> Result<u16, FileStop>
+        ensures ok { OnOk result ((memory : List ℕ) → Acted Delete self.old memory (T.told tree.old) (T.told tree.new) result self.new memory) }
+        ensures err { OnErr result ((memory : List ℕ) → CutOff Delete self.old memory (T.told tree.old) (T.told tree.new)) }
+        ensures nowhere { (memory : List ℕ) → ActedNowhere Delete self.old memory result self.new memory }
+        ensures untouched { self.old.path ≡ None → tree.new ≡ tree.old }
+        ensures fault { OnErr result (result ≡ Err FileStop.TreeFault) }
+        ensures stopped { OnErr result (self.new ≡ idle_at self.old.path) }
+        ensures path { self.new.path ≡ self.old.path }
+        ensures ledger { Counted (T.faults tree.old) (T.faults tree.new) (has_failed result) }
+    {
         match self.path {
             Some(path) => {
                 self.mode = Mode::Idle;

@@ -1,4 +1,7 @@
 //! What a file device is doing.
+ghost use Rattle.std.specs.Prelude.{◌≡◌};
+ghost use Rattle.file_ports.specs.Device.{is_writing};
+
 use crate::listing::Listing;
 
 /// What a device is doing.
@@ -12,4 +15,16 @@ pub(crate) enum Mode {
     ReadingListing(u64, Listing),
     /// It writes the file at its path.
     Writing,
+}
+
+impl Mode {
+    /// Whether it writes.
+    pub(crate) fn is_writing(&self) -> bool
+        ensures { result ≡ is_writing self.now }
+    {
+        match self {
+            Mode::Writing => true,
+            Mode::Idle | Mode::ReadingFile(_) | Mode::ReadingListing(..) => false,
+        }
+    }
 }

@@ -5,8 +5,8 @@ ghost use Rattle.uxn_io.specs.Files.{bytes_from, kind_at};
 ghost use Rattle.uxn_io.specs.Children.{children};
 ghost use Rattle.file_ports.specs.Device.{is_reading};
 ghost use Rattle.file_ports.specs.Listing.{listing_of};
-ghost use Rattle.file_ports.specs.Actions.{looked, reading, given, moved};
-ghost use Rattle.file_ports.specs.Answers.{has_failed, seen_of, GivesPiece};
+ghost use Rattle.file_ports.specs.Actions.{seen_of, looked, reading, given, moved};
+ghost use Rattle.file_ports.specs.Answers.{has_failed, GivesPiece};
 
 use crate::listing::Listing;
 use crate::mode::Mode;

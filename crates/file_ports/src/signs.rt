@@ -3,6 +3,7 @@ ghost use Rattle.std.specs.Prelude.{◌≡◌, ◌+◌, ◌%◌, ◌^◌, ◌≤
 ghost use Rattle.uxn_io.specs.NumberText.{hex_digit};
 ghost use Rattle.uxn_memory.specs.Bytes.{with_bytes};
 ghost use Rattle.file_ports.specs.Signs.{hex_digits, signs};
+ghost use Rattle.file_ports.specs.Actions.{stat_success};
 
 use uxn_io::{Kind, hex_byte, hex_short};
 use uxn_memory::Memory;
@@ -62,22 +63,39 @@ fn put_same(memory: &mut Memory, at: u16, count: u16, sign: u8)
     memory.fill(count, at, sign);
 }
 
-/// Puts so many signs for what is there.
+/// Puts so many signs for a size.
 #[tactic(auto, unfolding(crate::specs::Signs::signs))]
-pub(crate) fn put_signs(memory: &mut Memory, at: u16, count: u16, kind: Kind)
+fn put_size(memory: &mut Memory, at: u16, count: u16, size: u64)
     requires { at + count ≤ 65536 }
-    ensures { memory.new ≡ with_bytes memory.old at (signs count kind) }
+    ensures { memory.new ≡ with_bytes memory.old at (signs count (Kind.File size)) }
+{
+    if fits(size, count) {
+        put_digits(memory, at, count, size);
+    } else {
+        put_same(memory, at, count, TOO_BIG);
+    }
+}
+
+/// Puts so many signs for what is there, and answers their number, or 0 where nothing is there.
+#[tactic(auto, unfolding(crate::specs::Signs::signs))]
+pub(crate) fn put_signs(memory: &mut Memory, at: u16, count: u16, kind: Kind) -> u16
+    requires { at + count ≤ 65536 }
+    ensures memory { memory.new ≡ with_bytes memory.old at (signs count kind) }
+    ensures success { result ≡ stat_success kind count }
 {
     match kind {
-        Kind::Missing => put_same(memory, at, count, MISSING),
-        Kind::File(size) => {
-            if fits(size, count) {
-                put_digits(memory, at, count, size);
-            } else {
-                put_same(memory, at, count, TOO_BIG);
-            }
+        Kind::Missing => {
+            put_same(memory, at, count, MISSING);
+            0
         }
-        Kind::Folder => put_same(memory, at, count, FOLDER),
+        Kind::File(size) => {
+            put_size(memory, at, count, size);
+            count
+        }
+        Kind::Folder => {
+            put_same(memory, at, count, FOLDER);
+            count
+        }
     }
 }
 

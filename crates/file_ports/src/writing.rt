@@ -1,27 +1,70 @@
 //! Writes.
-use uxn_io::{Failed, Kind, Path, Tree};
+ghost use Rattle.std.specs.Prelude.{◌≡◌, ℕ, ◌&&◌, ◌||◌, [], map, IfOk, IfSome, OnErr, IsTrue, IsSome, is_err};
+ghost use Rattle.uxn_io.specs.Faults.{Counted};
+ghost use Rattle.uxn_io.specs.Files.{kind_at, file_at};
+ghost use Rattle.uxn_io.specs.Outside.{ToFile};
+ghost use Rattle.file_ports.specs.Actions.{seen_of, is_file, begun};
+ghost use Rattle.file_ports.specs.Answers.{Adds, HasMadeFront, and_then};
 
-/// Whether a file is there.
-fn is_file<T: Tree>(tree: &mut T, path: &Path) -> Result<bool, Failed> {
+use uxn_io::{Failed, Kind, Path, Tree, append_all};
+
+/// Whether a write goes on with a file that is there.
+fn goes_on<T: Tree>(
+    tree: &mut T,
+    path: &Path,
+    is_writing: bool,
+    keep: bool,
+) -> Result<bool, Failed>
+    ensures answer { IfOk result (λ goes. IfSome (T.told tree.old) (λ nodes.
+        goes ≡ ((is_writing || keep) && is_file (kind_at nodes path.now)))) }
+    ensures same { T.told tree.new ≡ T.told tree.old }
+    ensures ledger { Counted (T.faults tree.old) (T.faults tree.new) (is_err result) }
+{
+    if !is_writing && !keep {
+        return Ok(false);
+    }
     match tree.kind(path)? {
         Kind::File(_) => Ok(true),
         Kind::Missing | Kind::Folder => Ok(false),
     }
 }
 
-/// Whether bytes can be added to the file at a path. Unless the device is writing or keeps a file that is there, the
-/// file is made empty first.
-pub(crate) fn begin<T: Tree>(
-    tree: &mut T,
-    path: &Path,
-    is_writing: bool,
-    keep: bool,
-) -> Result<bool, Failed> {
-    if is_writing || keep {
-        let there = is_file(tree, path)?;
-        if is_writing || there {
-            return Ok(there);
-        }
+/// Begins a write, and says whether bytes can be added to the file then. One that is writing goes on with the
+/// file, and so does one that keeps a file which is there; else the file is made empty.
+fn begin<T: Tree>(tree: &mut T, path: &Path, is_writing: bool, keep: bool) -> Result<bool, Failed>
+    ensures begun { IfOk result (λ goes. IfSome (T.told tree.old) (λ nodes.
+        Adds (begun is_writing keep (seen_of nodes path.now)) [] goes nodes (T.told tree.new))) }
+    ensures file { IfOk result (λ goes. IsTrue goes → IfSome (T.told tree.new) (λ nodes. IsSome (file_at nodes path.now))) }
+    ensures front { OnErr result (IfSome (T.told tree.old) (λ nodes.
+        HasMadeFront (and_then (begun is_writing keep (seen_of nodes path.now)) []) nodes (T.told tree.new))) }
+    ensures ledger { Counted (T.faults tree.old) (T.faults tree.new) (is_err result) }
+{
+    if goes_on(tree, path, is_writing, keep)? {
+        return Ok(true);
+    }
+    if is_writing {
+        return Ok(false);
     }
     tree.create(path)
+}
+
+/// Writes a piece, and says whether it could begin.
+pub(crate) fn add<T: Tree>(
+    tree: &mut T,
+    path: &Path,
+    piece: &[u8],
+    is_writing: bool,
+    keep: bool,
+) -> Result<bool, Failed>
+    ensures added { IfOk result (λ goes. IfSome (T.told tree.old) (λ nodes.
+        Adds (begun is_writing keep (seen_of nodes path.now)) (map (λ byte. ToFile path.now byte) piece.now) goes nodes (T.told tree.new))) }
+    ensures front { OnErr result (IfSome (T.told tree.old) (λ nodes.
+        HasMadeFront (and_then (begun is_writing keep (seen_of nodes path.now)) (map (λ byte. ToFile path.now byte) piece.now)) nodes (T.told tree.new))) }
+    ensures ledger { Counted (T.faults tree.old) (T.faults tree.new) (is_err result) }
+{
+    if !begin(tree, path, is_writing, keep)? {
+        return Ok(false);
+    }
+    append_all(tree, path, piece)?;
+    Ok(true)
 }
