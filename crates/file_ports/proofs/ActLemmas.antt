@@ -1,22 +1,20 @@
 -- From what was done by the whole tree to what is done by any root part.
-use Rattle.std.proofs.Common.{◌≡◌, ℕ, ◌⊎◌, inl, inr, Bool, true, false, min, List, [], ◌∷◌, ◌++◌, length, take, drop, Option, Some, None, IfSome, Result, Ok, Err, is_some, refl, ap, sym, subst, ◌∙◌}
+use Rattle.std.proofs.Common.{◌≡◌, ℕ, ◌⊎◌, inl, inr, Bool, true, false, List, [], ◌∷◌, length, Option, Some, None, IfSome, Result, Ok, is_some, refl, ap, sym, subst, ◌∙◌}
 use Rattle.std.specs.Prelude.{if◌then◌else◌}
 use Rattle.std.specs.Option.{option_map}
 use mir.Val.{bool_byte}
 use Rattle.std.specs.FinMap as map
 use Rattle.uxn_io.specs.declared.trees.Kind.{Kind}
-use Rattle.uxn_io.specs.declared.trees.Kind.TheVariants.{Missing, File as FileOf, Folder as FolderThere}
 use Rattle.uxn_io.specs.Files.{Node, Nodes, File, Folder, kind_at, kind_of, file_at, bytes_of}
 use Rattle.uxn_io.specs.Changes.{with_removed}
-use Rattle.uxn_io.specs.Outside.{Change, Removes}
+use Rattle.uxn_io.specs.Outside.{Removes}
 use Rattle.uxn_memory.specs.Bytes.{with_bytes}
 use Rattle.file_ports.specs.declared.stop.FileStop.{FileStop}
 use Rattle.file_ports.specs.declared.mode.Mode.{Mode}
-use Rattle.file_ports.specs.RootPart.{files_by}
 use Rattle.file_ports.specs.Device.{FileState, idle_at}
 use Rattle.file_ports.specs.Signs.{signs}
-use Rattle.file_ports.specs.Actions.{FileAction, Outcome, Seen, Read, Write, Stat, Delete, seen_of, acts, reads, stats, deletes, count_from, stat_success, reading, given, moved, puts, quiet, is_file}
-use Rattle.file_ports.specs.Answers.{Answers, Does, Acted, CutOff, HasMadeFront, GivesPiece}
+use Rattle.file_ports.specs.Actions.{FileAction, Outcome, Read, Stat, Delete, seen_of, acts, reads, stats, deletes, count_from, stat_success, reading, given, moved, puts, quiet, is_file}
+use Rattle.file_ports.specs.Answers.{Does, Acted, CutOff, HasMadeFront, GivesPiece}
 use Rattle.file_ports.specs.PartLaws.{outcome-same}
 
 -- by what is seen of the whole tree

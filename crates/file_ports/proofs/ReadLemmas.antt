@@ -1,5 +1,5 @@
 -- A file is read chunk after chunk.
-use Rattle.std.proofs.Common.{◌≡◌, ℕ, ◌+◌, ◌<◌, ◌≤◌, List, [], ◌∷◌, ◌++◌, length, take, drop, Option, Some, None, IfSome, refl, ap, sym, subst, ◌∙◌, arith}
+use Rattle.std.proofs.Common.{◌≡◌, ℕ, ◌+◌, ◌<◌, ◌≤◌, List, [], ◌∷◌, length, take, drop, Option, Some, None, IfSome, refl, ap, sym, subst, ◌∙◌, arith}
 use Rattle.std.proofs.lemmas.List.{length-take, length-drop, drop-drop, take_all}
 use Rattle.std.proofs.Math.Seq.{take-add}
 use Rattle.uxn_io.specs.Files.{Nodes, bytes_at, bytes_from, Reads}
@@ -16,10 +16,10 @@ piece_more : (old memory now piece rest later : List ℕ) (at done n : ℕ) → 
 piece_more old memory now piece rest later at done n room so_far is within front put = record {
   count = omega (arith, so_far.count, length-take done rest, length-take (done + n) rest, length-drop done rest, ap length is);
   memory =
-    put
-    ∙ (λ i. with_bytes (so_far.memory i) (at + so_far.count i) ((front ∙ ap (take n) is) i))
-    ∙ with_more old at (take done rest) (take n (drop done rest)) room
-    ∙ ap (with_bytes old at) (sym (take-add done n rest));
+      put
+      ∙ (λ i. with_bytes (so_far.memory i) (at + so_far.count i) ((front ∙ ap (take n) is) i))
+      ∙ with_more old at (take done rest) (take n (drop done rest)) room
+      ∙ ap (with_bytes old at) (sym (take-add done n rest));
 }
 
 -- nothing is left

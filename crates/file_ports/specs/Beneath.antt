@@ -1,5 +1,5 @@
 -- Which texts lie beneath a root: the root's text, a slash and more.
-use Rattle.std.specs.Prelude.{◌≡◌, ℕ, suc, ◌+◌, ◌-◌, ◌<◌, ◌≤◌, ◌⊎◌, Bool, true, false, ◌==◌, ◌||◌, nat_lt, List, [], ◌∷◌, ◌++◌, length, take, drop, Option, Some, None, IsTrue, if◌then◌else◌}
+use Rattle.std.specs.Prelude.{◌≡◌, ℕ, suc, ◌+◌, ◌-◌, ◌<◌, ◌⊎◌, Bool, true, false, nat_lt, List, [], ◌∷◌, ◌++◌, length, take, drop, Option, Some, None, if◌then◌else◌}
 use Rattle.std.specs.Bool.{Decides}
 use Rattle.std.specs.List.{join_with_byte}
 use Rattle.std.specs.Option.{unwrap_or}
@@ -12,7 +12,7 @@ use Rattle.std.proofs.lemmas.List.Splits.{join_with_byte-slice_split}
 use Rattle.std.proofs.lemmas.Slice.Eq.{bytes_eq-Decides, slice_eq-Decides}
 use Rattle.std.proofs.Math.Seq.{take-append-add}
 use Rattle.uxn_io.specs.PathText.{components, is_under, is_too_long, joined, parent_from, parent_of, ContinuesAfter}
-use Rattle.uxn_io.proofs.ComponentLemmas.{components-append, length-components, under_answer}
+use Rattle.uxn_io.proofs.ComponentLemmas.{components-append, length-components}
 use Rattle.file_ports.specs.RootPart.{is_in}
 
 -- the root's own text, or that, a slash and more

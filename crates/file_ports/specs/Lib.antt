@@ -7,3 +7,4 @@ pub mod Actions
 pub mod Answers
 pub mod Beneath
 pub mod PartLaws
+pub mod ActLaws

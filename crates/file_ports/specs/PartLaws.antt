@@ -1,6 +1,6 @@
 -- Laws of the root part: what is seen in it is what is seen in the whole tree, and changes in it are changes of it.
-use Rattle.std.specs.Prelude.{◌≡◌, ℕ, ◌⊎◌, Bool, true, false, not, ◌&&◌, List, [], ◌∷◌, ◌++◌, Option, Some, None, IsTrue, is_some, codes, map as list_map, if◌then◌else◌}
-use Rattle.std.specs.List.{filter, filter_map, cons_option}
+use Rattle.std.specs.Prelude.{◌≡◌, ℕ, Bool, true, false, not, ◌&&◌, List, [], ◌∷◌, ◌++◌, Option, Some, None, IsTrue, codes, map as list_map, if◌then◌else◌}
+use Rattle.std.specs.List.{filter_map, cons_option}
 use Rattle.std.specs.Option.{unwrap_or, option_map, option_and_then, option_eq}
 use Rattle.std.specs.Result.{result_ok}
 use Rattle.std.specs.Ordering.{nat_cmp, eq_by_cmp, is_eq}
@@ -10,11 +10,10 @@ use Rattle.std.specs.Cmp.Lexicographic.{slice_cmp, nat_list_cmp_total}
 use Rattle.std.specs.Str.{bytes_eq}
 use Rattle.std.specs.FinMap as map
 use Rattle.std.specs.FinMap.Entries.{where_key, is_sorted-where_key, find-where_key}
-use Rattle.std.proofs.Common.{cond, refl, ap, sym, subst, ◌∙◌, inl, inr}
+use Rattle.std.proofs.Common.{cond, refl, ap, sym, ◌∙◌, inl, inr}
 use Rattle.std.proofs.lemmas.Slice.Eq.{bytes_eq-Decides}
-use Rattle.uxn_io.specs.declared.trees.Entry.{Entry}
 use Rattle.uxn_io.specs.PathText.{path_of, joined, parent_of, child_name}
-use Rattle.uxn_io.specs.Files.{Node, File, Nodes, bytes_of, bytes_at, kind_of, kind_at, is_folder, is_folder_at, has_parent}
+use Rattle.uxn_io.specs.Files.{Node, File, Nodes, bytes_of, bytes_at, kind_of, is_folder, is_folder_at, has_parent}
 use Rattle.uxn_io.specs.Changes.{can_create, with_appended}
 use Rattle.uxn_io.specs.Appending.{appended_both}
 use Rattle.uxn_io.specs.Children.{children, entry_in}
@@ -24,7 +23,7 @@ use Rattle.file_ports.specs.Device.{FileState, idle_at, suits, Suits}
 use Rattle.file_ports.specs.Names.{bytes_around, before_zero, named_in, path_named}
 use Rattle.file_ports.specs.Actions.{FileAction, Seen, can_make_in, seen_in, seen_of, acts}
 use Rattle.file_ports.specs.Answers.{outcome_of}
-use Rattle.file_ports.specs.Beneath.{LiesIn, is_in-Decides, root_in, joined_in, in_deeper, parent_before, parent_in, parent_outside}
+use Rattle.file_ports.specs.Beneath.{LiesIn, is_in-Decides, root_in, joined_in, in_deeper, parent_before, parent_in}
 
 -- the order of paths
 same_path : (p q : List ℕ) → slice_cmp nat_cmp p q ≡ Equal → p ≡ q

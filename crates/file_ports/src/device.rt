@@ -87,8 +87,7 @@ impl FileDevice {
             Some(path) => {
                 let mode = mem::replace(&mut self.mode, Mode::Idle);
                 let mode = reading(self.alloc, tree, &path, mode)?;
-                let (count, mode) =
-                    read_on(tree, &path, mode, memory, at, count_from(at, length))?;
+                let (count, mode) = read_on(tree, &path, mode, memory, at, count_from(at, length))?;
                 self.mode = mode;
                 Ok(count)
             }

@@ -2,6 +2,7 @@
 #![tactic(auto)]
 
 mod device;
+mod laws;
 mod listing;
 mod mode;
 mod names;
@@ -13,4 +14,5 @@ mod tests;
 mod writing;
 
 pub use device::FileDevice;
+pub use laws::actions_keep_to_the_root;
 pub use stop::FileStop;

@@ -98,7 +98,10 @@ pub(crate) fn read_on<T: Tree>(
         Mode::ReadingListing(place, listing) => {
             let most = most_from(place, count);
             let taken = put_rest(listing.as_slice(), place, memory, at, most);
-            Ok((taken, Mode::ReadingListing(place + u64::from(taken), listing)))
+            Ok((
+                taken,
+                Mode::ReadingListing(place + u64::from(taken), listing),
+            ))
         }
         Mode::Writing => Ok((0, Mode::Writing)),
     }

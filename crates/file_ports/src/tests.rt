@@ -86,7 +86,10 @@ fn a_folder_is_read_as_its_listing(rt: HostRuntime) -> Result<(), Fail> {
     let mut other = FileDevice::new(rt.alloc());
     named(&mut other, &mut memory, b"a.txt")?;
     assert_eq!(rt; other.delete(&mut tree), Ok(1));
-    assert_eq!(rt; device.read(&mut tree, &mut memory, AT + 16, 0x0100), Ok(12));
+    assert_eq!(rt;
+        device.read(&mut tree, &mut memory, AT + 16, 0x0100),
+        Ok(12)
+    );
     assert_eq!(rt;
         memory.slice(AT, 29),
         b"0002 a.txt\n012c big\n---- d/\n\0".as_slice()
@@ -101,7 +104,12 @@ fn a_stat_shows_what_is_there(rt: HostRuntime) -> Result<(), Fail> {
         (b"a.txt".as_slice(), 4, 4, b"0002".as_slice()),
         (b"big".as_slice(), 2, 2, b"??".as_slice()),
         (b"big".as_slice(), 3, 3, b"12c".as_slice()),
-        (b"big".as_slice(), 20, 20, b"0000000000000000012c".as_slice()),
+        (
+            b"big".as_slice(),
+            20,
+            20,
+            b"0000000000000000012c".as_slice(),
+        ),
         (b"d".as_slice(), 2, 2, b"--".as_slice()),
         (b"none".as_slice(), 3, 0, b"!!!".as_slice()),
         (b"../out".as_slice(), 1, 0, b"!".as_slice()),
@@ -111,7 +119,11 @@ fn a_stat_shows_what_is_there(rt: HostRuntime) -> Result<(), Fail> {
         let mut memory = Memory::new(rt.alloc())?;
         let mut device = FileDevice::new(rt.alloc());
         named(&mut device, &mut memory, name)?;
-        assert_eq!(rt; device.stat(&mut tree, &mut memory, AT, length), Ok(success), "{name:?}");
+        assert_eq!(rt;
+            device.stat(&mut tree, &mut memory, AT, length),
+            Ok(success),
+            "{name:?}"
+        );
         assert_eq!(rt; memory.slice(AT, length), signs, "{name:?}");
         assert_eq!(rt; memory.get(AT + length), 0, "{name:?}");
     }
@@ -139,8 +151,16 @@ fn names_that_are_no_path_name_nothing(rt: HostRuntime) -> Result<(), Fail> {
         let mut memory = Memory::new(rt.alloc())?;
         let mut device = FileDevice::new(rt.alloc());
         named(&mut device, &mut memory, name)?;
-        assert_eq!(rt; device.read(&mut tree, &mut memory, AT, 9), Ok(0), "{name:?}");
-        assert_eq!(rt; device.write(&mut tree, &memory, AT, 9, true), Ok(0), "{name:?}");
+        assert_eq!(rt;
+            device.read(&mut tree, &mut memory, AT, 9),
+            Ok(0),
+            "{name:?}"
+        );
+        assert_eq!(rt;
+            device.write(&mut tree, &memory, AT, 9, true),
+            Ok(0),
+            "{name:?}"
+        );
         assert_eq!(rt; device.delete(&mut tree), Ok(0), "{name:?}");
     }
     let mut tree = tree(&rt, &every)?;
@@ -189,7 +209,11 @@ fn a_delete_takes_a_file_and_no_folder(rt: HostRuntime) -> Result<(), Fail> {
     let mut tree = tree(&rt, &[])?;
     let mut memory = Memory::new(rt.alloc())?;
     let mut device = FileDevice::new(rt.alloc());
-    for (name, success) in [(b"d".as_slice(), 0), (b"big".as_slice(), 1), (b"big".as_slice(), 0)] {
+    for (name, success) in [
+        (b"d".as_slice(), 0),
+        (b"big".as_slice(), 1),
+        (b"big".as_slice(), 0),
+    ] {
         named(&mut device, &mut memory, name)?;
         assert_eq!(rt; device.delete(&mut tree), Ok(success), "{name:?}");
     }
@@ -218,7 +242,13 @@ fn a_fault_of_the_tree_stops_an_action(rt: HostRuntime) -> Result<(), Fail> {
         let delete = device.delete(&mut tree);
         named(&mut device, &mut memory, b".")?;
         let names = device.read(&mut tree, &mut memory, AT, 9);
-        let stops = [stat.is_err(), read.is_err(), write.is_err(), delete.is_err(), names.is_err()];
+        let stops = [
+            stat.is_err(),
+            read.is_err(),
+            write.is_err(),
+            delete.is_err(),
+            names.is_err(),
+        ];
         let want = match call {
             TreeCall::Kind => [true, false, false, false, false],
             TreeCall::Read => [false, true, false, false, false],

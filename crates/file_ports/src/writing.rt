@@ -9,12 +9,7 @@ ghost use Rattle.file_ports.specs.Answers.{Adds, HasMadeFront, and_then};
 use uxn_io::{Failed, Kind, Path, Tree, append_all};
 
 /// Whether a write goes on with a file that is there.
-fn goes_on<T: Tree>(
-    tree: &mut T,
-    path: &Path,
-    is_writing: bool,
-    keep: bool,
-) -> Result<bool, Failed>
+fn goes_on<T: Tree>(tree: &mut T, path: &Path, is_writing: bool, keep: bool) -> Result<bool, Failed>
     ensures answer { IfOk result (λ goes. IfSome (T.told tree.old) (λ nodes.
         goes ≡ ((is_writing || keep) && is_file (kind_at nodes path.now)))) }
     ensures same { T.told tree.new ≡ T.told tree.old }

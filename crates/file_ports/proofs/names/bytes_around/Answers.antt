@@ -1,5 +1,5 @@
 -- The bytes up to ffff, and then those from 0000 on.
-use Rattle.std.proofs.Common.{◌≡◌, ◌-◌, ◌∙◌, ◌++◌, ℕ, List, length, take, drop, ap, sym, arith}
+use Rattle.std.proofs.Common.{◌∙◌, drop, sym, arith}
 use Rattle.file_ports.proofs.NameLemmas.{front_within, both_whole, bytes_around-parts}
 use Rattle.file_ports.proofs.names.bytes_around.Goals as goal
 

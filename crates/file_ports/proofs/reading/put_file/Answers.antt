@@ -12,9 +12,9 @@ loop-done-preserved g c =
     record {
       within = omega (arith, c.in_ok-taken.ensures.count, size);
       told =
-        told_more _ _ c.args.path.now c.args.memory.now c.loop-done.memory c.put.new.self (take taken (into ++ drop c.min-wanted.result chunk)) (take c.min-wanted.result chunk) into c.args.place c.args.at c.loop-done.done taken _
-        (omega arith) (ap (λ (n : ℕ). c.args.place + n) c.from-in-loop-done.ensures) c.loop-done.invariant.same c.loop-done.invariant.told c.in_ok-taken.ensures.ok
-        (take-append-le taken into (drop c.min-wanted.result chunk) (omega (arith, c.in_ok-taken.ensures.count, size))) c.put.ensures;
+          told_more _ _ c.args.path.now c.args.memory.now c.loop-done.memory c.put.new.self (take taken (into ++ drop c.min-wanted.result chunk)) (take c.min-wanted.result chunk) into c.args.place c.args.at c.loop-done.done taken _
+          (omega arith) (ap (λ (n : ℕ). c.args.place + n) c.from-in-loop-done.ensures) c.loop-done.invariant.same c.loop-done.invariant.told c.in_ok-taken.ensures.ok
+          (take-append-le taken into (drop c.min-wanted.result chunk) (omega (arith, c.in_ok-taken.ensures.count, size))) c.put.ensures;
       same = c.in_ok-taken.ensures.same ∙ c.loop-done.invariant.same;
       faults = c.in_ok-taken.ensures.ledger ∙ c.loop-done.invariant.faults;
     }

@@ -11,8 +11,8 @@ loop-left-preserved c = record {
   within = omega arith;
   size = grind (arith, length-set);
   digits =
-    digit_put c.loop-left.memory c.set.new.self c.args.at c.loop-left.left c.loop-left.rest c.last_digit.result c.set.ensures c.last_digit.ensures (omega arith) c.loop-left-test.true
-    ∙ c.loop-left.invariant.digits;
+      digit_put c.loop-left.memory c.set.new.self c.args.at c.loop-left.left c.loop-left.rest c.last_digit.result c.set.ensures c.last_digit.ensures (omega arith) c.loop-left-test.true
+      ∙ c.loop-left.invariant.digits;
 }
 
 pub returns : goal.returns

@@ -1,4 +1,3 @@
-use Rattle.std.proofs.Common.{ap, sym}
 use Rattle.std.specs.Option.{option_copied}
 use Rattle.file_ports.specs.PartLaws.{named-suits}
 use Rattle.file_ports.proofs.device.FileDevice.name.Goals as goal

@@ -1,7 +1,6 @@
-use Rattle.std.proofs.Common.{◌≡◌, ◌∙◌, ℕ, Bool, List, rules, refl, ap, take, drop}
+use Rattle.std.proofs.Common.{◌∙◌, ℕ, rules, refl, ap, take, drop}
 use Rattle.uxn_io.proofs.AppendLemmas.{on_err}
 use Rattle.file_ports.specs.declared.mode.Mode.TheVariants.{Idle}
-use Rattle.file_ports.specs.Actions.{count_from}
 use Rattle.file_ports.proofs.WriteLemmas.{write-none, write-some, write-cut}
 use Rattle.file_ports.proofs.device.FileDevice.write.Goals as goal
 
