@@ -27,7 +27,3 @@ front_within n xs = omega (arith, length-take n xs)
 
 pub both_whole : (n : ℕ) (xs ys : List ℕ) → n ≤ length ys → length (take n xs) + length (take (n - length (take n xs)) ys) ≡ n
 both_whole n xs ys h = omega (arith, length-take n xs, length-take (n - length (take n xs)) ys)
-
--- what stands before the first element that passes
-pub before_at : (p : ℕ → Bool) (bytes : List ℕ) (found : Option ℕ) → found ≡ position p bytes → option_map (λ end. take end bytes) found ≡ option_map (λ end. take end bytes) (position p bytes)
-before_at p bytes found e = ap (option_map (λ end. take end bytes)) e

@@ -86,10 +86,17 @@ kept_at Delete root part parent device memory (Some path) e lies = removed_at ro
 pub act-suits : (action : FileAction) (root : Option (List ℕ)) (part : Nodes) (parent : Bool) (device : FileState) (memory : List ℕ) → Suits root device → Suits root (act action root part parent device memory).device
 act-suits action root part parent device memory suits = kept_at action root part parent device memory device.path refl suits
 
--- a device without a path does the same whatever the root and the root part
-nowhere_at : (action : FileAction) (root other : Option (List ℕ)) (part : Nodes) (parent : Bool) (device : FileState) (memory : List ℕ) (path : Option (List ℕ)) → path ≡ None
-    → acts action root device memory (option_map (seen_in root part parent) path) ≡ acts action root device memory None
-nowhere_at action root other part parent device memory path e = ap (λ (p : Option (List ℕ)). acts action root device memory (option_map (seen_in root part parent) p)) e
+no_path : (path : Option (List ℕ)) → IsTrue (suits None path) → path ≡ None
+no_path None suits = refl
+no_path (Some path) suits = cc
+
+-- where there is no root a device has no path, and without a path it sees nothing
+pub rootless : (device : FileState) → Suits None device → device.path ≡ None
+rootless device suits = no_path device.path suits
+
+pub act-nowhere : (action : FileAction) (root : Option (List ℕ)) (part : Nodes) (parent : Bool) (device : FileState) (memory : List ℕ) → device.path ≡ None
+    → act action root part parent device memory ≡ acts action root device memory None
+act-nowhere action root part parent device memory e = ap (λ (p : Option (List ℕ)). acts action root device memory (option_map (seen_in root part parent) p)) e
 
 -- every path outside the root part keeps its node
 stranger_to : (root : Option (List ℕ)) (change : Change) (q : List ℕ) → IsIn root change → suits root (Some q) ≡ false → path_changed change ≡ Some q → ⊥

@@ -1,6 +1,5 @@
 -- What a call of a file device answers, and what it leaves.
 use Rattle.std.specs.Prelude.{◌≡◌, ℕ, ◌++◌, Bool, true, false, List, [], Option, Some, None, IfSome, Result, Ok, Err, length, is_some}
-use Rattle.std.specs.FinMap as map
 use Rattle.uxn_io.specs.declared.trees.Kind.TheVariants.{Folder}
 use Rattle.uxn_io.specs.Files.{Nodes, kind_at}
 use Rattle.uxn_io.specs.Outside.{Change}
@@ -9,7 +8,7 @@ use Rattle.file_ports.specs.declared.stop.FileStop.{FileStop}
 use Rattle.file_ports.specs.declared.stop.FileStop.TheVariants.{TreeFault, NoMemory}
 use Rattle.file_ports.specs.RootPart.{below, parent_is_folder, files_by}
 use Rattle.file_ports.specs.Device.{FileState, Suits, is_reading}
-use Rattle.file_ports.specs.Actions.{FileAction, Outcome, act}
+use Rattle.file_ports.specs.Actions.{FileAction, Outcome, acts, act}
 
 -- the answer, the device and memory are those of an outcome
 pub record Answers (outcome : Outcome) (result : Result ℕ FileStop) (device_now : FileState) (memory_now : List ℕ) : Type 0 where
@@ -43,10 +42,10 @@ abbrev pub CutOff : FileAction → FileState → List ℕ → Option Nodes → O
 CutOff action device memory before now = IfSome before (λ nodes. (root : Option (List ℕ)) → Suits root device
     → HasMadeFront (outcome_of action root nodes device memory).changes nodes now)
 
--- a device without a path does over every tree what it does where there is no root
+-- a device without a path does over every tree what it does where it sees nothing
 abbrev pub ActedNowhere : FileAction → FileState → List ℕ → Result ℕ FileStop → FileState → List ℕ → Type 0
 ActedNowhere action device memory result device_now memory_now =
-    device.path ≡ None → Answers (act action None map.empty false device memory) result device_now memory_now
+    device.path ≡ None → Answers (acts action None device memory None) result device_now memory_now
 
 -- the tree failed; want of memory is no fault of it
 abbrev pub has_failed : {T : Type 0} → Result T FileStop → Bool
