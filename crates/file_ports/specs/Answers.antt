@@ -1,7 +1,9 @@
 -- What a call of a file device answers, and what it leaves.
-use Rattle.std.specs.Prelude.{◌≡◌, ℕ, ◌++◌, Bool, true, false, List, [], Option, Some, None, IfSome, Result, Ok, Err, length, is_some}
+use Rattle.std.specs.Prelude.{◌≡◌, ℕ, ◌+◌, ◌<◌, ◌≤◌, ◌++◌, Bool, true, false, List, [], Option, Some, None, IfSome, Result, Ok, Err, length, is_some}
 use Rattle.uxn_io.specs.declared.trees.Kind.TheVariants.{Folder}
-use Rattle.uxn_io.specs.Files.{Nodes, kind_at}
+use Rattle.uxn_io.specs.Files.{Nodes, kind_at, bytes_at}
+use Rattle.uxn_io.specs.Changes.{new_files}
+use Rattle.uxn_io.specs.Room.{Room}
 use Rattle.uxn_io.specs.Outside.{Change}
 use Rattle.uxn_memory.specs.Bytes.{with_bytes}
 use Rattle.file_ports.specs.declared.stop.FileStop.{FileStop}
@@ -57,6 +59,11 @@ has_failed (Err NoMemory) = false
 pub record TakesNames (device : FileState) (before : Option Nodes) : Type 0 where
   pub looks : is_reading device.mode ≡ false
   pub folder : IfSome before (λ nodes. IfSome device.path (λ path. kind_at nodes path ≡ Folder))
+
+-- a tree surely takes so many bytes more at a path: in a new file, or behind those that are there (profile)
+pub record RoomFor (nodes : Nodes) (path : List ℕ) (count : ℕ) (room : Room) : Type 0 where
+  pub files : new_files nodes path < room.files
+  pub bytes : length (bytes_at nodes path) + count ≤ room.bytes
 
 -- a piece was put in memory, and its length is told
 pub record GivesPiece (piece before : List ℕ) (at taken : ℕ) (now : List ℕ) : Type 0 where

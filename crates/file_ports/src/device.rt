@@ -1,11 +1,13 @@
 //! A file device.
-ghost use Rattle.std.specs.Prelude.{◌≡◌, ℕ, ◌+◌, ◌≤◌, List, None, Err, IfSome, OnOk, OnErr, is_err};
+ghost use Rattle.std.specs.Prelude.{◌≡◌, ℕ, ◌+◌, ◌<◌, ◌≤◌, List, None, Err, false, IfOk, IfSome, IsOk, OnOk, OnErr, is_err};
 ghost use Rattle.std.specs.Option.{option_copied};
 ghost use Rattle.uxn_io.specs.Faults.{Counted};
+ghost use Rattle.uxn_io.specs.Changes.{new_files};
+ghost use Rattle.uxn_io.specs.Room.{Leaves};
 ghost use Rattle.file_ports.specs.Device.{idle_at, Suits};
 ghost use Rattle.file_ports.specs.Names.{path_named};
 ghost use Rattle.file_ports.specs.Actions.{Read, Write, Stat, Delete, count_from};
-ghost use Rattle.file_ports.specs.Answers.{Acted, ActedNowhere, CutOff, TakesNames, has_failed};
+ghost use Rattle.file_ports.specs.Answers.{Acted, ActedNowhere, CutOff, RoomFor, TakesNames, has_failed};
 
 use crate::mode::Mode;
 use crate::names::path_named;
@@ -82,6 +84,8 @@ impl FileDevice {
         ensures stopped { OnErr result (self.new ≡ idle_at self.old.path) }
         ensures path { self.new.path ≡ self.old.path }
         ensures ledger { Counted (T.faults tree.old) (T.faults tree.new) (has_failed result) }
+        ensures sure { 0 < (T.sure tree.old).files → has_failed result ≡ false }
+        ensures left { has_failed result ≡ false → Leaves (T.sure tree.old) (T.sure tree.new) 0 0 }
     {
         match self.path {
             Some(path) => {
@@ -113,6 +117,10 @@ impl FileDevice {
         ensures stopped { OnErr result (self.new ≡ idle_at self.old.path) }
         ensures path { self.new.path ≡ self.old.path }
         ensures ledger { Counted (T.faults tree.old) (T.faults tree.new) (has_failed result) }
+        ensures sure { IfSome (T.told tree.old) (λ nodes. IfSome self.old.path (λ path.
+            RoomFor nodes path (count_from at length) (T.sure tree.old) → IsOk result)) }
+        ensures left { OnOk result (IfSome (T.told tree.old) (λ nodes. IfSome self.old.path (λ path.
+            RoomFor nodes path (count_from at length) (T.sure tree.old) → Leaves (T.sure tree.old) (T.sure tree.new) (new_files nodes path) 0))) }
     {
         match self.path {
             Some(path) => {
@@ -145,6 +153,8 @@ impl FileDevice {
         ensures stopped { OnErr result (memory.new ≡ memory.old) }
         ensures device { self.new ≡ self.old }
         ensures ledger { Counted (T.faults tree.old) (T.faults tree.new) (has_failed result) }
+        ensures sure { 0 < (T.sure tree.old).files → IsOk result }
+        ensures left { OnOk result (Leaves (T.sure tree.old) (T.sure tree.new) 0 0) }
     {
         let count = count_from(at, length);
         if let Some(path) = self.path {
@@ -164,6 +174,8 @@ impl FileDevice {
         ensures stopped { OnErr result (self.new ≡ idle_at self.old.path) }
         ensures path { self.new.path ≡ self.old.path }
         ensures ledger { Counted (T.faults tree.old) (T.faults tree.new) (has_failed result) }
+        ensures sure { 0 < (T.sure tree.old).files → IsOk result }
+        ensures left { IfOk result (λ gone. Leaves (T.sure tree.old) (T.sure tree.new) 0 gone) }
     {
         match self.path {
             Some(path) => {

@@ -1,8 +1,9 @@
 //! Reads: of a file, and of a folder's listing.
-ghost use Rattle.std.specs.Prelude.{◌≡◌, ℕ, ◌+◌, ◌-◌, ◌^◌, ◌<◌, ◌≤◌, false, take, drop, IfOk, IfSome, Err, is_err, min};
+ghost use Rattle.std.specs.Prelude.{◌≡◌, ℕ, ◌+◌, ◌-◌, ◌^◌, ◌<◌, ◌≤◌, false, take, drop, IfOk, IfSome, IsOk, OnOk, Err, is_err, min};
 ghost use Rattle.uxn_io.specs.Faults.{Counted};
 ghost use Rattle.uxn_io.specs.Files.{bytes_from, kind_at};
 ghost use Rattle.uxn_io.specs.Children.{children};
+ghost use Rattle.uxn_io.specs.Room.{Leaves};
 ghost use Rattle.file_ports.specs.Device.{is_reading};
 ghost use Rattle.file_ports.specs.Listing.{listing_of};
 ghost use Rattle.file_ports.specs.Actions.{seen_of, looked, reading, given, moved};
@@ -23,6 +24,8 @@ fn look<T: Tree>(alloc: Global, tree: &mut T, path: &Path) -> Result<Mode, FileS
     ensures mode { IfOk result (λ mode. IfSome (T.told tree.old) (λ nodes. mode ≡ looked (kind_at nodes path.now) (children nodes path.now))) }
     ensures same { T.told tree.new ≡ T.told tree.old }
     ensures ledger { Counted (T.faults tree.old) (T.faults tree.new) (has_failed result) }
+    ensures sure { 0 < (T.sure tree.old).files → has_failed result ≡ false }
+    ensures left { has_failed result ≡ false → Leaves (T.sure tree.old) (T.sure tree.new) 0 0 }
     ensures folder { result ≡ Err FileStop.NoMemory → IfSome (T.told tree.old) (λ nodes. kind_at nodes path.now ≡ Kind.Folder) }
 {
     match tree.kind(path)? {
@@ -41,6 +44,8 @@ fn list<T: Tree>(alloc: Global, tree: &mut T, folder: &Path) -> Result<Listing, 
     ensures listing { IfOk result (λ listing. IfSome (T.told tree.old) (λ nodes. listing ≡ listing_of (children nodes folder.now))) }
     ensures same { T.told tree.new ≡ T.told tree.old }
     ensures ledger { Counted (T.faults tree.old) (T.faults tree.new) (has_failed result) }
+    ensures sure { 0 < (T.sure tree.old).files → has_failed result ≡ false }
+    ensures left { has_failed result ≡ false → Leaves (T.sure tree.old) (T.sure tree.new) 0 0 }
 {
     match tree.names(alloc, folder) {
         Ok(entries) => {
@@ -62,6 +67,8 @@ pub(crate) fn reading<T: Tree>(
     ensures mode { IfOk result (λ now. IfSome (T.told tree.old) (λ nodes. now ≡ reading mode (seen_of nodes path.now))) }
     ensures same { T.told tree.new ≡ T.told tree.old }
     ensures ledger { Counted (T.faults tree.old) (T.faults tree.new) (has_failed result) }
+    ensures sure { 0 < (T.sure tree.old).files → has_failed result ≡ false }
+    ensures left { has_failed result ≡ false → Leaves (T.sure tree.old) (T.sure tree.new) 0 0 }
     ensures looks { result ≡ Err FileStop.NoMemory → is_reading mode ≡ false }
     ensures folder { result ≡ Err FileStop.NoMemory → IfSome (T.told tree.old) (λ nodes. kind_at nodes path.now ≡ Kind.Folder) }
 {
@@ -87,6 +94,8 @@ pub(crate) fn read_on<T: Tree>(
     ensures mode { IfOk result (λ read. read.1 ≡ moved mode read.0) }
     ensures same { T.told tree.new ≡ T.told tree.old }
     ensures ledger { Counted (T.faults tree.old) (T.faults tree.new) (is_err result) }
+    ensures sure { 0 < (T.sure tree.old).files → IsOk result }
+    ensures left { OnOk result (Leaves (T.sure tree.old) (T.sure tree.new) 0 0) }
 {
     match mode {
         Mode::Idle => Ok((0, Mode::Idle)),
@@ -145,6 +154,8 @@ fn put_file<T: Tree>(
     ensures within { IfOk result (λ n. n ≤ count) }
     ensures same { T.told tree.new ≡ T.told tree.old }
     ensures ledger { Counted (T.faults tree.old) (T.faults tree.new) (is_err result) }
+    ensures sure { 0 < (T.sure tree.old).files → IsOk result }
+    ensures left { OnOk result (Leaves (T.sure tree.old) (T.sure tree.new) 0 0) }
 {
     memory.known();
     let mut chunk = [0; CHUNK];

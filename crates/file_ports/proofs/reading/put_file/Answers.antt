@@ -17,6 +17,10 @@ loop-done-preserved g c =
           (take-append-le taken into (drop c.min-wanted.result chunk) (omega (arith, c.in_ok-taken.ensures.count, size))) c.put.ensures;
       same = c.in_ok-taken.ensures.same ∙ c.loop-done.invariant.same;
       faults = c.in_ok-taken.ensures.ledger ∙ c.loop-done.invariant.faults;
+      left = record {
+        files = λ some. omega (arith, c.loop-done.invariant.left.files some, c.in_ok-taken.ensures.left.files);
+        bytes = λ some. omega (arith, c.loop-done.invariant.left.files some, c.loop-done.invariant.left.bytes some, c.in_ok-taken.ensures.left.bytes);
+      };
     }
 
 pub returns-then-taken-eq0-clause-piece : goal.returns-then-taken-eq0-clause-piece
