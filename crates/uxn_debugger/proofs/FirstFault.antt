@@ -1,21 +1,19 @@
 -- The first faulty line, found line by line.
-use Rattle.std.proofs.Common.{◌≡◌, ℕ, zero, suc, ◌+◌, ◌-◌, ◌<◌, ◌≤◌, true, false, cond, ltb, List, [], ◌∷◌, ◌++◌, length, take, drop, get_or, map, Some, None, Result, Ok, Err, append-nil, refl, sym, ap, ◌∙◌, arith, rules, tests}
-use Rattle.std.specs.Prelude.{Option}
-use Rattle.std.specs.List.{flat_map}
+use Rattle.std.proofs.Common.{◌≡◌, ℕ, zero, suc, ◌+◌, ◌-◌, ◌<◌, ◌≤◌, List, [], ◌∷◌, ◌++◌, length, take, drop, get_or, map, Some, None, Ok, Err, append-nil, refl, sym, ap, ◌∙◌, arith}
 use Rattle.std.proofs.lemmas.Bool.{le-leb}
-use Rattle.std.proofs.lemmas.List.{take_more, take_all, length-append, length-map, length-drop, get_or-drop, drop-drop}
+use Rattle.std.proofs.lemmas.List.{take_more, take_all, length-map, length-drop, get_or-drop, drop-drop}
 use Rattle.std.proofs.lemmas.List.Sums.{count_by-le-length}
 use Rattle.std.proofs.lemmas.List.Splits.{length-slice_split}
 use Rattle.std.proofs.lemmas.List.Concat.{flat_map-append}
 use Rattle.play_script.specs.Lines.{is_newline, lines_of, words_of}
 use Rattle.play_script.specs.Steps.{lines_from}
-use Rattle.play_script.proofs.Cutting.{not_le, not_lt}
+use Rattle.play_script.proofs.Cutting.{not_le}
 use Rattle.tal_words.specs.declared.name.Label.{Label}
 use Rattle.uxn_debugger.specs.declared.command.DebugCommand.{DebugCommand}
 use Rattle.uxn_debugger.specs.declared.command.CommandKind.{CommandKind}
 use Rattle.uxn_debugger.specs.declared.command.CommandStop.{CommandStop}
 use Rattle.uxn_debugger.specs.declared.command.CommandStop.TheVariants.{Refused, NoMemory}
-use Rattle.uxn_debugger.specs.Lines.{Judged, line_of}
+use Rattle.uxn_debugger.specs.Lines.{line_of}
 use Rattle.uxn_debugger.specs.Reading.{Line, read_lines, commands_in, commands_of, fault_in, fault_at, first_fault, commands_of_lines, Takes, Reads}
 
 -- one more line

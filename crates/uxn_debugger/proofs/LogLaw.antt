@@ -1,7 +1,7 @@
 -- A debugger that is shown a run moment by moment keeps the log of the whole run.
-use Rattle.std.proofs.Common.{◌≡◌, ℕ, zero, suc, ◌+◌, ◌<◌, ◌≤◌, Bool, true, false, cond, List, [], ◌∷◌, ◌++◌, length, drop, Option, Some, None, inl, inr, refl, sym, ap, ◌∙◌, arith}
-use Rattle.std.specs.Prelude.{slice_get, fold, min, not, ◌==◌}
-use Rattle.std.specs.List.{position_or_len, prefix_len}
+use Rattle.std.proofs.Common.{◌≡◌, ℕ, zero, suc, ◌+◌, ◌<◌, ◌≤◌, Bool, true, false, cond, List, [], ◌∷◌, ◌++◌, length, drop, Some, None, inl, inr, refl, sym, ap, ◌∙◌, arith}
+use Rattle.std.specs.Prelude.{slice_get, fold, min, not}
+use Rattle.std.specs.List.{position_or_len}
 use Rattle.std.proofs.lemmas.Bool.{cases_Bool, false≢true, eqb-true, eqb-false}
 use Rattle.std.proofs.lemmas.List.{length-drop, drop-drop}
 use Rattle.tal_words.specs.declared.name.Label.{Label}
@@ -9,9 +9,9 @@ use Rattle.uxn_debugger.specs.declared.command.DebugCommand.{DebugCommand}
 use Rattle.uxn_debugger.specs.declared.command.DebugCommand.TheVariants.{Break, Delete, Run, Step, Stacks, Mem, PortPage, Here}
 use Rattle.uxn_debugger.specs.declared.place.Goal.{Goal}
 use Rattle.uxn_debugger.specs.declared.place.Goal.TheVariants.{FirstMoment, MomentAfter, BreakAddress, Nothing}
-use Rattle.uxn_debugger.specs.Printing.{View, place_line, printed}
-use Rattle.uxn_debugger.specs.Log.{Shown, before, at_end, AddressSet, no_breaks, breaks_after, Stand, first_stand, seen, view_at, next_break, index_after, stand_at, after_command, log_of}
-use Rattle.uxn_debugger.specs.Watching.{Watching, new_watching, goal_of, did, done, unless_it_goes, arrival, arrived, is_awaited, goal_later, shown, is_nothing, ended, KeepsTheLog}
+use Rattle.uxn_debugger.specs.Printing.{View, printed}
+use Rattle.uxn_debugger.specs.Log.{Shown, before, at_end, AddressSet, no_breaks, breaks_after, Stand, seen, view_at, index_after, stand_at, after_command, log_of}
+use Rattle.uxn_debugger.specs.Watching.{Watching, goal_of, did, done, unless_it_goes, arrival, arrived, is_awaited, goal_later, shown, ended, KeepsTheLog}
 
 -- what stands at an index
 get_at : {A : Type 0} (xs : List A) (i : ℕ) (x : A) (more : List A) → drop i xs ≡ x ∷ more → slice_get xs i ≡ Some x
@@ -123,7 +123,7 @@ module _ (labels : List Label) (moments : List Shown) (end : Shown) where
   done-end (command ∷ rest) held same =
       let view : view_at labels moments end (length moments) ≡ at_end end = ap (seen labels moments end) (get_past moments (length moments) (omega arith)) in
       let stand = after-is (standing (length moments) held.breaks held.log) command
-          ∙ same_stand (length moments) (index_after labels moments end command held.breaks (length moments)) (at_end end) held.breaks held.log command (index_at_end command held.breaks) view in
+      ∙ same_stand (length moments) (index_after labels moments end command held.breaks (length moments)) (at_end end) held.breaks held.log command (index_at_end command held.breaks) view in
       ap (λ (h : Watching). h.log) (done-more (at_end end) command rest held)
       ∙ done-end rest (did (at_end end) command held) same
       ∙ ap (λ ls. log_from (standing (length moments) (breaks_after command held.breaks) (held.log ++ printed ls (at_end end) command)) rest) same
@@ -134,12 +134,12 @@ module _ (labels : List Label) (moments : List Shown) (end : Shown) where
       → (command : DebugCommand) (rest waiting : List DebugCommand) (goal : Goal) (breaks : AddressSet) (log : List ℕ)
       → goal_of (before s).place command ≡ None → index_after labels moments end command breaks i ≡ i
       → log_at_end (done (before s) rest (holding labels waiting goal (breaks_after command breaks) (log ++ printed labels (before s) command))) left
-          ≡ log_from (standing i (breaks_after command breaks) (log ++ printed labels (before s) command)) rest
+      ≡ log_from (standing i (breaks_after command breaks) (log ++ printed labels (before s) command)) rest
       → log_at_end (done (before s) (command ∷ rest) (holding labels waiting goal breaks log)) left ≡ log_from (standing i breaks log) (command ∷ rest)
   done-here i s left is command rest waiting goal breaks log stays same then =
       let view : view_at labels moments end i ≡ before s = ap (seen labels moments end) (get_at moments i s left is) in
       let stand = after-is (standing i breaks log) command
-          ∙ same_stand i (index_after labels moments end command breaks i) (before s) breaks log command same view in
+      ∙ same_stand i (index_after labels moments end command breaks i) (before s) breaks log command same view in
       let held = holding labels waiting goal breaks log in
       ap (λ h. log_at_end h left) (done-more (before s) command rest held
       ∙ ap (λ g. unless_it_goes g rest held (done (before s) rest (did (before s) command held))) stays)
@@ -165,12 +165,12 @@ module _ (labels : List Label) (moments : List Shown) (end : Shown) where
       rw (done-none (before s) (holding labels waiting goal breaks log)) (nothing-later labels [] breaks log left)
   done-before i s left is comes (Run ∷ rest) waiting goal breaks log =
       let arrives : met BreakAddress breaks log (met_at BreakAddress breaks (i + 1) left)
-          ≡ stand_at labels moments end (index_after labels moments end Run breaks i) (standing i breaks log) Run = rw (drop_next moments i s left is) refl in
+      ≡ stand_at labels moments end (index_after labels moments end Run breaks i) (standing i breaks log) Run = rw (drop_next moments i s left is) refl in
       done-goes i s left comes Run rest waiting goal BreakAddress breaks log refl tt refl arrives
   done-before i s left is comes (Step (suc n) ∷ rest) waiting goal breaks log =
       let index : min (i + 1 + n) (length moments) ≡ min (i + suc n) (length moments) = omega arith in
       let arrives : met (MomentAfter n) breaks log (met_at (MomentAfter n) breaks (i + 1) left)
-          ≡ stand_at labels moments end (index_after labels moments end (Step (suc n)) breaks i) (standing i breaks log) (Step (suc n)) = rw index refl in
+      ≡ stand_at labels moments end (index_after labels moments end (Step (suc n)) breaks i) (standing i breaks log) (Step (suc n)) = rw index refl in
       done-goes i s left comes (Step (suc n)) rest waiting goal (MomentAfter n) breaks log refl tt refl arrives
   done-before i s left is comes (Step zero ∷ rest) waiting goal breaks log =
       let le = within moments i s left is in

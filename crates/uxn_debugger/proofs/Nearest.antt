@@ -1,10 +1,10 @@
 -- The nearest label is not above its address.
-use Rattle.std.proofs.Common.{◌≡◌, ℕ, ◌≤◌, Bool, true, false, cond, List, [], ◌∷◌, Option, Some, None, inl, inr, sym, arith}
+use Rattle.std.proofs.Common.{◌≡◌, ℕ, ◌≤◌, Bool, List, [], ◌∷◌, Some, inl, inr, sym}
 use Rattle.std.specs.List.{find}
 use Rattle.std.proofs.lemmas.Bool.{cases_Bool, leb-true}
 use Rattle.std.specs.Prelude.{nat_le}
 use Rattle.tal_words.specs.declared.name.Label.{Label}
-use Rattle.tal_symbols.specs.Lookups.{labels_up_to, greatest_address, nearest_label}
+use Rattle.tal_symbols.specs.Lookups.{labels_up_to, nearest_label}
 
 -- one that is found among those up to an address
 found_up_to : (test : Label → Bool) (labels : List Label) (address : ℕ) (label : Label) → find test (labels_up_to labels address) ≡ Some label → label.address ≤ address

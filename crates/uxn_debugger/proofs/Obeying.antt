@@ -1,12 +1,11 @@
 -- Commands are done one after the other.
-use Rattle.std.proofs.Common.{◌≡◌, ℕ, zero, suc, ◌+◌, ◌<◌, ◌≤◌, List, [], ◌∷◌, ◌++◌, length, drop, get_or, Option, Some, None, refl, sym, ap, ◌∙◌, arith}
+use Rattle.std.proofs.Common.{◌≡◌, ℕ, suc, ◌+◌, ◌<◌, ◌≤◌, List, [], ◌∷◌, length, drop, get_or, Option, Some, None, refl, sym, ap, ◌∙◌, arith}
 use Rattle.std.proofs.Math.Seq.{drop-cons}
 use Rattle.std.proofs.lemmas.List.{length-drop, nil_from_length}
 use Rattle.uxn_debugger.specs.declared.command.DebugCommand.{DebugCommand}
 use Rattle.uxn_debugger.specs.declared.place.Goal.{Goal}
 use Rattle.uxn_debugger.specs.declared.place.Goal.TheVariants.{Nothing}
-use Rattle.uxn_debugger.specs.Printing.{View, printed}
-use Rattle.uxn_debugger.specs.Log.{breaks_after}
+use Rattle.uxn_debugger.specs.Printing.{View}
 use Rattle.uxn_debugger.specs.Watching.{Watching, goal_of, did, done, unless_it_goes}
 
 -- what stands at a place comes next

@@ -14,7 +14,7 @@ pub part_put : (f : ℕ → List ℕ) (n : ℕ) (log log0 log1 log2 log3 start b
 part_put f n log log0 log1 log2 log3 start byte last e0 e1 e2 e3 is =
     let next : n + 1 ≡ suc n = omega arith in
     let all : flat_map f (range_with_len 0 (suc n)) ≡ flat_map f (range_with_len 0 n) ++ ((start ++ byte) ++ last) =
-        flat_range_suc f 0 n n (omega arith) ∙ ap (λ part. flat_map f (range_with_len 0 n) ++ part) (sym is) in
+    flat_range_suc f 0 n n (omega arith) ∙ ap (λ part. flat_map f (range_with_len 0 n) ++ part) (sym is) in
     rw (e3, e2, e1, e0, next, all) (simp append_assoc refl)
 
 -- all parts make the table

@@ -8,7 +8,7 @@ use Rattle.vector_loop.specs.declared.watch.Moment.{Moment}
 use Rattle.uxn_debugger.specs.declared.command.DebugCommand.{DebugCommand}
 use Rattle.uxn_debugger.specs.declared.command.DebugCommand.TheVariants.{Break, Delete, Run, Step}
 use Rattle.uxn_debugger.specs.declared.place.Place.TheVariants.{Before, End}
-use Rattle.uxn_debugger.specs.Printing.{View, printed}
+use Rattle.uxn_debugger.specs.Printing.{View, view, printed}
 
 -- what a watcher is shown: the machine, what the 256 ports read, and where the run is
 pub record Shown : Type 0 where
@@ -17,10 +17,10 @@ pub record Shown : Type 0 where
   pub moment : Moment
 
 abbrev pub before : Shown → View
-before shown = record { core = shown.core; page = shown.page; place = Before shown.moment }
+before shown = view shown.core shown.page (Before shown.moment)
 
 abbrev pub at_end : Shown → View
-at_end shown = record { core = shown.core; page = shown.page; place = End shown.moment }
+at_end shown = view shown.core shown.page (End shown.moment)
 
 -- a set of addresses, and what commands make of it
 abbrev pub AddressSet : Type 0

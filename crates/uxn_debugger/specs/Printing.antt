@@ -1,5 +1,5 @@
 -- What the debugger's commands print (profile).
-use Rattle.std.specs.Prelude.{ℕ, ◌+◌, ◌-◌, ◌%◌, Bool, false, not, ◌&&◌, ◌||◌, ◌==◌, if◌then◌else◌, List, []}
+use Rattle.std.specs.Prelude.{ℕ, ◌+◌, ◌-◌, ◌%◌, ◌||◌, ◌==◌, if◌then◌else◌, List, []}
 use Rattle.std.specs.Prelude.{◌∷◌, ◌++◌, codes, decimal, slice_index, Option, Some, None}
 use Rattle.std.specs.List.{flat_map, range_with_len}
 use Rattle.uxn_io.specs.NumberText.{hex_of_byte, hex_of_short}
@@ -18,6 +18,9 @@ pub record View : Type 0 where
   pub core : Core
   pub page : List ℕ
   pub place : Place
+
+abbrev pub view : Core → List ℕ → Place → View
+view core page place = record { core = core; page = page; place = place }
 
 abbrev pub newline : List ℕ
 newline = 10 ∷ []
@@ -60,11 +63,11 @@ port_table page = table hex_of_byte (slice_index page) 256
 
 -- what a command prints where the run stands once the command is done
 abbrev pub printed : List Label → View → DebugCommand → List ℕ
-printed labels view (Break address) = address_line (codes "break") address
-printed labels view (Delete address) = address_line (codes "delete") address
-printed labels view Run = place_line labels view.core view.place
-printed labels view (Step count) = place_line labels view.core view.place
-printed labels view Here = place_line labels view.core view.place
-printed labels view Stacks = debug_text_of view.core.working view.core.returns
-printed labels view (Mem address count) = memory_table view.core.memory address count
-printed labels view PortPage = port_table view.page
+printed labels seen (Break address) = address_line (codes "break") address
+printed labels seen (Delete address) = address_line (codes "delete") address
+printed labels seen Run = place_line labels seen.core seen.place
+printed labels seen (Step count) = place_line labels seen.core seen.place
+printed labels seen Here = place_line labels seen.core seen.place
+printed labels seen Stacks = debug_text_of seen.core.working seen.core.returns
+printed labels seen (Mem address count) = memory_table seen.core.memory address count
+printed labels seen PortPage = port_table seen.page

@@ -1,5 +1,5 @@
 -- What a debugger holds in the middle of a run, moment by moment. That it comes to the log of the whole run is a law.
-use Rattle.std.specs.Prelude.{ℕ, zero, suc, ◌-◌, Bool, true, false, ◌==◌, if◌then◌else◌, List, [], ◌∷◌, ◌++◌}
+use Rattle.std.specs.Prelude.{ℕ, suc, ◌-◌, Bool, true, false, ◌==◌, if◌then◌else◌, List, [], ◌∷◌, ◌++◌}
 use Rattle.std.specs.Prelude.{Option, Some, None, ◌≡◌, drop, fold}
 use Rattle.uxn_opcodes.specs.declared.Core.{Core}
 use Rattle.tal_words.specs.declared.name.Label.{Label}
@@ -8,7 +8,7 @@ use Rattle.uxn_debugger.specs.declared.command.DebugCommand.{DebugCommand}
 use Rattle.uxn_debugger.specs.declared.command.DebugCommand.TheVariants.{Run, Step}
 use Rattle.uxn_debugger.specs.declared.debugger.Debugger.{Debugger}
 use Rattle.uxn_debugger.specs.declared.place.Place.{Place}
-use Rattle.uxn_debugger.specs.declared.place.Place.TheVariants.{Before, End}
+use Rattle.uxn_debugger.specs.declared.place.Place.TheVariants.{Before}
 use Rattle.uxn_debugger.specs.declared.place.Goal.{Goal}
 use Rattle.uxn_debugger.specs.declared.place.Goal.TheVariants.{FirstMoment, MomentAfter, BreakAddress, Nothing}
 use Rattle.uxn_debugger.specs.Printing.{View, place_line, printed}

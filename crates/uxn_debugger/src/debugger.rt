@@ -2,6 +2,7 @@
 
 ghost use Rattle.std.specs.Prelude.{◌≡◌, ℕ, List, if◌then◌else◌, OnOk};
 ghost use Rattle.vector_loop.specs.Watch.{IsPage};
+ghost use Rattle.uxn_debugger.specs.Printing.{view};
 ghost use Rattle.uxn_debugger.specs.Watching.{
   KeepsTheLog,
   arrived,
@@ -80,14 +81,9 @@ impl<'a> Debugger<'a> {
     // Prints the place, unless the run begins, and does the next commands.
     #[inline(never)]
     #[tactic(auto, unfolding(crate::specs::Watching::arrived))]
-    fn arrive<P: Ports>(
-        &mut self,
-        core: &Core,
-        ports: &P,
-        place: Place,
-    ) -> Result<(), AllocError>
+    fn arrive<P: Ports>(&mut self, core: &Core, ports: &P, place: Place) -> Result<(), AllocError>
         ensures { OnOk result ((page : List ℕ) → IsPage (P.rules.reads ports.now core.now) page
-            → held_by self.new ≡ arrived (record { core = core.now; page = page; place = place }) (held_by self.old)) }
+            → held_by self.new ≡ arrived (view core.now page place) (held_by self.old)) }
     {
         self.put_arrival(core, place)?;
         self.go_on(core, ports, place)
@@ -95,7 +91,8 @@ impl<'a> Debugger<'a> {
 
     // Prints the place, unless the run begins.
     fn put_arrival(&mut self, core: &Core, place: Place) -> Result<(), AllocError>
-        ensures { OnOk result ((page : List ℕ) → held_by self.new ≡ with_arrival (record { core = core.now; page = page; place = place }) (held_by self.old)) }
+        ensures { OnOk result ((page : List ℕ)
+            → held_by self.new ≡ with_arrival (view core.now page place) (held_by self.old)) }
     {
         match self.goal {
             Goal::FirstMoment => Ok(()),
@@ -104,14 +101,9 @@ impl<'a> Debugger<'a> {
     }
 
     // Does commands until one goes on, or none is left.
-    fn go_on<P: Ports>(
-        &mut self,
-        core: &Core,
-        ports: &P,
-        place: Place,
-    ) -> Result<(), AllocError>
+    fn go_on<P: Ports>(&mut self, core: &Core, ports: &P, place: Place) -> Result<(), AllocError>
         ensures { OnOk result ((page : List ℕ) → IsPage (P.rules.reads ports.now core.now) page
-            → held_by self.new ≡ done (record { core = core.now; page = page; place = place }) (held_by self.old).commands (held_by self.old)) }
+            → held_by self.new ≡ done (view core.now page place) (held_by self.old).commands (held_by self.old)) }
     {
         while let Some(command) = self.commands.get(self.next) {
             let command = *command;
@@ -138,7 +130,7 @@ impl<'a> Debugger<'a> {
     ) -> Result<(), AllocError>
         ensures left { (held_by self.new).commands ≡ (held_by self.old).commands }
         ensures ok { OnOk result ((page : List ℕ) → IsPage (P.rules.reads ports.now core.now) page
-            → held_by self.new ≡ did (record { core = core.now; page = page; place = place }) command (held_by self.old)) }
+            → held_by self.new ≡ did (view core.now page place) command (held_by self.old)) }
     {
         match command {
             DebugCommand::Break(address) => {

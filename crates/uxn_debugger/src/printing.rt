@@ -63,9 +63,9 @@ pub(crate) fn put_place(
             log.extend_from_slice(op_name(core.memory.get(moment.address)).as_slice())?;
             put_label(log, labels, moment.address)?;
         }
-        Place::End(moment) => {
+        Place::End(last) => {
             log.extend_from_slice(b"end ")?;
-            log.extend_from_slice(decimal(moment.instructions).as_slice())?;
+            log.extend_from_slice(decimal(last.instructions).as_slice())?;
         }
     }
     log.push(b'\n')?;

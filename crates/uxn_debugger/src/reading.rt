@@ -39,7 +39,10 @@ pub fn read_commands(
     while start <= text.len() {
         let line = line_at(text, start);
         number += 1;
-        take_line(&mut commands, labels, line, number)?;
+        match take_line(&mut commands, labels, line, number) {
+            Ok(()) => {}
+            Err(stop) => return Err(stop),
+        }
         start += line.len() + 1;
     }
     Ok(commands)

@@ -77,7 +77,13 @@ const SESSIONS: [Session; 10] = [
         b"break @v\nbreak 0108\nrun\nrun\ndelete 0107\nrun\nrun",
         b"break 0107\nbreak 0108\nat 0107 4 INC v+0000\nat 0108 5 BRK v+0001\ndelete 0107\nat 0108 7 BRK v+0001\nat 0108 9 BRK v+0001\n",
     ),
-    (PUTS, b"", b"A", b"where\nbreak 0105\nrun\nwhere", b"at 0100 0 LIT\nbreak 0105\nat 0105 3 BRK\nat 0105 3 BRK\n"),
+    (
+        PUTS,
+        b"",
+        b"A",
+        b"where\nbreak 0105\nrun\nwhere",
+        b"at 0100 0 LIT\nbreak 0105\nat 0105 3 BRK\nat 0105 3 BRK\n",
+    ),
     (
         COUNTS,
         b"",
@@ -192,7 +198,11 @@ fn count(alloc: Global, text: &[u8]) -> Result<usize, (u32, Option<CommandKind>)
 #[test]
 fn the_first_fault_of_the_first_faulty_line_is_found(rt: HostRuntime) {
     for (text, line, kind) in &FAULTS {
-        assert_eq!(rt; count(rt.alloc(), text), Err((*line, Some(*kind))), "{text:?}");
+        assert_eq!(rt;
+            count(rt.alloc(), text),
+            Err((*line, Some(*kind))),
+            "{text:?}"
+        );
     }
 }
 

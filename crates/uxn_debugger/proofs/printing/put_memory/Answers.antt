@@ -1,6 +1,4 @@
-use Rattle.std.proofs.Common.{◌≡◌, ◌++◌, ◌+◌, ◌%◌, get_or, refl}
-use Rattle.uxn_io.specs.NumberText.{hex_of_short}
-use Rattle.uxn_debugger.specs.Printing.{in_lines}
+use Rattle.std.proofs.Common.{refl}
 use Rattle.uxn_debugger.proofs.Tables.{part_put}
 use Rattle.uxn_debugger.proofs.printing.put_memory.Goals as goal
 

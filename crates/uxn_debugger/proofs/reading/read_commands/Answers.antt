@@ -1,4 +1,4 @@
-use Rattle.std.proofs.Common.{◌≡◌, length, arith, refl}
+use Rattle.std.proofs.Common.{length, arith}
 use Rattle.uxn_debugger.specs.Reading.{read_lines, commands_of_text}
 use Rattle.play_script.proofs.Cutting.{not_lt}
 use Rattle.uxn_debugger.proofs.FirstFault.{left_first, line_read, few_lines, all_read, all_taken, none_first, taken, stopped}
@@ -27,7 +27,7 @@ loop-start-preserved c =
     let at = c.loop-start in
     let lines = read_lines labels c.args.text.now in
     let here = line_read labels c.args.text.now c.line_at-line.result.now at.number at.start _ at.invariant.left c.line_at-line.ensures.lines in
-    let takes = c.in_ok-take_line.ensures in
+    let takes = c.in-Ok.ensures in
     let next = taken lines at.number _ at.commands.items _ here.0 here.1 at.invariant.so_far at.invariant.faultless takes.0 takes.1 in
     record {
       left = here.2;
@@ -38,15 +38,15 @@ loop-start-preserved c =
       counted = omega (arith, here.0);
     }
 
-pub returns-in_err-take_line : goal.returns-in_err-take_line
+pub returns-in-Err : goal.returns-in-Err
 unfolding commands_of_text
-returns-in_err-take_line c =
+returns-in-Err c =
     let labels = c.args.labels.now in
     let at = c.loop-start in
     let lines = read_lines labels c.args.text.now in
     let here = line_read labels c.args.text.now c.line_at-line.result.now at.number at.start _ at.invariant.left c.line_at-line.ensures.lines in
     let long = not_lt 4194304 (length c.args.text.now) c.if-text-gt-LONGEST.false in
-    rw long (stopped lines at.number _ at.commands.items _ _ here.0 here.1 at.invariant.so_far at.invariant.faultless c.in_err-take_line.ensures)
+    rw long (stopped lines at.number _ at.commands.items _ _ here.0 here.1 at.invariant.so_far at.invariant.faultless c.in-Err.ensures)
 
 pub returns : goal.returns
 unfolding commands_of_text

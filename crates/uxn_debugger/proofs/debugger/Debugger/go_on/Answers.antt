@@ -1,4 +1,4 @@
-use Rattle.std.proofs.Common.{◌≡◌, ◌+◌, List, ◌∷◌, length, drop, ap, sym, arith}
+use Rattle.std.proofs.Common.{◌+◌, length, ap, sym, arith}
 use Rattle.std.proofs.lemmas.List.{length-drop}
 use Rattle.uxn_debugger.proofs.Obeying.{next_is, none_left, obeyed, went, finished}
 use Rattle.uxn_debugger.proofs.debugger.Debugger.go_on.Goals as goal
