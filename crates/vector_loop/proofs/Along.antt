@@ -15,7 +15,6 @@ use Rattle.varvara_bus.specs.State.{DeviceState}
 use Rattle.varvara_bus.specs.Reads.{read_of}
 use Rattle.varvara_bus.specs.Effect.{Effect}
 use Rattle.varvara_bus.specs.Bus.{BusStandsFor, Reads, world_of, HasEffect, bus_rules}
-use Rattle.varvara_bus.specs.Laws.{same_reads}
 use Rattle.varvara_bus.specs.Model.{instruction_effect}
 use Rattle.varvara_bus.specs.InstructionLaws.{instruction-done, instruction-cut, instruction-lent, instruction-fault}
 use Rattle.vector_loop.specs.declared.tally.Tally.{Tally}
@@ -34,9 +33,9 @@ pub is_page : {T O E : Type 0} (told_tree : T → Option Nodes) (bus : Bus T O E
 unfolding ports_read
 is_page told_tree bus state stands = record {
   size = length-map-range_with_len (read_of state.devices state.core) 0 256;
-  bytes = λ port within other s.
-      get_or-map-range_with_len (read_of state.devices state.core) 0 256 port port 0 within (omega arith)
-      ∙ same_reads bus.devices.now state.devices other state.core port stands.devices s.devices;
+  bytes = λ port byte within reads.
+      reads state.devices stands
+      ∙ sym (get_or-map-range_with_len (read_of state.devices state.core) 0 256 port port 0 within (omega arith));
 }
 
 module _ {T O E W H : Type 0} (told_tree : T → Option Nodes) (told_out : O → Option (List ℕ)) (told_err : E → Option (List ℕ)) (held : W → H) (shown : H → Core → List ℕ → Moment → H) where
