@@ -1,4 +1,4 @@
-use Rattle.std.proofs.Common.{arith, refl}
+use Rattle.std.proofs.Common.{arith}
 use Rattle.vector_loop.specs.Event.{vector_where}
 use Rattle.vector_loop.proofs.Runs.{done-over, done-not_over, stopped-not_over}
 use Rattle.vector_loop.proofs.Frames.{done-not_ended, done-ended, stopped-ended}
