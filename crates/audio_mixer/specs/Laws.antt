@@ -1,5 +1,5 @@
 -- Whatever a voice is said to sound, its position and its output are the same; and samples are signed shorts.
-use Rattle.std.specs.Prelude.{◌≡◌, ℕ, zero, suc, ◌+◌, ◌*◌, ◌≤◌, min, Bool, true, false, refl, if◌then◌else◌}
+use Rattle.std.specs.Prelude.{◌≡◌, ℕ, zero, suc, ◌+◌, ◌*◌, ◌≤◌, min, Bool, refl, if◌then◌else◌}
 use Rattle.std.specs.Prelude.{List, [], ◌∷◌, ◌++◌, map, ℤ, Option, Some, None}
 use Rattle.std.specs.Int.{w16, cast_signed, cast_unsigned}
 use Rattle.std.proofs.Common.{sym, ◌∙◌, ap, arith}
@@ -12,8 +12,8 @@ use Rattle.audio_mixer.specs.declared.voices.Playing.{Playing}
 use Rattle.audio_mixer.specs.declared.voices.Voice.{Voice}
 use Rattle.audio_mixer.specs.Notes.{loudness, envelope_at, attack_of, decay_of, sustain_of, release_of}
 use Rattle.audio_mixer.specs.Notes.{steps_of, wrapped, level, left_of, right_of}
-use Rattle.audio_mixer.specs.Sounds.{Sound, Silence, Note, is_over, position_of, output_of, sample_in, sum_of, mixed, pairs, frame_of}
-use Rattle.audio_mixer.specs.Voices.{Plays, SoundsAs, Sounds}
+use Rattle.audio_mixer.specs.Sounds.{Sound, Silence, Note, position_of, output_of, sample_in, sum_of, mixed, pairs, frame_of}
+use Rattle.audio_mixer.specs.Voices.{SoundsAs, Sounds}
 
 -- an envelope that is over stays so
 pub loudness-kept : (attack decay sustain release age : ℕ) → attack ≤ decay → decay ≤ sustain → sustain ≤ release

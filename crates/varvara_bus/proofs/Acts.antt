@@ -1,20 +1,20 @@
-use Rattle.std.proofs.Common.{◌≡◌, ◌≢◌, ℕ, List, [], ◌∷◌, length, ◌<◌, slice_index, slice_set, map, refl, ap, sym, ◌∙◌, subst}
+use Rattle.std.proofs.Common.{◌≡◌, ℕ, List, [], ◌∷◌, slice_index, map, refl, ap, sym, ◌∙◌}
 use Rattle.std.specs.Prelude.{Option, Result, Ok, Err, OnErr, IfErr, is_err}
 use Rattle.std.specs.Borrow.{MutBor}
 use Rattle.uxn_io.specs.declared.sinks.Failed.{Failed}
-use Rattle.uxn_opcodes.specs.declared.Stop.TheVariants.{SinkFault, NoMemory}
+use Rattle.uxn_opcodes.specs.declared.Stop.TheVariants.{SinkFault}
 use Rattle.varvara_bus.specs.declared.ports.Action.TheVariants.{PutsDebugText}
 use Rattle.uxn_io.specs.Files.{Nodes}
 use Rattle.uxn_io.specs.Told.{extended, HasTakenFront}
-use Rattle.uxn_io.specs.Outside.{Change, ToErr, World, changed_by, changed_by-err, IsCutOff, cut-err}
+use Rattle.uxn_io.specs.Outside.{ToErr, World, changed_by, changed_by-err, cut-err}
 use Rattle.uxn_opcodes.specs.declared.Core.{Core}
 use Rattle.uxn_opcodes.specs.declared.Stop.{Stop}
 use Rattle.varvara_bus.specs.declared.ports.Action.{Action}
 use Rattle.varvara_bus.specs.declared.bus.Bus.{Bus}
 use Rattle.varvara_bus.specs.State.{DeviceState, storing}
-use Rattle.varvara_bus.specs.Effect.{Effect, debug_bytes, action_of, act, effect}
+use Rattle.varvara_bus.specs.Effect.{debug_bytes, action_of, act, effect}
 use Rattle.varvara_bus.specs.InstructionLaws.{same-again}
-use Rattle.varvara_bus.specs.Bus.{SameBus, BusStandsFor, held, world_of, HasEffect, Wrote, Stopped, Acted, ActStopped}
+use Rattle.varvara_bus.specs.Bus.{SameBus, BusStandsFor, held, world_of, Wrote, Stopped, Acted, ActStopped}
 
 -- the debug text put whole
 pub debug_made : (world : World) (byte : ℕ) (core : Core) (now : Option (List ℕ)) → now ≡ extended world.err (debug_bytes byte core)

@@ -1,4 +1,4 @@
-use Rattle.std.proofs.Common.{◌≡◌, ℕ, List, [], ◌∷◌, ◌++◌, refl}
+use Rattle.std.proofs.Common.{◌≡◌, ℕ, List, refl}
 use Rattle.screen_layers.specs.declared.Moved.{Moved}
 use Rattle.screen_layers.specs.Drawings.{moved_by_pixel, moved_by_sprite}
 use Rattle.screen_layers.specs.Pictures.{Picture, after_pixel, after_sprite}

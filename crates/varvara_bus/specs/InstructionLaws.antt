@@ -1,11 +1,11 @@
 -- The laws that tie an instruction over a bus to what it does to the devices and outside.
-use Rattle.std.specs.Prelude.{◌≡◌, ◌≢◌, ℕ, ◌==◌, Bool, false, List, [], ◌∷◌, ◌++◌, Option, Result, Ok}
+use Rattle.std.specs.Prelude.{◌≡◌, ◌≢◌, ℕ, ◌==◌, false, List, [], ◌∷◌, ◌++◌, Option, Result, Ok}
 use Rattle.std.specs.Prelude.{Err, refl}
 use Rattle.std.proofs.Common.{ap, sym, ◌∙◌, append_assoc, inl, inr, arith}
 use Rattle.std.proofs.lemmas.Bool.Decides.{nat_tests}
 use Rattle.std.proofs.lemmas.List.{append-nil}
 use Rattle.uxn_io.specs.Files.{Nodes}
-use Rattle.uxn_io.specs.Outside.{Change, World, changed_by, changed_by-append, IsCutOff, cut-first, cut-later}
+use Rattle.uxn_io.specs.Outside.{Change, changed_by, changed_by-append, IsCutOff, cut-first, cut-later}
 use Rattle.uxn_opcodes.specs.declared.Core.{Core}
 use Rattle.uxn_opcodes.specs.declared.Stop.{Stop}
 use Rattle.uxn_opcodes.specs.declared.Stop.TheVariants.{NoMemory}
@@ -15,12 +15,12 @@ use Rattle.uxn_opcodes.specs.declared.rows.Access.{Access}
 use Rattle.uxn_opcodes.specs.declared.rows.Access.TheVariants.{Nothing, Read, Write}
 use Rattle.uxn_opcodes.specs.Rule.{opcode_at, begun}
 use Rattle.uxn_opcodes.specs.Instruction.{Written, WriteStops, writes_of, Finishes, Stops, Instruction}
-use Rattle.uxn_opcodes.specs.Model.{PortModel, Machine, Carries, StandsAt, StopsAt, after_instruction, access_done, written_by}
+use Rattle.uxn_opcodes.specs.Model.{Machine, Carries, StandsAt, after_instruction, access_done, written_by}
 use Rattle.uxn_opcodes.specs.Model.{writes_in, carried-ran, carried-broke, carried-stopped}
 use Rattle.varvara_bus.specs.declared.bus.Bus.{Bus}
 use Rattle.varvara_bus.specs.State.{DeviceState}
-use Rattle.varvara_bus.specs.Effect.{Effect, effect}
-use Rattle.varvara_bus.specs.Bus.{SameLent, SameBus, BusStandsFor, world_of, HasEffect, bus_rules}
+use Rattle.varvara_bus.specs.Effect.{effect}
+use Rattle.varvara_bus.specs.Bus.{SameBus, BusStandsFor, world_of, HasEffect, bus_rules}
 use Rattle.varvara_bus.specs.Model.{Devised, varvara, instruction_effect}
 
 -- writes only add to the changes made so far

@@ -1,5 +1,5 @@
 -- What one more store changes: the port that it goes to, and no other; and what new devices hold.
-use Rattle.std.specs.Prelude.{◌≡◌, ◌≢◌, ℕ, ◌/◌, ◌%◌, ◌<◌, ◌==◌, Bool, true, false, List, [], ◌∷◌, Option}
+use Rattle.std.specs.Prelude.{◌≡◌, ℕ, ◌/◌, ◌%◌, ◌<◌, ◌==◌, List, [], ◌∷◌, Option}
 use Rattle.std.specs.Prelude.{Some, None, IfSome, IsSome, length, replicate, slice_index, slice_set, refl, if◌then◌else◌}
 use Rattle.std.proofs.Common.{ap, sym, ◌∙◌, arith, inl, inr, lit<}
 use Rattle.std.proofs.lemmas.Bool.{cases_lt}
@@ -14,7 +14,7 @@ use Rattle.uxn_io.specs.declared.trees.Kind.TheVariants.{File as FileOf}
 use Rattle.uxn_io.specs.Files.{Node, Nodes, File, Folder, bytes_of, kind_of, kind_at}
 use Rattle.varvara_bus.specs.Bus.{IsFileWhereTold}
 use Rattle.varvara_bus.specs.declared.devices.Devices.{Devices}
-use Rattle.varvara_bus.specs.History.{Store, History, at_first, stored}
+use Rattle.varvara_bus.specs.History.{Store, at_first, stored}
 use Rattle.uxn_opcodes.specs.declared.Core.{Core}
 use Rattle.varvara_bus.specs.declared.ports.Source.{Source}
 use Rattle.varvara_bus.specs.declared.ports.Source.TheVariants.{Stored, WorkingPointer, ReturnPointer, ScreenSize, VoiceShows}
@@ -27,7 +27,7 @@ use Rattle.audio_mixer.specs.declared.mixer.Mixer.{Mixer}
 use Rattle.audio_mixer.specs.Sounds.{Sound, position_of, output_of}
 use Rattle.audio_mixer.specs.Voices.{StandsFor as MixerStandsFor}
 use Rattle.audio_mixer.specs.Laws.{same_position, same_output}
-use Rattle.varvara_bus.specs.State.{DeviceState, new_state, storing, StandFor}
+use Rattle.varvara_bus.specs.State.{DeviceState, storing, StandFor}
 use Rattle.varvara_bus.specs.Voices.{number_of, voice_byte}
 use Rattle.varvara_bus.specs.Reads.{source_of, byte_of, size_byte, shown_by, read_from, read_of}
 

@@ -1,5 +1,5 @@
 -- What the devices of a machine stand for.
-use Rattle.std.specs.Prelude.{◌≡◌, ℕ, List, [], ◌∷◌, ◌+◌, Option, slice_index}
+use Rattle.std.specs.Prelude.{◌≡◌, ℕ, List, [], ◌+◌, Option, slice_index}
 use Rattle.screen_layers.specs.Pictures.{Picture, new_picture}
 use Rattle.screen_layers.specs.Layers.{StandsFor as ScreenStandsFor}
 use Rattle.audio_mixer.specs.Sounds.{Sound, Silence, later}

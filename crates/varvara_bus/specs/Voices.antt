@@ -1,5 +1,5 @@
 -- The ports of the four voices (Varvara device reference: audio).
-use Rattle.std.specs.Prelude.{ℕ, ◌+◌, ◌*◌, ◌/◌, ◌%◌}
+use Rattle.std.specs.Prelude.{ℕ, ◌+◌, ◌/◌, ◌%◌}
 use Rattle.audio_mixer.specs.declared.notes.Start.{Start}
 use Rattle.audio_mixer.specs.Sounds.{Sound, position_of, output_of}
 use Rattle.varvara_bus.specs.declared.ports.Voice.{Voice}

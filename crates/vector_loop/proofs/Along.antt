@@ -1,9 +1,8 @@
-use Rattle.std.proofs.Common.{◌≡◌, ◌≢◌, ℕ, zero, suc, ◌+◌, ◌<◌, Bool, true, false, cond, List, [], ◌∷◌, ◌++◌, length, map, refl, ap, sym, ◌∙◌, arith, subst}
-use Rattle.std.proofs.lemmas.Bool.Decides.{nat_tests}
+use Rattle.std.proofs.Common.{◌≡◌, ◌≢◌, ℕ, List, refl, ap, sym, ◌∙◌, arith}
 use Rattle.std.proofs.lemmas.List.FromFn.{get_or-map-range_with_len, length-map-range_with_len}
-use Rattle.std.specs.Prelude.{Option, Result, Ok, Err, ◌==◌, ◌||◌, slice_index}
+use Rattle.std.specs.Prelude.{Option, Ok, Err}
 use Rattle.uxn_io.specs.Files.{Nodes}
-use Rattle.uxn_io.specs.Outside.{Change, World, changed_by, changed_by-append, IsCutOff, cut-first, cut-later, cut-here}
+use Rattle.uxn_io.specs.Outside.{changed_by, changed_by-append, cut-first, cut-later}
 use Rattle.uxn_opcodes.specs.declared.Core.{Core}
 use Rattle.uxn_opcodes.specs.declared.Stop.{Stop}
 use Rattle.uxn_opcodes.specs.declared.Turn.{Turn}
@@ -13,20 +12,16 @@ use Rattle.uxn_opcodes.specs.Instruction.{Instruction}
 use Rattle.varvara_bus.specs.declared.bus.Bus.{Bus}
 use Rattle.varvara_bus.specs.State.{DeviceState}
 use Rattle.varvara_bus.specs.Reads.{read_of}
-use Rattle.varvara_bus.specs.Effect.{Effect}
-use Rattle.varvara_bus.specs.Bus.{BusStandsFor, Reads, world_of, HasEffect, bus_rules}
-use Rattle.varvara_bus.specs.Model.{instruction_effect}
-use Rattle.varvara_bus.specs.InstructionLaws.{instruction-done, instruction-cut, instruction-lent, instruction-fault}
+use Rattle.varvara_bus.specs.Bus.{BusStandsFor, Reads, world_of, bus_rules}
+use Rattle.varvara_bus.specs.InstructionLaws.{instruction-done, instruction-cut}
 use Rattle.vector_loop.specs.declared.tally.Tally.{Tally}
-use Rattle.vector_loop.specs.declared.tally.VectorEnd.{VectorEnd}
-use Rattle.vector_loop.specs.declared.tally.VectorEnd.TheVariants.{Broke, Cut}
 use Rattle.vector_loop.specs.declared.watch.Moment.{Moment}
-use Rattle.vector_loop.specs.State.{State, counting_instruction, counting_vector, counting_cut}
+use Rattle.vector_loop.specs.State.{State, counting_instruction}
 use Rattle.vector_loop.specs.Trail.{Trail, stays, followed_by}
-use Rattle.vector_loop.specs.Vector.{after, instruction, at_break, instructions, breaks, begun_at, vector, vector_end}
-use Rattle.vector_loop.specs.Watch.{IsPage, ports_read, moment_of, shown_all}
+use Rattle.vector_loop.specs.Vector.{instruction}
+use Rattle.vector_loop.specs.Watch.{IsPage, ports_read, shown_all}
 use Rattle.vector_loop.specs.Follows.{Running, running, state_of, Follows, FallsShort, FollowsFrom, FallsShortFrom}
-use Rattle.vector_loop.proofs.Trails.{followed_by-again, shown_all-append}
+use Rattle.vector_loop.proofs.Trails.{shown_all-append}
 
 -- what the ports of a bus read, as a list
 pub is_page : {T O E : Type 0} (told_tree : T → Option Nodes) (bus : Bus T O E) (state : State) → BusStandsFor told_tree bus state.devices → IsPage (Reads told_tree bus state.core) (ports_read 256 state)

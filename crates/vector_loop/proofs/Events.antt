@@ -1,26 +1,26 @@
-use Rattle.std.proofs.Common.{◌≡◌, ◌≢◌, ℕ, ◌+◌, ◌<◌, lit<, Bool, true, false, cond, not, List, [], ◌∷◌, ◌++◌, refl, ap, sym, ◌∙◌, arith}
+use Rattle.std.proofs.Common.{◌≡◌, ◌≢◌, ℕ, ◌<◌, lit<, true, false, cond, not, List, refl, ap, sym, ◌∙◌, arith}
 use Rattle.std.proofs.lemmas.Bool.Decides.{nat_tests}
 use Rattle.std.specs.Prelude.{Option, ◌==◌}
 use Rattle.uxn_io.specs.Files.{Nodes}
-use Rattle.uxn_io.specs.Outside.{World, changed_by, IsCutOff}
+use Rattle.uxn_io.specs.Outside.{changed_by}
 use Rattle.uxn_opcodes.specs.declared.Core.{Core}
 use Rattle.input_ports.specs.declared.Input.{Input}
 use Rattle.input_ports.specs.declared.Input.TheVariants.{Key, Down, Up, Mouse, Press, Release, Scroll}
 use Rattle.input_ports.specs.Page.{stores_of, stores_after, vector_of}
 use Rattle.varvara_bus.specs.declared.bus.Bus.{Bus}
-use Rattle.varvara_bus.specs.History.{Store, stored, stored_short}
-use Rattle.varvara_bus.specs.State.{DeviceState, storing, next_frame}
+use Rattle.varvara_bus.specs.History.{stored, stored_short}
+use Rattle.varvara_bus.specs.State.{DeviceState}
 use Rattle.varvara_bus.specs.Bus.{ChangesDevices, FilesStay, BusStandsFor, world_of}
 use Rattle.vector_loop.specs.declared.output.Outputs.{Outputs}
 use Rattle.vector_loop.specs.declared.tally.Tally.{Tally}
 use Rattle.vector_loop.specs.declared.watch.Moment.{Moment}
 use Rattle.play_script.specs.declared.script.Event.{Event}
-use Rattle.vector_loop.specs.State.{State, with_stored, with_next_frame, with_counted, counting_event, is_over}
+use Rattle.vector_loop.specs.State.{State, with_stored, with_counted, counting_event}
 use Rattle.vector_loop.specs.Trail.{Trail, stays, followed_by}
 use Rattle.vector_loop.specs.Vector.{vector}
-use Rattle.vector_loop.specs.Event.{vector_at, vector_in, unless_over, console, device, frame, happens, give}
+use Rattle.vector_loop.specs.Event.{vector_at, vector_in, unless_over, device, happens, give}
 use Rattle.vector_loop.specs.Watch.{shown_all}
-use Rattle.vector_loop.specs.Follows.{Running, running, state_of, Follows, FallsShort, FollowsFrom, FallsShortFrom}
+use Rattle.vector_loop.specs.Follows.{Running, running, state_of, FollowsFrom, FallsShortFrom}
 use Rattle.vector_loop.proofs.Along.{follows-both, short-later, short-first}
 
 is_zero : (n : ℕ) → n ≡ 0 → (n == 0) ≡ true

@@ -1,6 +1,5 @@
-use Rattle.std.proofs.Common.{◌≡◌, ◌≢◌, ℕ, ◌+◌, ◌*◌, ◌<◌, ◌≤◌, get_or, Bool, true, false, cond, List, [], ◌∷◌, ◌++◌, length, drop, map, refl, ap, sym, ◌∙◌, arith}
-use Rattle.std.specs.Prelude.{Option, ℤ, Result, Ok, Err, slice_index_or}
-use Rattle.std.specs.List.{range_with_len}
+use Rattle.std.proofs.Common.{◌≡◌, ℕ, ◌+◌, ◌*◌, ◌<◌, get_or, Bool, true, false, cond, List, [], ◌∷◌, map, refl, ap, sym, ◌∙◌, arith}
+use Rattle.std.specs.Prelude.{ℤ}
 use Rattle.std.proofs.lemmas.List.FromFn.{get_or-range_with_len}
 use Rattle.uxn_opcodes.specs.declared.Core.{Core}
 use Rattle.uxn_opcodes.specs.declared.Stop.{Stop}
@@ -16,11 +15,10 @@ use Rattle.vector_loop.specs.declared.tally.Tally.{Tally}
 use Rattle.vector_loop.specs.State.{State, with_rendered, is_over}
 use Rattle.vector_loop.specs.Trail.{Trail, stays, makes, followed_by}
 use Rattle.vector_loop.specs.Outputs.{appended_to, samples_bytes, picture_bytes}
-use Rattle.vector_loop.specs.Event.{vector_in, unless_over, give_each, samples_kept, vector_where, ended_vectors, heard, shown_and_heard, shot}
+use Rattle.vector_loop.specs.Event.{vector_in, unless_over, samples_kept, vector_where, ended_vectors, heard, shown_and_heard, shot}
 use Rattle.vector_loop.specs.Making.{Made, CutShort}
-use Rattle.vector_loop.specs.Follows.{Running, running, state_of, HasGrown}
+use Rattle.vector_loop.specs.Follows.{Running, running, state_of}
 use Rattle.vector_loop.specs.Answers.{Telling, Done, Stopped}
-use Rattle.vector_loop.proofs.Trails.{followed_by-at}
 use Rattle.vector_loop.proofs.Runs.{grown-none, done-nothing, done-both, done-where, done-as, done-within, done-prepared, stopped-first, stopped-later, stopped-where, stopped-as, stopped-within, stopped-prepared}
 use Rattle.vector_loop.proofs.Events.{Prepared}
 

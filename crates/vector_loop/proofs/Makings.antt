@@ -8,7 +8,7 @@ use Rattle.std.specs.List.{flat_map, range_with_len}
 use Rattle.std.specs.Int.{w16, cast_unsigned}
 use Rattle.audio_mixer.specs.Laws.{short_of}
 use Rattle.uxn_io.specs.Files.{Nodes}
-use Rattle.uxn_io.specs.Outside.{Change, ToFile, World, changed_by, changed_by-append, IsCutOff, cut-first, cut-later}
+use Rattle.uxn_io.specs.Outside.{Change, ToFile, changed_by, changed_by-append, cut-first, cut-later}
 use Rattle.uxn_opcodes.specs.declared.Stop.{Stop}
 use Rattle.screen_frame.specs.Colours.{colours_of}
 use Rattle.screen_frame.specs.Ppm.{head_bytes}

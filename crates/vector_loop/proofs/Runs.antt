@@ -1,16 +1,15 @@
-use Rattle.std.proofs.Common.{◌≡◌, ◌≢◌, ℕ, zero, suc, ◌+◌, ◌*◌, ◌^◌, ◌<◌, ◌≤◌, get_or, add-one, length-drop, length-append, Bool, true, false, cond, List, [], ◌∷◌, ◌++◌, length, map, take, drop, refl, ap, sym, ◌∙◌, arith, append_assoc}
+use Rattle.std.proofs.Common.{◌≡◌, ◌≢◌, ℕ, zero, suc, ◌+◌, ◌*◌, ◌^◌, ◌<◌, ◌≤◌, get_or, add-one, length-drop, length-append, false, List, [], ◌∷◌, ◌++◌, length, drop, refl, ap, sym, ◌∙◌, arith}
 use Rattle.std.proofs.lemmas.List.{append-nil, get_or-map, length-map}
 use Rattle.std.proofs.lemmas.List.Sums.{sum_by-cons}
 use Rattle.std.specs.List.{sum_by}
 use Rattle.std.proofs.Math.Nat.{mul-le-mul_right}
 use Rattle.std.proofs.Math.Seq.{drop-cons}
 use Rattle.std.proofs.Math.ListN.{drop_of_length-le}
-use Rattle.std.specs.Prelude.{Option, Some, None, IfSome, Result, Ok, Err, ◌==◌}
+use Rattle.std.specs.Prelude.{Option, Some, None, IfSome, ◌==◌}
 use Rattle.uxn_io.specs.Files.{Nodes}
-use Rattle.uxn_io.specs.Faults.{Ledger, counts}
+use Rattle.uxn_io.specs.Faults.{counts}
 use Rattle.uxn_opcodes.specs.declared.Core.{Core}
 use Rattle.uxn_opcodes.specs.declared.Stop.{Stop}
-use Rattle.uxn_opcodes.specs.Ports.{blame_of}
 use Rattle.varvara_bus.specs.declared.bus.Bus.{Bus}
 use Rattle.varvara_bus.specs.History.{stored}
 use Rattle.varvara_bus.specs.State.{DeviceState}
@@ -28,9 +27,9 @@ use Rattle.vector_loop.specs.Watch.{IsPage, ports_read, moment_of, shown_all}
 use Rattle.vector_loop.specs.declared.output.Outputs.{Outputs}
 use Rattle.vector_loop.specs.Outputs.{OutputsThere}
 use Rattle.vector_loop.specs.Event.{unless_over, give_each, give}
-use Rattle.vector_loop.specs.Run.{ConsoleByte, console_byte, argument_bytes, arguments_given, kind_before, made_ready, run}
-use Rattle.vector_loop.specs.Follows.{Running, running, state_of, Follows, FollowsFrom, FallsShortFrom, Ends, EndsFrom, HasGrown, HasRoom}
-use Rattle.vector_loop.specs.Answers.{Telling, Done, Stopped, Answers}
+use Rattle.vector_loop.specs.Run.{console_byte, argument_bytes, arguments_given, kind_before, made_ready, run}
+use Rattle.vector_loop.specs.Follows.{Running, running, state_of, FollowsFrom, FallsShortFrom, EndsFrom, HasGrown, HasRoom}
+use Rattle.vector_loop.specs.Answers.{Telling, Done, Stopped}
 use Rattle.vector_loop.proofs.Trails.{followed_by-again, followed_by-at}
 use Rattle.vector_loop.proofs.Events.{follows-then, short-then, short-at-first, follows-as, short-as, follows-nothing, over, not-over, Prepared, follows-prepared, short-prepared, files-kept}
 

@@ -1,7 +1,7 @@
 -- What it is for a machine, its bus, a tally and a watcher to follow a trail.
 use Rattle.std.specs.Prelude.{◌≡◌, ℕ, ◌+◌, ◌*◌, ◌≤◌, List, Option}
 use Rattle.uxn_io.specs.Files.{Nodes}
-use Rattle.uxn_io.specs.Outside.{World, changed_by, IsCutOff}
+use Rattle.uxn_io.specs.Outside.{changed_by, IsCutOff}
 use Rattle.uxn_opcodes.specs.declared.Core.{Core}
 use Rattle.varvara_bus.specs.declared.bus.Bus.{Bus}
 use Rattle.varvara_bus.specs.State.{DeviceState}

@@ -1,5 +1,5 @@
 -- A machine in the middle of a run.
-use Rattle.std.specs.Prelude.{ℕ, ◌+◌, ◌==◌, Bool, not, List}
+use Rattle.std.specs.Prelude.{◌+◌, ◌==◌, Bool, not, List}
 use Rattle.uxn_opcodes.specs.declared.Core.{Core}
 use Rattle.varvara_bus.specs.History.{Store, stored}
 use Rattle.varvara_bus.specs.State.{DeviceState, storing, next_frame, rendered}

@@ -1,5 +1,5 @@
 -- The run of a vector (Varvara device reference; profile: the budget).
-use Rattle.std.specs.Prelude.{ℕ, zero, suc, ◌==◌, ◌||◌, Bool, false, List, [], ◌∷◌, if◌then◌else◌}
+use Rattle.std.specs.Prelude.{ℕ, zero, suc, ◌==◌, ◌||◌, Bool, false, [], ◌∷◌, if◌then◌else◌}
 use Rattle.uxn_opcodes.specs.Rule.{opcode_at}
 use Rattle.varvara_bus.specs.Effect.{Effect}
 use Rattle.varvara_bus.specs.Model.{instruction_effect}

@@ -42,10 +42,7 @@ fn run_ended<'a, T: Tree, O: Sink, E: Sink, W: Watcher>(
         (running core.old bus.old tally.old watcher.old) (running core.new bus.new tally.new watcher.new)
         (unless_over (vector_where budget ended voice)) 1 0 budget result }
 {
-    if !ended {
-        return Ok(());
-    }
-    if bus.stored(STATE) != 0 {
+    if !ended || bus.stored(STATE) != 0 {
         return Ok(());
     }
     let port = VOICE_VECTOR + VOICE_PORTS * voice;

@@ -5,6 +5,8 @@ ghost use Rattle.varvara_bus.specs.Bus.{IsFileWhereTold};
 
 use super::*;
 use play_script::read_script;
+use std::alloc::Global;
+use std::process::Abort;
 use std::test::Fail;
 use uxn_io::{Failed, Kind, MemSink, MemTree, Path, Tree};
 use uxn_opcodes::Core;
@@ -257,48 +259,65 @@ const KEPT: [Kept; 4] = [
     ),
 ];
 
+/// Runs a program and its script over a tree that has the outputs.
+fn play<T: Tree>(
+    rt: &impl Abort,
+    alloc: Global,
+    tree: &mut T,
+    out: &mut MemSink,
+    rom: &[u8],
+    text: &[u8],
+    outputs: &Outputs,
+) -> Result<Tally, Fail> {
+    let script = read_script(alloc, text)?;
+    let mut devices = Devices::new(alloc, None, CLOCK)?;
+    let mut err = MemSink::new(alloc, 0, &[])?;
+    assert!(rt; rom.len() < 100);
+    let mut core = Core::new(alloc, rom)?;
+    assert!(rt; is_there(tree, &outputs.frames));
+    assert!(rt; is_there(tree, &outputs.samples));
+    let mut bus = Bus::new(&mut devices, tree, out, &mut err);
+    assert!(rt; bus.frames() == 0);
+    match run_script(&mut core, &mut bus, &script, outputs, 100, &mut NoWatch) {
+        Ok(tally) => Ok(tally),
+        Err(_) => Err(Fail::from(Failed)),
+    }
+}
+
+/// The bytes of a file.
+fn kept<'a>(tree: &'a MemTree, path: &Path) -> &'a [u8] {
+    match tree.node(path) {
+        Some(node) => node.bytes.as_slice(),
+        None => &[],
+    }
+}
+
 #[test]
 fn pictures_and_samples_are_kept(rt: HostRuntime) -> Result<(), Fail> {
+    let (pictures, sounds) = (Path::read(b"p")?, Path::read(b"s")?);
     let outputs = Outputs {
-        frames: Some(Path::read(b"p")?),
-        samples: Some(Path::read(b"s")?),
+        frames: Some(pictures),
+        samples: Some(sounds),
     };
-    for (rom, text, put, [instructions, vectors], picture, [length, pairs, loud]) in &KEPT {
-        let script = read_script(rt.alloc(), text)?;
-        let mut devices = Devices::new(rt.alloc(), None, CLOCK)?;
+    for (rom, text, put, counts, picture, sizes) in &KEPT {
+        let [length, pairs, loud] = *sizes;
         let mut tree = MemTree::new(rt.alloc(), &[], 2, 3000, &[])?;
-        for output in [b"p", b"s"] {
-            assert_eq!(rt; tree.create(&Path::read(output)?), Ok(true));
-        }
+        assert_eq!(rt;
+            (tree.create(&pictures), tree.create(&sounds)),
+            (Ok(true), Ok(true))
+        );
         let mut out = MemSink::new(rt.alloc(), 100, &[])?;
-        let mut err = MemSink::new(rt.alloc(), 0, &[])?;
-        assert!(rt; is_there(&mut tree, &outputs.frames));
-        assert!(rt; is_there(&mut tree, &outputs.samples));
-        let mut bus = Bus::new(&mut devices, &mut tree, &mut out, &mut err);
-        assert!(rt; rom.len() < 100);
-        assert!(rt; bus.frames() == 0);
-        let mut core = Core::new(rt.alloc(), rom)?;
-        let ran = run_script(&mut core, &mut bus, &script, &outputs, 100, &mut NoWatch)?;
-        assert_eq!(rt; [ran.instructions, ran.vectors], [*instructions, *vectors]);
+        let ran = play(&rt, rt.alloc(), &mut tree, &mut out, rom, text, &outputs)?;
+        assert_eq!(rt; [ran.instructions, ran.vectors], *counts);
         assert_eq!(rt; out.bytes(), *put);
-        let shown = tree
-            .node(&Path::read(b"p")?)
-            .map(|node| node.bytes.as_slice());
-        let heard = tree
-            .node(&Path::read(b"s")?)
-            .map(|node| node.bytes.as_slice());
-        let (Some(shown), Some(heard)) = (shown, heard) else {
-            return Err(Fail::from(Failed));
-        };
-        assert_eq!(rt; (shown.len(), heard.len()), (*length, 4 * pairs));
+        let shown = kept(&tree, &pictures);
+        let heard = kept(&tree, &sounds);
+        assert_eq!(rt; (shown.len(), heard.len()), (length, 4 * pairs));
         assert!(rt; shown.starts_with(picture));
         for (place, byte) in heard.iter().enumerate() {
-            let sample: [u8; 4] = if place / 4 < *loud {
-                [0x52, 0x2a, 0, 0]
-            } else {
-                [0; 4]
-            };
-            assert_eq!(rt; *byte, sample[place % 4]);
+            let loudly = place / 4 < loud;
+            let sample = [0x52, 0x2a, 0, 0][place % 4];
+            assert_eq!(rt; *byte, if loudly { sample } else { 0 });
         }
     }
     Ok(())

@@ -1,4 +1,4 @@
-use Rattle.std.proofs.Common.{◌<◌, refl}
+use Rattle.std.proofs.Common.{refl}
 use Rattle.input_ports.specs.Page.{vector_of, stores_after}
 use Rattle.vector_loop.specs.State.{with_stored}
 use Rattle.vector_loop.specs.Trail.{stays}

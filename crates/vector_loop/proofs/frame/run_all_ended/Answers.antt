@@ -1,4 +1,4 @@
-use Rattle.std.proofs.Common.{◌≡◌, ◌+◌, ◌≤◌, false, [], ◌∷◌, slice_index_or, arith}
+use Rattle.std.proofs.Common.{◌+◌, false, [], ◌∷◌, slice_index_or, arith}
 use Rattle.vector_loop.specs.Event.{vector_where}
 use Rattle.vector_loop.proofs.Runs.{room-left, room-within, going-start, going-item, going-item_stopped, going-items_end, done-within, stopped-within}
 use Rattle.vector_loop.proofs.Frames.{voice-at}

@@ -1,14 +1,16 @@
-use Rattle.std.proofs.Common.{arith, refl}
+use Rattle.std.proofs.Common.{arith}
 use Rattle.vector_loop.specs.Event.{vector_where}
 use Rattle.vector_loop.proofs.Runs.{done-over, done-not_over, stopped-not_over}
 use Rattle.vector_loop.proofs.Frames.{done-not_ended, done-ended, stopped-ended}
 use Rattle.vector_loop.proofs.frame.run_ended.Goals as goal
+use Rattle.vector_loop.proofs.frame.run_ended.Goals.{then-not-ended-via-then-not-ended, then-not-ended-via-else-not-ended+then-stored-ne0}
 
 pub returns-then-not-ended : goal.returns-then-not-ended
-returns-then-not-ended g c = done-not_ended _ _ c.args.ended c.args.voice c.args.budget c.if-not-ended.true
-
-pub returns-then-stored-ne0 : goal.returns-then-stored-ne0
-returns-then-stored-ne0 g c = done-over _ _ (vector_where c.args.budget c.args.ended c.args.voice) c.stored.result 1 0 c.args.budget c.stored.ensures.stored c.if-stored-ne0.true
+returns-then-not-ended g c = elim c.then-not-ended.branch [
+  | then-not-ended-via-then-not-ended w ↦ done-not_ended _ _ c.args.ended c.args.voice c.args.budget w.if-not-ended.true
+  | then-not-ended-via-else-not-ended+then-stored-ne0 w ↦
+      done-over _ _ (vector_where c.args.budget c.args.ended c.args.voice) w.stored.result 1 0 c.args.budget w.stored.ensures.stored w.if-stored-ne0.true
+]
 
 pub returns-in-Ok : goal.returns-in-Ok
 returns-in-Ok g c =

@@ -1,4 +1,4 @@
-use Rattle.std.proofs.Common.{◌≡◌, ◌+◌, ◌-◌, List, [], ◌∷◌, ℕ, refl, arith, ap, sym, ◌∙◌}
+use Rattle.std.proofs.Common.{◌+◌, ◌-◌, ◌∙◌}
 use Rattle.std.specs.List.{flat_map, range_with_len}
 use Rattle.screen_layers.specs.Pictures.{picture_row_of}
 use Rattle.vector_loop.specs.Outputs.{picture_bytes}

@@ -1,4 +1,4 @@
-use Rattle.std.proofs.Common.{◌≡◌, ◌∙◌, ◌≤◌, length, sym, arith, ap}
+use Rattle.std.proofs.Common.{◌≤◌, length, arith, ap}
 use Rattle.vector_loop.proofs.Makings.{to_file, row-taken, made-where, cut-where}
 use Rattle.vector_loop.proofs.output.append_row.Goals as goal
 

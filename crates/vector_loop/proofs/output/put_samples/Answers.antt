@@ -1,4 +1,4 @@
-use Rattle.std.proofs.Common.{arith, ◌∙◌}
+use Rattle.std.proofs.Common.{◌∙◌}
 use Rattle.vector_loop.proofs.Makings.{sample_more}
 use Rattle.vector_loop.proofs.output.put_samples.Goals as goal
 

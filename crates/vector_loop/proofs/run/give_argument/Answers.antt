@@ -1,4 +1,4 @@
-use Rattle.std.proofs.Common.{◌≡◌, ◌<◌, ◌≤◌, ◌+◌, ◌++◌, ◌∷◌, [], length, get_or, arith, ap, ◌∙◌}
+use Rattle.std.proofs.Common.{◌≡◌, ◌<◌, ◌+◌, ◌++◌, ◌∷◌, [], length, get_or, arith, ap, ◌∙◌}
 use Rattle.vector_loop.specs.Run.{argument_bytes, console_byte}
 use Rattle.vector_loop.proofs.Runs.{argument-at, argument-last, argument-length, room-left, room-within, going-start, going-item, going-item_stopped, going-items_end, done-within, stopped-within}
 use Rattle.vector_loop.proofs.run.give_argument.Goals as goal

@@ -1,4 +1,4 @@
-use Rattle.std.proofs.Common.{◌≡◌, ◌+◌, ◌-◌, ◌<◌, ◌≤◌, length, drop, [], refl, arith, ap, ◌∙◌}
+use Rattle.std.proofs.Common.{◌≡◌, ◌+◌, ◌-◌, ◌<◌, length, drop, arith, ap}
 use Rattle.play_script.specs.Held.{bytes_in}
 use Rattle.vector_loop.specs.Event.{give_each}
 use Rattle.vector_loop.specs.Run.{arguments_given, console_byte}

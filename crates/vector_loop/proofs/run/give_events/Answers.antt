@@ -1,4 +1,4 @@
-use Rattle.std.proofs.Common.{◌≤◌, ◌*◌, ◌+◌, arith}
+use Rattle.std.proofs.Common.{◌*◌, ◌+◌, arith}
 use Rattle.vector_loop.specs.Event.{give}
 use Rattle.vector_loop.proofs.Runs.{room-left, room-within, going-start, going-item, going-item_stopped, going-items_end, going-counted, done-within, stopped-within, outputs-still}
 use Rattle.vector_loop.proofs.run.give_events.Goals as goal

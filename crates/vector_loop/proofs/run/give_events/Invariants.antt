@@ -1,4 +1,4 @@
-use Rattle.std.proofs.Common.{ℕ, ◌*◌, drop}
+use Rattle.std.proofs.Common.{◌*◌, drop}
 use Rattle.vector_loop.specs.Event.{give_each, give}
 use Rattle.vector_loop.specs.Answers.{telling_of}
 use Rattle.vector_loop.specs.Follows.{running}

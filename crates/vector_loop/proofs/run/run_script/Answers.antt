@@ -1,4 +1,4 @@
-use Rattle.std.proofs.Common.{◌≡◌, ℕ, ◌+◌, ◌*◌, ◌≤◌, length, refl, arith, ap, ◌∙◌}
+use Rattle.std.proofs.Common.{◌+◌, ◌*◌, ◌≤◌, length, refl, arith, ap}
 use Rattle.play_script.specs.Held.{bytes_in}
 use Rattle.vector_loop.specs.State.{new_tally, with_stored}
 use Rattle.vector_loop.specs.Vector.{vector}

@@ -1,4 +1,4 @@
-use Rattle.std.proofs.Common.{◌≡◌, suc, ◌+◌, refl, ◌∙◌, arith}
+use Rattle.std.proofs.Common.{◌≡◌, suc, refl, ◌∙◌, arith}
 use Rattle.varvara_bus.specs.InstructionLaws.{same-itself, same-again, instruction-lent, instruction-fault}
 use Rattle.vector_loop.proofs.Along.{not-break, is-break, stop-no-break}
 use Rattle.vector_loop.proofs.Vectors.{along-left, along-start, along-ran, broke-follows, broke-ends, cut-follows, cut-ends, stop-short, refused-short}
