@@ -77,15 +77,23 @@ fn a_write_makes_a_file_or_keeps_it(rt: HostRuntime) -> Result<(), Fail> {
 }
 
 #[test]
-fn a_folder_is_read_as_its_listing(rt: HostRuntime) -> Result<(), Fail> {
+fn a_listing_stays_while_files_are_deleted(rt: HostRuntime) -> Result<(), Fail> {
     let mut tree = tree(&rt, &[])?;
     let mut memory = Memory::new(rt.alloc())?;
     let mut device = FileDevice::new(rt.alloc());
     named(&mut device, &mut memory, b".")?;
     assert_eq!(rt; device.read(&mut tree, &mut memory, AT, 0x0010), Ok(0x0010));
     let mut other = FileDevice::new(rt.alloc());
-    named(&mut other, &mut memory, b"a.txt")?;
-    assert_eq!(rt; other.delete(&mut tree), Ok(1));
+    for (name, success) in [
+        (b"d".as_slice(), 0),
+        (b"a.txt".as_slice(), 1),
+        (b"a.txt".as_slice(), 0),
+    ] {
+        named(&mut other, &mut memory, name)?;
+        assert_eq!(rt; other.delete(&mut tree), Ok(success), "{name:?}");
+    }
+    assert_eq!(rt; bytes_of(&tree, b"save/a.txt"), None);
+    assert_eq!(rt; bytes_of(&tree, b"save/d"), Some(b"".as_slice()));
     assert_eq!(rt;
         device.read(&mut tree, &mut memory, AT + 16, 0x0100),
         Ok(12)
@@ -201,24 +209,6 @@ fn reads_go_on_and_end_with_memory(rt: HostRuntime) -> Result<(), Fail> {
     assert_eq!(rt; device.read(&mut tree, &mut memory, AT, 0xffff), Ok(4));
     assert_eq!(rt; memory.slice(AT, 5), b"ghij4".as_slice());
     assert_eq!(rt; device.read(&mut tree, &mut memory, AT, 0xffff), Ok(0));
-    Ok(())
-}
-
-#[test]
-fn a_delete_takes_a_file_and_no_folder(rt: HostRuntime) -> Result<(), Fail> {
-    let mut tree = tree(&rt, &[])?;
-    let mut memory = Memory::new(rt.alloc())?;
-    let mut device = FileDevice::new(rt.alloc());
-    for (name, success) in [
-        (b"d".as_slice(), 0),
-        (b"big".as_slice(), 1),
-        (b"big".as_slice(), 0),
-    ] {
-        named(&mut device, &mut memory, name)?;
-        assert_eq!(rt; device.delete(&mut tree), Ok(success), "{name:?}");
-    }
-    assert_eq!(rt; bytes_of(&tree, b"save/big"), None);
-    assert_eq!(rt; bytes_of(&tree, b"save/d"), Some(b"".as_slice()));
     Ok(())
 }
 
