@@ -60,9 +60,9 @@ impl<'a> Debugger<'a> {
         self.log.as_slice()
     }
 
-    // Whether a moment at this address is the one that was waited for; if not, one moment fewer is waited for.
+    // Whether the wait ends at a moment at this address. If not, one moment fewer is waited for.
     #[inline(always)]
-    fn is_awaited(&mut self, address: u16) -> bool
+    fn ends_wait(&mut self, address: u16) -> bool
         ensures awaited { result ≡ is_awaited (held_by self.old).goal (held_by self.old).breaks address }
         ensures later { held_by self.new ≡ (if result then held_by self.old
             else record (held_by self.old) { goal = goal_later self.old.goal }) }
@@ -197,7 +197,7 @@ impl<'a> Watcher for Debugger<'a> {
         ports: &P,
         moment: Moment,
     ) -> Result<(), AllocError> {
-        if !self.is_awaited(moment.address) {
+        if !self.ends_wait(moment.address) {
             return Ok(());
         }
         self.arrive(core, ports, Place::Before(moment))
