@@ -1,6 +1,6 @@
-use Rattle.std.proofs.Common.{◌≡◌, ◌≢◌, ℕ, zero, suc, ◌+◌, Bool, true, false, cond, List, [], ◌∷◌, ◌++◌, refl, ap, sym, ◌∙◌, arith}
+use Rattle.std.proofs.Common.{◌≡◌, ◌≢◌, ℕ, zero, suc, true, false, cond, List, refl, ap, sym, ◌∙◌, arith}
 use Rattle.std.proofs.lemmas.Bool.Decides.{nat_tests}
-use Rattle.std.specs.Prelude.{Option, Result, Ok, Err, ◌==◌, ◌||◌}
+use Rattle.std.specs.Prelude.{Option, Ok, Err, ◌==◌, ◌||◌}
 use Rattle.uxn_io.specs.Files.{Nodes}
 use Rattle.uxn_io.specs.Outside.{cut-here}
 use Rattle.uxn_opcodes.specs.declared.Core.{Core}
@@ -12,14 +12,13 @@ use Rattle.varvara_bus.specs.declared.bus.Bus.{Bus}
 use Rattle.varvara_bus.specs.State.{DeviceState}
 use Rattle.varvara_bus.specs.Bus.{BusStandsFor, Reads, world_of, bus_rules}
 use Rattle.vector_loop.specs.declared.tally.Tally.{Tally}
-use Rattle.vector_loop.specs.declared.tally.VectorEnd.{VectorEnd}
 use Rattle.vector_loop.specs.declared.tally.VectorEnd.TheVariants.{Broke, Cut}
 use Rattle.vector_loop.specs.declared.watch.Moment.{Moment}
 use Rattle.vector_loop.specs.State.{State, counting_instruction, counting_vector, counting_cut}
 use Rattle.vector_loop.specs.Trail.{Trail, stays, followed_by}
-use Rattle.vector_loop.specs.Vector.{instruction, at_break, instructions, breaks, begun_at, vector, vector_end}
+use Rattle.vector_loop.specs.Vector.{instruction, at_break, instructions, breaks, vector, vector_end}
 use Rattle.vector_loop.specs.Watch.{IsPage}
-use Rattle.vector_loop.specs.Follows.{Running, running, state_of, Follows, FallsShort, FollowsFrom, FallsShortFrom}
+use Rattle.vector_loop.specs.Follows.{Running, running, state_of, Follows, FollowsFrom, FallsShortFrom}
 use Rattle.vector_loop.proofs.Trails.{followed_by-again, followed_by-at}
 use Rattle.vector_loop.proofs.Along.{follows-nothing, follows-both, short-later, short-first, follows-instruction, short-instruction}
 

@@ -21,10 +21,11 @@ fn run_instructions<'a, T: Tree, O: Sink, E: Sink, W: Watcher>(
     core: &mut Core,
     bus: &mut Bus<'a, T, O, E>,
     start: u64,
-    budget: u32,
+    budget: u64,
     watcher: &mut W,
-) -> Result<Option<u32>, Stop>
+) -> Result<Option<u64>, Stop>
     requires budget { 1 ≤ budget }
+    requires most { budget ≤ 2 ^ 62 }
     requires instructions { start ≤ 2 ^ 62 }
     ensures within { IfOk result (λ broke. IfSome broke (λ left. left ≤ budget)) }
     ensures some { IfOk result (λ broke. IfSome broke (λ left. 1 ≤ left)) }
@@ -50,7 +51,7 @@ fn run_instructions<'a, T: Tree, O: Sink, E: Sink, W: Watcher>(
     let mut left = budget;
     loop {
         let moment = Moment {
-            instructions: start + u64::from(budget - left),
+            instructions: start + (budget - left),
             address: core.at,
         };
         let Ok(()) = watcher.before(core, bus, moment) else {
@@ -98,13 +99,14 @@ pub fn run_vector<'a, T: Tree, O: Sink, E: Sink, W: Watcher>(
 {
     core.at = at;
     tally.vectors += 1;
+    let budget = u64::from(budget);
     match run_instructions(core, bus, tally.instructions, budget, watcher) {
         Ok(Some(left)) => {
-            tally.instructions += u64::from(budget - left) + 1;
+            tally.instructions += budget - left + 1;
             Ok(VectorEnd::Broke)
         }
         Ok(None) => {
-            tally.instructions += u64::from(budget);
+            tally.instructions += budget;
             tally.cuts += 1;
             Ok(VectorEnd::Cut)
         }
