@@ -1,4 +1,4 @@
-use Rattle.std.proofs.Common.{◌≡◌, ◌≢◌, ℕ, zero, suc, Bool, true, false, cond, List, refl, ap, sym, ◌∙◌, arith}
+use Rattle.std.proofs.Common.{◌≡◌, ◌≢◌, ℕ, zero, suc, true, false, cond, List, refl, ap, sym, ◌∙◌, arith}
 use Rattle.std.proofs.lemmas.Bool.Decides.{nat_tests}
 use Rattle.std.specs.Prelude.{Option, Ok, Err, ◌==◌, ◌||◌}
 use Rattle.uxn_io.specs.Files.{Nodes}
@@ -12,16 +12,15 @@ use Rattle.varvara_bus.specs.declared.bus.Bus.{Bus}
 use Rattle.varvara_bus.specs.State.{DeviceState}
 use Rattle.varvara_bus.specs.Bus.{BusStandsFor, Reads, world_of, bus_rules}
 use Rattle.vector_loop.specs.declared.tally.Tally.{Tally}
-use Rattle.vector_loop.specs.declared.tally.VectorEnd.{VectorEnd}
 use Rattle.vector_loop.specs.declared.tally.VectorEnd.TheVariants.{Broke, Cut}
 use Rattle.vector_loop.specs.declared.watch.Moment.{Moment}
 use Rattle.vector_loop.specs.State.{State, counting_instruction, counting_vector, counting_cut}
 use Rattle.vector_loop.specs.Trail.{Trail, stays, followed_by}
-use Rattle.vector_loop.specs.Vector.{instruction, at_break, instructions, breaks, begun_at, vector, vector_end}
+use Rattle.vector_loop.specs.Vector.{instruction, at_break, instructions, breaks, vector, vector_end}
 use Rattle.vector_loop.specs.Watch.{IsPage}
 use Rattle.vector_loop.specs.Follows.{Running, running, state_of, Follows, FollowsFrom, FallsShortFrom}
 use Rattle.vector_loop.proofs.Trails.{followed_by-again, followed_by-at}
-use Rattle.vector_loop.proofs.Along.{follows-both, short-later, short-first, follows-instruction, short-instruction}
+use Rattle.vector_loop.proofs.Along.{follows-nothing, follows-both, short-later, short-first, follows-instruction, short-instruction}
 
 instructions-break : (left : ℕ) (state : State) → at_break state ≡ true → instructions (suc left) state ≡ instruction state
 unfolding instructions
@@ -47,17 +46,6 @@ breaks-zero : (state : State) → breaks zero state ≡ false
 unfolding breaks
 breaks-zero state = refl
 
-vector-is : (budget at : ℕ) (state : State) → vector budget at state ≡ instructions budget (begun_at at state)
-unfolding vector
-vector-is budget at state = refl
-
-end-of : Bool → VectorEnd
-end-of broke = cond broke Broke Cut
-
-end-is : (budget at : ℕ) (state : State) (broke : Bool) → broke ≡ breaks budget (begun_at at state) → cond broke Broke Cut ≡ vector_end budget at state
-unfolding vector_end
-end-is budget at state broke is = ap (λ b. cond b Broke Cut) is
-
 is_zero : (n : ℕ) → n ≡ 0 → (n == 0) ≡ true
 is_zero n h = grind (arith, nat_tests)
 
@@ -66,31 +54,34 @@ is_not_zero n h = grind (arith, nat_tests)
 
 module _ {T O E W H : Type 0} (told_tree : T → Option Nodes) (told_out : O → Option (List ℕ)) (told_err : E → Option (List ℕ)) (held : W → H) (shown : H → Core → List ℕ → Moment → H) where
   -- what was done so far of a vector, with so many instructions left
-  record SoFar (before now : Running T O E W) (budget at left : ℕ) (devices : DeviceState) : Type 0 where
+  record SoFar (before now : Running T O E W) (budget left : ℕ) (devices : DeviceState) : Type 0 where
     done : Trail
     follows : Follows told_tree told_out told_err held shown before now done
-    whole : followed_by done (instructions left) ≡ vector budget at (state_of before devices)
-    ends : breaks left done.last ≡ breaks budget (begun_at at (state_of before devices))
+    whole : followed_by done (instructions left) ≡ instructions budget (state_of before devices)
+    ends : breaks left done.last ≡ breaks budget (state_of before devices)
 
-  pub record Along (before now : Running T O E W) (budget at left : ℕ) : Type 0 where
-    from : (devices : DeviceState) → BusStandsFor told_tree before.bus devices → SoFar before now budget at left devices
+  pub record Along (before now : Running T O E W) (budget left : ℕ) : Type 0 where
+    from : (devices : DeviceState) → BusStandsFor told_tree before.bus devices → SoFar before now budget left devices
 
   -- the same with the number written otherwise
-  pub along-left : (before now : Running T O E W) (budget at left other : ℕ) → left ≡ other → Along before now budget at left → Along before now budget at other
-  along-left before now budget at left other same along = rw (← same) along
+  pub along-left : (before now : Running T O E W) (budget left other : ℕ) → left ≡ other → Along before now budget left → Along before now budget other
+  along-left before now budget left other same along = rw (← same) along
+
+  -- the same with the count of instructions written otherwise
+  pub along-counted : (before : Running T O E W) (core : Core) (bus : Bus T O E) (tally : Tally) (watcher : W) (budget left count other : ℕ) → count ≡ other
+      → Along before (running core bus (record tally { instructions = count }) watcher) budget left → Along before (running core bus (record tally { instructions = other }) watcher) budget left
+  along-counted before core bus tally watcher budget left count other same along = rw (← same) along
 
   -- the watcher was shown the machine
   abbrev pub Watched : Running T O E W → W → Type 0
   Watched now watcher_new = (page : List ℕ) → IsPage (Reads told_tree now.bus now.core) page
       → held watcher_new ≡ shown (held now.watcher) now.core page (record { instructions = now.tally.instructions; address = now.core.at })
 
-  pub along-start : (core : Core) (bus : Bus T O E) (tally : Tally) (watcher : W) (budget at : ℕ)
-      → Along (running core bus tally watcher) (running (record core { at = at }) bus (counting_vector tally) watcher) budget at budget
-  unfolding vector
-  along-start core bus tally watcher budget at = record {
+  pub along-start : (now : Running T O E W) (budget : ℕ) → Along now now budget budget
+  along-start now budget = record {
     from = λ devices stands. record {
-      done = stays (begun_at at (state_of (running core bus tally watcher) devices));
-      follows = record { core = refl; devices = stands; tally = refl; world = refl; watcher = refl };
+      done = stays (state_of now devices);
+      follows = follows-nothing told_tree told_out told_err held shown now devices stands;
       whole = refl;
       ends = refl;
     };
@@ -99,11 +90,11 @@ module _ {T O E W H : Type 0} (told_tree : T → Option Nodes) (told_out : O →
   goes-on-at : (now : Running T O E W) (done : Trail) (core : Core) → now.core ≡ done.last.core → opcode_at now.core ≢ 0 → at_break done.last ≡ false
   goes-on-at now done core same goes_on = ap (λ (c : Core). opcode_at c == 0) (sym same) ∙ is_not_zero (opcode_at now.core) goes_on
 
-  pub along-ran : (before now : Running T O E W) (budget at left : ℕ) (core_new : Core) (bus_new : Bus T O E) (watcher_new : W)
-      → Along before now budget at (suc left) → Watched now watcher_new
+  pub along-ran : (before now : Running T O E W) (budget left : ℕ) (core_new : Core) (bus_new : Bus T O E) (watcher_new : W)
+      → Along before now budget (suc left) → Watched now watcher_new
       → Instruction (bus_rules told_tree told_out told_err) now.core now.bus (Ok Ran) core_new bus_new → opcode_at now.core ≢ 0
-      → Along before (running core_new bus_new (counting_instruction now.tally) watcher_new) budget at left
-  along-ran before now budget at left core_new bus_new watcher_new along watched ran goes_on = record {
+      → Along before (running core_new bus_new (counting_instruction now.tally) watcher_new) budget left
+  along-ran before now budget left core_new bus_new watcher_new along watched ran goes_on = record {
     from = λ devices stands.
         let so_far = along.from devices stands in
         let on = goes-on-at now so_far.done now.core so_far.follows.core goes_on in
@@ -118,11 +109,11 @@ module _ {T O E W H : Type 0} (told_tree : T → Option Nodes) (told_out : O →
         };
   }
 
-  pub broke-follows : (before now : Running T O E W) (budget at left : ℕ) (core_new : Core) (bus_new : Bus T O E) (watcher_new : W)
-      → Along before now budget at (suc left) → Watched now watcher_new
+  pub broke-follows : (before now : Running T O E W) (budget left : ℕ) (core_new : Core) (bus_new : Bus T O E) (watcher_new : W)
+      → Along before now budget (suc left) → Watched now watcher_new
       → Instruction (bus_rules told_tree told_out told_err) now.core now.bus (Ok Broken) core_new bus_new → opcode_at now.core ≡ 0
-      → FollowsFrom told_tree told_out told_err held shown before (running core_new bus_new (counting_instruction now.tally) watcher_new) (vector budget at)
-  broke-follows before now budget at left core_new bus_new watcher_new along watched ran breaks = record {
+      → FollowsFrom told_tree told_out told_err held shown before (running core_new bus_new (counting_instruction now.tally) watcher_new) (instructions budget)
+  broke-follows before now budget left core_new bus_new watcher_new along watched ran breaks = record {
     from = λ devices stands.
         let so_far = along.from devices stands in
         let on : at_break so_far.done.last ≡ true = ap (λ (c : Core). opcode_at c == 0) (sym so_far.follows.core) ∙ is_zero (opcode_at now.core) breaks in
@@ -131,16 +122,16 @@ module _ {T O E W H : Type 0} (told_tree : T → Option Nodes) (told_out : O →
         (follows-instruction told_tree told_out told_err held shown now core_new bus_new watcher_new Broken watched ran));
   }
 
-  pub broke-ends : (before now : Running T O E W) (budget at left : ℕ) → Along before now budget at (suc left) → opcode_at now.core ≡ 0
-      → (devices : DeviceState) → BusStandsFor told_tree before.bus devices → Broke ≡ vector_end budget at (state_of before devices)
-  broke-ends before now budget at left along breaks devices stands =
+  pub broke-ends : (before now : Running T O E W) (budget left : ℕ) → Along before now budget (suc left) → opcode_at now.core ≡ 0
+      → (devices : DeviceState) → BusStandsFor told_tree before.bus devices → breaks budget (state_of before devices) ≡ true
+  broke-ends before now budget left along breaks devices stands =
       let so_far = along.from devices stands in
       let on : at_break so_far.done.last ≡ true = ap (λ (c : Core). opcode_at c == 0) (sym so_far.follows.core) ∙ is_zero (opcode_at now.core) breaks in
-      end-is budget at (state_of before devices) true (sym (breaks-break left so_far.done.last on) ∙ so_far.ends)
+      sym so_far.ends ∙ breaks-break left so_far.done.last on
 
-  pub cut-follows : (before now : Running T O E W) (budget at : ℕ) → Along before now budget at 0
-      → FollowsFrom told_tree told_out told_err held shown before (running now.core now.bus (counting_cut now.tally) now.watcher) (vector budget at)
-  cut-follows before now budget at along = record {
+  pub cut-follows : (before now : Running T O E W) (budget : ℕ) → Along before now budget 0
+      → FollowsFrom told_tree told_out told_err held shown before (running now.core now.bus (counting_cut now.tally) now.watcher) (instructions budget)
+  cut-follows before now budget along = record {
     from = λ devices stands.
         let so_far = along.from devices stands in
         let whole = sym so_far.whole ∙ followed_by-at so_far.done (instructions 0) (λ s. stays (record s { tally = counting_cut s.tally })) (instructions-zero so_far.done.last) in
@@ -148,17 +139,17 @@ module _ {T O E W H : Type 0} (told_tree : T → Option Nodes) (told_out : O →
         (record { from = λ reached s. record { core = refl; devices = s; tally = refl; world = refl; watcher = refl } }));
   }
 
-  pub cut-ends : (before now : Running T O E W) (budget at : ℕ) → Along before now budget at 0
-      → (devices : DeviceState) → BusStandsFor told_tree before.bus devices → Cut ≡ vector_end budget at (state_of before devices)
-  cut-ends before now budget at along devices stands =
+  pub cut-ends : (before now : Running T O E W) (budget : ℕ) → Along before now budget 0
+      → (devices : DeviceState) → BusStandsFor told_tree before.bus devices → breaks budget (state_of before devices) ≡ false
+  cut-ends before now budget along devices stands =
       let so_far = along.from devices stands in
-      end-is budget at (state_of before devices) false (sym (breaks-zero so_far.done.last) ∙ so_far.ends)
+      sym so_far.ends ∙ breaks-zero so_far.done.last
 
-  pub stop-short : (before now : Running T O E W) (budget at left : ℕ) (core_new : Core) (bus_new : Bus T O E) (tally_new : Tally) (watcher_new : W) (stop : Stop)
-      → Along before now budget at (suc left)
+  pub stop-short : (before now : Running T O E W) (budget left : ℕ) (core_new : Core) (bus_new : Bus T O E) (tally_new : Tally) (watcher_new : W) (stop : Stop)
+      → Along before now budget (suc left)
       → Instruction (bus_rules told_tree told_out told_err) now.core now.bus (Err stop) core_new bus_new → opcode_at now.core ≢ 0
-      → FallsShortFrom told_tree told_out told_err held shown before (running core_new bus_new tally_new watcher_new) (vector budget at)
-  stop-short before now budget at left core_new bus_new tally_new watcher_new stop along stopped goes_on = record {
+      → FallsShortFrom told_tree told_out told_err held shown before (running core_new bus_new tally_new watcher_new) (instructions budget)
+  stop-short before now budget left core_new bus_new tally_new watcher_new stop along stopped goes_on = record {
     from = λ devices stands.
         let so_far = along.from devices stands in
         let on = goes-on-at now so_far.done now.core so_far.follows.core goes_on in
@@ -170,11 +161,44 @@ module _ {T O E W H : Type 0} (told_tree : T → Option Nodes) (told_out : O →
         }));
   }
 
-  pub refused-short : (before now : Running T O E W) (budget at left : ℕ) (tally_new : Tally) (watcher_new : W) → Along before now budget at left
-      → FallsShortFrom told_tree told_out told_err held shown before (running now.core now.bus tally_new watcher_new) (vector budget at)
-  refused-short before now budget at left tally_new watcher_new along = record {
+  pub refused-short : (before now : Running T O E W) (budget left : ℕ) (tally_new : Tally) (watcher_new : W) → Along before now budget left
+      → FallsShortFrom told_tree told_out told_err held shown before (running now.core now.bus tally_new watcher_new) (instructions budget)
+  refused-short before now budget left tally_new watcher_new along = record {
     from = λ devices stands.
         let so_far = along.from devices stands in
-        let whole : vector budget at (state_of before devices) ≡ followed_by so_far.done (instructions left) = sym so_far.whole in
+        let whole : instructions budget (state_of before devices) ≡ followed_by so_far.done (instructions left) = sym so_far.whole in
         rw whole (cut-here (world_of told_tree told_out told_err before.bus) (world_of told_tree told_out told_err now.bus) so_far.done.changes (instructions left so_far.done.last).changes so_far.follows.world);
   }
+
+  -- what begins at an address is a vector
+  pub vector-follows : (core core_new : Core) (bus bus_new : Bus T O E) (tally tally_new : Tally) (watcher watcher_new : W) (budget at count other : ℕ) → count ≡ other
+      → FollowsFrom told_tree told_out told_err held shown (running (record core { at = at }) bus (counting_vector tally) watcher)
+      (running core_new bus_new (record tally_new { instructions = count }) watcher_new) (instructions budget)
+      → FollowsFrom told_tree told_out told_err held shown (running core bus tally watcher)
+      (running core_new bus_new (record tally_new { instructions = other }) watcher_new) (vector budget at)
+  unfolding vector
+  vector-follows core core_new bus bus_new tally tally_new watcher watcher_new budget at count other same follows = record {
+    from = λ devices stands.
+        let done = follows.from devices stands in
+        record { core = done.core; devices = done.devices; tally = ap (λ n. record tally_new { instructions = n }) (sym same) ∙ done.tally; world = done.world; watcher = done.watcher };
+  }
+
+  pub vector-short : (core : Core) (bus : Bus T O E) (tally : Tally) (watcher : W) (now : Running T O E W) (budget at : ℕ)
+      → FallsShortFrom told_tree told_out told_err held shown (running (record core { at = at }) bus (counting_vector tally) watcher) now (instructions budget)
+      → FallsShortFrom told_tree told_out told_err held shown (running core bus tally watcher) now (vector budget at)
+  unfolding vector
+  vector-short core bus tally watcher now budget at short = record { from = λ devices stands. short.from devices stands }
+
+  pub broke-is : (core : Core) (bus : Bus T O E) (tally : Tally) (watcher : W) (budget at : ℕ)
+      → ((devices : DeviceState) → BusStandsFor told_tree bus devices
+      → breaks budget (state_of (running (record core { at = at }) bus (counting_vector tally) watcher) devices) ≡ true)
+      → (devices : DeviceState) → BusStandsFor told_tree bus devices → Broke ≡ vector_end budget at (state_of (running core bus tally watcher) devices)
+  unfolding vector_end
+  broke-is core bus tally watcher budget at ends devices stands = ap (λ b. cond b Broke Cut) (sym (ends devices stands))
+
+  pub cut-is : (core : Core) (bus : Bus T O E) (tally : Tally) (watcher : W) (budget at : ℕ)
+      → ((devices : DeviceState) → BusStandsFor told_tree bus devices
+      → breaks budget (state_of (running (record core { at = at }) bus (counting_vector tally) watcher) devices) ≡ false)
+      → (devices : DeviceState) → BusStandsFor told_tree bus devices → Cut ≡ vector_end budget at (state_of (running core bus tally watcher) devices)
+  unfolding vector_end
+  cut-is core bus tally watcher budget at ends devices stands = ap (λ b. cond b Broke Cut) (sym (ends devices stands))

@@ -1,10 +1,10 @@
 //! The run of a vector.
-ghost use Rattle.std.specs.Prelude.{◌≡◌, ◌≢◌, ◌+◌, ◌*◌, ◌^◌, ◌<◌, ◌≤◌, IfOk, OnOk, OnErr, IfErr};
+ghost use Rattle.std.specs.Prelude.{◌≡◌, ◌≢◌, ◌+◌, ◌*◌, ◌^◌, ◌<◌, ◌≤◌, ◌-◌, true, false, Ok, None, IfOk, OnOk, OnErr, IfErr, IfSome};
 ghost use Rattle.uxn_io.specs.Faults.{Ledger};
 ghost use Rattle.uxn_opcodes.specs.Ports.{blame_of};
 ghost use Rattle.varvara_bus.specs.State.{DeviceState};
 ghost use Rattle.varvara_bus.specs.Bus.{BusStandsFor, SameBus, bus_faults};
-ghost use Rattle.vector_loop.specs.Vector.{vector, vector_end};
+ghost use Rattle.vector_loop.specs.Vector.{instructions, breaks, vector, vector_end};
 ghost use Rattle.vector_loop.specs.Follows.{running, state_of, FollowsFrom, FallsShortFrom, HasGrown};
 
 use crate::tally::{Tally, VectorEnd};
@@ -13,8 +13,63 @@ use uxn_io::{Sink, Tree};
 use uxn_opcodes::{Core, Stop, Turn, step};
 use varvara_bus::Bus;
 
-/// Runs instructions from an address on, up to and with the first BRK, or exactly `budget` of them.
+/// Runs instructions from `core.at` on, up to and with the first BRK, or exactly `budget` of them: what was left of the
+/// budget before the BRK, if there was one. `start` instructions were run before. The loop counts nothing else, since
+/// it is here that a run spends its time.
 #[inline(never)]
+fn run_instructions<'a, T: Tree, O: Sink, E: Sink, W: Watcher>(
+    core: &mut Core,
+    bus: &mut Bus<'a, T, O, E>,
+    start: u64,
+    budget: u64,
+    watcher: &mut W,
+) -> Result<Option<u64>, Stop>
+    requires budget { 1 ≤ budget }
+    requires most { budget ≤ 2 ^ 62 }
+    requires instructions { start ≤ 2 ^ 62 }
+    ensures within { IfOk result (λ broke. IfSome broke (λ left. left ≤ budget)) }
+    ensures some { IfOk result (λ broke. IfSome broke (λ left. 1 ≤ left)) }
+    ensures broke { IfOk result (λ broke. IfSome broke (λ left. (before : Tally) → before.instructions ≡ start
+        → FollowsFrom T.told O.told E.told W.held W.shown (running core.old bus.old before watcher.old)
+        (running core.new bus.new (record before { instructions = start + (budget - left) + 1 }) watcher.new) (instructions budget))) }
+    ensures broke_end { IfOk result (λ broke. IfSome broke (λ left. (before : Tally) → before.instructions ≡ start
+        → (devices : DeviceState) → BusStandsFor T.told bus.old devices
+        → breaks budget (state_of (running core.old bus.old before watcher.old) devices) ≡ true)) }
+    ensures cut { result ≡ Ok None → (before : Tally) → before.instructions ≡ start
+        → FollowsFrom T.told O.told E.told W.held W.shown (running core.old bus.old before watcher.old)
+        (running core.new bus.new (record before { instructions = start + budget; cuts = before.cuts + 1 }) watcher.new) (instructions budget) }
+    ensures cut_end { result ≡ Ok None → (before : Tally) → before.instructions ≡ start
+        → (devices : DeviceState) → BusStandsFor T.told bus.old devices
+        → breaks budget (state_of (running core.old bus.old before watcher.old) devices) ≡ false }
+    ensures err { OnErr result ((before : Tally) → before.instructions ≡ start
+        → FallsShortFrom T.told O.told E.told W.held W.shown (running core.old bus.old before watcher.old)
+        (running core.new bus.new before watcher.new) (instructions budget)) }
+    ensures ledger { Ledger (bus_faults T.faults O.faults E.faults bus.old) (bus_faults T.faults O.faults E.faults bus.new) (blame_of result) }
+    ensures memory { IfErr result (λ stop. stop ≡ Stop.NoMemory → W.may_refuse) }
+    ensures same { SameBus T.told bus.old bus.new }
+{
+    let mut left = budget;
+    loop {
+        let moment = Moment {
+            instructions: start + (budget - left),
+            address: core.at,
+        };
+        let Ok(()) = watcher.before(core, bus, moment) else {
+            return Err(Stop::NoMemory);
+        };
+        match step(core, bus) {
+            Ok(Turn::Ran) => {}
+            Ok(Turn::Broke) => return Ok(Some(left)),
+            Err(stop) => return Err(stop),
+        }
+        left -= 1;
+        if left == 0 {
+            return Ok(None);
+        }
+    }
+}
+
+/// Runs instructions from an address on, up to and with the first BRK, or exactly `budget` of them.
 pub fn run_vector<'a, T: Tree, O: Sink, E: Sink, W: Watcher>(
     core: &mut Core,
     bus: &mut Bus<'a, T, O, E>,
@@ -44,22 +99,17 @@ pub fn run_vector<'a, T: Tree, O: Sink, E: Sink, W: Watcher>(
 {
     core.at = at;
     tally.vectors += 1;
-    let mut left = budget;
-    while let Some(less) = left.checked_sub(1) {
-        let moment = Moment {
-            instructions: tally.instructions,
-            address: core.at,
-        };
-        let Ok(()) = watcher.before(core, bus, moment) else {
-            return Err(Stop::NoMemory);
-        };
-        tally.instructions += 1;
-        match step(core, bus) {
-            Ok(Turn::Ran) => left = less,
-            Ok(Turn::Broke) => return Ok(VectorEnd::Broke),
-            Err(stop) => return Err(stop),
+    let budget = u64::from(budget);
+    match run_instructions(core, bus, tally.instructions, budget, watcher) {
+        Ok(Some(left)) => {
+            tally.instructions += budget - left + 1;
+            Ok(VectorEnd::Broke)
         }
+        Ok(None) => {
+            tally.instructions += budget;
+            tally.cuts += 1;
+            Ok(VectorEnd::Cut)
+        }
+        Err(stop) => Err(stop),
     }
-    tally.cuts += 1;
-    Ok(VectorEnd::Cut)
 }
