@@ -58,22 +58,24 @@ module _ (command : Command) (m : ArgMatches) (items : List Given) (rows : rows_
       ∙ unseen on id (choices_of command) (map row items) (blind on id (λ name. refl) (choices_of command)) ∙ ap is_on (items_first id items)
 
   same_task : has_no_switch command file_name ≡ true → has_no_switch command (codes "out") ≡ true → has_no_switch command (codes "symbols") ≡ true
-      → has_no_switch command (codes "listing") ≡ true
+      → has_no_switch command (codes "listing") ≡ true → has_no_switch command (codes "script") ≡ true → has_no_switch command (codes "report") ≡ true
       → task_in command (λ name. first_value (found_of m) name) ≡ task_in command (λ name. value_of name items)
-  same_task no_file no_out no_symbols no_listing =
+  same_task no_file no_out no_symbols no_listing no_script no_report =
       let rom = on_is (codes "rom") in
       let out = first_is (codes "out") no_out in
       let symbols = first_is (codes "symbols") no_symbols in
       let listing = first_is (codes "listing") no_listing in
-      let task : Bool → Option Text → Option Text → Option Text → Text → Task =
-      λ r o s l file. record { command = command; file = file; rom = r; out = o; symbols = s; listing = l } in
-      λ i. option_map (task (rom i) (out i) (symbols i) (listing i)) (first_is file_name no_file i)
+      let script = first_is (codes "script") no_script in
+      let report = first_is (codes "report") no_report in
+      let task : Bool → Option Text → Option Text → Option Text → Option Text → Option Text → Text → Task =
+      λ r o s l c p file. record { command = command; file = file; rom = r; out = o; symbols = s; listing = l; script = c; report = p; budget = 4000000 } in
+      λ i. option_map (task (rom i) (out i) (symbols i) (listing i) (script i) (report i)) (first_is file_name no_file i)
 
 task_is : (command : Command) (m : ArgMatches) (items : List Given) → rows_of (found_of m) ≡ with_defaults (choices_of command) (map row items)
     → task_in command (λ name. first_value (found_of m) name) ≡ task_in command (λ name. value_of name items)
-task_is Play m items rows = same_task Play m items rows refl refl refl refl
-task_is Assemble m items rows = same_task Assemble m items rows refl refl refl refl
-task_is Disassemble m items rows = same_task Disassemble m items rows refl refl refl refl
+task_is Play m items rows = same_task Play m items rows refl refl refl refl refl refl
+task_is Assemble m items rows = same_task Assemble m items rows refl refl refl refl refl refl
+task_is Disassemble m items rows = same_task Disassemble m items rows refl refl refl refl refl refl
 
 -- ---- the outcomes
 

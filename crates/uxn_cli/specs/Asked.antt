@@ -14,6 +14,9 @@ asked settings = record {
   out = option_map (λ word. word.now) settings.out;
   symbols = option_map (λ word. word.now) settings.symbols;
   listing = option_map (λ word. word.now) settings.listing;
+  script = option_map (λ word. word.now) settings.script;
+  report = option_map (λ word. word.now) settings.report;
+  budget = settings.budget;
 }
 
 -- the arguments of `clap`'s command for a table of options: the file, and the options

@@ -6,10 +6,10 @@ pub mod Outputs
 pub mod Verdict
 pub mod Follows
 pub mod Blame
-pub mod Run
-pub mod Console
+pub mod Job
 pub mod Outcome
 pub mod Room
+pub mod Prepared
 pub mod Answer
 pub mod Causes
 pub mod OpcodeNames

@@ -14,6 +14,9 @@ use Rattle.tal_symbols.specs.Reading.{Refusal as BadEntry, symbols_in}
 use Rattle.tal_symbols.specs.SymbolFile.{symbol_file}
 use Rattle.tal_listing.specs.Disassembly.{disassembly}
 use Rattle.tal_listing.specs.Listing.{listing_of}
+use Rattle.play_script.specs.declared.script.ScriptKind.{ScriptKind}
+use Rattle.play_script.specs.declared.script.ScriptKind.TheVariants.{LongScript}
+use Rattle.play_script.specs.Scripts.{ScriptView, script_of}
 use Rattle.uxn_io.specs.declared.paths.PathFault.{PathFault}
 use Rattle.uxn_io.specs.declared.trees.FileBytes.{FileBytes}
 use Rattle.uxn_io.specs.declared.trees.FileBytes.TheVariants.{Found, Missing as NoFile, TooLong}
@@ -26,7 +29,8 @@ use Rattle.uxn_cli.specs.declared.words.Command.{Command}
 use Rattle.uxn_cli.specs.declared.words.Command.TheVariants.{Play, Assemble, Disassemble}
 use Rattle.uxn_cli.specs.declared.task.Task.{Task}
 use Rattle.uxn_cli.specs.declared.refusal.Refusal.{Refusal}
-use Rattle.uxn_cli.specs.declared.refusal.Refusal.TheVariants.{NotUnderstood, NoPath, NoOutput, Missing, Faulty, LongRom, BadSymbols}
+use Rattle.uxn_cli.specs.declared.refusal.Refusal.TheVariants.{NotUnderstood, NoPath, NoOutput, Missing, Faulty, LongRom, BadSymbols, BadScript}
+use Rattle.uxn_cli.specs.Job.{Job}
 use Rattle.uxn_cli.specs.Words.{settings}
 use Rattle.uxn_cli.specs.World.{Text}
 
@@ -58,16 +62,18 @@ paths_in task =
     and_then (optional_path_in task.out) (λ out.
     and_then (optional_path_in task.symbols) (λ symbols.
     and_then (optional_path_in task.listing) (λ listing.
-    Ok (record { command = task.command; file = file; rom = task.rom; out = out; symbols = symbols; listing = listing })))))
+    and_then (optional_path_in task.script) (λ script.
+    and_then (optional_path_in task.report) (λ report.
+    Ok (record task { file = file; out = out; symbols = symbols; listing = listing; script = script; report = report })))))))
 
 -- the files that a command reads, and those that it writes, in the order of the usage line
 abbrev pub inputs_by : Command → Task → List (List ℕ)
-inputs_by Play task = task.file ∷ []
+inputs_by Play task = task.file ∷ option_to_list task.script
 inputs_by Assemble task = task.file ∷ []
 inputs_by Disassemble task = task.file ∷ option_to_list task.symbols
 
 abbrev pub outputs_by : Command → Task → List (List ℕ)
-outputs_by Play task = []
+outputs_by Play task = option_to_list task.report
 outputs_by Assemble task = option_to_list task.out ++ option_to_list task.symbols ++ option_to_list task.listing
 outputs_by Disassemble task = []
 
@@ -97,10 +103,11 @@ apart task = apart_by task (find (clashes (inputs_by task.command task) (outputs
 unfoldable pub request : List (List ℕ) → Result Task Refusal
 request words = and_then (legal (settings words)) (λ task. and_then (paths_in task) apart)
 
--- what the tree shows a task: its file, its file of symbols, and the first output that cannot be made
+-- what the tree shows a task: its file, its file of symbols, its script, and the first output that cannot be made
 pub record View : Type 0 where
   pub file : FileBytes
   pub symbols : FileBytes
+  pub script : FileBytes
   pub blocked : Option (List ℕ)
 
 -- no more bytes of a file are looked at: 65,280 of a ROM, and 4,194,304 of a source
@@ -128,11 +135,24 @@ symbols_input Disassemble task = task.symbols
 abbrev pub symbols_seen : Nodes → Task → FileBytes
 symbols_seen nodes task = symbols_by nodes (symbols_input task.command task)
 
+-- the script, where it is an input
+abbrev pub script_by : Nodes → Option (List ℕ) → FileBytes
+script_by nodes None = NoFile
+script_by nodes (Some path) = whole_file (file_at nodes path) 4194304
+
+abbrev pub script_seen : Nodes → Task → FileBytes
+script_seen nodes task = script_by nodes task.script
+
 abbrev pub blocked_seen : Nodes → Task → Option (List ℕ)
 blocked_seen nodes task = find (λ path. not (can_create nodes path)) (outputs_of task)
 
 abbrev pub view_of : Nodes → Task → View
-view_of nodes task = record { file = file_seen nodes task; symbols = symbols_seen nodes task; blocked = blocked_seen nodes task }
+view_of nodes task = record {
+  file = file_seen nodes task;
+  symbols = symbols_seen nodes task;
+  script = script_seen nodes task;
+  blocked = blocked_seen nodes task;
+}
 
 -- a source that is there (130) and has no fault (131); one that is too long is refused at its first word, as the empty word
 abbrev pub source_by : List ℕ → Option Fault → Result (List ℕ) Refusal
@@ -182,15 +202,35 @@ texts_of task source =
     text_at task.out (rom_of source) ++ text_at task.symbols (symbol_file (layout source).labels)
     ++ text_at task.listing (listing_of source (program_of source))
 
+-- the script in a file that is there (130) and not refused (132); without a script it is that of an empty text
+abbrev pub script_from : Result ScriptView (ℕ × ScriptKind) → Result ScriptView Refusal
+script_from (Ok script) = Ok script
+script_from (Err fault) = Err (BadScript fault.0 fault.1)
+
+abbrev pub script_at : List ℕ → FileBytes → Result ScriptView Refusal
+script_at path NoFile = Err (Missing path)
+script_at path (TooLong length) = Err (BadScript 1 LongScript)
+script_at path (Found text) = script_from (script_of text.list)
+
+abbrev pub script_in : Option (List ℕ) → FileBytes → Result ScriptView Refusal
+script_in None file = script_from (script_of [])
+script_in (Some path) file = script_at path file
+
+-- a run of a ROM with a script
+abbrev pub job_of : Task → List ℕ → ScriptView → Job
+job_of task rom script = record { rom = rom; script = script; budget = task.budget; report = task.report }
+
 -- what is to be done: a ROM is run, files are written, or a text is printed
 pub data Work : Type 0 where
-  Run : (rom : List ℕ) → Work
+  Run : (job : Job) → Work
   Write : (texts : List Text) → Work
   Print : (text : List ℕ) → Work
 
 -- the work of a command, once its inputs are accepted one after the other
 abbrev pub work_of : Command → Task → View → Result Work Refusal
-work_of Play task view = and_then (program_in task.rom task.file view.file) (λ rom. Ok (Run rom))
+work_of Play task view =
+    and_then (program_in task.rom task.file view.file) (λ rom.
+    and_then (script_in task.script view.script) (λ script. Ok (Run (job_of task rom script))))
 work_of Assemble task view = and_then (source_in task.file view.file) (λ source. Ok (Write (texts_of task source)))
 work_of Disassemble task view =
     and_then (rom_in task.file view.file) (λ rom.

@@ -34,7 +34,7 @@ required name = record { name = name; has_value = true; is_required = true }
 
 -- the options of each command
 abbrev pub choices_of : Command → List Choice
-choices_of Play = switch (codes "rom") ∷ []
+choices_of Play = switch (codes "rom") ∷ optional (codes "script") ∷ optional (codes "report") ∷ []
 choices_of Assemble = required (codes "out") ∷ optional (codes "symbols") ∷ optional (codes "listing") ∷ []
 choices_of Disassemble = optional (codes "symbols") ∷ []
 
@@ -146,6 +146,9 @@ task_in command value_at = option_map (λ file. record {
   out = value_at (codes "out");
   symbols = value_at (codes "symbols");
   listing = value_at (codes "listing");
+  script = value_at (codes "script");
+  report = value_at (codes "report");
+  budget = 4000000;
 }) (value_at file_name)
 
 abbrev pub asked_by : Command → List Given → Option Task

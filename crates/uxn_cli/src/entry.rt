@@ -1,16 +1,18 @@
 //! The top call, from the words to the status.
-ghost use Rattle.std.specs.Prelude.{◌≡◌, ◌≤◌, ◌⊎◌, map, string_bytes, IfOk, IfSome};
+ghost use Rattle.std.specs.Prelude.{◌≡◌, ◌≤◌, ◌⊎◌, ℕ, Ok, map, string_bytes, IfOk, IfSome};
 ghost use Rattle.uxn_io.specs.Faults.{Rose, Ledger, TheTree, ASink, counts};
 ghost use Rattle.uxn_cli.specs.World.{world};
-ghost use Rattle.uxn_cli.specs.Verdict.{request, HasApartOutputs};
+ghost use Rattle.uxn_cli.specs.Verdict.{Work, request, HasApartOutputs};
 ghost use Rattle.uxn_cli.specs.Follows.{Follows};
 ghost use Rattle.uxn_cli.specs.Answer.{Performs, Ends, Answers};
 ghost use Rattle.uxn_cli.specs.Blame.{blame_in, blame_by, blame_at, early_status, OnRefused};
 ghost use Rattle.uxn_cli.specs.Room.{TreeSuffices, SinksSuffice};
-ghost use Rattle.uxn_cli.specs.Causes.{IsExactly, verdict_on, IsIllegal, IsPathless, IsMissing, IsFaulty, IsUnfit, IsBlocked, IsAccepted, KeepsOthers, PutsLine};
+ghost use Rattle.uxn_cli.specs.Causes.{IsExactly, verdict_on, IsIllegal, IsPathless, IsMissing, IsFaulty, IsUnfit, IsBadScript, IsBlocked, EndsWith, KeepsOthers, PutsLine};
+ghost use Rattle.uxn_cli.specs.Outcome.{outcome_of};
 
 use super::assembling::assemble_files;
-use super::commands::{disassemble_rom, play};
+use super::commands::disassemble_rom;
+use super::playing::play;
 use super::refusal::{Halt, Refusal};
 use super::task::{Task, apart, paths_in};
 use super::words::{Command, read_words};
@@ -22,6 +24,7 @@ use uxn_opcodes::Stop;
 fn request(alloc: Global, words: &[String]) -> Result<Task, Halt>
     ensures follows { Follows (λ task. task) result (request (map string_bytes words.now)) }
     ensures apart { IfOk result HasApartOutputs }
+    ensures budget { IfOk result (λ task. 1 ≤ task.budget) }
 {
     match read_words(alloc, words) {
         Ok(Some(settings)) => {
@@ -148,8 +151,10 @@ pub fn uxn<T: Tree, O: Sink, E: Sink>(
     ensures missing { IfSome (T.told tree.old) (λ nodes. IsExactly result 130 (IsMissing (verdict_on nodes (request (map string_bytes words.now))))) }
     ensures faulty { IfSome (T.told tree.old) (λ nodes. IsExactly result 131 (IsFaulty (verdict_on nodes (request (map string_bytes words.now))))) }
     ensures unfit { IfSome (T.told tree.old) (λ nodes. IsExactly result 134 (IsUnfit (verdict_on nodes (request (map string_bytes words.now))))) }
+    ensures bad_script { IfSome (T.told tree.old) (λ nodes. IsExactly result 132 (IsBadScript (verdict_on nodes (request (map string_bytes words.now))))) }
     ensures blocked { IfSome (T.told tree.old) (λ nodes. IsExactly result 135 (IsBlocked (verdict_on nodes (request (map string_bytes words.now))))) }
-    ensures accepted { IfSome (T.told tree.old) (λ nodes. IsExactly result 0 (IsAccepted (verdict_on nodes (request (map string_bytes words.now))))) }
+    ensures accepted { IfSome (T.told tree.old) (λ nodes. (code : ℕ) → code ≤ 127
+        → IsExactly result code (EndsWith code (verdict_on nodes (request (map string_bytes words.now))))) }
 
     // A refusal changes nothing in the tree, and puts its one line on the error output and nothing on the standard output.
     ensures untouched { 128 ≤ result → result ≤ 135 → T.told tree.new ≡ T.told tree.old }
@@ -163,9 +168,9 @@ pub fn uxn<T: Tree, O: Sink, E: Sink>(
     ensures sink_fault { result ≡ 137 → Rose (O.faults out.old) (O.faults out.new) ⊎ Rose (E.faults err.old) (E.faults err.new) }
 
     // What is accepted ends with its exit code, unless a count rose or memory was wanting.
-    ensures complete { IfSome (T.told tree.old) (λ nodes. IsAccepted (verdict_on nodes (request (map string_bytes words.now)))
+    ensures complete { IfSome (T.told tree.old) (λ nodes. (work : Work) → verdict_on nodes (request (map string_bytes words.now)) ≡ Ok work
         → (Rose (T.faults tree.old) (T.faults tree.new) → ⊥) → (Rose (O.faults out.old) (O.faults out.new) → ⊥)
-        → (Rose (E.faults err.old) (E.faults err.new) → ⊥) → (result ≡ 0) ⊎ (result ≡ 138)) }
+        → (Rose (E.faults err.old) (E.faults err.new) → ⊥) → (result ≡ (outcome_of (Ok work)).status) ⊎ (result ≡ 138)) }
 
     // Where the tree and the sinks surely take what the verdict asks of them, none of them fails. Of the
     // bytes that a run puts nothing is said.

@@ -3,15 +3,16 @@
 
 mod assembling;
 mod commands;
-mod console;
 mod entry;
 mod laws;
 mod outputs;
+mod playing;
 mod refusal;
+mod report;
+mod running;
 mod task;
 #[cfg(test)]
 mod tests;
-mod vector;
 mod words;
 
 pub use entry::uxn;

@@ -27,6 +27,12 @@ pub struct Task {
     pub symbols: Option<Path>,
     /// The file for a listing.
     pub listing: Option<Path>,
+    /// The script.
+    pub script: Option<Path>,
+    /// The file for the report.
+    pub report: Option<Path>,
+    /// How many instructions a vector may run.
+    pub budget: u32,
 }
 
 /// The path that a word is.
@@ -57,6 +63,8 @@ pub fn paths_in(alloc: Global, settings: &Settings<'_>) -> Result<Task, Halt>
     let out = optional_path_in(alloc, settings.out)?;
     let symbols = optional_path_in(alloc, settings.symbols)?;
     let listing = optional_path_in(alloc, settings.listing)?;
+    let script = optional_path_in(alloc, settings.script)?;
+    let report = optional_path_in(alloc, settings.report)?;
     Ok(Task {
         command: settings.command,
         file,
@@ -64,6 +72,9 @@ pub fn paths_in(alloc: Global, settings: &Settings<'_>) -> Result<Task, Halt>
         out,
         symbols,
         listing,
+        script,
+        report,
+        budget: settings.budget,
     })
 }
 
@@ -73,10 +84,14 @@ impl Task {
         ensures { IfOk result (λ paths. paths.items ≡ outputs_of self.now) }
     {
         let mut paths = Vec::new(alloc);
-        if let Command::Assemble = self.command {
-            push_some(&mut paths, self.out)?;
-            push_some(&mut paths, self.symbols)?;
-            push_some(&mut paths, self.listing)?;
+        match self.command {
+            Command::Play => push_some(&mut paths, self.report)?,
+            Command::Assemble => {
+                push_some(&mut paths, self.out)?;
+                push_some(&mut paths, self.symbols)?;
+                push_some(&mut paths, self.listing)?;
+            }
+            Command::Disassemble => {}
         }
         Ok(paths)
     }
@@ -87,11 +102,9 @@ impl Task {
     {
         let is_file = is_same(path, &self.file);
         match self.command {
-            Command::Play | Command::Assemble => is_file,
-            Command::Disassemble => match &self.symbols {
-                Some(symbols) => is_file || is_same(path, symbols),
-                None => is_file,
-            },
+            Command::Play => is_file || is_optional(path, &self.script),
+            Command::Assemble => is_file,
+            Command::Disassemble => is_file || is_optional(path, &self.symbols),
         }
     }
 
@@ -119,6 +132,16 @@ fn push_some(paths: &mut Vec<Path>, path: Option<Path>) -> Result<(), AllocError
         paths.push(path)?;
     }
     Ok(())
+}
+
+/// Whether a path is the other one, where there is one.
+fn is_optional(path: &Path, other: &Option<Path>) -> bool
+    ensures { result ≡ list_any (bytes_eq path.now) (option_to_list other.now) }
+{
+    match other {
+        Some(other) => is_same(path, other),
+        None => false,
+    }
 }
 
 /// Whether two paths are the same.

@@ -37,6 +37,12 @@ pub struct Settings<'a> {
     pub symbols: Option<&'a [u8]>,
     /// The word that names the file for a listing.
     pub listing: Option<&'a [u8]>,
+    /// The word that names the script.
+    pub script: Option<&'a [u8]>,
+    /// The word that names the file for the report.
+    pub report: Option<&'a [u8]>,
+    /// How many instructions a vector may run.
+    pub budget: u32,
 }
 
 /// The command of a name.
@@ -156,7 +162,11 @@ impl Command {
     {
         let parser = file_parser(alloc)?;
         match self {
-            Command::Play => with_switch(alloc, parser, "rom"),
+            Command::Play => {
+                let parser = with_switch(alloc, parser, "rom")?;
+                let parser = with_option(alloc, parser, "script", false)?;
+                with_option(alloc, parser, "report", false)
+            }
             Command::Assemble => {
                 let parser = with_option(alloc, parser, "out", true)?;
                 let parser = with_option(alloc, parser, "symbols", false)?;
@@ -177,6 +187,9 @@ impl Command {
             out: matches.get_str("out").map(|word| word.as_bytes()),
             symbols: matches.get_str("symbols").map(|word| word.as_bytes()),
             listing: matches.get_str("listing").map(|word| word.as_bytes()),
+            script: matches.get_str("script").map(|word| word.as_bytes()),
+            report: matches.get_str("report").map(|word| word.as_bytes()),
+            budget: 4_000_000,
         })
     }
 

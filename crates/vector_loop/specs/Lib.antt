@@ -6,3 +6,4 @@ pub mod Follows
 pub mod Answers
 pub mod Event
 pub mod Run
+pub mod Touching
