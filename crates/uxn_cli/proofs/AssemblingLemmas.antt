@@ -15,7 +15,8 @@ use Rattle.uxn_cli.specs.declared.refusal.Refusal.{Refusal}
 use Rattle.uxn_cli.specs.declared.refusal.Refusal.TheVariants.{NoOutput}
 use Rattle.uxn_cli.specs.World.{world, Text, with_empty, with_texts, CanMake, CanFill, HasWrittenFront}
 use Rattle.uxn_cli.specs.Outputs.{seen_text, seen_texts, paths_of}
-use Rattle.uxn_cli.specs.Verdict.{and_then, View, Work, Write, source_in, text_at, texts_of, inputs_by, outputs_by, outputs_of, clashes, blocked_seen, made_by, judged}
+use Rattle.uxn_cli.specs.Request.{root_by, HasApartOutputs}
+use Rattle.uxn_cli.specs.Verdict.{and_then, View, Work, Write, source_in, text_at, texts_of, inputs_by, outputs_by, outputs_of, clashes, made_by_command, blocked_seen, made_by, judged}
 use Rattle.uxn_cli.specs.Answer.{IsViewOf, Judges, HasEnded, IsRefused, HasCutWork}
 use Rattle.uxn_cli.proofs.Growth.{extended-nothing}
 use Rattle.uxn_cli.specs.Causes.{verdict_on}
@@ -73,7 +74,9 @@ module _ (task : Task) (asm : task.command ≡ Assemble) (tree : Option Nodes) (
   paths = sym (seen_paths outputs) ∙ text_paths
 
   looked_at : (blocked : Option (List ℕ)) → IfSome tree (λ nodes. blocked ≡ find (λ path. not (can_create nodes path)) (paths_of outputs)) → IfSome tree (λ nodes. blocked ≡ blocked_seen nodes task)
-  looked_at blocked looked = rw paths at looked
+  looked_at blocked looked = (
+      let made : made_by_command task.command task ≡ outputs_of task = ap (λ c. made_by_command c task) asm ∙ ap (λ c. outputs_by c task) (sym asm) in
+      rw made (rw paths at looked))
 
   judges_asm : (blocked : Option (List ℕ)) → IfSome tree (λ nodes. blocked ≡ find (λ path. not (can_create nodes path)) (paths_of outputs))
       → Judges (Ok task) tree (made_by blocked (Write (texts_of task source)))
@@ -83,17 +86,21 @@ module _ (task : Task) (asm : task.command ≡ Assemble) (tree : Option Nodes) (
     judged = judged-asm task file blocked asm ∙ ap (λ said. and_then said (λ s. made_by blocked (Write (texts_of task s)))) accepted;
   }
 
+  -- `asm` has no root
+  no_clash : HasApartOutputs task → find (clashes (inputs_by task.command task) (outputs_of task)) (outputs_of task) ≡ None
+  no_clash apart = ap (λ c. find (clashes (inputs_by task.command task) (option_to_list (root_by c task) ++ outputs_of task)) (outputs_of task)) (sym asm) ∙ apart
+
   -- what was looked at can be made
-  pub can_write : (told : Option Nodes) → told ≡ tree → find (clashes (inputs_by task.command task) (outputs_of task)) (outputs_of task) ≡ None
+  pub can_write : (told : Option Nodes) → told ≡ tree → HasApartOutputs task
       → IfSome tree (λ nodes. None ≡ find (λ path. not (can_create nodes path)) (paths_of outputs)) → IfSome told (CanMake (seen_texts outputs))
   can_write told same apart looked = rw same (go tree (rw paths at looked))
     where
       go : (t : Option Nodes) → IfSome t (λ nodes. None ≡ find (λ path. not (can_create nodes path)) (outputs_of task)) → IfSome t (CanMake (seen_texts outputs))
       go None l = tt
-      go (Some nodes) l = makes_all (inputs_by task.command task) (seen_texts outputs) nodes (rw text_paths apart) (rw text_paths l)
+      go (Some nodes) l = makes_all (inputs_by task.command task) (seen_texts outputs) nodes (rw text_paths (no_clash apart)) (rw text_paths l)
 
   -- the files that the verdict asks for are surely written
-  pub sure_files : (start here : Room) (P : Type 0) → find (clashes (inputs_by task.command task) (outputs_of task)) (outputs_of task) ≡ None
+  pub sure_files : (start here : Room) (P : Type 0) → HasApartOutputs task
       → IfSome tree (λ nodes. None ≡ find (λ path. not (can_create nodes path)) (paths_of outputs)) → Leaves start here 0 0
       → IfSome tree (λ nodes. length outputs < here.files → CanFill here.bytes (seen_texts outputs) (with_empty (seen_texts outputs) nodes) → P)
       → IfSome tree (λ nodes. TreeSuffices (verdict_on nodes (Ok task)) start → P)
@@ -113,7 +120,7 @@ module _ (task : Task) (asm : task.command ≡ Assemble) (tree : Option Nodes) (
           let more = left.files some in
           let size = left.bytes some in
           s (omega (arith, few, count, more)) (fills_more start.bytes here.bytes (seen_texts outputs) (with_empty (seen_texts outputs) nodes) size
-          (fills_all (inputs_by task.command task) (seen_texts outputs) nodes start.bytes (rw text_paths apart) (rw text_paths l) mine.bytes))
+          (fills_all (inputs_by task.command task) (seen_texts outputs) nodes start.bytes (rw text_paths (no_clash apart)) (rw text_paths l) mine.bytes))
 
   module _ (out err : Option (List ℕ)) (now : Option Nodes) where
     -- an output that cannot be made

@@ -10,7 +10,7 @@ use Rattle.uxn_io.specs.Files.{Nodes, File}
 use Rattle.uxn_opcodes.specs.declared.Stop.{Stop}
 use Rattle.uxn_opcodes.specs.declared.Stop.TheVariants.{TreeFault, SinkFault, NoMemory}
 use Rattle.uxn_cli.specs.declared.words.Command.{Command}
-use Rattle.uxn_cli.specs.declared.words.Command.TheVariants.{Play, Assemble, Disassemble}
+use Rattle.uxn_cli.specs.declared.words.Command.TheVariants.{Play, Debug, Assemble, Disassemble}
 use Rattle.uxn_cli.specs.declared.task.Task.{Task}
 use Rattle.uxn_cli.specs.declared.refusal.Refusal.{Refusal}
 use Rattle.uxn_cli.specs.World.{World, Text, with_empty, with_bytes, with_texts, HasWrittenFront}
@@ -43,6 +43,7 @@ printed_by (Ok rom) labels texts e = no_write labels (λ l. Print (disassembly r
 
 work-texts : (command : Command) (task : Task) (view : View) (texts : List Text) → work_of command task view ≡ Ok (Write texts) → map (λ (t : Text). t.path) texts ≡ outputs_by command task
 work-texts Play task view texts e = absurd (no_write (program_in task.rom task.file view.file) Run texts (λ rom h. cc) e)
+work-texts Debug task view texts e = absurd (no_write (program_in task.rom task.file view.file) Run texts (λ rom h. cc) e)
 work-texts Assemble task view texts e =
     let written = written_by (source_in task.file view.file) (texts_of task) texts e in
     ap (map (λ (t : Text). t.path)) written.1 ∙ paths-texts_of task written.0

@@ -1,4 +1,4 @@
-use Rattle.std.proofs.Common.{◌≡◌, ℕ, Bool, true, false, List, [], refl, ap, sym, ◌∙◌, subst, inl, inr}
+use Rattle.std.proofs.Common.{◌≡◌, ◌⊎◌, ℕ, Bool, true, false, List, [], refl, ap, sym, ◌∙◌, subst, inl, inr}
 use Rattle.std.specs.Prelude.{Option, Some, None, Result, Ok, Err, IfSome, IfOk, IfErr, option_map}
 use Rattle.tal_listing.specs.Disassembly.{disassembly}
 use Rattle.tal_rom.specs.Assembly.{rom_of}
@@ -9,7 +9,7 @@ use Rattle.uxn_io.specs.WholeFile.{whole_file}
 use Rattle.uxn_opcodes.specs.declared.Stop.{Stop}
 use Rattle.uxn_opcodes.specs.declared.Stop.TheVariants.{TreeFault, SinkFault, NoMemory}
 use Rattle.uxn_cli.specs.declared.task.Task.{Task}
-use Rattle.uxn_cli.specs.declared.words.Command.TheVariants.{Play, Disassemble}
+use Rattle.uxn_cli.specs.declared.words.Command.TheVariants.{Play, Debug, Disassemble}
 use Rattle.uxn_cli.specs.declared.refusal.Refusal.{Refusal}
 use Rattle.uxn_cli.specs.declared.refusal.Refusal.TheVariants.{NotUnderstood}
 use Rattle.uxn_cli.specs.declared.refusal.Halt.{Halt}
@@ -20,7 +20,8 @@ use Rattle.uxn_cli.specs.Blame.{Stops}
 use Rattle.uxn_cli.proofs.Growth.{extended-nothing}
 use Rattle.uxn_cli.specs.Words.{settings}
 use Rattle.uxn_cli.specs.World.{World, world, with_texts}
-use Rattle.uxn_cli.specs.Verdict.{and_then, legal, paths_in, apart, request, View, Work, Run, Write, Print, source_in, rom_in, labels_in, symbols_by, made_by, judged, verdict}
+use Rattle.uxn_cli.specs.Request.{and_then, legal, paths_in, apart, request}
+use Rattle.uxn_cli.specs.Verdict.{View, Work, Run, Write, Print, source_in, rom_in, labels_in, symbols_by, made_by, judged, verdict}
 use Rattle.uxn_cli.specs.Follows.{Follows}
 use Rattle.uxn_cli.specs.Answer.{IsCutWork, Works, IsViewOf, IsViewFor, IsRefused, Performs, Ends}
 
@@ -115,24 +116,33 @@ work_done asked view work tree new_tree out err new_out new_err (Err (Stopped No
 work_done asked view work tree new_tree out err new_out new_err (Err (Stopped TreeFault)) put e is_view same w = absurd (no_tree_cut work (world None out err) (world None new_out new_err) put w)
 work_done asked view work tree new_tree out err new_out new_err (Err (Refused refusal)) put e is_view same w = absurd w
 
+-- a program is run
+abbrev pub Runs : Task → Type 0
+Runs task = (task.command ≡ Play) ⊎ (task.command ≡ Debug)
+
 -- the view of `play`
 abbrev pub play_view : FileBytes → View
 play_view file = record { file = file; symbols = NoFile; blocked = None }
 
-pub sees_play : (tree : Option Nodes) (task : Task) (rom : Bool) (limit : ℕ) (file : FileBytes) → task.command ≡ Play → task.rom ≡ rom
+pub sees_play : (tree : Option Nodes) (task : Task) (rom : Bool) (limit : ℕ) (file : FileBytes) → Runs task → task.rom ≡ rom
     → Rattle.std.specs.Prelude.if◌then◌else◌ rom 65280 4194304 ≡ limit
     → IfSome tree (λ nodes. file ≡ whole_file (file_at nodes task.file) limit) → IsViewOf tree task (play_view file)
 sees_play None task rom limit file play is same found = record { file = tt; symbols = tt; blocked = tt }
-sees_play (Some nodes) task rom limit file play is same found = rw play (record { file = rw (is, same) found; symbols = refl; blocked = refl })
+sees_play (Some nodes) task rom limit file (inl play) is same found = rw play (record { file = rw (is, same) found; symbols = refl; blocked = refl })
+sees_play (Some nodes) task rom limit file (inr debug) is same found = rw debug (record { file = rw (is, same) found; symbols = refl; blocked = refl })
 
 -- what `play` judges, of a ROM file and of a source
-pub judged-rom : (task : Task) (file : FileBytes) → task.command ≡ Play → task.rom ≡ true → judged task (play_view file) ≡ and_then (rom_in task.file file) (λ rom. Ok (Run rom))
-judged-rom task file play rom = rw (play, rom) (then_ok (and_then (rom_in task.file file) (λ r. Ok (Run r))))
+pub judged-rom : (task : Task) (file : FileBytes) → Runs task → task.rom ≡ true → judged task (play_view file) ≡ and_then (rom_in task.file file) (λ rom. Ok (Run rom))
+judged-rom task file (inl play) rom = rw (play, rom) (then_ok (and_then (rom_in task.file file) (λ r. Ok (Run r))))
+judged-rom task file (inr debug) rom = rw (debug, rom) (then_ok (and_then (rom_in task.file file) (λ r. Ok (Run r))))
 
-pub judged-source : (task : Task) (file : FileBytes) → task.command ≡ Play → task.rom ≡ false
+pub judged-source : (task : Task) (file : FileBytes) → Runs task → task.rom ≡ false
     → judged task (play_view file) ≡ and_then (source_in task.file file) (λ source. Ok (Run (rom_of source)))
-judged-source task file play rom =
+judged-source task file (inl play) rom =
     rw (play, rom) (then_ok (and_then (and_then (source_in task.file file) (λ source. Ok (rom_of source))) (λ r. Ok (Run r)))
+    ∙ then_then (source_in task.file file) (λ source. Ok (rom_of source)) (λ r. Ok (Run r)))
+judged-source task file (inr debug) rom =
+    rw (debug, rom) (then_ok (and_then (and_then (source_in task.file file) (λ source. Ok (rom_of source))) (λ r. Ok (Run r)))
     ∙ then_then (source_in task.file file) (λ source. Ok (rom_of source)) (λ r. Ok (Run r)))
 
 -- the view of `dis`

@@ -1,9 +1,7 @@
 -- What the words and the view of the tree determine before anything is done: a refusal, or the work.
-use Rattle.std.specs.Prelude.{◌≡◌, ℕ, Bool, true, false, not, nat_lt, ◌||◌, List, [], ◌∷◌, ◌++◌, count_by}
-use Rattle.std.specs.Prelude.{find, Option, Some, None, option_to_list, Result, Ok, Err}
+use Rattle.std.specs.Prelude.{ℕ, Bool, true, false, not, List, [], ◌∷◌, ◌++◌}
+use Rattle.std.specs.Prelude.{find, Option, Some, None, Result, Ok, Err}
 use Rattle.std.specs.Prelude.{if◌then◌else◌}
-use Rattle.std.specs.List.{list_any}
-use Rattle.std.specs.Str.{bytes_eq}
 use Rattle.tal_words.specs.declared.fault.Fault.{Fault}
 use Rattle.tal_words.specs.Faults.{fault_text}
 use Rattle.tal_words.specs.declared.name.Label.{Label}
@@ -14,88 +12,19 @@ use Rattle.tal_symbols.specs.Reading.{Refusal as BadEntry, symbols_in}
 use Rattle.tal_symbols.specs.SymbolFile.{symbol_file}
 use Rattle.tal_listing.specs.Disassembly.{disassembly}
 use Rattle.tal_listing.specs.Listing.{listing_of}
-use Rattle.uxn_io.specs.declared.paths.PathFault.{PathFault}
 use Rattle.uxn_io.specs.declared.trees.FileBytes.{FileBytes}
 use Rattle.uxn_io.specs.declared.trees.FileBytes.TheVariants.{Found, Missing as NoFile, TooLong}
 use Rattle.uxn_io.specs.ByteList.{tight}
 use Rattle.uxn_io.specs.Changes.{can_create}
 use Rattle.uxn_io.specs.Files.{Nodes, file_at}
-use Rattle.uxn_io.specs.PathText.{path_of, is_under}
 use Rattle.uxn_io.specs.WholeFile.{whole_file}
 use Rattle.uxn_cli.specs.declared.words.Command.{Command}
-use Rattle.uxn_cli.specs.declared.words.Command.TheVariants.{Play, Assemble, Disassemble}
+use Rattle.uxn_cli.specs.declared.words.Command.TheVariants.{Play, Debug, Assemble, Disassemble}
 use Rattle.uxn_cli.specs.declared.task.Task.{Task}
 use Rattle.uxn_cli.specs.declared.refusal.Refusal.{Refusal}
-use Rattle.uxn_cli.specs.declared.refusal.Refusal.TheVariants.{NotUnderstood, NoPath, NoOutput, Missing, Faulty, LongRom, BadSymbols}
-use Rattle.uxn_cli.specs.Words.{settings}
+use Rattle.uxn_cli.specs.declared.refusal.Refusal.TheVariants.{NoOutput, Missing, Faulty, LongRom, BadSymbols}
 use Rattle.uxn_cli.specs.World.{Text}
-
--- a step after another: the first refusal counts
-abbrev pub and_then : {A B : Type 0} → Result A Refusal → (A → Result B Refusal) → Result B Refusal
-and_then (Ok value) next = next value
-and_then (Err refusal) next = Err refusal
-
--- the words are legal (128)
-abbrev pub legal : Option Task → Result Task Refusal
-legal None = Err NotUnderstood
-legal (Some task) = Ok task
-
--- each word that names a file is a path (129), in the order of the usage line
-abbrev pub path_by : List ℕ → Result (List ℕ) PathFault → Result (List ℕ) Refusal
-path_by word (Err fault) = Err (NoPath (tight word))
-path_by word (Ok path) = Ok path
-
-abbrev pub path_in : List ℕ → Result (List ℕ) Refusal
-path_in word = path_by word (path_of word)
-
-abbrev pub optional_path_in : Option (List ℕ) → Result (Option (List ℕ)) Refusal
-optional_path_in None = Ok None
-optional_path_in (Some word) = and_then (path_in word) (λ path. Ok (Some path))
-
-abbrev pub paths_in : Task → Result Task Refusal
-paths_in task =
-    and_then (path_in task.file) (λ file.
-    and_then (optional_path_in task.out) (λ out.
-    and_then (optional_path_in task.symbols) (λ symbols.
-    and_then (optional_path_in task.listing) (λ listing.
-    Ok (record { command = task.command; file = file; rom = task.rom; out = out; symbols = symbols; listing = listing })))))
-
--- the files that a command reads, and those that it writes, in the order of the usage line
-abbrev pub inputs_by : Command → Task → List (List ℕ)
-inputs_by Play task = task.file ∷ []
-inputs_by Assemble task = task.file ∷ []
-inputs_by Disassemble task = task.file ∷ option_to_list task.symbols
-
-abbrev pub outputs_by : Command → Task → List (List ℕ)
-outputs_by Play task = []
-outputs_by Assemble task = option_to_list task.out ++ option_to_list task.symbols ++ option_to_list task.listing
-outputs_by Disassemble task = []
-
-abbrev pub outputs_of : Task → List (List ℕ)
-outputs_of task = outputs_by task.command task
-
--- two files clash where they are the same or one lies under the other
-abbrev pub meets : List ℕ → List ℕ → Bool
-meets path other = bytes_eq path other || is_under path other || is_under other path
-
--- an output clashes with another output (it meets itself), or is an input
-unfoldable pub clashes : List (List ℕ) → List (List ℕ) → List ℕ → Bool
-clashes inputs outputs path = nat_lt 1 (count_by (meets path) outputs) || list_any (bytes_eq path) inputs
-
-abbrev pub HasApartOutputs : Task → Type 0
-HasApartOutputs task = find (clashes (inputs_by task.command task) (outputs_of task)) (outputs_of task) ≡ None
-
--- no output clashes (135)
-abbrev pub apart_by : Task → Option (List ℕ) → Result Task Refusal
-apart_by task None = Ok task
-apart_by task (Some path) = Err (NoOutput path)
-
-abbrev pub apart : Task → Result Task Refusal
-apart task = apart_by task (find (clashes (inputs_by task.command task) (outputs_of task)) (outputs_of task))
-
--- what the words alone determine: the task, or why they are refused whatever the tree holds
-unfoldable pub request : List (List ℕ) → Result Task Refusal
-request words = and_then (legal (settings words)) (λ task. and_then (paths_in task) apart)
+pub use Rattle.uxn_cli.specs.Request.{and_then, inputs_by, outputs_by, outputs_of, clashes, HasApartOutputs}
 
 -- what the tree shows a task: its file, its file of symbols, and the first output that cannot be made
 pub record View : Type 0 where
@@ -106,6 +35,7 @@ pub record View : Type 0 where
 -- no more bytes of a file are looked at: 65,280 of a ROM, and 4,194,304 of a source
 abbrev pub limit_by : Command → Bool → ℕ
 limit_by Play rom = if rom then 65280 else 4194304
+limit_by Debug rom = if rom then 65280 else 4194304
 limit_by Assemble rom = 4194304
 limit_by Disassemble rom = 65280
 
@@ -122,14 +52,22 @@ symbols_by nodes (Some path) = whole_file (file_at nodes path) 16777216
 
 abbrev pub symbols_input : Command → Task → Option (List ℕ)
 symbols_input Play task = None
+symbols_input Debug task = None
 symbols_input Assemble task = None
 symbols_input Disassemble task = task.symbols
 
 abbrev pub symbols_seen : Nodes → Task → FileBytes
 symbols_seen nodes task = symbols_by nodes (symbols_input task.command task)
 
+-- the outputs that are made so far
+abbrev pub made_by_command : Command → Task → List (List ℕ)
+made_by_command Play task = []
+made_by_command Debug task = []
+made_by_command Assemble task = outputs_by Assemble task
+made_by_command Disassemble task = []
+
 abbrev pub blocked_seen : Nodes → Task → Option (List ℕ)
-blocked_seen nodes task = find (λ path. not (can_create nodes path)) (outputs_of task)
+blocked_seen nodes task = find (λ path. not (can_create nodes path)) (made_by_command task.command task)
 
 abbrev pub view_of : Nodes → Task → View
 view_of nodes task = record { file = file_seen nodes task; symbols = symbols_seen nodes task; blocked = blocked_seen nodes task }
@@ -191,6 +129,7 @@ pub data Work : Type 0 where
 -- the work of a command, once its inputs are accepted one after the other
 abbrev pub work_of : Command → Task → View → Result Work Refusal
 work_of Play task view = and_then (program_in task.rom task.file view.file) (λ rom. Ok (Run rom))
+work_of Debug task view = and_then (program_in task.rom task.file view.file) (λ rom. Ok (Run rom))
 work_of Assemble task view = and_then (source_in task.file view.file) (λ source. Ok (Write (texts_of task source)))
 work_of Disassemble task view =
     and_then (rom_in task.file view.file) (λ rom.

@@ -1,5 +1,5 @@
 //! The commands.
-ghost use Rattle.std.specs.Prelude.{◌≡◌, ◌<◌, ◌≤◌, Ok, None, false, length, IfOk, IfSome};
+ghost use Rattle.std.specs.Prelude.{◌⊎◌, ◌≡◌, ◌<◌, ◌≤◌, Ok, None, false, length, IfOk, IfSome};
 ghost use Rattle.uxn_io.specs.Faults.{Counted, Ledger, TheTree, ASink, counts};
 ghost use Rattle.uxn_io.specs.Room.{Leaves};
 ghost use Rattle.uxn_io.specs.WholeFile.{KeepsLimit, has_failed};
@@ -119,7 +119,7 @@ pub fn play<T: Tree, O: Sink, E: Sink>(
     out: &mut O,
     err: &mut E,
 ) -> Result<u8, Halt>
-    requires { task.now.command ≡ Command.Play }
+    requires { (task.now.command ≡ Command.Play) ⊎ (task.now.command ≡ Command.Debug) }
     ensures performs { Performs (Ok task.now) (world (T.told tree.old) (O.told out.old) (E.told err.old))
         (world (T.told tree.new) (O.told out.new) (E.told err.new)) result }
     ensures ledger { Ledger (counts (T.faults tree.old) (O.faults out.old) (E.faults err.old))

@@ -10,3 +10,12 @@ returns-in_err-task-clause-performs g c =
 
 pub returns-in-Assemble-clause-performs : goal.returns-in-Assemble-clause-performs
 returns-in-Assemble-clause-performs g c = rw c.in_ok-task.ensures.follows (c.assemble_files.ensures.performs _ _)
+
+pub returns-in-Play-clause-sure_sinks : goal.returns-in-Play-clause-sure_sinks
+returns-in-Play-clause-sure_sinks g c = rw c.in_ok-task.ensures.follows c.play.ensures.sure_out
+
+pub returns-in-Debug-clause-sure_sinks : goal.returns-in-Debug-clause-sure_sinks
+returns-in-Debug-clause-sure_sinks g c = rw c.in_ok-task.ensures.follows c.play-in-Debug.ensures.sure_out
+
+pub returns-in-Disassemble-clause-sure_sinks : goal.returns-in-Disassemble-clause-sure_sinks
+returns-in-Disassemble-clause-sure_sinks g c = rw c.in_ok-task.ensures.follows c.disassemble_rom.ensures.sure_out
