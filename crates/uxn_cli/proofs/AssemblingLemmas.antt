@@ -15,6 +15,7 @@ use Rattle.uxn_cli.specs.declared.refusal.Refusal.{Refusal}
 use Rattle.uxn_cli.specs.declared.refusal.Refusal.TheVariants.{NoOutput}
 use Rattle.uxn_cli.specs.World.{world, Text, with_empty, with_texts, CanMake, CanFill, HasWrittenFront}
 use Rattle.uxn_cli.specs.Outputs.{seen_text, seen_texts, paths_of}
+use Rattle.uxn_cli.specs.Request.{root_by, HasApartOutputs}
 use Rattle.uxn_cli.specs.Verdict.{and_then, View, Work, Write, source_in, text_at, texts_of, inputs_by, outputs_by, outputs_of, clashes, blocked_seen, made_by, judged}
 use Rattle.uxn_cli.specs.Answer.{IsViewOf, Judges, HasEnded, IsRefused, HasCut}
 use Rattle.uxn_cli.proofs.ChangeLemmas.{written-changes, written-cut}
@@ -79,17 +80,21 @@ module _ (task : Task) (asm : task.command ≡ Assemble) (tree : Option Nodes) (
     judged = judged-asm tree task file blocked asm ∙ ap (λ said. and_then said (λ s. made_by blocked (Write (texts_of task s)))) accepted;
   }
 
+  -- `asm` has no root
+  no_clash : HasApartOutputs task → find (clashes (inputs_by task.command task) (outputs_of task)) (outputs_of task) ≡ None
+  no_clash apart = ap (λ c. find (clashes (inputs_by task.command task) (option_to_list (root_by c task) ++ outputs_of task)) (outputs_of task)) (sym asm) ∙ apart
+
   -- what was looked at can be made
-  pub can_write : (told : Option Nodes) → told ≡ tree → find (clashes (inputs_by task.command task) (outputs_of task)) (outputs_of task) ≡ None
+  pub can_write : (told : Option Nodes) → told ≡ tree → HasApartOutputs task
       → IfSome tree (λ nodes. None ≡ find (λ path. not (can_create nodes path)) (paths_of outputs)) → IfSome told (CanMake (seen_texts outputs))
   can_write told same apart looked = rw same (go tree (rw paths at looked))
     where
       go : (t : Option Nodes) → IfSome t (λ nodes. None ≡ find (λ path. not (can_create nodes path)) (outputs_of task)) → IfSome t (CanMake (seen_texts outputs))
       go None l = tt
-      go (Some nodes) l = makes_all (inputs_by task.command task) (seen_texts outputs) nodes (rw text_paths apart) (rw text_paths l)
+      go (Some nodes) l = makes_all (inputs_by task.command task) (seen_texts outputs) nodes (rw text_paths (no_clash apart)) (rw text_paths l)
 
   -- the files that the verdict asks for are surely written
-  pub sure_files : (start here : Room) (P : Type 0) → find (clashes (inputs_by task.command task) (outputs_of task)) (outputs_of task) ≡ None
+  pub sure_files : (start here : Room) (P : Type 0) → HasApartOutputs task
       → IfSome tree (λ nodes. None ≡ find (λ path. not (can_create nodes path)) (paths_of outputs)) → Leaves start here 0 0
       → IfSome tree (λ nodes. length outputs < here.files → CanFill here.bytes (seen_texts outputs) (with_empty (seen_texts outputs) nodes) → P)
       → IfSome tree (λ nodes. TreeSuffices (verdict_on nodes (Ok task)) start → P)
@@ -109,7 +114,7 @@ module _ (task : Task) (asm : task.command ≡ Assemble) (tree : Option Nodes) (
           let more = left.files some in
           let size = left.bytes some in
           s (omega (arith, few, count, more)) (fills_more start.bytes here.bytes (seen_texts outputs) (with_empty (seen_texts outputs) nodes) size
-          (fills_all (inputs_by task.command task) (seen_texts outputs) nodes start.bytes (rw text_paths apart) (rw text_paths l) mine.bytes))
+          (fills_all (inputs_by task.command task) (seen_texts outputs) nodes start.bytes (rw text_paths (no_clash apart)) (rw text_paths l) mine.bytes))
 
   module _ (out err : Option (List ℕ)) (now : Option Nodes) where
     -- an output that cannot be made
@@ -117,12 +122,12 @@ module _ (task : Task) (asm : task.command ≡ Assemble) (tree : Option Nodes) (
         → IsRefused (Ok task) (world tree out err) (world now out err) (NoOutput path)
     is_blocked path looked same = record { judges = judges_asm (Some path) looked; same = ap (λ t. world t out err) same }
 
-    can_here : find (clashes (inputs_by task.command task) (outputs_of task)) (outputs_of task) ≡ None → IfSome tree (λ nodes. None ≡ find (λ p. not (can_create nodes p)) (paths_of outputs))
+    can_here : HasApartOutputs task → IfSome tree (λ nodes. None ≡ find (λ p. not (can_create nodes p)) (paths_of outputs))
         → IfSome tree (CanMake (texts_of task source))
     can_here apart looked = rw texts at (can_write tree refl apart looked)
 
     -- a fault while the files were written
-    pub is_cut : find (clashes (inputs_by task.command task) (outputs_of task)) (outputs_of task) ≡ None → IfSome tree (λ nodes. None ≡ find (λ p. not (can_create nodes p)) (paths_of outputs))
+    pub is_cut : HasApartOutputs task → IfSome tree (λ nodes. None ≡ find (λ p. not (can_create nodes p)) (paths_of outputs))
         → HasWrittenFront tree now (seen_texts outputs) → HasCut (Ok task) (world tree out err) (world now out err) TreeFault
     is_cut apart looked front = record {
       found = Ok (Write (texts_of task source));
@@ -133,7 +138,7 @@ module _ (task : Task) (asm : task.command ≡ Assemble) (tree : Option Nodes) (
     }
 
     -- all files were written
-    pub is_written : find (clashes (inputs_by task.command task) (outputs_of task)) (outputs_of task) ≡ None → IfSome tree (λ nodes. None ≡ find (λ p. not (can_create nodes p)) (paths_of outputs))
+    pub is_written : HasApartOutputs task → IfSome tree (λ nodes. None ≡ find (λ p. not (can_create nodes p)) (paths_of outputs))
         → now ≡ option_map (with_texts (seen_texts outputs)) tree → HasEnded (Ok task) (world tree out err) (world now out err) 0
     is_written apart looked written = record {
       found = Ok (Write (texts_of task source));

@@ -7,7 +7,7 @@ use Rattle.uxn_io.specs.ByteList.{ByteList}
 use Rattle.uxn_io.specs.Files.{Nodes}
 use Rattle.uxn_opcodes.specs.declared.Stop.TheVariants.{TreeFault, SinkFault, NoMemory}
 use Rattle.uxn_cli.specs.declared.words.Command.{Command}
-use Rattle.uxn_cli.specs.declared.words.Command.TheVariants.{Play, Assemble, Disassemble}
+use Rattle.uxn_cli.specs.declared.words.Command.TheVariants.{Play, Debug, Assemble, Disassemble}
 use Rattle.uxn_cli.specs.declared.task.Task.{Task}
 use Rattle.uxn_cli.specs.declared.refusal.Refusal.{Refusal}
 use Rattle.uxn_cli.specs.declared.refusal.Refusal.TheVariants.{NotUnderstood, NoPath, NoOutput, Missing, Faulty, LongRom, BadSymbols, BadScript}
@@ -141,6 +141,7 @@ work-later Play task view =
     then-later (program_in task.rom task.file view.file) (λ rom. and_then (script_in task.script view.script) (λ script. Ok (Run (job_of task rom script))))
     (program-later task.rom task.file view.file)
     (λ rom. then-later (script_in task.script view.script) (λ script. Ok (Run (job_of task rom script))) (script-later task.script view.script) (λ script. tt))
+work-later Debug task view = omega arith
 work-later Assemble task view = then-later (source_in task.file view.file) (λ source. Ok (Write (texts_of task source))) (source-later task.file view.file) (λ source. tt)
 work-later Disassemble task view =
     then-later (rom_in task.file view.file) (λ rom. and_then (labels_in task.symbols view.symbols) (λ labels. Ok (Print (disassembly rom labels))))

@@ -1,6 +1,6 @@
 -- What other paths keep.
 use Rattle.std.proofs.Common.{◌≡◌, ℕ, Bool, true, false, cond, List, [], ◌∷◌, ◌++◌, map, refl, ap, sym, ◌∙◌, subst, inl, inr}
-use Rattle.std.specs.Prelude.{Option, Some, None, Result, Ok, Err, IfSome}
+use Rattle.std.specs.Prelude.{Option, Some, None, Result, Ok, Err, IfSome, option_to_list, ◌||◌}
 use Rattle.std.specs.List.{list_any}
 use Rattle.std.specs.Str.{bytes_eq}
 use Rattle.tal_words.specs.declared.name.Label.{Label}
@@ -13,7 +13,7 @@ use Rattle.play_script.specs.Scripts.{ScriptView}
 use Rattle.varvara_bus.specs.Touching.{Spares, Each, each-append, each-map, told_at, spared, spared-front, kept-node}
 use Rattle.uxn_opcodes.specs.Rule.{new_core}
 use Rattle.uxn_cli.specs.declared.words.Command.{Command}
-use Rattle.uxn_cli.specs.declared.words.Command.TheVariants.{Play, Assemble, Disassemble}
+use Rattle.uxn_cli.specs.declared.words.Command.TheVariants.{Play, Debug, Assemble, Disassemble}
 use Rattle.uxn_cli.specs.declared.task.Task.{Task}
 use Rattle.uxn_cli.specs.declared.refusal.Refusal.{Refusal}
 use Rattle.uxn_cli.specs.World.{Text}
@@ -52,6 +52,7 @@ work-paths Play task view work e =
     written_by (program_in task.rom task.file view.file) (λ rom. and_then (script_in task.script view.script) (λ script. Ok (Run (job_of task rom script)))) _ work
     (λ rom f. written_by (script_in task.script view.script) (λ script. Ok (Run (job_of task rom script))) _ work
     (λ script h. same_work (Run (job_of task rom script)) work _ refl h) f) e
+work-paths Debug task view work e = absurd cc
 work-paths Assemble task view work e =
     written_by (source_in task.file view.file) (λ source. Ok (Write (texts_of task source))) _ work (λ source h. same_work (Write (texts_of task source)) work _ (paths-texts_of task source) h) e
 work-paths Disassemble task view work e =
@@ -64,7 +65,12 @@ work-paths Disassemble task view work e =
 report-spares : (path : List ℕ) (report : Option (List ℕ)) (text : List ℕ) → list_any (bytes_eq path) (paths_in (report_at report text)) ≡ false → Each (Spares path) (filling_all (report_at report text))
 report-spares path report text none = filling-spares path (report_at report text) none
 
-report-path : (path : List ℕ) (report : Option (List ℕ)) (text : List ℕ) → list_any (bytes_eq path) (Rattle.std.specs.Prelude.option_to_list report) ≡ false
+any-last : (path : List ℕ) (first last : List (List ℕ)) → list_any (bytes_eq path) (first ++ last) ≡ false → list_any (bytes_eq path) last ≡ false
+any-last path [] last none = none
+any-last path (other ∷ first) last none =
+    elim (bytes_eq path other) as (λ b. (b || list_any (bytes_eq path) (first ++ last)) ≡ false → list_any (bytes_eq path) last ≡ false) [ true ↦ λ e. absurd cc | false ↦ λ e. any-last path first last e ] none
+
+report-path : (path : List ℕ) (report : Option (List ℕ)) (text : List ℕ) → list_any (bytes_eq path) (option_to_list report) ≡ false
     → list_any (bytes_eq path) (paths_in (report_at report text)) ≡ false
 report-path path None text none = none
 report-path path (Some file) text none = none
@@ -73,7 +79,7 @@ work-spares : (path : List ℕ) (work : Work) → list_any (bytes_eq path) (path
 unfolding running
 work-spares path (Run job) none =
     each-append (Spares path) (creating (outputs_in job)) _ (creating-spares path (outputs_in job) none)
-    (each-append (Spares path) (trail_of job).changes _ (trail-spares path job.budget job.script (new_core job.rom)) (report-spares path job.report _ (report-path path job.report _ none)))
+    (each-append (Spares path) (trail_of job).changes _ (trail-spares path job.budget job.script (new_core job.rom)) (report-spares path job.report _ (report-path path job.report _ (any-last path (option_to_list job.samples) (option_to_list job.report) (any-last path (option_to_list job.frames) (option_to_list job.samples ++ option_to_list job.report) none)))))
 work-spares path (Write texts) none = writing-spares path texts none
 work-spares path (Print text) none = each-map (Spares path) (λ byte. ToOut byte) text (λ byte. tt)
 

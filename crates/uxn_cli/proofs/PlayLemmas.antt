@@ -1,8 +1,8 @@
 -- What `play` does, step by step.
-use Rattle.std.proofs.Common.{◌≡◌, ◌≢◌, ℕ, Bool, true, false, not, List, [], ◌∷◌, ◌++◌, map, refl, ap, sym, ◌∙◌, subst, inl, inr}
+use Rattle.std.proofs.Common.{◌≡◌, ◌≢◌, ℕ, Bool, true, false, not, List, [], ◌∷◌, ◌++◌, map, refl, ap, sym, ◌∙◌, subst, inl, inr, append_assoc}
 use Rattle.std.specs.Prelude.{Option, Some, None, Result, Ok, Err, IfSome, IsSome, OnOk, OnErr, option_map, option_to_list, find, is_some}
 use Rattle.std.specs.FinMap as fin
-use Rattle.std.proofs.lemmas.List.Elements.{All-head}
+use Rattle.std.proofs.lemmas.List.Elements.{All-head, All-tail}
 use Rattle.tal_rom.specs.Assembly.{rom_of}
 use Rattle.uxn_io.specs.declared.trees.FileBytes.{FileBytes}
 use Rattle.uxn_io.specs.declared.trees.FileBytes.TheVariants.{Missing as NoFile}
@@ -31,12 +31,13 @@ use Rattle.uxn_cli.specs.declared.refusal.Halt.{Halt}
 use Rattle.uxn_cli.specs.declared.refusal.Halt.TheVariants.{Refused, Stopped}
 use Rattle.uxn_cli.specs.World.{world, Text, with_empty, with_bytes, CanMake, AreFiles, HasMadeFront}
 use Rattle.uxn_cli.specs.Outputs.{seen_texts, paths_of}
-use Rattle.uxn_cli.specs.Job.{Job, trail_by, trail_of, start_with, exit_in, report_at, report_text}
+use Rattle.uxn_cli.specs.Job.{Job, outputs_in, trail_by, trail_of, start_with, exit_in, report_at, report_text}
 use Rattle.uxn_cli.specs.Outcome.{outcome_of, creating, filling_all, reporting, running}
 use Rattle.uxn_cli.specs.Verdict.{and_then, View, Work, Run, file_seen, script_by, symbols_seen, blocked_seen, source_in, program_in, script_in, job_of, inputs_by, outputs_by, outputs_of, clashes, made_by, work_of, judged}
 use Rattle.uxn_cli.specs.Answer.{IsViewOf, Judges, HasEnded, IsRefused, HasCut, IsCut, Performs}
 use Rattle.uxn_cli.specs.Prepared.{SeesProgram, Loads, SeesRun, IsReady, Prepares, HasRun}
-use Rattle.uxn_cli.proofs.ApartLemmas.{makes_all, made_files}
+use Rattle.uxn_cli.specs.Request.{root_by, HasApartOutputs}
+use Rattle.uxn_cli.proofs.ApartLemmas.{no_clash-fewer, makes_all, made_files}
 use Rattle.uxn_cli.proofs.AssemblingLemmas.{seen_paths}
 use Rattle.uxn_cli.proofs.ChangeLemmas.{paths_in, made-changes, filled-changes, made-cut}
 use Rattle.uxn_cli.proofs.VerdictLemmas.{unread_script, unlooked}
@@ -126,6 +127,16 @@ unloaded task tree (Refused refusal) loads = record {
   work = ap (λ s. and_then s (λ rom. and_then (script_in task.script (unread_script tree task).0) (λ given. Ok (Run (job_of task rom given))))) loads.program;
 }
 
+last_file : (path : List ℕ) (others : List (List ℕ)) (texts : List Text) → paths_in texts ≡ others ++ path ∷ [] → (nodes : Nodes) → AreFiles texts nodes → IsSome (file_at nodes path)
+last_file path [] [] e nodes files = absurd cc
+last_file path (other ∷ others) [] e nodes files = absurd cc
+last_file path [] (text ∷ texts) e nodes files =
+    let same : text.path ≡ path = cc in
+    subst (λ p. IsSome (file_at nodes p)) same (All-head (λ (t : Text). IsSome (file_at nodes t.path)) text texts files)
+last_file path (other ∷ others) (text ∷ texts) e nodes files =
+    let rest : paths_in texts ≡ others ++ path ∷ [] = cc in
+    last_file path others texts rest nodes (All-tail (λ (t : Text). IsSome (file_at nodes t.path)) text texts files)
+
 module _ (task : Task) (play : task.command ≡ Play) (tree : Option Nodes) where
   -- what was seen of the inputs and of the outputs is a view, which the verdict is on
   sees : (said : Result Work Refusal) (run : SeesRun tree task said) (blocked : Option (List ℕ)) → IfSome tree (λ nodes. blocked ≡ blocked_seen nodes task)
@@ -164,7 +175,7 @@ module _ (task : Task) (play : task.command ≡ Play) (tree : Option Nodes) wher
     text_paths : paths_in (seen_texts outputs) ≡ outputs_of task
     text_paths = seen_paths outputs ∙ paths
 
-    job_paths : paths_in (seen_texts outputs) ≡ option_to_list task.report
+    job_paths : paths_in (seen_texts outputs) ≡ outputs_in (job_of task ready.rom machine.script)
     job_paths = text_paths ∙ ap (λ c. outputs_by c task) play
 
     looked_at : (blocked : Option (List ℕ)) → IfSome tree (λ nodes. blocked ≡ find (λ path. not (can_create nodes path)) (paths_of outputs)) → IfSome tree (λ nodes. blocked ≡ blocked_seen nodes task)
@@ -190,14 +201,16 @@ module _ (task : Task) (play : task.command ≡ Play) (tree : Option Nodes) wher
         untold None e = tt
         untold (Some nodes) e = absurd cc
 
-    module _ (apart : find (clashes (inputs_by task.command task) (outputs_of task)) (outputs_of task) ≡ None)
+    module _ (apart : HasApartOutputs task)
         (looked : IfSome tree (λ nodes. None ≡ find (λ path. not (can_create nodes path)) (paths_of outputs))) where
       can : IfSome tree (CanMake (seen_texts outputs))
       can = go tree (rw paths at looked)
         where
           go : (t : Option Nodes) → IfSome t (λ nodes. None ≡ find (λ path. not (can_create nodes path)) (outputs_of task)) → IfSome t (CanMake (seen_texts outputs))
           go None l = tt
-          go (Some nodes) l = makes_all (inputs_by task.command task) (seen_texts outputs) nodes (rw text_paths apart) (rw text_paths l)
+          go (Some nodes) l =
+              makes_all (inputs_by task.command task) (seen_texts outputs) nodes
+              (rw text_paths (no_clash-fewer (inputs_by task.command task) (option_to_list (root_by task.command task)) (outputs_of task) (outputs_of task) apart)) (rw text_paths l)
 
       pub can_make : (told : Option Nodes) → told ≡ tree → IfSome told (CanMake (seen_texts outputs))
       can_make told same = rw same can
@@ -213,24 +226,22 @@ module _ (task : Task) (play : task.command ≡ Play) (tree : Option Nodes) wher
         found = Ok (Run (job_of task ready.rom machine.script));
         judges = judges_run;
         may = tt;
-        cut = cut-first (world tree out err) (world new out err) (creating (option_to_list task.report)) _ (rw (ap creating job_paths) at (made-cut out err (seen_texts outputs) tree new can front));
+        cut = cut-first (world tree out err) (world new out err) (creating (outputs_in (job_of task ready.rom machine.script))) _ (rw (ap creating job_paths) at (made-cut out err (seen_texts outputs) tree new can front));
         short = λ text. absurd text;
       }
 
       pub report-made : (new : Option Nodes) → new ≡ option_map (with_empty (seen_texts outputs)) tree → IfSome task.report (λ path. IfSome new (λ nodes. IsSome (file_at nodes path)))
-      report-made new made = go task.report (seen_texts outputs) job_paths new (made_files (seen_texts outputs) tree new made can)
+      report-made new made = go task.report (option_to_list task.frames ++ option_to_list task.samples) (seen_texts outputs) (job_paths ∙ sym (append_assoc (option_to_list task.frames) (option_to_list task.samples) (option_to_list task.report))) new
+          (made_files (seen_texts outputs) tree new made can)
         where
-          go : (report : Option (List ℕ)) (texts : List Text) → paths_in texts ≡ option_to_list report → (t : Option Nodes) → IfSome t (AreFiles texts)
+          go : (report : Option (List ℕ)) (others : List (List ℕ)) (texts : List Text) → paths_in texts ≡ others ++ option_to_list report → (t : Option Nodes) → IfSome t (AreFiles texts)
               → IfSome report (λ path. IfSome t (λ nodes. IsSome (file_at nodes path)))
-          go None texts e t files = tt
-          go (Some path) texts e None files = tt
-          go (Some path) [] e (Some nodes) files = absurd cc
-          go (Some path) (text ∷ texts) e (Some nodes) files =
-              let same : text.path ≡ path = cc in
-              subst (λ p. IsSome (file_at nodes p)) same (All-head (λ (t : Text). IsSome (file_at nodes t.path)) text texts files)
+          go None others texts e t files = tt
+          go (Some path) others texts e None files = tt
+          go (Some path) others texts e (Some nodes) files = last_file path others texts e nodes files
 
       module _ (made : Option Nodes) (is_made : made ≡ option_map (with_empty (seen_texts outputs)) tree) (out err : Option (List ℕ)) where
-        begun : world made out err ≡ changed_by (world tree out err) (creating (option_to_list task.report))
+        begun : world made out err ≡ changed_by (world tree out err) (creating (outputs_in (job_of task ready.rom machine.script)))
         begun = ap (λ t. world t out err) is_made ∙ sym (made-changes out err (seen_texts outputs) tree can) ∙ ap (λ ps. changed_by (world tree out err) (creating ps)) job_paths
 
         -- the run was done, and its report written
@@ -244,7 +255,7 @@ module _ (task : Task) (play : task.command ≡ Play) (tree : Option Nodes) wher
             status = status ∙ ap (λ core. exit_in (trail_by task.budget machine.script core).last) ready.core;
             world = ran ∙ ap (λ core. changed_by (world made out err) (reporting task.report (trail_by task.budget machine.script core))) ready.core
                 ∙ ap (λ w. changed_by w (reporting task.report (trail_by task.budget machine.script (new_core ready.rom)))) begun
-                ∙ sym (changed_by-append (world tree out err) (creating (option_to_list task.report)) (reporting task.report (trail_by task.budget machine.script (new_core ready.rom))));
+                ∙ sym (changed_by-append (world tree out err) (creating (outputs_in (job_of task ready.rom machine.script))) (reporting task.report (trail_by task.budget machine.script (new_core ready.rom))));
           };
         }
 
@@ -252,7 +263,7 @@ module _ (task : Task) (play : task.command ≡ Play) (tree : Option Nodes) wher
             → IsCutOff (world tree out err) now (outcome_of (Ok (Run (job_of task ready.rom machine.script)))).changes
         unfolding running
         run-cut now cut =
-            cut-later (world tree out err) (world made out err) now (creating (option_to_list task.report)) (reporting task.report (trail_by task.budget machine.script (new_core ready.rom)))
+            cut-later (world tree out err) (world made out err) now (creating (outputs_in (job_of task ready.rom machine.script))) (reporting task.report (trail_by task.budget machine.script (new_core ready.rom)))
             begun (rw ready.core at cut)
 
         -- it was cut short

@@ -9,9 +9,9 @@ use Rattle.uxn_io.specs.WholeFile.{whole_file}
 use Rattle.uxn_opcodes.specs.declared.Stop.{Stop}
 use Rattle.uxn_opcodes.specs.declared.Stop.TheVariants.{TreeFault, SinkFault, NoMemory}
 use Rattle.uxn_cli.specs.declared.task.Task.{Task}
-use Rattle.uxn_cli.specs.declared.words.Command.TheVariants.{Disassemble}
+use Rattle.uxn_cli.specs.declared.words.Command.TheVariants.{Debug, Disassemble}
 use Rattle.uxn_cli.specs.declared.refusal.Refusal.{Refusal}
-use Rattle.uxn_cli.specs.declared.refusal.Refusal.TheVariants.{NotUnderstood}
+use Rattle.uxn_cli.specs.declared.refusal.Refusal.TheVariants.{NotUnderstood, Missing}
 use Rattle.uxn_cli.specs.declared.refusal.Halt.{Halt}
 use Rattle.uxn_cli.specs.declared.refusal.Halt.TheVariants.{Refused, Stopped}
 use Rattle.uxn_io.specs.Told.{extended, HasTakenFront}
@@ -21,7 +21,8 @@ use Rattle.uxn_cli.specs.Lines.{status_of, line_of}
 use Rattle.uxn_cli.specs.Blame.{Stops}
 use Rattle.uxn_cli.specs.Words.{settings}
 use Rattle.uxn_cli.specs.World.{world}
-use Rattle.uxn_cli.specs.Verdict.{and_then, legal, paths_in, apart, request, View, Work, Print, rom_in, labels_in, symbols_by, script_seen, blocked_seen, made_by, judged, verdict}
+use Rattle.uxn_cli.specs.Request.{and_then, legal, paths_in, apart, request}
+use Rattle.uxn_cli.specs.Verdict.{View, view_of, Work, Print, rom_in, labels_in, symbols_by, script_seen, blocked_seen, made_by, judged, verdict}
 use Rattle.uxn_cli.specs.Follows.{Follows}
 use Rattle.uxn_cli.specs.Answer.{IsViewOf, IsViewFor, IsRefused, Performs, Ends}
 
@@ -83,6 +84,18 @@ unread_script (Some nodes) task = (script_seen nodes task, refl)
 abbrev pub unlooked : (tree : Option Nodes) (task : Task) → (blocked : Option (List ℕ)) × IfSome tree (λ nodes. blocked ≡ blocked_seen nodes task)
 unlooked None task = (None, tt)
 unlooked (Some nodes) task = (blocked_seen nodes task, refl)
+
+-- `debug` is not built
+pub undebugged : (task : Task) (tree : Option Nodes) (out err : Option (List ℕ)) → task.command ≡ Debug
+    → Performs (Ok task) (world tree out err) (world tree out err) (Err (Refused (Missing task.file)))
+undebugged task None out err debug = record {
+  judges = record { view = record { file = NoFile; symbols = NoFile; script = NoFile; blocked = None }; seen = record { file = tt; symbols = tt; script = tt; blocked = tt }; judged = rw debug refl };
+  same = refl;
+}
+undebugged task (Some nodes) out err debug = record {
+  judges = record { view = view_of nodes task; seen = record { file = refl; symbols = refl; script = refl; blocked = refl }; judged = rw debug refl };
+  same = refl;
+}
 
 -- the view of `dis`
 abbrev pub dis_view : (tree : Option Nodes) (task : Task) → FileBytes → FileBytes → View

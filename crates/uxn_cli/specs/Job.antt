@@ -18,11 +18,13 @@ pub record Job : Type 0 where
   pub rom : List ℕ
   pub script : ScriptView
   pub budget : ℕ
+  pub frames : Option (List ℕ)
+  pub samples : Option (List ℕ)
   pub report : Option (List ℕ)
 
 -- the files that it writes, in the order of the usage line
 abbrev pub outputs_in : Job → List (List ℕ)
-outputs_in job = option_to_list job.report
+outputs_in job = option_to_list job.frames ++ option_to_list job.samples ++ option_to_list job.report
 
 -- the clock of a script is that of the machine
 abbrev pub clock_by : ScriptClock → Clock

@@ -3,6 +3,7 @@ pub mod Asked
 pub mod Lines
 pub mod World
 pub mod Outputs
+pub mod Request
 pub mod Verdict
 pub mod Follows
 pub mod Blame

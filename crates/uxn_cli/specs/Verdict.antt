@@ -17,91 +17,21 @@ use Rattle.tal_listing.specs.Listing.{listing_of}
 use Rattle.play_script.specs.declared.script.ScriptKind.{ScriptKind}
 use Rattle.play_script.specs.declared.script.ScriptKind.TheVariants.{LongScript}
 use Rattle.play_script.specs.Scripts.{ScriptView, script_of}
-use Rattle.uxn_io.specs.declared.paths.PathFault.{PathFault}
 use Rattle.uxn_io.specs.declared.trees.FileBytes.{FileBytes}
 use Rattle.uxn_io.specs.declared.trees.FileBytes.TheVariants.{Found, Missing as NoFile, TooLong}
 use Rattle.uxn_io.specs.ByteList.{tight}
 use Rattle.uxn_io.specs.Changes.{can_create}
 use Rattle.uxn_io.specs.Files.{Nodes, file_at}
-use Rattle.uxn_io.specs.PathText.{path_of, is_under}
 use Rattle.uxn_io.specs.WholeFile.{whole_file}
 use Rattle.uxn_cli.specs.declared.words.Command.{Command}
-use Rattle.uxn_cli.specs.declared.words.Command.TheVariants.{Play, Assemble, Disassemble}
+use Rattle.uxn_cli.specs.declared.words.Command.TheVariants.{Play, Debug, Assemble, Disassemble}
 use Rattle.uxn_cli.specs.declared.task.Task.{Task}
 use Rattle.uxn_cli.specs.declared.refusal.Refusal.{Refusal}
-use Rattle.uxn_cli.specs.declared.refusal.Refusal.TheVariants.{NotUnderstood, NoPath, NoOutput, Missing, Faulty, LongRom, BadSymbols, BadScript}
+use Rattle.uxn_cli.specs.declared.refusal.Refusal.TheVariants.{NoOutput, Missing, Faulty, LongRom, BadSymbols, BadScript}
 use Rattle.uxn_cli.specs.Job.{Job}
-use Rattle.uxn_cli.specs.Words.{settings}
 use Rattle.uxn_cli.specs.World.{Text}
 
--- a step after another: the first refusal counts
-abbrev pub and_then : {A B : Type 0} → Result A Refusal → (A → Result B Refusal) → Result B Refusal
-and_then (Ok value) next = next value
-and_then (Err refusal) next = Err refusal
-
--- the words are legal (128)
-abbrev pub legal : Option Task → Result Task Refusal
-legal None = Err NotUnderstood
-legal (Some task) = Ok task
-
--- each word that names a file is a path (129), in the order of the usage line
-abbrev pub path_by : List ℕ → Result (List ℕ) PathFault → Result (List ℕ) Refusal
-path_by word (Err fault) = Err (NoPath (tight word))
-path_by word (Ok path) = Ok path
-
-abbrev pub path_in : List ℕ → Result (List ℕ) Refusal
-path_in word = path_by word (path_of word)
-
-abbrev pub optional_path_in : Option (List ℕ) → Result (Option (List ℕ)) Refusal
-optional_path_in None = Ok None
-optional_path_in (Some word) = and_then (path_in word) (λ path. Ok (Some path))
-
-abbrev pub paths_in : Task → Result Task Refusal
-paths_in task =
-    and_then (path_in task.file) (λ file.
-    and_then (optional_path_in task.out) (λ out.
-    and_then (optional_path_in task.symbols) (λ symbols.
-    and_then (optional_path_in task.listing) (λ listing.
-    and_then (optional_path_in task.script) (λ script.
-    and_then (optional_path_in task.report) (λ report.
-    Ok (record task { file = file; out = out; symbols = symbols; listing = listing; script = script; report = report })))))))
-
--- the files that a command reads, and those that it writes, in the order of the usage line
-abbrev pub inputs_by : Command → Task → List (List ℕ)
-inputs_by Play task = task.file ∷ option_to_list task.script
-inputs_by Assemble task = task.file ∷ []
-inputs_by Disassemble task = task.file ∷ option_to_list task.symbols
-
-abbrev pub outputs_by : Command → Task → List (List ℕ)
-outputs_by Play task = option_to_list task.report
-outputs_by Assemble task = option_to_list task.out ++ option_to_list task.symbols ++ option_to_list task.listing
-outputs_by Disassemble task = []
-
-abbrev pub outputs_of : Task → List (List ℕ)
-outputs_of task = outputs_by task.command task
-
--- two files clash where they are the same or one lies under the other
-abbrev pub meets : List ℕ → List ℕ → Bool
-meets path other = bytes_eq path other || is_under path other || is_under other path
-
--- an output clashes with another output (it meets itself), or is an input
-unfoldable pub clashes : List (List ℕ) → List (List ℕ) → List ℕ → Bool
-clashes inputs outputs path = nat_lt 1 (count_by (meets path) outputs) || list_any (bytes_eq path) inputs
-
-abbrev pub HasApartOutputs : Task → Type 0
-HasApartOutputs task = find (clashes (inputs_by task.command task) (outputs_of task)) (outputs_of task) ≡ None
-
--- no output clashes (135)
-abbrev pub apart_by : Task → Option (List ℕ) → Result Task Refusal
-apart_by task None = Ok task
-apart_by task (Some path) = Err (NoOutput path)
-
-abbrev pub apart : Task → Result Task Refusal
-apart task = apart_by task (find (clashes (inputs_by task.command task) (outputs_of task)) (outputs_of task))
-
--- what the words alone determine: the task, or why they are refused whatever the tree holds
-unfoldable pub request : List (List ℕ) → Result Task Refusal
-request words = and_then (legal (settings words)) (λ task. and_then (paths_in task) apart)
+pub use Rattle.uxn_cli.specs.Request.{and_then, inputs_by, outputs_by, outputs_of, clashes, HasApartOutputs}
 
 -- what the tree shows a task: its file, its file of symbols, its script, and the first output that cannot be made
 pub record View : Type 0 where
@@ -113,6 +43,7 @@ pub record View : Type 0 where
 -- no more bytes of a file are looked at: 65,280 of a ROM, and 4,194,304 of a source
 abbrev pub limit_by : Command → Bool → ℕ
 limit_by Play rom = if rom then 65280 else 4194304
+limit_by Debug rom = if rom then 65280 else 4194304
 limit_by Assemble rom = 4194304
 limit_by Disassemble rom = 65280
 
@@ -129,6 +60,7 @@ symbols_by nodes (Some path) = whole_file (file_at nodes path) 16777216
 
 abbrev pub symbols_input : Command → Task → Option (List ℕ)
 symbols_input Play task = None
+symbols_input Debug task = None
 symbols_input Assemble task = None
 symbols_input Disassemble task = task.symbols
 
@@ -218,7 +150,14 @@ script_in (Some path) file = script_at path file
 
 -- a run of a ROM with a script
 abbrev pub job_of : Task → List ℕ → ScriptView → Job
-job_of task rom script = record { rom = rom; script = script; budget = task.budget; report = task.report }
+job_of task rom script = record {
+  rom = rom;
+  script = script;
+  budget = task.budget;
+  frames = task.frames;
+  samples = task.samples;
+  report = task.report;
+}
 
 -- what is to be done: a ROM is run, files are written, or a text is printed
 pub data Work : Type 0 where
@@ -231,6 +170,7 @@ abbrev pub work_of : Command → Task → View → Result Work Refusal
 work_of Play task view =
     and_then (program_in task.rom task.file view.file) (λ rom.
     and_then (script_in task.script view.script) (λ script. Ok (Run (job_of task rom script))))
+work_of Debug task view = Err (Missing task.file)
 work_of Assemble task view = and_then (source_in task.file view.file) (λ source. Ok (Write (texts_of task source)))
 work_of Disassemble task view =
     and_then (rom_in task.file view.file) (λ rom.

@@ -2,7 +2,8 @@
 ghost use Rattle.std.specs.Prelude.{◌≡◌, ◌≤◌, ◌⊎◌, ℕ, Ok, map, string_bytes, IfOk, IfSome};
 ghost use Rattle.uxn_io.specs.Faults.{Rose, Ledger, TheTree, ASink, counts};
 ghost use Rattle.uxn_cli.specs.World.{world};
-ghost use Rattle.uxn_cli.specs.Verdict.{Work, request, HasApartOutputs};
+ghost use Rattle.uxn_cli.specs.Request.{request, HasApartOutputs};
+ghost use Rattle.uxn_cli.specs.Verdict.{Work};
 ghost use Rattle.uxn_cli.specs.Follows.{Follows};
 ghost use Rattle.uxn_cli.specs.Answer.{Performs, Ends, Answers};
 ghost use Rattle.uxn_cli.specs.Blame.{blame_in, blame_by, blame_at, early_status, OnRefused};
@@ -57,6 +58,7 @@ fn perform<T: Tree, O: Sink, E: Sink>(
     let task = request(alloc, words)?;
     match task.command {
         Command::Play => play(alloc, &task, tree, out, err),
+        Command::Debug => Err(Halt::Refused(Refusal::Missing(task.file))),
         Command::Assemble => assemble_files(alloc, &task, tree),
         Command::Disassemble => disassemble_rom(alloc, &task, tree, out, err),
     }

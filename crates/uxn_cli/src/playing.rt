@@ -1,5 +1,5 @@
 //! What `play` does.
-ghost use Rattle.std.specs.Prelude.{◌≡◌, ◌≢◌, ◌≤◌, ℕ, List, Option, Ok, OnOk, OnErr, IfOk, IfErr, IfSome, IsSome, is_err};
+ghost use Rattle.std.specs.Prelude.{◌≡◌, ◌≢◌, ◌≤◌, ◌++◌, ℕ, option_to_list, List, Option, Ok, OnOk, OnErr, IfOk, IfErr, IfSome, IsSome, is_err};
 ghost use Rattle.uxn_io.specs.Faults.{Counted, Ledger, counts};
 ghost use Rattle.uxn_io.specs.Files.{file_at};
 ghost use Rattle.uxn_io.specs.Outside.{changed_by, IsCutOff};
@@ -7,7 +7,8 @@ ghost use Rattle.uxn_opcodes.specs.Ports.{blame_of};
 ghost use Rattle.varvara_bus.specs.State.{StandFor, new_state};
 ghost use Rattle.uxn_cli.specs.World.{world};
 ghost use Rattle.uxn_cli.specs.Outputs.{paths_of};
-ghost use Rattle.uxn_cli.specs.Verdict.{HasApartOutputs, outputs_of, script_from, script_at};
+ghost use Rattle.uxn_cli.specs.Request.{HasApartOutputs, outputs_of};
+ghost use Rattle.uxn_cli.specs.Verdict.{script_from, script_at};
 ghost use Rattle.play_script.specs.Scripts.{script_of};
 ghost use Rattle.uxn_cli.specs.Follows.{Follows};
 ghost use Rattle.uxn_cli.specs.Answer.{Performs};
@@ -133,11 +134,26 @@ fn outputs_of(alloc: Global, task: &Task) -> Result<Vec<Output>, AllocError>
     ensures paths { IfOk result (λ outputs. paths_of outputs.items ≡ outputs_of task.now) }
 {
     let mut outputs = Vec::new(alloc);
-    if let Some(path) = task.report {
+    push_output(alloc, &mut outputs, task.frames)?;
+    push_output(alloc, &mut outputs, task.samples)?;
+    push_output(alloc, &mut outputs, task.report)?;
+    Ok(outputs)
+}
+
+/// Puts a file without bytes behind others, where there is one.
+#[tactic(auto, using(crate::proofs::OutputLemmas::pushed))]
+fn push_output(
+    alloc: Global,
+    outputs: &mut Vec<Output>,
+    path: Option<Path>,
+) -> Result<(), AllocError>
+    ensures { OnOk result (paths_of outputs.new.items ≡ paths_of outputs.old.items ++ option_to_list path) }
+{
+    if let Some(path) = path {
         let bytes = Vec::new(alloc);
         outputs.push(Output { path, bytes })?;
     }
-    Ok(outputs)
+    Ok(())
 }
 
 /// Writes the report, where one is asked for.
