@@ -79,7 +79,7 @@ work-spares : (path : List ℕ) (work : Work) → list_any (bytes_eq path) (path
 unfolding running
 work-spares path (Run job) none =
     each-append (Spares path) (creating (outputs_in job)) _ (creating-spares path (outputs_in job) none)
-    (each-append (Spares path) (trail_of job).changes _ (trail-spares path job.budget job.script (new_core job.rom)) (report-spares path job.report _ (report-path path job.report _ (any-last path (option_to_list job.samples) (option_to_list job.report) (any-last path (option_to_list job.frames) (option_to_list job.samples ++ option_to_list job.report) none)))))
+    (each-append (Spares path) (trail_of job).changes _ (trail-spares path job.budget job.script (new_core job.rom)) (report-spares path job.report _ (report-path path job.report _ (any-last path (option_to_list job.frames ++ option_to_list job.samples) (option_to_list job.report) none))))
 work-spares path (Write texts) none = writing-spares path texts none
 work-spares path (Print text) none = each-map (Spares path) (λ byte. ToOut byte) text (λ byte. tt)
 

@@ -1,5 +1,5 @@
 -- What `play` does, step by step.
-use Rattle.std.proofs.Common.{◌≡◌, ◌≢◌, ℕ, Bool, true, false, not, List, [], ◌∷◌, ◌++◌, map, refl, ap, sym, ◌∙◌, subst, inl, inr, append_assoc}
+use Rattle.std.proofs.Common.{◌≡◌, ◌≢◌, ◌<◌, length, ℕ, Bool, true, false, not, List, [], ◌∷◌, ◌++◌, map, refl, ap, sym, ◌∙◌, subst, inl, inr}
 use Rattle.std.specs.Prelude.{Option, Some, None, Result, Ok, Err, IfSome, IsSome, OnOk, OnErr, option_map, option_to_list, find, is_some}
 use Rattle.std.specs.FinMap as fin
 use Rattle.std.proofs.lemmas.List.Elements.{All-head, All-tail}
@@ -37,6 +37,11 @@ use Rattle.uxn_cli.specs.Verdict.{and_then, View, Work, Run, file_seen, script_b
 use Rattle.uxn_cli.specs.Answer.{IsViewOf, Judges, HasEnded, IsRefused, HasCut, IsCut, Performs}
 use Rattle.uxn_cli.specs.Prepared.{SeesProgram, Loads, SeesRun, IsReady, Prepares, HasRun}
 use Rattle.uxn_cli.specs.Request.{root_by, HasApartOutputs}
+use Rattle.uxn_io.specs.Room.{Room}
+use Rattle.uxn_cli.specs.Lines.{line_of}
+use Rattle.uxn_cli.specs.Causes.{verdict_on}
+use Rattle.uxn_cli.specs.Room.{TakesFor, TreeSuffices, SinksSuffice}
+use Rattle.uxn_cli.proofs.CauseLemmas.{told_verdict}
 use Rattle.uxn_cli.proofs.ApartLemmas.{no_clash-fewer, makes_all, made_files}
 use Rattle.uxn_cli.proofs.AssemblingLemmas.{seen_paths}
 use Rattle.uxn_cli.proofs.ChangeLemmas.{paths_in, made-changes, filled-changes, made-cut}
@@ -101,6 +106,19 @@ report-cut-after before middle now report trail ended ran cut =
     let text : report_text ended.exit ended.tally ≡ report_text (exit_in trail.last) trail.last.tally =
     ap (λ e. report_text e ended.tally) ran.exit ∙ ap (λ t. report_text (exit_in trail.last) t) ran.tally in
     cut-later before middle now trail.changes (filling_all (report_at report (report_text (exit_in trail.last) trail.last.tally))) ran.world (rw text at cut)
+
+-- where the tree suffices it is read without a fault
+pub reads-surely : (tree : Option Nodes) (asked : Result Task Refusal) (start : Room) (P : Type 0) → (0 < start.files → P) → IfSome tree (λ nodes. TreeSuffices (verdict_on nodes asked) start → P)
+reads-surely None asked start P f = tt
+reads-surely (Some nodes) asked start P f = λ s. f s.some
+
+-- a refusal's line is surely put
+pub refused-surely : (tree : Option Nodes) (asked : Result Task Refusal) (refusal : Refusal) (out err : ℕ) (P : Type 0) → Judges asked tree (Err refusal) → (length (line_of refusal) < err → P)
+    → IfSome tree (λ nodes. SinksSuffice (verdict_on nodes asked) out err → P)
+refused-surely None asked refusal out err P j f = tt
+refused-surely (Some nodes) asked refusal out err P j f = λ s.
+    let V : Result Work Refusal → Type 0 = λ v. SinksSuffice v out err in
+    f (subst V (sym (told_verdict nodes asked (Err refusal) j)) s)
 
 -- ---- the inputs
 
@@ -218,6 +236,25 @@ module _ (task : Task) (play : task.command ≡ Play) (tree : Option Nodes) wher
       judges_run : Judges (Ok task) tree (Ok (Run (job_of task ready.rom machine.script)))
       judges_run = judges (Ok (Run (job_of task ready.rom machine.script))) ready.sees None (looked_at None looked)
 
+      -- of a run nothing is sure yet
+      pub run-tree : (start : Room) (P : Type 0) → IfSome tree (λ nodes. TreeSuffices (verdict_on nodes (Ok task)) start → P)
+      run-tree start P = go tree judges_run
+        where
+          go : (t : Option Nodes) → Judges (Ok task) t (Ok (Run (job_of task ready.rom machine.script))) → IfSome t (λ nodes. TreeSuffices (verdict_on nodes (Ok task)) start → P)
+          go None j = tt
+          go (Some nodes) j = λ s.
+              let V : Result Work Refusal → Type 0 = λ v. TakesFor v start in
+              absurd (subst V (sym (told_verdict nodes (Ok task) (Ok (Run (job_of task ready.rom machine.script))) j)) s.takes)
+
+      pub run-sinks : (out err : ℕ) (P : Type 0) → IfSome tree (λ nodes. SinksSuffice (verdict_on nodes (Ok task)) out err → P)
+      run-sinks out err P = go tree judges_run
+        where
+          go : (t : Option Nodes) → Judges (Ok task) t (Ok (Run (job_of task ready.rom machine.script))) → IfSome t (λ nodes. SinksSuffice (verdict_on nodes (Ok task)) out err → P)
+          go None j = tt
+          go (Some nodes) j = λ s.
+              let V : Result Work Refusal → Type 0 = λ v. SinksSuffice v out err in
+              absurd (subst V (sym (told_verdict nodes (Ok task) (Ok (Run (job_of task ready.rom machine.script))) j)) s)
+
       -- a fault while they were made
       pub is_half_made : (new : Option Nodes) (out err : Option (List ℕ)) → HasMadeFront tree new (seen_texts outputs)
           → HasCut (Ok task) (world tree out err) (world new out err) TreeFault
@@ -231,7 +268,7 @@ module _ (task : Task) (play : task.command ≡ Play) (tree : Option Nodes) wher
       }
 
       pub report-made : (new : Option Nodes) → new ≡ option_map (with_empty (seen_texts outputs)) tree → IfSome task.report (λ path. IfSome new (λ nodes. IsSome (file_at nodes path)))
-      report-made new made = go task.report (option_to_list task.frames ++ option_to_list task.samples) (seen_texts outputs) (job_paths ∙ sym (append_assoc (option_to_list task.frames) (option_to_list task.samples) (option_to_list task.report))) new
+      report-made new made = go task.report (option_to_list task.frames ++ option_to_list task.samples) (seen_texts outputs) job_paths new
           (made_files (seen_texts outputs) tree new made can)
         where
           go : (report : Option (List ℕ)) (others : List (List ℕ)) (texts : List Text) → paths_in texts ≡ others ++ option_to_list report → (t : Option Nodes) → IfSome t (AreFiles texts)

@@ -1,6 +1,9 @@
 //! What `play` does.
-ghost use Rattle.std.specs.Prelude.{◌≡◌, ◌≢◌, ◌≤◌, ◌++◌, ℕ, option_to_list, List, Option, Ok, OnOk, OnErr, IfOk, IfErr, IfSome, IsSome, is_err};
-ghost use Rattle.uxn_io.specs.Faults.{Counted, Ledger, counts};
+ghost use Rattle.std.specs.Prelude.{◌≡◌, ◌≢◌, ◌<◌, ◌≤◌, ◌++◌, ℕ, option_to_list, List, Option, Ok, OnOk, OnErr, IfOk, IfErr, IfSome, IsSome, is_err};
+ghost use Rattle.uxn_io.specs.Faults.{Counted, Ledger, TheTree, ASink, counts};
+ghost use Rattle.uxn_io.specs.Room.{Leaves};
+ghost use Rattle.uxn_cli.specs.Causes.{verdict_on};
+ghost use Rattle.uxn_cli.specs.Room.{TreeSuffices, SinksSuffice};
 ghost use Rattle.uxn_io.specs.Files.{file_at};
 ghost use Rattle.uxn_io.specs.Outside.{changed_by, IsCutOff};
 ghost use Rattle.uxn_opcodes.specs.Ports.{blame_of};
@@ -50,6 +53,8 @@ fn load<T: Tree>(alloc: Global, task: &Task, tree: &mut T) -> Result<Core, Halt>
     ensures loads { Loads (T.told tree.old) task.now result }
     ensures same { T.told tree.new ≡ T.told tree.old }
     ensures ledger { Ledger (counts (T.faults tree.old) 0 0) (counts (T.faults tree.new) 0 0) (blame_in result) }
+    ensures sure { 0 < (T.sure tree.old).files → blame_in result ≡ TheTree → ⊥ }
+    ensures left { OnOk result (Leaves (T.sure tree.old) (T.sure tree.new) 0 0) }
 {
     if task.rom {
         let file = read_file(alloc, tree, &task.file, ROM_LIMIT)?;
@@ -89,6 +94,8 @@ fn accept_script<T: Tree>(alloc: Global, path: &Option<Path>, tree: &mut T) -> R
     ensures script { ReadsScript (T.told tree.old) path.now result }
     ensures same { T.told tree.new ≡ T.told tree.old }
     ensures ledger { Ledger (counts (T.faults tree.old) 0 0) (counts (T.faults tree.new) 0 0) (blame_in result) }
+    ensures sure { 0 < (T.sure tree.old).files → blame_in result ≡ TheTree → ⊥ }
+    ensures left { OnOk result (Leaves (T.sure tree.old) (T.sure tree.new) 0 0) }
 {
     match path {
         Some(path) => {
@@ -116,6 +123,8 @@ fn prepare<T: Tree>(alloc: Global, task: &Task, tree: &mut T) -> Result<Machine,
     ensures prepares { Prepares (T.told tree.old) task.now result }
     ensures same { T.told tree.new ≡ T.told tree.old }
     ensures ledger { Ledger (counts (T.faults tree.old) 0 0) (counts (T.faults tree.new) 0 0) (blame_in result) }
+    ensures sure { 0 < (T.sure tree.old).files → blame_in result ≡ TheTree → ⊥ }
+    ensures left { OnOk result (Leaves (T.sure tree.old) (T.sure tree.new) 0 0) }
 {
     let core = load(alloc, task, tree)?;
     let script = accept_script(alloc, &task.script, tree)?;
@@ -219,6 +228,9 @@ pub fn play<T: Tree, O: Sink, E: Sink>(
     ensures ledger { Ledger (counts (T.faults tree.old) (O.faults out.old) (E.faults err.old))
         (counts (T.faults tree.new) (O.faults out.new) (E.faults err.new)) (blame_in result) }
     ensures kept { OnRefused result (err.new ≡ err.old) }
+    ensures sure_tree { IfSome (T.told tree.old) (λ nodes. TreeSuffices (verdict_on nodes (Ok task.now)) (T.sure tree.old) → blame_in result ≡ TheTree → ⊥) }
+    ensures sure_sinks { IfSome (T.told tree.old) (λ nodes. SinksSuffice (verdict_on nodes (Ok task.now)) (O.sure out.old) (E.sure err.old)
+        → blame_in result ≡ ASink → ⊥) }
 {
     let machine = prepare(alloc, task, tree)?;
     let outputs = outputs_of(alloc, task)?;

@@ -1,5 +1,5 @@
 //! The words of the command line.
-ghost use Rattle.std.specs.Prelude.{◌≡◌, ◌+◌, ◌==◌, ◌∷◌, [], drop, position, IfOk, Some, true, false, codes, map, string_bytes};
+ghost use Rattle.std.specs.Prelude.{◌≡◌, ◌≤◌, IfSome, ◌+◌, ◌==◌, ◌∷◌, [], drop, position, IfOk, Some, true, false, codes, map, string_bytes};
 ghost use Rattle.std.specs.Option.{option_map, option_map_or};
 ghost use Rattle.std.specs.List.{list_all, fold};
 ghost use Rattle.clap.specs.Words.{app_of, found_of, first_value, rule_of, with_rule};

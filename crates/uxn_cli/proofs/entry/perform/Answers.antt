@@ -13,3 +13,12 @@ returns-in-Assemble-clause-performs g c = rw c.in_ok-task.ensures.follows (c.ass
 
 pub returns-in-Debug-clause-performs : goal.returns-in-Debug-clause-performs
 returns-in-Debug-clause-performs g c = rw c.in_ok-task.ensures.follows (undebugged c.in_ok-task.task _ _ _ c.in-Debug.is)
+
+pub returns-in-Play-clause-sure_tree : goal.returns-in-Play-clause-sure_tree
+returns-in-Play-clause-sure_tree g c = rw c.in_ok-task.ensures.follows c.play.ensures.sure_tree
+
+pub returns-in-Play-clause-sure_sinks : goal.returns-in-Play-clause-sure_sinks
+returns-in-Play-clause-sure_sinks g c = rw c.in_ok-task.ensures.follows c.play.ensures.sure_sinks
+
+pub returns-in-Disassemble-clause-sure_sinks : goal.returns-in-Disassemble-clause-sure_sinks
+returns-in-Disassemble-clause-sure_sinks g c = rw c.in_ok-task.ensures.follows c.disassemble_rom.ensures.sure_out

@@ -1,10 +1,12 @@
-use Rattle.std.proofs.Common.{◌≡◌, ◌∙◌, sym, ap, inr, rules}
-use Rattle.std.specs.Prelude.{Err, option_map}
+use Rattle.std.proofs.Common.{◌≡◌, ◌∙◌, ◌<◌, sym, ap, inr, rules, arith}
+use Rattle.std.specs.Prelude.{Ok, Err, ℕ, option_map}
+use Rattle.uxn_io.specs.Faults.{TheTree}
+use Rattle.uxn_cli.specs.Blame.{blame_in}
 use Rattle.uxn_opcodes.specs.declared.Stop.TheVariants.{TreeFault}
 use Rattle.uxn_cli.specs.declared.refusal.Halt.TheVariants.{Stopped}
 use Rattle.uxn_cli.specs.World.{with_empty}
 use Rattle.uxn_cli.specs.Outputs.{seen_texts}
-use Rattle.uxn_cli.proofs.PlayLemmas.{unprepared, is_blocked, is_unmade, can_make, is_half_made, report-made, is_run, is_cut_run}
+use Rattle.uxn_cli.proofs.PlayLemmas.{reads-surely, run-tree, run-sinks, unprepared, is_blocked, is_unmade, can_make, is_half_made, report-made, is_run, is_cut_run}
 use Rattle.uxn_cli.proofs.playing.play.Goals as goal
 
 pub returns-in_err-machine-clause-performs : goal.returns-in_err-machine-clause-performs
@@ -54,3 +56,29 @@ returns-clause-performs g c =
     c.requires.apart (rw (c.in_ok-machine.ensures.same, c.in_default.is, c.deref.ensures.value) at c.in_ok-path.ensures.answer) (g.T.Tree.told c.make_all.new.tree)
     (rw (c.in_default-2.is, c.in_ok-path.ensures.same ∙ c.in_ok-machine.ensures.same, c.deref-2.ensures.value) at c.in_ok-path-2.ensures.ok) _ _ _ c.in-Err.stop
     c.in-Err.ensures.memory c.in-Err.ensures.err
+
+pub returns-in_err-machine-clause-sure_tree : goal.returns-in_err-machine-clause-sure_tree
+returns-in_err-machine-clause-sure_tree g c =
+    let result : c.from_residual.result ≡ Err c.in_err-machine.field-0.0 = search rules in
+    rw result (reads-surely (g.T.Tree.told c.args.tree.now) (Ok c.args.task.now) (g.T.Tree.sure c.args.tree.now) _ c.in_err-machine.ensures.sure)
+
+pub returns-in_err-path-clause-sure_tree : goal.returns-in_err-path-clause-sure_tree
+returns-in_err-path-clause-sure_tree g c =
+    let result : c.from_residual-in_err-path.result ≡ Err (Stopped TreeFault) = search rules in
+    let left = c.in_ok-machine.ensures.left in
+    rw result (reads-surely (g.T.Tree.told c.args.tree.now) (Ok c.args.task.now) (g.T.Tree.sure c.args.tree.now) (blame_in {A = ℕ} (Err (Stopped TreeFault)) ≡ TheTree → ⊥) (λ some. absurd (let never = c.in_err-path.ensures.sure (let files = left.files some in omega arith) in cc)))
+
+pub returns-in_err-path-2-clause-sure_tree : goal.returns-in_err-path-2-clause-sure_tree
+returns-in_err-path-2-clause-sure_tree g c =
+    run-tree c.args.task.now c.requires.command (g.T.Tree.told c.args.tree.now) c.in_ok-machine.machine c.in_ok-machine.ensures.prepares c.in_ok-outputs.outputs.items c.in_ok-outputs.ensures.paths
+    c.requires.apart (rw (c.in_ok-machine.ensures.same, c.in_default.is, c.deref.ensures.value) at c.in_ok-path.ensures.answer) _ _
+
+pub returns-clause-sure_tree : goal.returns-clause-sure_tree
+returns-clause-sure_tree g c =
+    run-tree c.args.task.now c.requires.command (g.T.Tree.told c.args.tree.now) c.in_ok-machine.machine c.in_ok-machine.ensures.prepares c.in_ok-outputs.outputs.items c.in_ok-outputs.ensures.paths
+    c.requires.apart (rw (c.in_ok-machine.ensures.same, c.in_default.is, c.deref.ensures.value) at c.in_ok-path.ensures.answer) _ _
+
+pub returns-clause-sure_sinks : goal.returns-clause-sure_sinks
+returns-clause-sure_sinks g c =
+    run-sinks c.args.task.now c.requires.command (g.T.Tree.told c.args.tree.now) c.in_ok-machine.machine c.in_ok-machine.ensures.prepares c.in_ok-outputs.outputs.items c.in_ok-outputs.ensures.paths
+    c.requires.apart (rw (c.in_ok-machine.ensures.same, c.in_default.is, c.deref.ensures.value) at c.in_ok-path.ensures.answer) _ _ _
