@@ -1,16 +1,16 @@
 -- What one more sample does to a note that is kept.
-use Rattle.std.specs.Prelude.{◌≡◌, ℕ, zero, suc, ◌+◌, ◌-◌, ◌*◌, ◌/◌, ◌%◌, ◌<◌, ◌≤◌, min}
-use Rattle.std.specs.Prelude.{Bool, true, false, not, ◌&&◌, nat_le}
-use Rattle.std.specs.Prelude.{refl, List, if◌then◌else◌}
-use Rattle.std.proofs.Common.{sym, ◌∙◌, ap, subst, arith}
+use Rattle.std.specs.Prelude.{◌≡◌, ℕ, ◌+◌, ◌*◌, ◌/◌, ◌%◌, ◌<◌, ◌≤◌, min}
+use Rattle.std.specs.Prelude.{Bool, true, false}
+use Rattle.std.specs.Prelude.{refl, if◌then◌else◌}
+use Rattle.std.proofs.Common.{sym, ◌∙◌, ap, arith}
 use Rattle.std.proofs.lemmas.Bool.Decides.{nat_tests}
 use Rattle.std.proofs.Math.Nat.{div-add-mod, mul-add-div, mul-add-mod_self_left, mod-add-mod, mod-eq_of_lt, zero-mul, zero-div, zero-mod}
 use Rattle.audio_mixer.specs.declared.notes.Start.{Start}
 use Rattle.audio_mixer.specs.declared.voices.Playing.{Playing}
-use Rattle.audio_mixer.specs.Notes.{advance_of, period_of, length_of, is_repeating, steps_of, wrapped, place_at, release_of}
-use Rattle.audio_mixer.specs.Notes.{is_played, is_released, has_ended, loudness, envelope_at}
+use Rattle.audio_mixer.specs.Notes.{advance_of, period_of, length_of, is_repeating, steps_of, wrapped, place_at}
+use Rattle.audio_mixer.specs.Notes.{is_played, loudness, envelope_at}
 use Rattle.audio_mixer.specs.Voices.{Plays, IsAhead}
-use Rattle.audio_mixer.specs.Sounds.{is_over}
+use Rattle.audio_mixer.specs.Laws.{loudness-kept}
 
 -- one more advance, from the whole steps and the rest of those before
 pub one-more : (age advance period : ℕ) → (age + 1) * advance ≡ period * (age * advance / period) + (age * advance % period + advance)
@@ -88,12 +88,7 @@ ahead-none p age steps plays s once over =
     let past : length_of p.start ≤ place_at p.start age = rw (← at, ← p.len_of_start) over in
     rw once (grind (arith, nat_tests))
 
--- an envelope that is over stays so
-pub loudness-kept : (attack decay sustain release age : ℕ) → attack ≤ decay → decay ≤ sustain → sustain ≤ release →
-    loudness attack decay sustain release (min age release) ≡ loudness attack decay sustain release age
-unfolding loudness
-loudness-kept attack decay sustain release age d s r = grind (arith, nat_tests)
-
+-- an envelope that is over stays so, for what is kept
 pub loudness-kept-of : (p : Playing) (age : ℕ) → Plays p p.start age →
     loudness p.envelope.attack p.envelope.decay p.envelope.sustain p.envelope.release p.age ≡ envelope_at p.start age
 loudness-kept-of p age plays =

@@ -1,7 +1,7 @@
 -- Quotients and rests that are counted on.
-use Rattle.std.specs.Prelude.{◌≡◌, ℕ, zero, ◌+◌, ◌-◌, ◌*◌, ◌/◌, ◌%◌, ◌<◌, ◌≤◌}
-use Rattle.std.proofs.Common.{sym, ◌∙◌, ap, arith}
-use Rattle.std.proofs.Math.Nat.{div-eq-sub-div, mod-eq-sub-mod, div-le_self}
+use Rattle.std.specs.Prelude.{◌≡◌, ℕ, ◌+◌, ◌-◌, ◌/◌, ◌%◌, ◌<◌, ◌≤◌}
+use Rattle.std.proofs.Common.{sym, ◌∙◌, arith}
+use Rattle.std.proofs.Math.Nat.{div-eq-sub-div, mod-eq-sub-mod}
 
 -- so much of the whole is split off, and this rest is left
 pub record IsSplit (total unit count rest : ℕ) : Type 0 where

@@ -1,8 +1,8 @@
 -- A frame, pair by pair.
-use Rattle.std.specs.Prelude.{◌≡◌, ℕ, zero, suc, ◌+◌, ◌*◌, ◌<◌, ◌≤◌, Bool, true, false, not, ◌&&◌}
+use Rattle.std.specs.Prelude.{◌≡◌, ℕ, zero, suc, ◌+◌, ◌*◌, ◌<◌, Bool, true, false, not, ◌&&◌}
 use Rattle.std.specs.Prelude.{◌||◌, refl, List, [], ◌∷◌}
 use Rattle.std.specs.Prelude.{◌++◌, length, take, ℤ}
-use Rattle.std.proofs.Common.{sym, ◌∙◌, ap, subst, arith, append_assoc, add_assoc}
+use Rattle.std.proofs.Common.{sym, ◌∙◌, ap, subst, arith, append_assoc}
 use Rattle.std.proofs.Math.ListN.{set}
 use Rattle.std.proofs.Math.Numerals.{add-one}
 use Rattle.std.proofs.Math.Nat.{add-zero}
@@ -18,6 +18,7 @@ use Rattle.audio_mixer.specs.declared.voices.Voice.{Voice}
 use Rattle.audio_mixer.specs.Notes.{left_of, right_of}
 use Rattle.audio_mixer.specs.Sounds.{Sound, Silence, Note, later, is_over, ends_within, sample_in, mixed, pairs, sum_of, frame_of, endings}
 use Rattle.audio_mixer.specs.Voices.{StandsFor, Sounds, GivesNext}
+use Rattle.audio_mixer.specs.Laws.{kept_sum}
 use Rattle.audio_mixer.proofs.Overs.{over-next, over-ended}
 
 -- a frame is rendered up to a pair
@@ -87,10 +88,6 @@ pub record NextOf (memory : List ℕ) (after : Voice) (pair : Pair) (ends : Bool
   pub gives : GivesNext memory sound pair
   pub ends_now : ends ≡ ends_within 1 sound
   pub sounds : Sounds after (later 1 sound)
-
--- a sum is a signed short
-pub kept_sum : (a b c d : ℤ) → cast_signed w16 (cast_unsigned w16 (sum_of a b c d)) ≡ sum_of a b c d
-kept_sum a b c d = ap (λ n. cast_signed w16 n) (of_z-to_z w16 _ (mod_below _ 65536 (omega arith)))
 
 -- nothing is rendered yet
 later-none : (sound : Sound) → later 0 sound ≡ sound

@@ -1,6 +1,6 @@
 -- Notes that are over, and what voices give.
-use Rattle.std.specs.Prelude.{◌≡◌, ℕ, zero, suc, ◌+◌, ◌*◌, ◌/◌, ◌≤◌, min, Bool, true, false, ◌||◌}
-use Rattle.std.specs.Prelude.{refl, List, ℤ, pos, Option}
+use Rattle.std.specs.Prelude.{◌≡◌, ℕ, zero, suc, ◌+◌, ◌*◌, ◌/◌, ◌≤◌, true, false}
+use Rattle.std.specs.Prelude.{refl, List, pos}
 use Rattle.std.specs.Prelude.{Some, None, slice_index}
 use Rattle.std.proofs.Common.{sym, ◌∙◌, ap, subst, arith}
 use Rattle.std.proofs.lemmas.Bool.Decides.{nat_tests}
@@ -11,11 +11,10 @@ use Rattle.audio_mixer.specs.declared.notes.Start.{Start}
 use Rattle.audio_mixer.specs.declared.voices.Playing.{Playing}
 use Rattle.audio_mixer.specs.declared.voices.Voice.{Voice}
 use Rattle.audio_mixer.specs.declared.voices.Pair.{Pair}
-use Rattle.audio_mixer.specs.Notes.{advance_of, period_of, length_of, is_repeating, steps_of, wrapped, place_at, release_of}
-use Rattle.audio_mixer.specs.Notes.{is_played, is_released, has_ended, envelope_at, heard, sample_at, left_of, right_of}
-use Rattle.audio_mixer.specs.Sounds.{Sound, Silence, Note, is_over, sample_in, later}
+use Rattle.audio_mixer.specs.Notes.{advance_of, period_of, steps_of, wrapped, place_at}
+use Rattle.audio_mixer.specs.Notes.{is_played, is_released, has_ended, envelope_at, heard, left_of, right_of}
+use Rattle.audio_mixer.specs.Sounds.{Sound, Silence, Note, is_over, later}
 use Rattle.audio_mixer.specs.Voices.{Plays, IsAhead, GivesPair, GivesNext, SoundsAs, Sounds}
-use Rattle.audio_mixer.proofs.Ages.{wrapped-once}
 
 -- a note that has ended has ended at every later age
 quotient-grow : (a b p : ℕ) → a ≤ b → a / p ≤ b / p

@@ -1,3 +1,4 @@
 pub mod Notes
 pub mod Sounds
 pub mod Voices
+pub mod Laws

@@ -1,5 +1,5 @@
 -- What the four voices sound: nothing, or a note at an age (profile).
-use Rattle.std.specs.Prelude.{ℕ, zero, suc, ◌+◌, ◌*◌, ◌++◌, ◌==◌, ◌&&◌, Bool, true, false, not}
+use Rattle.std.specs.Prelude.{ℕ, zero, suc, ◌+◌, ◌*◌, ◌++◌, ◌==◌, ◌&&◌, Bool, false, not}
 use Rattle.std.specs.Prelude.{if◌then◌else◌, List, [], ◌∷◌, ℤ, pos}
 use Rattle.std.specs.Int.{w16, int_wrapping_add}
 use Rattle.audio_mixer.specs.declared.notes.Start.{Start}

@@ -15,3 +15,4 @@ pub use printing::{print_script, printed_scripts_are_read};
 pub use reading::read_script;
 pub use script::{Clock, Event, Events, Script, ScriptKind, ScriptStop};
 pub use values::number_within;
+pub use words::{first_word, line_at};

@@ -40,8 +40,8 @@ fn line_len(text: &[u8]) -> usize
     text.len()
 }
 
-// The line that begins at a place of a text; the next one begins behind the newline that ends it.
-pub(crate) fn line_at(text: &[u8], start: usize) -> &[u8]
+/// The line that begins at a place of a text; the next one begins behind the newline that ends it.
+pub fn line_at(text: &[u8], start: usize) -> &[u8]
     requires { start ≤ length text.now }
     ensures lines { lines_from text.now start ≡ result.now ∷ lines_from text.now (start + (length result.now + 1)) }
     ensures within { start + length result.now ≤ length text.now }
@@ -50,8 +50,8 @@ pub(crate) fn line_at(text: &[u8], start: usize) -> &[u8]
     &left[..line_len(left)]
 }
 
-// The first word of a line, if it has one, and what stands behind it.
-pub(crate) fn first_word(line: &[u8]) -> Option<(&[u8], &[u8])>
+/// The first word of a line, if it has one, and what stands behind it.
+pub fn first_word(line: &[u8]) -> Option<(&[u8], &[u8])>
     ensures words { MatchOption result (words_of line.now ≡ [])
         (λ cut. words_of line.now ≡ cut.0.now ∷ words_of cut.1.now) }
     ensures some { IfSome result (λ cut. 0 < length cut.0.now) }

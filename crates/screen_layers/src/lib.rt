@@ -153,6 +153,7 @@ impl Screen {
         requires row { y < self.now.height }
         requires room { 6141 ≤ length into.old }
         ensures count { result ≡ 3 * self.now.width }
+        ensures most { result ≤ 6141 }
         ensures row { (picture : Picture) → StandsFor self.now picture →
             into.new ≡ picture_row_of palette.now.colours picture y ++ drop result into.old }
     {

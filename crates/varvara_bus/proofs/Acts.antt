@@ -24,10 +24,10 @@ debug_made world byte core now is = ap (λ told. record world { err = told }) is
 module _ {T O E : Type 0} (told_tree : T → Option Nodes) (told_out : O → Option (List ℕ)) (told_err : E → Option (List ℕ)) where
   -- a byte was stored in the port, and nothing else was done
   pub record Stored (before now : Bus T O E) (port byte : ℕ) : Type 0 where
-    pub devices : (state : DeviceState) → BusStandsFor before state → BusStandsFor now (storing ((port, byte) ∷ []) state)
+    pub devices : (state : DeviceState) → BusStandsFor told_tree before state → BusStandsFor told_tree now (storing ((port, byte) ∷ []) state)
     pub held : held now port ≡ byte
     pub world : world_of told_tree told_out told_err now ≡ world_of told_tree told_out told_err before
-    pub same : SameBus before now
+    pub same : SameBus told_tree before now
 
   -- a front of the debug text put
   pub debug_stopped : (before : Bus T O E) (err : MutBor E) (core : Core) (byte : ℕ) (answer : Result (Unit {0}) Stop) (put : Result (Unit {0}) Failed)
@@ -40,7 +40,7 @@ module _ {T O E : Type 0} (told_tree : T → Option Nodes) (told_out : O → Opt
     cut = λ state stands. cut-err (world_of told_tree told_out told_err before) (told_err err.now) (debug_bytes byte core) front;
     page = refl;
     fault = λ wanted. cc;
-    same = record { lent = record { devices = refl; tree = refl; out = refl; err = lent }; frames = refl; clock = refl; root = refl };
+    same = record { lent = record { devices = refl; tree = refl; out = refl; err = lent }; files = record { stays = λ path there. there }; frames = refl; clock = refl; root = refl };
   }
 
   effect-of : (action : Action) (port byte : ℕ) (state : DeviceState) (core : Core) → action ≡ action_of port → act action byte (storing ((port, byte) ∷ []) state) core ≡ effect state core port byte
@@ -58,7 +58,7 @@ module _ {T O E : Type 0} (told_tree : T → Option Nodes) (told_out : O → Opt
           devices = done.devices;
           world = done.world ∙ ap (λ world. changed_by world (effect state old port byte).changes) stored.world;
         };
-    same = same-again before middle now stored.same acted.same;
+    same = same-again told_tree before middle now stored.same acted.same;
   }
 
   pub stopped_by_act : (before middle now : Bus T O E) (old new : Core) (port byte : ℕ) (action : Action) (stop : Stop) → action ≡ action_of port → Stored before middle port byte
@@ -74,5 +74,5 @@ module _ {T O E : Type 0} (told_tree : T → Option Nodes) (told_out : O → Opt
         };
     stored = ap (λ page. slice_index page port) acted.page ∙ stored.held;
     fault = acted.fault;
-    same = same-again before middle now stored.same acted.same;
+    same = same-again told_tree before middle now stored.same acted.same;
   }

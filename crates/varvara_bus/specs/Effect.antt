@@ -1,5 +1,5 @@
 -- What a write to a port does (Varvara device reference).
-use Rattle.std.specs.Prelude.{ℕ, ◌==◌, List, [], ◌∷◌, map, if◌then◌else◌}
+use Rattle.std.specs.Prelude.{ℕ, ◌==◌, List, [], ◌∷◌, ◌++◌, map, if◌then◌else◌}
 use Rattle.uxn_io.specs.Outside.{Change, ToOut, ToErr}
 use Rattle.uxn_opcodes.specs.declared.Core.{Core}
 use Rattle.system_port.specs.Expansion.{expanded}
@@ -7,8 +7,17 @@ use Rattle.system_port.specs.DebugText.{debug_text_of}
 use Rattle.varvara_bus.specs.declared.ports.Action.{Action}
 use Rattle.varvara_bus.specs.declared.ports.Action.TheVariants.{Stores, Expands, SetsWorkingPointer, SetsReturnPointer}
 use Rattle.varvara_bus.specs.declared.ports.Action.TheVariants.{PutsDebugText, PutsOut, PutsErr}
-use Rattle.varvara_bus.specs.History.{stored_short}
+use Rattle.varvara_bus.specs.declared.ports.Action.TheVariants.{AsksWidth, AsksHeight, DrawsPixel, DrawsSprite, StartsNote}
+use Rattle.varvara_bus.specs.declared.ports.Voice.{Voice}
+use Rattle.varvara_bus.specs.declared.ports.Voice.TheVariants.{First, Second, Third, Fourth}
+use Rattle.input_ports.specs.Page.{short_stores}
+use Rattle.screen_layers.specs.declared.Moved.{Moved}
+use Rattle.screen_layers.specs.Drawings.{moved_by_pixel, moved_by_sprite}
+use Rattle.screen_layers.specs.Pictures.{after_pixel, after_sprite, resized}
+use Rattle.audio_mixer.specs.Sounds.{started_on}
+use Rattle.varvara_bus.specs.History.{Store, History, stored, stored_short}
 use Rattle.varvara_bus.specs.State.{DeviceState, storing}
+use Rattle.varvara_bus.specs.Voices.{number_of, base_of, note_at}
 
 -- the ports whose write acts
 abbrev pub actions : List (ℕ × Action)
@@ -19,6 +28,14 @@ actions =
     ∷ (0x0e, PutsDebugText)
     ∷ (0x18, PutsOut)
     ∷ (0x19, PutsErr)
+    ∷ (0x23, AsksWidth)
+    ∷ (0x25, AsksHeight)
+    ∷ (0x2e, DrawsPixel)
+    ∷ (0x2f, DrawsSprite)
+    ∷ (0x3f, StartsNote First)
+    ∷ (0x4f, StartsNote Second)
+    ∷ (0x5f, StartsNote Third)
+    ∷ (0x6f, StartsNote Fourth)
     ∷ []
 
 abbrev pub action_in : List (ℕ × Action) → ℕ → Action
@@ -41,6 +58,52 @@ no_effect devices core = record { core = core; devices = devices; changes = [] }
 abbrev pub debug_bytes : ℕ → Core → List ℕ
 debug_bytes byte core = if byte == 0 then [] else debug_text_of core.working core.returns
 
+-- the screen's ports: auto, and the shorts x, y and address
+abbrev pub auto_in : History → ℕ
+auto_in history = stored history 0x26
+
+abbrev pub x_in : History → ℕ
+x_in history = stored_short history 0x28
+
+abbrev pub y_in : History → ℕ
+y_in history = stored_short history 0x2a
+
+abbrev pub addr_in : History → ℕ
+addr_in history = stored_short history 0x2c
+
+-- the screen is asked for the width that is stored, with the height that it has; or for the height, with its width
+abbrev pub width_asked : DeviceState → DeviceState
+width_asked state = record state { picture = resized state.picture (stored_short state.history 0x22) state.picture.height }
+
+abbrev pub height_asked : DeviceState → DeviceState
+height_asked state = record state { picture = resized state.picture state.picture.width (stored_short state.history 0x24) }
+
+-- a pixel is drawn at x and y, and the next x and y are stored
+abbrev pub places_stored : ℕ × ℕ → List Store
+places_stored next = short_stores 0x28 next.0 ++ short_stores 0x2a next.1
+
+abbrev pub pixel_drawn : ℕ → DeviceState → DeviceState
+pixel_drawn control state =
+    storing (places_stored (moved_by_pixel (x_in state.history) (y_in state.history) (auto_in state.history) control)) (record state {
+      picture = after_pixel state.picture (x_in state.history) (y_in state.history) control;
+    })
+
+-- tiles are drawn from x and y on, with the bytes at the address, and the next x, y and address are stored
+abbrev pub moved_stored : Moved → List Store
+moved_stored next = short_stores 0x28 next.x ++ short_stores 0x2a next.y ++ short_stores 0x2c next.addr
+
+abbrev pub sprite_drawn : ℕ → List ℕ → DeviceState → DeviceState
+sprite_drawn control memory state =
+    storing (moved_stored (moved_by_sprite (x_in state.history) (y_in state.history) (addr_in state.history) (auto_in state.history) control)) (record state {
+      picture = after_sprite state.picture memory (x_in state.history) (y_in state.history) (addr_in state.history) (auto_in state.history) control;
+    })
+
+-- a voice starts the note that its ports hold
+abbrev pub note_started : Voice → DeviceState → DeviceState
+note_started voice state = record state {
+  sounds = started_on (number_of voice) (note_at state.history (base_of voice)) state.sounds;
+}
+
 -- what each action does, once the byte is stored
 abbrev pub act : Action → ℕ → DeviceState → Core → Effect
 act Stores byte devices core = no_effect devices core
@@ -50,6 +113,11 @@ act SetsReturnPointer byte devices core = no_effect devices (record core { retur
 act PutsDebugText byte devices core = record (no_effect devices core) { changes = map (λ letter. ToErr letter) (debug_bytes byte core) }
 act PutsOut byte devices core = record (no_effect devices core) { changes = ToOut byte ∷ [] }
 act PutsErr byte devices core = record (no_effect devices core) { changes = ToErr byte ∷ [] }
+act AsksWidth byte devices core = no_effect (width_asked devices) core
+act AsksHeight byte devices core = no_effect (height_asked devices) core
+act DrawsPixel byte devices core = no_effect (pixel_drawn byte devices) core
+act DrawsSprite byte devices core = no_effect (sprite_drawn byte core.memory devices) core
+act (StartsNote voice) byte devices core = no_effect (note_started voice devices) core
 
 -- a write stores its byte and then acts
 unfoldable pub effect : DeviceState → Core → ℕ → ℕ → Effect

@@ -22,6 +22,12 @@ stored (store ∷ earlier) port = if port == store.0 then store.1 else stored ea
 abbrev pub stored_short : History → ℕ → ℕ
 stored_short history port = stored history port * 256 + stored history (port + 1)
 
+-- the bytes of the shorts of red, green and blue
+abbrev pub colour_bytes : History → List ℕ
+colour_bytes history =
+    stored history 0x08 ∷ stored history 0x09 ∷ stored history 0x0a
+    ∷ stored history 0x0b ∷ stored history 0x0c ∷ stored history 0x0d ∷ []
+
 -- bytes stored one after the other
 abbrev pub stored_after : History → List Store → History
 stored_after history [] = history

@@ -65,11 +65,18 @@ instruction-writes devices core goes_on =
     rw e (access-writes (begun core).access (begun core).core (record { devices = devices; changes = [] }))
 
 -- the same over nothing, and over two steps
-pub same-itself : {T O E : Type 0} (bus : Bus T O E) → SameBus bus bus
-same-itself bus = record { lent = record { devices = refl; tree = refl; out = refl; err = refl }; frames = refl; clock = refl; root = refl }
+pub same-itself : {T O E : Type 0} (told_tree : T → Option Nodes) (bus : Bus T O E) → SameBus told_tree bus bus
+same-itself told_tree bus = record {
+  lent = record { devices = refl; tree = refl; out = refl; err = refl };
+  files = record { stays = λ path there. there };
+  frames = refl;
+  clock = refl;
+  root = refl;
+}
 
-pub same-again : {T O E : Type 0} (a b c : Bus T O E) → SameBus a b → SameBus b c → SameBus a c
-same-again a b c p q = record {
+pub same-again : {T O E : Type 0} (told_tree : T → Option Nodes) (a b c : Bus T O E) → SameBus told_tree a b → SameBus told_tree b c
+    → SameBus told_tree a c
+same-again told_tree a b c p q = record {
   lent = record {
     devices = q.lent.devices ∙ p.lent.devices;
     tree = q.lent.tree ∙ p.lent.tree;
@@ -77,6 +84,7 @@ same-again a b c p q = record {
         ∙ p.lent.out;
     err = q.lent.err ∙ p.lent.err;
   };
+  files = record { stays = λ path there. q.files.stays path (p.files.stays path there) };
   frames = q.frames ∙ p.frames;
   clock = q.clock ∙ p.clock;
   root = q.root ∙ p.root;
@@ -85,7 +93,7 @@ same-again a b c p q = record {
 module _ {T O E : Type 0} (told_tree : T → Option Nodes) (told_out : O → Option (List ℕ)) (told_err : E → Option (List ℕ)) where
   -- since a bus stood so, its devices became these, and these changes were made
   record StandsSince (start now : Bus T O E) (so_far : Devised) : Type 0 where
-    devices : BusStandsFor now so_far.devices
+    devices : BusStandsFor told_tree now so_far.devices
     made : world_of told_tree told_out told_err now ≡ changed_by (world_of told_tree told_out told_err start) so_far.changes
 
   carries : (start : Bus T O E) → Carries (bus_rules told_tree told_out told_err) (StandsSince start) varvara
@@ -105,12 +113,12 @@ module _ {T O E : Type 0} (told_tree : T → Option Nodes) (told_out : O → Opt
         };
   }
 
-  starts : (start : Bus T O E) (devices : DeviceState) → BusStandsFor start devices
+  starts : (start : Bus T O E) (devices : DeviceState) → BusStandsFor told_tree start devices
       → StandsSince start start (record { devices = devices; changes = [] })
   starts start devices stands = record { devices = stands; made = refl }
 
   carried : (before : Bus T O E) (core core_new : Core) (now : Bus T O E) (turn : Turn) (devices : DeviceState)
-      → BusStandsFor before devices
+      → BusStandsFor told_tree before devices
       → Instruction (bus_rules told_tree told_out told_err) core before (Ok turn) core_new now
       → StandsAt (bus_rules told_tree told_out told_err) (StandsSince before) varvara core_new now (after_instruction varvara core
       (record { devices = devices; changes = [] }))
@@ -122,7 +130,7 @@ module _ {T O E : Type 0} (told_tree : T → Option Nodes) (told_out : O → Opt
       (record { devices = devices; changes = [] }) core_new now (starts before devices stands) ran
 
   -- an instruction that ran over a bus has its effect, from each state that the bus stood for
-  pub instruction-done : (core core_new : Core) (before now : Bus T O E) (turn : Turn) (devices : DeviceState) → BusStandsFor before devices
+  pub instruction-done : (core core_new : Core) (before now : Bus T O E) (turn : Turn) (devices : DeviceState) → BusStandsFor told_tree before devices
       → Instruction (bus_rules told_tree told_out told_err) core before (Ok turn) core_new now
       → HasEffect told_tree told_out told_err before now core_new (instruction_effect devices core)
   unfolding instruction_effect
@@ -136,7 +144,7 @@ module _ {T O E : Type 0} (told_tree : T → Option Nodes) (told_out : O → Opt
   goes-on core core_new before now stop stopped = stopped.0
 
   -- one that stopped has made a front of its changes
-  pub instruction-cut : (core core_new : Core) (before now : Bus T O E) (stop : Stop) (devices : DeviceState) → BusStandsFor before devices
+  pub instruction-cut : (core core_new : Core) (before now : Bus T O E) (stop : Stop) (devices : DeviceState) → BusStandsFor told_tree before devices
       → Instruction (bus_rules told_tree told_out told_err) core before (Err stop) core_new now
       → IsCutOff (world_of told_tree told_out told_err before) (world_of told_tree told_out told_err now)
       (instruction_effect devices core).changes
@@ -161,27 +169,27 @@ module _ {T O E : Type 0} (told_tree : T → Option Nodes) (told_out : O → Opt
       (world_of told_tree told_out told_err now) last.ports.changes grown.more cut)
 
   -- whatever became of an instruction, the same four are lent, and memory was not wanting
-  unchanged : (before now : Bus T O E) → now ≡ before → SameBus before now
-  unchanged before now is = rw is (same-itself before)
+  unchanged : (before now : Bus T O E) → now ≡ before → SameBus told_tree before now
+  unchanged before now is = rw is (same-itself told_tree before)
 
   written-same : (writes : List (ℕ × ℕ)) (before : Bus T O E) (core : Core) (now : Bus T O E) (core_new : Core)
-      → Written (bus_rules told_tree told_out told_err) writes before core now core_new → SameBus before now
+      → Written (bus_rules told_tree told_out told_err) writes before core now core_new → SameBus told_tree before now
   written-same [] before core now core_new written = unchanged before now written.0
   written-same (write ∷ writes) before core now core_new written =
-      same-again before written.0 now written.1.1.0.same (written-same writes written.0 written.1.0 now core_new written.1.1.1)
+      same-again told_tree before written.0 now written.1.1.0.same (written-same writes written.0 written.1.0 now core_new written.1.1.1)
 
   stopped-same : (writes : List (ℕ × ℕ)) (before : Bus T O E) (core : Core) (stop : Stop) (now : Bus T O E) (core_new : Core)
-      → WriteStops (bus_rules told_tree told_out told_err) writes before core stop now core_new → SameBus before now × (stop ≢ NoMemory)
+      → WriteStops (bus_rules told_tree told_out told_err) writes before core stop now core_new → SameBus told_tree before now × (stop ≢ NoMemory)
   stopped-same [] before core stop now core_new stopped = absurd stopped
   stopped-same (write ∷ writes) before core stop now core_new stopped = elim stopped [
     | inl here ↦ (here.same, here.fault)
     | inr later ↦
         let rest = stopped-same writes later.0 later.1.0 stop now core_new later.1.1.1 in
-        (same-again before later.0 now later.1.1.0.same rest.0, rest.1)
+        (same-again told_tree before later.0 now later.1.1.0.same rest.0, rest.1)
   ]
 
   finishes-same : (access : Access) (core core_new : Core) (before now : Bus T O E)
-      → Finishes (bus_rules told_tree told_out told_err) access core before core_new now → SameBus before now
+      → Finishes (bus_rules told_tree told_out told_err) access core before core_new now → SameBus told_tree before now
   unfolding Finishes
   finishes-same Nothing core core_new before now done = unchanged before now done.1
   finishes-same (Read port mode) core core_new before now done = unchanged before now done.0
@@ -189,7 +197,7 @@ module _ {T O E : Type 0} (told_tree : T → Option Nodes) (told_out : O → Opt
       (writes_of width port value) before core now core_new done
 
   stops-same : (access : Access) (core : Core) (stop : Stop) (core_new : Core) (before now : Bus T O E)
-      → Stops (bus_rules told_tree told_out told_err) access core before stop core_new now → SameBus before now × (stop ≢ NoMemory)
+      → Stops (bus_rules told_tree told_out told_err) access core before stop core_new now → SameBus told_tree before now × (stop ≢ NoMemory)
   unfolding Stops
   stops-same Nothing core stop core_new before now stopped = absurd stopped
   stops-same (Read port mode) core stop core_new before now stopped = absurd stopped
@@ -197,7 +205,7 @@ module _ {T O E : Type 0} (told_tree : T → Option Nodes) (told_out : O → Opt
       (writes_of width port value) before core stop now core_new stopped
 
   pub instruction-lent : (core core_new : Core) (before now : Bus T O E) (result : Result Turn Stop)
-      → Instruction (bus_rules told_tree told_out told_err) core before result core_new now → SameBus before now
+      → Instruction (bus_rules told_tree told_out told_err) core before result core_new now → SameBus told_tree before now
   unfolding Instruction
   instruction-lent core core_new before now (Ok Broke) done = unchanged before now done.2
   instruction-lent core core_new before now (Ok Ran) done = finishes-same (begun core).access (begun core).core core_new before now done.1

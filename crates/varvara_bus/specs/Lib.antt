@@ -1,5 +1,6 @@
 pub mod History
 pub mod State
+pub mod Voices
 pub mod Reads
 pub mod Effect
 pub mod Bus

@@ -1,23 +1,44 @@
 //! The bus: what the machine's ports are.
-ghost use Rattle.std.specs.Prelude.{◌≡◌, ◌+◌, ◌<◌, [], ◌∷◌, Err, OnOk, OnErr, IfErr, is_err};
-ghost use Rattle.varvara_bus.specs.State.{DeviceState, storing, next_frame};
+ghost use Rattle.std.specs.Prelude.{◌≡◌, ◌+◌, ◌<◌, [], ◌∷◌, map, Err, OnOk, OnErr, IfErr, is_err};
+ghost use Rattle.varvara_bus.specs.State.{DeviceState, storing, next_frame, rendered};
+ghost use Rattle.screen_frame.specs.Colours.{colours_of};
+ghost use Rattle.screen_layers.specs.Layers as layers;
+ghost use Rattle.audio_mixer.specs.Sounds.{frame_of, endings};
 ghost use Rattle.input_ports.specs.Page.{stores_of, stores_after};
-ghost use Rattle.varvara_bus.specs.History.{stored, stored_short};
+ghost use Rattle.varvara_bus.specs.History.{stored, stored_short, colour_bytes};
 ghost use Rattle.uxn_io.specs.Faults.{Counted, Ledger};
 ghost use Rattle.uxn_opcodes.specs.Ports.{blame_of};
 ghost use Rattle.uxn_io.specs.Told.{extended, HasTakenFront};
+ghost use Rattle.uxn_io.specs.Outside.{ToFile, changed_by, IsCutOff};
 ghost use Rattle.varvara_bus.specs.Effect.{debug_bytes};
-ghost use Rattle.varvara_bus.specs.Bus.{BusStandsFor, ChangesDevices, held, frames_begun, bus_faults, Acted, ActStopped};
+ghost use Rattle.varvara_bus.specs.Bus.{
+  BusStandsFor,
+  SameBus,
+  ChangesDevices,
+  IsFileWhereTold,
+  held,
+  frames_begun,
+  screen_of,
+  bus_faults,
+  world_of,
+  Acted,
+  ActStopped,
+};
 
 use crate::devices::{
     Devices, apply as apply_to, give as give_to, settle as settle_to, shown, store, stored,
     stored_short,
 };
 use crate::ports::{Action, Source};
+use crate::screen::{ask_height, ask_width, draw_pixel, draw_sprite, palette, size_shown};
+use crate::voices::{render, start_note, voice_shown};
 use console_port::console_write;
 use input_ports::Input;
+use screen_frame::Palette;
+use screen_layers::Screen;
 use system_port::{debug_text, expansion};
-use uxn_io::{Failed, Sink, Tree, put_all};
+use uxn_io::{Failed, Path, Sink, Tree, append_all, put_all};
+use uxn_memory::Memory;
 use uxn_opcodes::{Core, Ports, Stop};
 
 /// The devices of a machine over a tree of files and two outputs.
@@ -82,7 +103,7 @@ impl<'a, T: Tree, O: Sink, E: Sink> Bus<'a, T, O, E> {
     /// The byte last stored in a port.
     pub fn stored(&self, port: u8) -> u8
         ensures held { result ≡ held self.now port }
-        ensures stored { (state : DeviceState) → BusStandsFor self.now state → result ≡ stored state.history port }
+        ensures stored { (state : DeviceState) → BusStandsFor T.told self.now state → result ≡ stored state.history port }
     {
         stored(self.devices, port)
     }
@@ -90,15 +111,15 @@ impl<'a, T: Tree, O: Sink, E: Sink> Bus<'a, T, O, E> {
     /// The short in a port and the next one, its high byte first.
     pub fn stored_short(&self, port: u8) -> u16
         requires { port < 255 }
-        ensures { (state : DeviceState) → BusStandsFor self.now state → result ≡ stored_short state.history port }
+        ensures { (state : DeviceState) → BusStandsFor T.told self.now state → result ≡ stored_short state.history port }
     {
         stored_short(self.devices, port)
     }
 
     /// Stores a byte in a port, without acting.
     pub fn store(&mut self, port: u8, value: u8)
-        ensures devices { (state : DeviceState) → BusStandsFor self.old state
-            → BusStandsFor self.new (storing ((port, value) ∷ []) state) }
+        ensures devices { (state : DeviceState) → BusStandsFor T.told self.old state
+            → BusStandsFor T.told self.new (storing ((port, value) ∷ []) state) }
         ensures others { ChangesDevices self.old self.new }
         ensures frames { frames_begun self.new ≡ frames_begun self.old }
     {
@@ -107,8 +128,8 @@ impl<'a, T: Tree, O: Sink, E: Sink> Bus<'a, T, O, E> {
 
     /// Stores an event of the console: its byte in port 12 and its kind in port 17.
     pub fn give(&mut self, value: u8, kind: u8)
-        ensures devices { (state : DeviceState) → BusStandsFor self.old state
-            → BusStandsFor self.new (storing ((0x12, value) ∷ (0x17, kind) ∷ []) state) }
+        ensures devices { (state : DeviceState) → BusStandsFor T.told self.old state
+            → BusStandsFor T.told self.new (storing ((0x12, value) ∷ (0x17, kind) ∷ []) state) }
         ensures others { ChangesDevices self.old self.new }
         ensures frames { frames_begun self.new ≡ frames_begun self.old }
     {
@@ -117,8 +138,8 @@ impl<'a, T: Tree, O: Sink, E: Sink> Bus<'a, T, O, E> {
 
     /// Stores an input at its ports, as its vector finds them.
     pub fn apply(&mut self, input: &Input)
-        ensures devices { (state : DeviceState) → BusStandsFor self.old state
-            → BusStandsFor self.new (storing (stores_of (stored state.history) input.now) state) }
+        ensures devices { (state : DeviceState) → BusStandsFor T.told self.old state
+            → BusStandsFor T.told self.new (storing (stores_of (stored state.history) input.now) state) }
         ensures others { ChangesDevices self.old self.new }
         ensures frames { frames_begun self.new ≡ frames_begun self.old }
     {
@@ -127,8 +148,8 @@ impl<'a, T: Tree, O: Sink, E: Sink> Bus<'a, T, O, E> {
 
     /// Stores 0 at the ports of an input that are 0 again after its vector.
     pub fn settle(&mut self, input: &Input)
-        ensures devices { (state : DeviceState) → BusStandsFor self.old state
-            → BusStandsFor self.new (storing (stores_after input.now) state) }
+        ensures devices { (state : DeviceState) → BusStandsFor T.told self.old state
+            → BusStandsFor T.told self.new (storing (stores_after input.now) state) }
         ensures others { ChangesDevices self.old self.new }
         ensures frames { frames_begun self.new ≡ frames_begun self.old }
     {
@@ -138,7 +159,7 @@ impl<'a, T: Tree, O: Sink, E: Sink> Bus<'a, T, O, E> {
     /// Counts a frame that begins.
     pub fn frame_begins(&mut self)
         requires { frames_begun self.old < 1000000 }
-        ensures devices { (state : DeviceState) → BusStandsFor self.old state → BusStandsFor self.new (next_frame state) }
+        ensures devices { (state : DeviceState) → BusStandsFor T.told self.old state → BusStandsFor T.told self.new (next_frame state) }
         ensures others { ChangesDevices self.old self.new }
         ensures frames { frames_begun self.new ≡ frames_begun self.old + 1 }
     {
@@ -148,9 +169,56 @@ impl<'a, T: Tree, O: Sink, E: Sink> Bus<'a, T, O, E> {
     /// How many frames have begun.
     pub fn frames(&self) -> u32
         ensures begun { result ≡ frames_begun self.now }
-        ensures frames { (state : DeviceState) → BusStandsFor self.now state → result ≡ state.frames }
+        ensures frames { (state : DeviceState) → BusStandsFor T.told self.now state → result ≡ state.frames }
     {
         self.devices.time.frames
+    }
+
+    /// The screen.
+    pub fn screen(&self) -> &Screen
+        ensures held { result.now ≡ screen_of self.now }
+        ensures screen { (state : DeviceState) → BusStandsFor T.told self.now state → layers.StandsFor result.now state.picture }
+    {
+        &self.devices.screen
+    }
+
+    /// The four colours that ports 08 to 0d hold.
+    pub fn palette(&self) -> Palette
+        ensures { (state : DeviceState) → BusStandsFor T.told self.now state → result.colours ≡ colours_of (colour_bytes state.history) }
+    {
+        palette(self.devices)
+    }
+
+    /// Renders a frame: 735 pairs of samples, left then right, and true for each voice whose note ended in it.
+    pub fn audio_frame(&mut self, memory: &Memory, into: &mut [i16; 1470]) -> [bool; 4]
+        ensures frame { (state : DeviceState) → BusStandsFor T.told self.old state → into.new ≡ frame_of memory.now state.sounds }
+        ensures ends { (state : DeviceState) → BusStandsFor T.told self.old state → result ≡ endings 735 state.sounds }
+        ensures devices { (state : DeviceState) → BusStandsFor T.told self.old state → BusStandsFor T.told self.new (rendered state) }
+        ensures others { ChangesDevices self.old self.new }
+        ensures frames { frames_begun self.new ≡ frames_begun self.old }
+    {
+        render(self.devices, memory, into)
+    }
+
+    /// Appends the whole piece to the file at the path. After `TreeFault` a front of it was appended.
+    pub fn append(&mut self, path: &Path, piece: &[u8]) -> Result<(), Stop>
+        requires { IsFileWhereTold (T.told self.old.tree.now) path.now }
+        ensures ok { OnOk result (world_of T.told O.told E.told self.new
+            ≡ changed_by (world_of T.told O.told E.told self.old) (map (λ byte. ToFile path.now byte) piece.now)) }
+        ensures err { OnErr result (result ≡ Err Stop.TreeFault) }
+        ensures cut { OnErr result (IsCutOff (world_of T.told O.told E.told self.old) (world_of T.told O.told E.told self.new)
+            (map (λ byte. ToFile path.now byte) piece.now)) }
+        ensures ledger { Ledger (bus_faults T.faults O.faults E.faults self.old) (bus_faults T.faults O.faults E.faults self.new) (blame_of result) }
+
+        // The devices stay as they are, and each file that was there is there still.
+        ensures devices { self.new.devices.now ≡ self.old.devices.now }
+        ensures stands { (state : DeviceState) → BusStandsFor T.told self.old state → BusStandsFor T.told self.new state }
+        ensures same { SameBus T.told self.old self.new }
+    {
+        match append_all(self.tree, path, piece) {
+            Ok(()) => Ok(()),
+            Err(Failed) => Err(Stop::TreeFault),
+        }
     }
 }
 
@@ -167,6 +235,8 @@ impl<'a, T: Tree, O: Sink, E: Sink> Ports for Bus<'a, T, O, E> {
             Source::Stored => stored(self.devices, port),
             Source::WorkingPointer => core.working.pointer(),
             Source::ReturnPointer => core.returns.pointer(),
+            Source::ScreenSize(part) => size_shown(self.devices, part),
+            Source::VoiceShows(voice, part) => voice_shown(self.devices, voice, part),
             Source::Shows(part) => shown(self.devices, part),
             Source::Zero => 0,
         }
@@ -207,6 +277,26 @@ impl<'a, T: Tree, O: Sink, E: Sink> Bus<'a, T, O, E> {
             Action::PutsDebugText => { answer(put_debug_text(core, self.err, value)) }
             Action::PutsOut => answer(console_write(self.out, self.err, 0x18, value)),
             Action::PutsErr => answer(console_write(self.out, self.err, 0x19, value)),
+            Action::AsksWidth => {
+                ask_width(self.devices);
+                Ok(())
+            }
+            Action::AsksHeight => {
+                ask_height(self.devices);
+                Ok(())
+            }
+            Action::DrawsPixel => {
+                draw_pixel(self.devices, value);
+                Ok(())
+            }
+            Action::DrawsSprite => {
+                draw_sprite(self.devices, &core.memory, value);
+                Ok(())
+            }
+            Action::StartsNote(voice) => {
+                start_note(self.devices, voice);
+                Ok(())
+            }
         }
     }
 }

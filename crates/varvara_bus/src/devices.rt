@@ -2,14 +2,17 @@
 ghost use Rattle.std.specs.Prelude.{◌≡◌, ℕ, ◌+◌, ◌*◌, ◌<◌, IfOk, [], ◌∷◌, slice_index, slice_set, pos, neg_ℤ, ◌≤ℤ◌};
 ghost use Rattle.console_port.specs.Console.{given};
 ghost use Rattle.input_ports.specs.Page.{with_stores, stores_of, stores_after};
-ghost use Rattle.varvara_bus.specs.History.{at_first, stored};
+ghost use Rattle.input_ports.specs.Page.{short_stores};
+ghost use Rattle.varvara_bus.specs.History.{at_first, stored, stored_short};
 ghost use Rattle.varvara_bus.specs.Reads.{byte_of, shown_by};
 ghost use Rattle.varvara_bus.specs.State.{DeviceState, StandFor, clock_of, new_state, storing};
 
 use crate::ports::{TimePart, byte_of};
 use crate::time::{Clock, Time};
+use audio_mixer::Mixer;
 use console_port::give as give_page;
 use input_ports::{Input, apply as apply_page, settle as settle_page};
+use screen_layers::Screen;
 use std::alloc::{AllocError, Global};
 use uxn_io::Path;
 
@@ -17,21 +20,27 @@ use uxn_io::Path;
 #[derive(Drop)]
 pub struct Devices {
     pub(crate) page: [u8; 256],
+    pub(crate) screen: Screen,
+    pub(crate) mixer: Mixer,
     pub(crate) time: Time,
     pub(crate) root: Option<Path>,
 }
 
 impl Devices {
-    /// New devices: all ports hold 0 but 22 to 25, which hold the size of the screen; no frame has begun.
-    pub fn new(_alloc: Global, root: Option<Path>, clock: Clock) -> Result<Devices, AllocError>
+    /// New devices: all ports hold 0 but 22 to 25, which hold the size of the screen; nothing is drawn or heard, and no
+    /// frame has begun. It takes the memory of the screen; no other call takes any.
+    pub fn new(alloc: Global, root: Option<Path>, clock: Clock) -> Result<Devices, AllocError>
         requires seconds_from { pos 0 ≤ℤ clock.seconds }
         requires seconds_to { clock.seconds ≤ℤ pos 253370000000 }
         requires offset_from { neg_ℤ (pos 840) ≤ℤ clock.offset }
         requires offset_to { clock.offset ≤ℤ pos 840 }
         ensures { IfOk result (λ devices. StandFor devices (new_state clock root)) }
     {
+        let screen = Screen::new(alloc)?;
         Ok(Devices {
             page: new_page(),
+            screen,
+            mixer: Mixer::new(),
             time: Time {
                 seconds: clock.seconds,
                 offset: clock.offset,
@@ -57,6 +66,7 @@ fn new_page() -> [u8; 256]
 #[inline(always)]
 pub(crate) fn stored(devices: &Devices, port: u8) -> u8
     ensures held { result ≡ slice_index devices.now.page port }
+    ensures stored { (state : DeviceState) → StandFor devices.now state → result ≡ stored state.history port }
 {
     devices.page[usize::from(port)]
 }
@@ -107,11 +117,23 @@ pub(crate) fn settle(devices: &mut Devices, input: &Input)
 #[inline(always)]
 pub(crate) fn stored_short(devices: &Devices, port: u8) -> u16
     requires { port < 255 }
-    ensures { result ≡ slice_index devices.now.page port * 256 + slice_index devices.now.page (port + 1) }
+    ensures { (state : DeviceState) → StandFor devices.now state → result ≡ stored_short state.history port }
 {
     let high = devices.page[usize::from(port)];
     let low = devices.page[usize::from(port) + 1];
     u16::from(high) * 256 + u16::from(low)
+}
+
+/// Stores a short in a port and the next one, its high byte first.
+pub(crate) fn store_short(devices: &mut Devices, port: u8, value: u16)
+    requires { port < 255 }
+    ensures stands { (state : DeviceState) → StandFor devices.old state → StandFor devices.new (storing (short_stores port value) state) }
+    ensures frames { devices.new.time.frames ≡ devices.old.time.frames }
+    ensures clock { clock_of devices.new ≡ clock_of devices.old }
+    ensures root { devices.new.root ≡ devices.old.root }
+{
+    store(devices, port, (value / 256) as u8);
+    store(devices, port + 1, (value % 256) as u8);
 }
 
 /// A byte of what the clock shows.

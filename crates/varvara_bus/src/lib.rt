@@ -4,9 +4,11 @@
 mod bus;
 mod devices;
 mod ports;
+mod screen;
 #[cfg(test)]
 mod tests;
 mod time;
+mod voices;
 
 pub use bus::Bus;
 pub use devices::Devices;

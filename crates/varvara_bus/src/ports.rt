@@ -1,5 +1,6 @@
 //! Which ports do more than hold a byte.
-ghost use Rattle.std.specs.Prelude.{◌≡◌};
+ghost use Rattle.std.specs.Prelude.{◌≡◌, ◌<◌, ◌≤◌};
+ghost use Rattle.varvara_bus.specs.Voices.{number_of, base_of};
 ghost use Rattle.varvara_bus.specs.Reads.{source_of, byte_of};
 ghost use Rattle.varvara_bus.specs.Effect.{action_of};
 
@@ -14,10 +15,68 @@ pub(crate) enum Source {
     WorkingPointer,
     /// The pointer of the return ring.
     ReturnPointer,
+    /// A byte of the size that the screen has.
+    ScreenSize(SizePart),
+    /// A byte of what a voice shows.
+    VoiceShows(Voice, VoicePart),
     /// A byte of what the clock shows.
     Shows(TimePart),
     /// Always 0.
     Zero,
+}
+
+/// A byte of the size of the screen; both ways are shorts.
+#[derive(Clone, Copy)]
+pub(crate) enum SizePart {
+    WidthHigh,
+    WidthLow,
+    HeightHigh,
+    HeightLow,
+}
+
+/// One of the four voices.
+#[derive(Clone, Copy)]
+pub(crate) enum Voice {
+    First,
+    Second,
+    Third,
+    Fourth,
+}
+
+/// A byte of what a voice shows; its position is a short.
+#[derive(Clone, Copy)]
+pub(crate) enum VoicePart {
+    PositionHigh,
+    PositionLow,
+    Output,
+}
+
+impl Voice {
+    /// Its number, from 0 on.
+    pub(crate) fn number(self) -> u8
+        ensures number { result ≡ number_of self }
+        ensures below { result < 4 }
+    {
+        match self {
+            Voice::First => 0,
+            Voice::Second => 1,
+            Voice::Third => 2,
+            Voice::Fourth => 3,
+        }
+    }
+
+    /// The first of its ports.
+    pub(crate) fn base(self) -> u8
+        ensures base { result ≡ base_of self }
+        ensures most { result ≤ 0x60 }
+    {
+        match self {
+            Voice::First => 0x30,
+            Voice::Second => 0x40,
+            Voice::Third => 0x50,
+            Voice::Fourth => 0x60,
+        }
+    }
 }
 
 /// A byte of what the clock shows.
@@ -61,6 +120,22 @@ impl Source {
         match port {
             0x04 => Source::WorkingPointer,
             0x05 => Source::ReturnPointer,
+            0x22 => Source::ScreenSize(SizePart::WidthHigh),
+            0x23 => Source::ScreenSize(SizePart::WidthLow),
+            0x24 => Source::ScreenSize(SizePart::HeightHigh),
+            0x25 => Source::ScreenSize(SizePart::HeightLow),
+            0x32 => Source::VoiceShows(Voice::First, VoicePart::PositionHigh),
+            0x33 => Source::VoiceShows(Voice::First, VoicePart::PositionLow),
+            0x34 => Source::VoiceShows(Voice::First, VoicePart::Output),
+            0x42 => Source::VoiceShows(Voice::Second, VoicePart::PositionHigh),
+            0x43 => Source::VoiceShows(Voice::Second, VoicePart::PositionLow),
+            0x44 => Source::VoiceShows(Voice::Second, VoicePart::Output),
+            0x52 => Source::VoiceShows(Voice::Third, VoicePart::PositionHigh),
+            0x53 => Source::VoiceShows(Voice::Third, VoicePart::PositionLow),
+            0x54 => Source::VoiceShows(Voice::Third, VoicePart::Output),
+            0x62 => Source::VoiceShows(Voice::Fourth, VoicePart::PositionHigh),
+            0x63 => Source::VoiceShows(Voice::Fourth, VoicePart::PositionLow),
+            0x64 => Source::VoiceShows(Voice::Fourth, VoicePart::Output),
             0xc0 => Source::Shows(TimePart::YearHigh),
             0xc1 => Source::Shows(TimePart::YearLow),
             0xc2 => Source::Shows(TimePart::Month),
@@ -94,6 +169,16 @@ pub(crate) enum Action {
     PutsOut,
     /// The byte is put on the error output.
     PutsErr,
+    /// The screen is asked for the width in ports 22 and 23.
+    AsksWidth,
+    /// The screen is asked for the height in ports 24 and 25.
+    AsksHeight,
+    /// A pixel is coloured, or a part of the screen is filled.
+    DrawsPixel,
+    /// Tiles are drawn.
+    DrawsSprite,
+    /// A note is started on a voice.
+    StartsNote(Voice),
 }
 
 impl Action {
@@ -108,6 +193,14 @@ impl Action {
             0x0e => Action::PutsDebugText,
             0x18 => Action::PutsOut,
             0x19 => Action::PutsErr,
+            0x23 => Action::AsksWidth,
+            0x25 => Action::AsksHeight,
+            0x2e => Action::DrawsPixel,
+            0x2f => Action::DrawsSprite,
+            0x3f => Action::StartsNote(Voice::First),
+            0x4f => Action::StartsNote(Voice::Second),
+            0x5f => Action::StartsNote(Voice::Third),
+            0x6f => Action::StartsNote(Voice::Fourth),
             _ => Action::Stores,
         }
     }

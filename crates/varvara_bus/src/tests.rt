@@ -2,7 +2,7 @@
 
 use super::*;
 use std::test::Fail;
-use uxn_io::{MemSink, MemTree};
+use uxn_io::{Kind, MemSink, MemTree, Path, Sink, Tree, TreeCall};
 use uxn_opcodes::{Core, Ports, Stop, step};
 
 /// The start of 1970 in UTC, at ten in the morning of 31 December 1969 far in the west.
@@ -105,5 +105,139 @@ fn pointers_are_set_and_read(rt: HostRuntime) -> Result<(), Fail> {
     assert_eq!(rt; bus.deo(&mut core, 0x18, 1), Err(Stop::SinkFault));
     assert_eq!(rt; (bus.stored(0x0e), bus.stored(0x18)), (1, 1));
     assert_eq!(rt; (out.bytes(), err.bytes().len()), (b"".as_slice(), 40));
+    Ok(())
+}
+
+/// Bytes written to ports one after the other, and what ports then read.
+type Written = (&'static [(u8, u8)], &'static [(u8, u8)]);
+
+const WRITTEN: [Written; 6] = [
+    // A size that is refused stays stored, and the next write of the low byte asks with it again.
+    (
+        &[(0x22, 0x00), (0x23, 0x07), (0x24, 0x00), (0x25, 0x08)],
+        &[(0x22, 0x02), (0x23, 0x00), (0x24, 0x00), (0x25, 0x08)],
+    ),
+    (
+        &[(0x23, 0x08), (0x22, 0x00), (0x23, 0xff)],
+        &[(0x22, 0x00), (0x23, 0xff), (0x24, 0x01), (0x25, 0x40)],
+    ),
+    // A pixel advances x and y; a fill does not.
+    (
+        &[
+            (0x28, 0xff),
+            (0x29, 0xff),
+            (0x2b, 0x09),
+            (0x26, 0x03),
+            (0x2e, 0x01),
+            (0x2e, 0xc1),
+        ],
+        &[
+            (0x28, 0x00),
+            (0x29, 0x00),
+            (0x2a, 0x00),
+            (0x2b, 0x0a),
+            (0x2e, 0xc1),
+        ],
+    ),
+    // Four tiles of two bits a pixel, flipped, at the end of the coordinates and of memory.
+    (
+        &[
+            (0x28, 0xff),
+            (0x29, 0xfc),
+            (0x2c, 0xff),
+            (0x2d, 0xf8),
+            (0x26, 0x35),
+            (0x2f, 0x91),
+        ],
+        &[
+            (0x28, 0xff),
+            (0x29, 0xf4),
+            (0x2a, 0x00),
+            (0x2b, 0x00),
+            (0x2c, 0x00),
+            (0x2d, 0x38),
+        ],
+    ),
+    // A note is heard on its voice, until a key that is too high stops it.
+    (
+        &[(0x4b, 0x01), (0x4e, 0x11), (0x4f, 0x3c)],
+        &[(0x42, 0x00), (0x43, 0x00), (0x44, 0x22), (0x34, 0x00)],
+    ),
+    (
+        &[(0x6b, 0x01), (0x6e, 0x11), (0x6f, 0x3c), (0x6f, 0x6c)],
+        &[(0x64, 0x00), (0x6e, 0x11)],
+    ),
+];
+
+#[test]
+fn the_screen_and_the_voices_have_ports(rt: HostRuntime) -> Result<(), Fail> {
+    for (writes, reads) in &WRITTEN {
+        let mut devices = Devices::new(rt.alloc(), None, CLOCK)?;
+        let mut tree = MemTree::new(rt.alloc(), &[], 0, 0, &[])?;
+        let mut out = MemSink::new(rt.alloc(), 0, &[])?;
+        let mut err = MemSink::new(rt.alloc(), 0, &[])?;
+        let mut bus = Bus::new(&mut devices, &mut tree, &mut out, &mut err);
+        let mut core = Core::new(rt.alloc(), &[])?;
+        for (port, value) in *writes {
+            assert_eq!(rt; bus.deo(&mut core, *port, *value), Ok(()));
+        }
+        for (port, value) in *reads {
+            assert_eq!(rt; bus.dei(&core, *port), *value, "port {port}");
+        }
+    }
+    Ok(())
+}
+
+/// Appends to a file, where one is there.
+#[tactic(auto, using(crate::specs::Laws::told_file))]
+fn append<'a, T: Tree, O: Sink, E: Sink>(
+    bus: &mut Bus<'a, T, O, E>,
+    path: &Path,
+    piece: &[u8],
+) -> Result<(), Stop> {
+    match Tree::kind(bus.tree, path) {
+        Ok(Kind::File(_)) => bus.append(path, piece),
+        _ => Err(Stop::NoMemory),
+    }
+}
+
+#[test]
+fn pieces_are_appended_and_frames_rendered(rt: HostRuntime) -> Result<(), Fail> {
+    let path = Path::read(b"a")?;
+    let mut devices = Devices::new(rt.alloc(), None, CLOCK)?;
+    let mut tree = MemTree::new(rt.alloc(), &[], 1, 5, &[(TreeCall::Append, 2)])?;
+    assert_eq!(rt; tree.create(&path), Ok(true));
+    let mut out = MemSink::new(rt.alloc(), 0, &[])?;
+    let mut err = MemSink::new(rt.alloc(), 0, &[])?;
+    let mut bus = Bus::new(&mut devices, &mut tree, &mut out, &mut err);
+    assert_eq!(rt; append(&mut bus, &path, b"ab"), Ok(()));
+    assert_eq!(rt; append(&mut bus, &path, b"cd"), Ok(()));
+    assert_eq!(rt; append(&mut bus, &path, b"e"), Err(Stop::TreeFault));
+    assert_eq!(rt; (bus.screen().width(), bus.screen().height()), (512, 320));
+    for (port, value) in [
+        (0x08, 0x12),
+        (0x09, 0x34),
+        (0x0d, 0x05),
+        (0x5b, 1),
+        (0x5f, 0xbc),
+    ] {
+        bus.store(port, value);
+    }
+    assert_eq!(rt;
+        bus.palette().colours,
+        [[0x11, 0, 0], [0x22, 0, 0], [0x33, 0, 0], [0x44, 0, 0x55]]
+    );
+    let mut core = Core::new(rt.alloc(), &[])?;
+    assert_eq!(rt; bus.deo(&mut core, 0x5f, 0xbc), Ok(()));
+    let mut samples = [7; 1470];
+    assert_eq!(rt;
+        bus.audio_frame(&core.memory, &mut samples),
+        [false, false, true, false]
+    );
+    assert_eq!(rt; samples, [0; 1470]);
+    assert_eq!(rt;
+        tree.node(&path).map(|node| node.bytes.as_slice()),
+        Some(b"abcd".as_slice())
+    );
     Ok(())
 }

@@ -15,7 +15,6 @@ use Rattle.varvara_bus.specs.State.{DeviceState}
 use Rattle.varvara_bus.specs.Reads.{read_of}
 use Rattle.varvara_bus.specs.Effect.{Effect}
 use Rattle.varvara_bus.specs.Bus.{BusStandsFor, Reads, world_of, HasEffect, bus_rules}
-use Rattle.varvara_bus.specs.Laws.{same_reads}
 use Rattle.varvara_bus.specs.Model.{instruction_effect}
 use Rattle.varvara_bus.specs.InstructionLaws.{instruction-done, instruction-cut, instruction-lent, instruction-fault}
 use Rattle.vector_loop.specs.declared.tally.Tally.{Tally}
@@ -30,18 +29,18 @@ use Rattle.vector_loop.specs.Follows.{Running, running, state_of, Follows, Falls
 use Rattle.vector_loop.proofs.Trails.{followed_by-again, shown_all-append}
 
 -- what the ports of a bus read, as a list
-pub is_page : {T O E : Type 0} (bus : Bus T O E) (state : State) → BusStandsFor bus state.devices → IsPage (Reads bus state.core) (ports_read 256 state)
+pub is_page : {T O E : Type 0} (told_tree : T → Option Nodes) (bus : Bus T O E) (state : State) → BusStandsFor told_tree bus state.devices → IsPage (Reads told_tree bus state.core) (ports_read 256 state)
 unfolding ports_read
-is_page bus state stands = record {
+is_page told_tree bus state stands = record {
   size = length-map-range_with_len (read_of state.devices state.core) 0 256;
-  bytes = λ port within other s.
-      get_or-map-range_with_len (read_of state.devices state.core) 0 256 port port 0 within (omega arith)
-      ∙ same_reads bus.devices.now state.devices other state.core port stands s;
+  bytes = λ port byte within reads.
+      reads state.devices stands
+      ∙ sym (get_or-map-range_with_len (read_of state.devices state.core) 0 256 port port 0 within (omega arith));
 }
 
 module _ {T O E W H : Type 0} (told_tree : T → Option Nodes) (told_out : O → Option (List ℕ)) (told_err : E → Option (List ℕ)) (held : W → H) (shown : H → Core → List ℕ → Moment → H) where
   -- nothing is done yet
-  pub follows-nothing : (now : Running T O E W) (devices : DeviceState) → BusStandsFor now.bus devices → Follows told_tree told_out told_err held shown now now (stays (state_of now devices))
+  pub follows-nothing : (now : Running T O E W) (devices : DeviceState) → BusStandsFor told_tree now.bus devices → Follows told_tree told_out told_err held shown now now (stays (state_of now devices))
   follows-nothing now devices stands = record { core = refl; devices = stands; tally = refl; world = refl; watcher = refl }
 
   -- the state that was reached is that of the machine
@@ -80,7 +79,7 @@ module _ {T O E W H : Type 0} (told_tree : T → Option Nodes) (told_out : O →
 
   -- one instruction, before which the watcher was shown the machine
   pub follows-instruction : (now : Running T O E W) (core_new : Core) (bus_new : Bus T O E) (watcher_new : W) (turn : Turn)
-      → ((page : List ℕ) → IsPage (Reads now.bus now.core) page → held watcher_new ≡ shown (held now.watcher) now.core page (record { instructions = now.tally.instructions; address = now.core.at }))
+      → ((page : List ℕ) → IsPage (Reads told_tree now.bus now.core) page → held watcher_new ≡ shown (held now.watcher) now.core page (record { instructions = now.tally.instructions; address = now.core.at }))
       → Instruction (bus_rules told_tree told_out told_err) now.core now.bus (Ok turn) core_new bus_new
       → FollowsFrom told_tree told_out told_err held shown now (running core_new bus_new (counting_instruction now.tally) watcher_new) instruction
   follows-instruction now core_new bus_new watcher_new turn watched ran = record {
@@ -91,7 +90,7 @@ module _ {T O E W H : Type 0} (told_tree : T → Option Nodes) (told_out : O →
           devices = done.devices;
           tally = refl;
           world = done.world;
-          watcher = watched (ports_read 256 (state_of now devices)) (is_page now.bus (state_of now devices) stands);
+          watcher = watched (ports_read 256 (state_of now devices)) (is_page told_tree now.bus (state_of now devices) stands);
         };
   }
 

@@ -10,7 +10,8 @@ use Rattle.input_ports.specs.Page.{stores_of, stores_after, vector_of}
 use Rattle.varvara_bus.specs.declared.bus.Bus.{Bus}
 use Rattle.varvara_bus.specs.History.{Store, stored, stored_short}
 use Rattle.varvara_bus.specs.State.{DeviceState, storing, next_frame}
-use Rattle.varvara_bus.specs.Bus.{SameBus, ChangesDevices, BusStandsFor, held as held_byte, frames_begun, world_of}
+use Rattle.varvara_bus.specs.Bus.{ChangesDevices, FilesStay, BusStandsFor, world_of}
+use Rattle.vector_loop.specs.declared.output.Outputs.{Outputs}
 use Rattle.vector_loop.specs.declared.tally.Tally.{Tally}
 use Rattle.vector_loop.specs.declared.watch.Moment.{Moment}
 use Rattle.play_script.specs.declared.script.Event.{Event}
@@ -58,9 +59,10 @@ its-ports (Press mask) = lit< tt
 its-ports (Release mask) = lit< tt
 its-ports (Scroll x y) = lit< tt
 
--- a bus whose ports or frames were changed
-pub kept : {T O E : Type 0} (before now : Bus T O E) → ChangesDevices before now → frames_begun now ≡ frames_begun before → SameBus before now
-kept before now changes frames = record { lent = changes.lent; frames = frames; clock = changes.clock; root = changes.root }
+-- where the tree is as it was each file is there still
+pub files-kept : {T O E : Type 0} (told_tree : T → Option Nodes) (before now : Bus T O E) → ChangesDevices before now
+    → FilesStay (told_tree before.tree.now) (told_tree now.tree.now)
+files-kept told_tree before now changes = record { stays = λ path there. rw changes.tree there }
 
 -- an input is stored, its vector is run, and it is settled
 abbrev pub applying : Input → State → State
@@ -82,7 +84,7 @@ module _ {T O E W H : Type 0} (told_tree : T → Option Nodes) (told_out : O →
 
   -- a part after the state was prepared for it, which changes nothing outside
   pub record Prepared (before middle : Running T O E W) (prepare : State → State) : Type 0 where
-    pub devices : (devices : DeviceState) → BusStandsFor before.bus devices → BusStandsFor middle.bus (prepare (state_of before devices)).devices
+    pub devices : (devices : DeviceState) → BusStandsFor told_tree before.bus devices → BusStandsFor told_tree middle.bus (prepare (state_of before devices)).devices
     pub state : (devices : DeviceState) → state_of middle (prepare (state_of before devices)).devices ≡ prepare (state_of before devices)
     pub others : ChangesDevices before.bus middle.bus
     pub watcher : held middle.watcher ≡ held before.watcher
@@ -131,11 +133,11 @@ module _ {T O E W H : Type 0} (told_tree : T → Option Nodes) (told_out : O →
   follows-nothing now = record { from = λ devices stands. record { core = refl; devices = stands; tally = refl; world = refl; watcher = refl } }
 
   -- the same under another name
-  pub follows-as : (before now : Running T O E W) (part other : State → Trail) → ((devices : DeviceState) → BusStandsFor before.bus devices → part (state_of before devices) ≡ other (state_of before devices))
+  pub follows-as : (before now : Running T O E W) (part other : State → Trail) → ((devices : DeviceState) → BusStandsFor told_tree before.bus devices → part (state_of before devices) ≡ other (state_of before devices))
       → FollowsFrom told_tree told_out told_err held shown before now other → FollowsFrom told_tree told_out told_err held shown before now part
   follows-as before now part other same follows = record { from = λ devices stands. rw (same devices stands) (follows.from devices stands) }
 
-  pub short-as : (before now : Running T O E W) (part other : State → Trail) → ((devices : DeviceState) → BusStandsFor before.bus devices → part (state_of before devices) ≡ other (state_of before devices))
+  pub short-as : (before now : Running T O E W) (part other : State → Trail) → ((devices : DeviceState) → BusStandsFor told_tree before.bus devices → part (state_of before devices) ≡ other (state_of before devices))
       → FallsShortFrom told_tree told_out told_err held shown before now other → FallsShortFrom told_tree told_out told_err held shown before now part
   short-as before now part other same short = record { from = λ devices stands. rw (same devices stands) (short.from devices stands) }
 
@@ -170,23 +172,23 @@ module _ {T O E W H : Type 0} (told_tree : T → Option Nodes) (told_out : O →
     watcher = refl;
   }
 
-  give-is : (budget : ℕ) (event : Event) (state : State) → give budget event state ≡ happens budget event (with_counted event state)
+  give-is : (budget : ℕ) (outputs : Outputs) (event : Event) (state : State) → give budget outputs event state ≡ happens budget outputs event (with_counted event state)
   unfolding give
-  give-is budget event state = refl
+  give-is budget outputs event state = refl
 
-  pub follows-given : (core : Core) (bus : Bus T O E) (tally : Tally) (watcher : W) (now : Running T O E W) (budget : ℕ) (event : Event)
-      → FollowsFrom told_tree told_out told_err held shown (running core bus (counting_event event tally) watcher) now (happens budget event)
-      → FollowsFrom told_tree told_out told_err held shown (running core bus tally watcher) now (give budget event)
-  follows-given core bus tally watcher now budget event follows =
-      follows-as (running core bus tally watcher) now (give budget event) (λ s. happens budget event (with_counted event s)) (λ devices stands. give-is budget event (state_of (running core bus tally watcher) devices))
-      (follows-prepared (running core bus tally watcher) (running core bus (counting_event event tally) watcher) now (with_counted event) (happens budget event) (counted core bus tally watcher event) follows)
+  pub follows-given : (core : Core) (bus : Bus T O E) (tally : Tally) (watcher : W) (now : Running T O E W) (budget : ℕ) (outputs : Outputs) (event : Event)
+      → FollowsFrom told_tree told_out told_err held shown (running core bus (counting_event event tally) watcher) now (happens budget outputs event)
+      → FollowsFrom told_tree told_out told_err held shown (running core bus tally watcher) now (give budget outputs event)
+  follows-given core bus tally watcher now budget outputs event follows =
+      follows-as (running core bus tally watcher) now (give budget outputs event) (λ s. happens budget outputs event (with_counted event s)) (λ devices stands. give-is budget outputs event (state_of (running core bus tally watcher) devices))
+      (follows-prepared (running core bus tally watcher) (running core bus (counting_event event tally) watcher) now (with_counted event) (happens budget outputs event) (counted core bus tally watcher event) follows)
 
-  pub short-given : (core : Core) (bus : Bus T O E) (tally : Tally) (watcher : W) (now : Running T O E W) (budget : ℕ) (event : Event)
-      → FallsShortFrom told_tree told_out told_err held shown (running core bus (counting_event event tally) watcher) now (happens budget event)
-      → FallsShortFrom told_tree told_out told_err held shown (running core bus tally watcher) now (give budget event)
-  short-given core bus tally watcher now budget event short =
-      short-as (running core bus tally watcher) now (give budget event) (λ s. happens budget event (with_counted event s)) (λ devices stands. give-is budget event (state_of (running core bus tally watcher) devices))
-      (short-prepared (running core bus tally watcher) (running core bus (counting_event event tally) watcher) now (with_counted event) (happens budget event) (counted core bus tally watcher event) short)
+  pub short-given : (core : Core) (bus : Bus T O E) (tally : Tally) (watcher : W) (now : Running T O E W) (budget : ℕ) (outputs : Outputs) (event : Event)
+      → FallsShortFrom told_tree told_out told_err held shown (running core bus (counting_event event tally) watcher) now (happens budget outputs event)
+      → FallsShortFrom told_tree told_out told_err held shown (running core bus tally watcher) now (give budget outputs event)
+  short-given core bus tally watcher now budget outputs event short =
+      short-as (running core bus tally watcher) now (give budget outputs event) (λ s. happens budget outputs event (with_counted event s)) (λ devices stands. give-is budget outputs event (state_of (running core bus tally watcher) devices))
+      (short-prepared (running core bus tally watcher) (running core bus (counting_event event tally) watcher) now (with_counted event) (happens budget outputs event) (counted core bus tally watcher event) short)
 
   pub follows-device : (before middle now : Running T O E W) (budget : ℕ) (input : Input)
       → FollowsFrom told_tree told_out told_err held shown before middle (λ s. vector_in budget (vector_of input) (applying input s)) → FollowsFrom told_tree told_out told_err held shown middle now (settling input)

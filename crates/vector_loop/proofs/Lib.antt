@@ -3,3 +3,5 @@ pub mod Along
 pub mod Vectors
 pub mod Events
 pub mod Runs
+pub mod Makings
+pub mod Frames

@@ -5,7 +5,7 @@ use Rattle.std.specs.List.{sum_by}
 use Rattle.std.proofs.Math.Nat.{mul-le-mul_right}
 use Rattle.std.proofs.Math.Seq.{drop-cons}
 use Rattle.std.proofs.Math.ListN.{drop_of_length-le}
-use Rattle.std.specs.Prelude.{Option, Result, Ok, Err, ◌==◌}
+use Rattle.std.specs.Prelude.{Option, Some, None, IfSome, Result, Ok, Err, ◌==◌}
 use Rattle.uxn_io.specs.Files.{Nodes}
 use Rattle.uxn_io.specs.Faults.{Ledger, counts}
 use Rattle.uxn_opcodes.specs.declared.Core.{Core}
@@ -14,7 +14,7 @@ use Rattle.uxn_opcodes.specs.Ports.{blame_of}
 use Rattle.varvara_bus.specs.declared.bus.Bus.{Bus}
 use Rattle.varvara_bus.specs.History.{stored}
 use Rattle.varvara_bus.specs.State.{DeviceState}
-use Rattle.varvara_bus.specs.Bus.{SameLent, BusStandsFor, Reads, ChangesDevices, frames_begun, bus_faults}
+use Rattle.varvara_bus.specs.Bus.{SameLent, IsFileWhereTold, FilesStay, BusStandsFor, Reads, ChangesDevices, frames_begun, bus_faults}
 use Rattle.vector_loop.proofs.Along.{is_page, reached}
 use Rattle.vector_loop.specs.declared.tally.Tally.{Tally}
 use Rattle.vector_loop.specs.State.{State, new_tally, with_stored}
@@ -25,12 +25,14 @@ use Rattle.play_script.specs.Scripts.{ScriptView}
 use Rattle.vector_loop.specs.declared.watch.Moment.{Moment}
 use Rattle.vector_loop.specs.Vector.{vector}
 use Rattle.vector_loop.specs.Watch.{IsPage, ports_read, moment_of, shown_all}
-use Rattle.vector_loop.specs.Event.{unless_over, give}
-use Rattle.vector_loop.specs.Run.{give_each, ConsoleByte, console_byte, argument_bytes, arguments_given, kind_before, made_ready, run}
+use Rattle.vector_loop.specs.declared.output.Outputs.{Outputs}
+use Rattle.vector_loop.specs.Outputs.{OutputsThere}
+use Rattle.vector_loop.specs.Event.{unless_over, give_each, give}
+use Rattle.vector_loop.specs.Run.{ConsoleByte, console_byte, argument_bytes, arguments_given, kind_before, made_ready, run}
 use Rattle.vector_loop.specs.Follows.{Running, running, state_of, Follows, FollowsFrom, FallsShortFrom, Ends, EndsFrom, HasGrown, HasRoom}
 use Rattle.vector_loop.specs.Answers.{Telling, Done, Stopped, Answers}
 use Rattle.vector_loop.proofs.Trails.{followed_by-again, followed_by-at}
-use Rattle.vector_loop.proofs.Events.{follows-then, short-then, short-at-first, follows-as, short-as, follows-nothing, over, not-over, Prepared, follows-prepared, short-prepared}
+use Rattle.vector_loop.proofs.Events.{follows-then, short-then, short-at-first, follows-as, short-as, follows-nothing, over, not-over, Prepared, follows-prepared, short-prepared, files-kept}
 
 -- a part and nothing more
 stays-after : (part : Trail) → followed_by part stays ≡ part
@@ -137,7 +139,7 @@ grown-both a b c b1 g1 b2 g2 budget p q = record {
   later = omega (arith, p.later, q.later);
 }
 
-grown-none : (a : Tally) (budget : ℕ) → HasGrown a a 0 0 budget
+pub grown-none : (a : Tally) (budget : ℕ) → HasGrown a a 0 0 budget
 grown-none a budget = record { instructions = omega arith; vectors = omega arith; cuts = omega arith; events = omega arith; frames = omega arith; shots = omega arith; later = omega arith }
 
 pub grown-within : (a b : Tally) (b1 g1 b2 g2 budget : ℕ) → b1 ≤ b2 → g1 ≤ g2 → HasGrown a b b1 g1 budget → HasGrown a b b2 g2 budget
@@ -152,8 +154,8 @@ grown-within a b b1 g1 b2 g2 budget p q h = record {
 }
 
 -- what room is left after so much was counted
-pub room-left : (a b : Tally) (b1 g1 b2 g2 budget : ℕ) → HasRoom a (b1 + b2) (g1 + g2) budget → HasGrown a b b1 g1 budget → HasRoom b b2 g2 budget
-room-left a b b1 g1 b2 g2 budget r h = record {
+pub room-left : (limit : ℕ) (a b : Tally) (b1 g1 b2 g2 budget : ℕ) → HasRoom limit a (b1 + b2) (g1 + g2) budget → HasGrown a b b1 g1 budget → HasRoom limit b b2 g2 budget
+room-left limit a b b1 g1 b2 g2 budget r h = record {
   instructions = omega (arith, r.instructions, h.instructions);
   vectors = omega (arith, r.vectors, h.vectors);
   cuts = omega (arith, r.cuts, h.cuts);
@@ -162,8 +164,8 @@ room-left a b b1 g1 b2 g2 budget r h = record {
   shots = omega (arith, r.shots, h.shots);
 }
 
-pub room-within : (a : Tally) (b1 g1 b2 g2 budget : ℕ) → b1 ≤ b2 → g1 ≤ g2 → HasRoom a b2 g2 budget → HasRoom a b1 g1 budget
-room-within a b1 g1 b2 g2 budget p q r = record {
+pub room-within : (limit : ℕ) (a : Tally) (b1 g1 b2 g2 budget : ℕ) → b1 ≤ b2 → g1 ≤ g2 → HasRoom limit a b2 g2 budget → HasRoom limit a b1 g1 budget
+room-within limit a b1 g1 b2 g2 budget p q r = record {
   instructions = omega (arith, r.instructions, mul-le-mul_right budget p);
   vectors = omega (arith, r.vectors, p);
   cuts = omega (arith, r.cuts, p);
@@ -173,7 +175,7 @@ room-within a b1 g1 b2 g2 budget p q r = record {
 }
 
 -- a script's vectors and events can be counted from nothing
-pub room-new : (begun given budget : ℕ) → begun ≤ 9194305 → given ≤ 1000000 → budget < 2 ^ 32 → HasRoom new_tally begun given budget
+pub room-new : (begun given budget : ℕ) → begun ≤ 9194305 → given ≤ 1000000 → budget < 2 ^ 32 → HasRoom (2 ^ 61) new_tally begun given budget
 room-new begun given budget p q r =
     let most : begun * budget ≤ 9194305 * budget = mul-le-mul_right budget p in
     record {
@@ -185,6 +187,20 @@ room-new begun given budget p q r =
       shots = omega (arith, q);
     }
 
+-- an output that is a file is one still
+output-still : (output : Option (List ℕ)) (before now : Option Nodes) → IfSome output (IsFileWhereTold before) → FilesStay before now → IfSome output (IsFileWhereTold now)
+output-still None before now there stay = tt
+output-still (Some path) before now there stay = stay.stays path there
+
+pub outputs-still : (outputs : Outputs) (before now : Option Nodes) → OutputsThere outputs before → FilesStay before now → OutputsThere outputs now
+outputs-still outputs before now there stay = record {
+  frames = output-still outputs.frames before now there.frames stay;
+  samples = output-still outputs.samples before now there.samples stay;
+}
+
+pub files-both : (a b c : Option Nodes) → FilesStay a b → FilesStay b c → FilesStay a c
+files-both a b c p q = record { stays = λ path there. q.stays path (p.stays path there) }
+
 lent-both : {T O E : Type 0} (a b c : Bus T O E) → SameLent a b → SameLent b c → SameLent a c
 lent-both a b c p q = record { devices = q.devices ∙ p.devices; tree = q.tree ∙ p.tree; out = q.out ∙ p.out; err = q.err ∙ p.err }
 
@@ -195,12 +211,15 @@ reset_part budget script s = vector budget 0x0100 (with_stored (made_ready scrip
 abbrev pub arguments_part : ℕ → ScriptView → State → Trail
 arguments_part budget script s = give_each (console_byte budget) (arguments_given script.arguments) s
 
-abbrev pub events_part : ℕ → ScriptView → State → Trail
-events_part budget script s = give_each (give budget) script.events s
+abbrev pub events_part : ℕ → Outputs → ScriptView → State → Trail
+events_part budget outputs script s = give_each (give budget outputs) script.events s
 
-run-is : (budget : ℕ) (script : ScriptView) (s : State) → run budget script s ≡ followed_by (reset_part budget script s) (λ reset. followed_by (arguments_part budget script reset) (events_part budget script))
+abbrev pub after_reset : ℕ → Outputs → ScriptView → State → Trail
+after_reset budget outputs script reset = followed_by (arguments_part budget script reset) (events_part budget outputs script)
+
+run-is : (budget : ℕ) (outputs : Outputs) (script : ScriptView) (s : State) → run budget outputs script s ≡ followed_by (reset_part budget script s) (after_reset budget outputs script)
 unfolding run
-run-is budget script s = refl
+run-is budget outputs script s = refl
 
 module _ {T O E W H : Type 0} (telling : Telling T O E W H) where
   pub done-nothing : (now : Running T O E W) (budget : ℕ) → Done telling now now stays 0 0 budget
@@ -209,6 +228,7 @@ module _ {T O E W H : Type 0} (telling : Telling T O E W H) where
     grown = grown-none now.tally budget;
     faults = refl;
     lent = record { devices = refl; tree = refl; out = refl; err = refl };
+    files = record { stays = λ path there. there };
     frames = omega arith;
   }
 
@@ -219,41 +239,79 @@ module _ {T O E W H : Type 0} (telling : Telling T O E W H) where
     grown = grown-both a.tally b.tally c.tally b1 g1 b2 g2 budget p.grown q.grown;
     faults = q.faults ∙ p.faults;
     lent = lent-both a.bus b.bus c.bus p.lent q.lent;
+    files = files-both _ _ _ p.files q.files;
     frames = omega (arith, p.frames, q.frames);
   }
 
-  pub stopped-later : (a b c : Running T O E W) (part rest : State → Trail) (b1 g1 budget : ℕ) (stop : Stop) → Done telling a b part b1 g1 budget → Stopped telling b c rest stop
-      → Stopped telling a c (λ s. followed_by (part s) rest) stop
-  stopped-later a b c part rest b1 g1 budget stop p q = record {
+  pub stopped-later : (a b c : Running T O E W) (part rest : State → Trail) (b1 g1 b2 g2 budget : ℕ) (stop : Stop) → Done telling a b part b1 g1 budget → Stopped telling b c rest b2 g2 budget stop
+      → Stopped telling a c (λ s. followed_by (part s) rest) (b1 + b2) (g1 + g2) budget stop
+  stopped-later a b c part rest b1 g1 b2 g2 budget stop p q = record {
     short = short-then telling.tree telling.out telling.err telling.held telling.shown a b c part rest p.follows q.short;
     ledger = rw (← p.faults) q.ledger;
     memory = q.memory;
+    grown = grown-both a.tally b.tally c.tally b1 g1 b2 g2 budget p.grown q.grown;
     lent = lent-both a.bus b.bus c.bus p.lent q.lent;
+    files = files-both _ _ _ p.files q.files;
+    frames = omega (arith, p.frames, q.frames);
   }
 
-  pub stopped-first : (a b : Running T O E W) (part rest : State → Trail) (stop : Stop) → Stopped telling a b part stop → Stopped telling a b (λ s. followed_by (part s) rest) stop
-  stopped-first a b part rest stop p = record {
+  pub stopped-first : (a b : Running T O E W) (part rest : State → Trail) (begun given budget : ℕ) (stop : Stop) → Stopped telling a b part begun given budget stop
+      → Stopped telling a b (λ s. followed_by (part s) rest) begun given budget stop
+  stopped-first a b part rest begun given budget stop p = record {
     short = short-at-first telling.tree telling.out telling.err telling.held telling.shown a b part rest p.short;
     ledger = p.ledger;
     memory = p.memory;
-    lent = p.lent;
-  }
-
-  pub done-as : (a b : Running T O E W) (part other : State → Trail) (b1 g1 budget : ℕ) → ((s : State) → other s ≡ part s) → Done telling a b part b1 g1 budget → Done telling a b other b1 g1 budget
-  done-as a b part other b1 g1 budget same p = record {
-    follows = follows-as telling.tree telling.out telling.err telling.held telling.shown a b other part (λ devices stands. same (state_of a devices)) p.follows;
     grown = p.grown;
-    faults = p.faults;
     lent = p.lent;
+    files = p.files;
     frames = p.frames;
   }
 
-  pub stopped-as : (a b : Running T O E W) (part other : State → Trail) (stop : Stop) → ((s : State) → other s ≡ part s) → Stopped telling a b part stop → Stopped telling a b other stop
-  stopped-as a b part other stop same p = record {
-    short = short-as telling.tree telling.out telling.err telling.held telling.shown a b other part (λ devices stands. same (state_of a devices)) p.short;
+  -- the same under another name, in the states that the bus stood for
+  pub done-where : (a b : Running T O E W) (part other : State → Trail) (begun given budget : ℕ)
+      → ((devices : DeviceState) → BusStandsFor telling.tree a.bus devices → other (state_of a devices) ≡ part (state_of a devices))
+      → Done telling a b part begun given budget → Done telling a b other begun given budget
+  done-where a b part other begun given budget same p = record {
+    follows = follows-as telling.tree telling.out telling.err telling.held telling.shown a b other part same p.follows;
+    grown = p.grown;
+    faults = p.faults;
+    lent = p.lent;
+    files = p.files;
+    frames = p.frames;
+  }
+
+  pub stopped-where : (a b : Running T O E W) (part other : State → Trail) (begun given budget : ℕ) (stop : Stop)
+      → ((devices : DeviceState) → BusStandsFor telling.tree a.bus devices → other (state_of a devices) ≡ part (state_of a devices))
+      → Stopped telling a b part begun given budget stop → Stopped telling a b other begun given budget stop
+  stopped-where a b part other begun given budget stop same p = record {
+    short = short-as telling.tree telling.out telling.err telling.held telling.shown a b other part same p.short;
     ledger = p.ledger;
     memory = p.memory;
+    grown = p.grown;
     lent = p.lent;
+    files = p.files;
+    frames = p.frames;
+  }
+
+  -- the same in every state
+  pub done-as : (a b : Running T O E W) (part other : State → Trail) (begun given budget : ℕ) → ((s : State) → other s ≡ part s) → Done telling a b part begun given budget
+      → Done telling a b other begun given budget
+  done-as a b part other begun given budget same p = done-where a b part other begun given budget (λ devices stands. same (state_of a devices)) p
+
+  pub stopped-as : (a b : Running T O E W) (part other : State → Trail) (begun given budget : ℕ) (stop : Stop) → ((s : State) → other s ≡ part s)
+      → Stopped telling a b part begun given budget stop → Stopped telling a b other begun given budget stop
+  stopped-as a b part other begun given budget stop same p = stopped-where a b part other begun given budget stop (λ devices stands. same (state_of a devices)) p
+
+  pub stopped-within : (a b : Running T O E W) (part : State → Trail) (b1 g1 b2 g2 budget : ℕ) (stop : Stop) → b1 ≤ b2 → g1 ≤ g2 → Stopped telling a b part b1 g1 budget stop
+      → Stopped telling a b part b2 g2 budget stop
+  stopped-within a b part b1 g1 b2 g2 budget stop p q d = record {
+    short = d.short;
+    ledger = d.ledger;
+    memory = d.memory;
+    grown = grown-within a.tally b.tally b1 g1 b2 g2 budget p q d.grown;
+    lent = d.lent;
+    files = d.files;
+    frames = omega (arith, d.frames, q);
   }
 
   pub done-within : (a b : Running T O E W) (part : State → Trail) (b1 g1 b2 g2 budget : ℕ) → b1 ≤ b2 → g1 ≤ g2 → Done telling a b part b1 g1 budget → Done telling a b part b2 g2 budget
@@ -262,39 +320,25 @@ module _ {T O E W H : Type 0} (telling : Telling T O E W H) where
     grown = grown-within a.tally b.tally b1 g1 b2 g2 budget p q d.grown;
     faults = d.faults;
     lent = d.lent;
+    files = d.files;
     frames = omega (arith, d.frames, q);
   }
 
   -- where the run is over, and where it is not
-  pub done-over : (now : Running T O E W) (rest : State → Trail) (byte begun given budget : ℕ) → ((devices : DeviceState) → BusStandsFor now.bus devices → byte ≡ stored devices.history 0x0f) → byte ≢ 0
+  pub done-over : (now : Running T O E W) (rest : State → Trail) (byte begun given budget : ℕ) → ((devices : DeviceState) → BusStandsFor telling.tree now.bus devices → byte ≡ stored devices.history 0x0f) → byte ≢ 0
       → Done telling now now (unless_over rest) begun given budget
-  done-over now rest byte begun given budget is some = done-within now now (unless_over rest) 0 0 begun given budget (omega arith) (omega arith) (record {
-    follows = follows-as telling.tree telling.out telling.err telling.held telling.shown now now (unless_over rest) stays (λ devices stands. over rest (state_of now devices) byte (is devices stands) some)
-        (follows-nothing telling.tree telling.out telling.err telling.held telling.shown now);
-    grown = grown-none now.tally budget;
-    faults = refl;
-    lent = record { devices = refl; tree = refl; out = refl; err = refl };
-    frames = omega arith;
-  })
+  done-over now rest byte begun given budget is some = done-within now now (unless_over rest) 0 0 begun given budget (omega arith) (omega arith)
+      (done-where now now stays (unless_over rest) 0 0 budget (λ devices stands. over rest (state_of now devices) byte (is devices stands) some) (done-nothing now budget))
 
-  pub done-not_over : (a b : Running T O E W) (rest : State → Trail) (byte begun given budget : ℕ) → ((devices : DeviceState) → BusStandsFor a.bus devices → byte ≡ stored devices.history 0x0f) → byte ≡ 0
+  pub done-not_over : (a b : Running T O E W) (rest : State → Trail) (byte begun given budget : ℕ) → ((devices : DeviceState) → BusStandsFor telling.tree a.bus devices → byte ≡ stored devices.history 0x0f) → byte ≡ 0
       → Done telling a b rest begun given budget → Done telling a b (unless_over rest) begun given budget
-  done-not_over a b rest byte begun given budget is none d = record {
-    follows = follows-as telling.tree telling.out telling.err telling.held telling.shown a b (unless_over rest) rest (λ devices stands. not-over rest (state_of a devices) byte (is devices stands) none) d.follows;
-    grown = d.grown;
-    faults = d.faults;
-    lent = d.lent;
-    frames = d.frames;
-  }
+  done-not_over a b rest byte begun given budget is none d =
+      done-where a b rest (unless_over rest) begun given budget (λ devices stands. not-over rest (state_of a devices) byte (is devices stands) none) d
 
-  pub stopped-not_over : (a b : Running T O E W) (rest : State → Trail) (byte : ℕ) (stop : Stop) → ((devices : DeviceState) → BusStandsFor a.bus devices → byte ≡ stored devices.history 0x0f) → byte ≡ 0
-      → Stopped telling a b rest stop → Stopped telling a b (unless_over rest) stop
-  stopped-not_over a b rest byte stop is none d = record {
-    short = short-as telling.tree telling.out telling.err telling.held telling.shown a b (unless_over rest) rest (λ devices stands. not-over rest (state_of a devices) byte (is devices stands) none) d.short;
-    ledger = d.ledger;
-    memory = d.memory;
-    lent = d.lent;
-  }
+  pub stopped-not_over : (a b : Running T O E W) (rest : State → Trail) (byte begun given budget : ℕ) (stop : Stop) → ((devices : DeviceState) → BusStandsFor telling.tree a.bus devices → byte ≡ stored devices.history 0x0f) → byte ≡ 0
+      → Stopped telling a b rest begun given budget stop → Stopped telling a b (unless_over rest) begun given budget stop
+  stopped-not_over a b rest byte begun given budget stop is none d =
+      stopped-where a b rest (unless_over rest) begun given budget stop (λ devices stands. not-over rest (state_of a devices) byte (is devices stands) none) d
 
   -- a whole of which a part is done and the rest is to come
   pub record Going (before now : Running T O E W) (whole rest : State → Trail) (begun given budget : ℕ) : Type 0 where
@@ -323,9 +367,10 @@ module _ {T O E W H : Type 0} (telling : Telling T O E W H) where
   pub going-end : (a b : Running T O E W) (whole : State → Trail) (b1 g1 budget : ℕ) → Going a b whole stays b1 g1 budget → Done telling a b whole b1 g1 budget
   going-end a b whole b1 g1 budget going = done-as a b going.part whole b1 g1 budget (λ s. going.parts s ∙ stays-after (going.part s)) going.done
 
-  pub going-stopped : (a b c : Running T O E W) (whole rest : State → Trail) (b1 g1 budget : ℕ) (stop : Stop) → Going a b whole rest b1 g1 budget → Stopped telling b c rest stop → Stopped telling a c whole stop
-  going-stopped a b c whole rest b1 g1 budget stop going stopped =
-      stopped-as a c (λ s. followed_by (going.part s) rest) whole stop going.parts (stopped-later a b c going.part rest b1 g1 budget stop going.done stopped)
+  pub going-stopped : (a b c : Running T O E W) (whole rest : State → Trail) (b1 g1 b2 g2 budget : ℕ) (stop : Stop) → Going a b whole rest b1 g1 budget → Stopped telling b c rest b2 g2 budget stop
+      → Stopped telling a c whole (b1 + b2) (g1 + g2) budget stop
+  going-stopped a b c whole rest b1 g1 b2 g2 budget stop going stopped =
+      stopped-as a c (λ s. followed_by (going.part s) rest) whole (b1 + b2) (g1 + g2) budget stop going.parts (stopped-later a b c going.part rest b1 g1 b2 g2 budget stop going.done stopped)
 
   pub going-counted : (a b : Running T O E W) (whole rest : State → Trail) (b1 g1 b2 g2 budget : ℕ) → b1 ≤ b2 → g1 ≤ g2 → Going a b whole rest b1 g1 budget → Going a b whole rest b2 g2 budget
   going-counted a b whole rest b1 g1 b2 g2 budget p q going = record {
@@ -343,12 +388,13 @@ module _ {T O E W H : Type 0} (telling : Telling T O E W H) where
       (going-as a b whole (give_each given (drop i xs)) (λ s. followed_by (unless_over (given (get_or xs i d)) s) (give_each given (drop (i + 1) xs))) b1 g1 budget (each-next given xs i d within) going)
       done
 
-  pub going-item_stopped : {X : Type 0} (a b c : Running T O E W) (given : X → State → Trail) (whole : State → Trail) (xs : List X) (i : ℕ) (d : X) (b1 g1 budget : ℕ) (stop : Stop) → i < length xs
-      → Going a b whole (give_each given (drop i xs)) b1 g1 budget → Stopped telling b c (unless_over (given (get_or xs i d))) stop → Stopped telling a c whole stop
-  going-item_stopped a b c given whole xs i d b1 g1 budget stop within going stopped =
-      going-stopped a b c whole (give_each given (drop i xs)) b1 g1 budget stop going
-      (stopped-as b c (λ s. followed_by (unless_over (given (get_or xs i d)) s) (give_each given (drop (i + 1) xs))) (give_each given (drop i xs)) stop (each-next given xs i d within)
-      (stopped-first b c (unless_over (given (get_or xs i d))) (give_each given (drop (i + 1) xs)) stop stopped))
+  pub going-item_stopped : {X : Type 0} (a b c : Running T O E W) (given : X → State → Trail) (whole : State → Trail) (xs : List X) (i : ℕ) (d : X) (b1 g1 b2 g2 budget : ℕ) (stop : Stop) → i < length xs
+      → Going a b whole (give_each given (drop i xs)) b1 g1 budget → Stopped telling b c (unless_over (given (get_or xs i d))) b2 g2 budget stop
+      → Stopped telling a c whole (b1 + b2) (g1 + g2) budget stop
+  going-item_stopped a b c given whole xs i d b1 g1 b2 g2 budget stop within going stopped =
+      going-stopped a b c whole (give_each given (drop i xs)) b1 g1 b2 g2 budget stop going
+      (stopped-as b c (λ s. followed_by (unless_over (given (get_or xs i d)) s) (give_each given (drop (i + 1) xs))) (give_each given (drop i xs)) b2 g2 budget stop (each-next given xs i d within)
+      (stopped-first b c (unless_over (given (get_or xs i d))) (give_each given (drop (i + 1) xs)) b2 g2 budget stop stopped))
 
   -- all of the list is given
   pub going-items_end : {X : Type 0} (a b : Running T O E W) (given : X → State → Trail) (whole : State → Trail) (xs : List X) (i b1 g1 budget : ℕ) → length xs ≤ i
@@ -373,14 +419,16 @@ module _ {T O E W H : Type 0} (telling : Telling T O E W H) where
       (argument-step budget texts i text following within is left) going)
       done
 
-  pub going-argument_stopped : (a b c : Running T O E W) (whole : State → Trail) (texts : List (List ℕ)) (i : ℕ) (text : List ℕ) (following b1 g1 budget : ℕ) (stop : Stop) → i < length texts → text ≡ get_or texts i text → following + i + 1 ≡ length texts
-      → Going a b whole (give_each (console_byte budget) (arguments_given (drop i texts))) b1 g1 budget → Stopped telling b c (give_each (console_byte budget) (argument_bytes text ++ (10, kind_before following) ∷ [])) stop
-      → Stopped telling a c whole stop
-  going-argument_stopped a b c whole texts i text following b1 g1 budget stop within is left going stopped =
-      going-stopped a b c whole (give_each (console_byte budget) (arguments_given (drop i texts))) b1 g1 budget stop going
-      (stopped-as b c (λ s. followed_by (give_each (console_byte budget) (argument_bytes text ++ (10, kind_before following) ∷ []) s) (give_each (console_byte budget) (arguments_given (drop (i + 1) texts)))) (give_each (console_byte budget) (arguments_given (drop i texts))) stop
+  pub going-argument_stopped : (a b c : Running T O E W) (whole : State → Trail) (texts : List (List ℕ)) (i : ℕ) (text : List ℕ) (following b1 g1 b2 g2 budget : ℕ) (stop : Stop) → i < length texts → text ≡ get_or texts i text
+      → following + i + 1 ≡ length texts
+      → Going a b whole (give_each (console_byte budget) (arguments_given (drop i texts))) b1 g1 budget
+      → Stopped telling b c (give_each (console_byte budget) (argument_bytes text ++ (10, kind_before following) ∷ [])) b2 g2 budget stop
+      → Stopped telling a c whole (b1 + b2) (g1 + g2) budget stop
+  going-argument_stopped a b c whole texts i text following b1 g1 b2 g2 budget stop within is left going stopped =
+      going-stopped a b c whole (give_each (console_byte budget) (arguments_given (drop i texts))) b1 g1 b2 g2 budget stop going
+      (stopped-as b c (λ s. followed_by (give_each (console_byte budget) (argument_bytes text ++ (10, kind_before following) ∷ []) s) (give_each (console_byte budget) (arguments_given (drop (i + 1) texts)))) (give_each (console_byte budget) (arguments_given (drop i texts))) b2 g2 budget stop
       (argument-step budget texts i text following within is left)
-      (stopped-first b c (give_each (console_byte budget) (argument_bytes text ++ (10, kind_before following) ∷ [])) (give_each (console_byte budget) (arguments_given (drop (i + 1) texts))) stop stopped))
+      (stopped-first b c (give_each (console_byte budget) (argument_bytes text ++ (10, kind_before following) ∷ [])) (give_each (console_byte budget) (arguments_given (drop (i + 1) texts))) b2 g2 budget stop stopped))
 
   -- a part after ports were stored
   same_faults : (a b : Bus T O E) → ChangesDevices a b → bus_faults telling.tree_faults telling.out_faults telling.err_faults b ≡ bus_faults telling.tree_faults telling.out_faults telling.err_faults a
@@ -397,48 +445,55 @@ module _ {T O E W H : Type 0} (telling : Telling T O E W H) where
     grown = done.grown;
     faults = done.faults ∙ same_faults bus middle prepared.others;
     lent = lent-both bus middle now.bus prepared.others.lent done.lent;
+    files = files-both _ _ _ (files-kept telling.tree bus middle prepared.others) done.files;
     frames = omega (arith, done.frames, frames);
   }
 
-  pub stopped-prepared : (core : Core) (bus middle : Bus T O E) (tally : Tally) (watcher : W) (now : Running T O E W) (prepare : State → State) (part_of : State → Trail) (stop : Stop)
-      → Prepared telling.tree telling.out telling.err telling.held telling.shown (running core bus tally watcher) (running core middle tally watcher) prepare
-      → Stopped telling (running core middle tally watcher) now part_of stop → Stopped telling (running core bus tally watcher) now (λ s. part_of (prepare s)) stop
-  stopped-prepared core bus middle tally watcher now prepare part_of stop prepared stopped = record {
+  pub stopped-prepared : (core : Core) (bus middle : Bus T O E) (tally : Tally) (watcher : W) (now : Running T O E W) (prepare : State → State) (part_of : State → Trail) (begun given budget : ℕ) (stop : Stop)
+      → Prepared telling.tree telling.out telling.err telling.held telling.shown (running core bus tally watcher) (running core middle tally watcher) prepare → frames_begun middle ≡ frames_begun bus
+      → Stopped telling (running core middle tally watcher) now part_of begun given budget stop → Stopped telling (running core bus tally watcher) now (λ s. part_of (prepare s)) begun given budget stop
+  stopped-prepared core bus middle tally watcher now prepare part_of begun given budget stop prepared frames stopped = record {
     short = short-prepared telling.tree telling.out telling.err telling.held telling.shown (running core bus tally watcher) (running core middle tally watcher) now prepare part_of prepared stopped.short;
     ledger = rw (← same_faults bus middle prepared.others) stopped.ledger;
     memory = stopped.memory;
+    grown = stopped.grown;
     lent = lent-both bus middle now.bus prepared.others.lent stopped.lent;
+    files = files-both _ _ _ (files-kept telling.tree bus middle prepared.others) stopped.files;
+    frames = omega (arith, stopped.frames, frames);
   }
 
-  pub run-done : (a b c d : Running T O E W) (budget : ℕ) (script : ScriptView) (b1 g1 b2 g2 b3 g3 : ℕ) → Done telling a b (reset_part budget script) b1 g1 budget → Done telling b c (arguments_part budget script) b2 g2 budget
-      → Done telling c d (events_part budget script) b3 g3 budget → Done telling a d (run budget script) (b1 + (b2 + b3)) (g1 + (g2 + g3)) budget
-  run-done a b c d budget script b1 g1 b2 g2 b3 g3 p q r =
-      done-as a d (λ s. followed_by (reset_part budget script s) (λ reset. followed_by (arguments_part budget script reset) (events_part budget script))) (run budget script) (b1 + (b2 + b3)) (g1 + (g2 + g3)) budget (run-is budget script)
-      (done-both a b d (reset_part budget script) (λ reset. followed_by (arguments_part budget script reset) (events_part budget script)) b1 g1 (b2 + b3) (g2 + g3) budget p
-      (done-both b c d (arguments_part budget script) (events_part budget script) b2 g2 b3 g3 budget q r))
+  pub run-done : (a b c d : Running T O E W) (budget : ℕ) (outputs : Outputs) (script : ScriptView) (b1 g1 b2 g2 b3 g3 : ℕ) → Done telling a b (reset_part budget script) b1 g1 budget
+      → Done telling b c (arguments_part budget script) b2 g2 budget → Done telling c d (events_part budget outputs script) b3 g3 budget
+      → Done telling a d (run budget outputs script) (b1 + (b2 + b3)) (g1 + (g2 + g3)) budget
+  run-done a b c d budget outputs script b1 g1 b2 g2 b3 g3 p q r =
+      done-as a d (λ s. followed_by (reset_part budget script s) (after_reset budget outputs script)) (run budget outputs script) (b1 + (b2 + b3)) (g1 + (g2 + g3)) budget (run-is budget outputs script)
+      (done-both a b d (reset_part budget script) (after_reset budget outputs script) b1 g1 (b2 + b3) (g2 + g3) budget p
+      (done-both b c d (arguments_part budget script) (events_part budget outputs script) b2 g2 b3 g3 budget q r))
 
-  pub reset-stopped : (a b : Running T O E W) (budget : ℕ) (script : ScriptView) (stop : Stop) → Stopped telling a b (reset_part budget script) stop → Stopped telling a b (run budget script) stop
-  reset-stopped a b budget script stop p =
-      stopped-as a b (λ s. followed_by (reset_part budget script s) (λ reset. followed_by (arguments_part budget script reset) (events_part budget script))) (run budget script) stop (run-is budget script)
-      (stopped-first a b (reset_part budget script) (λ reset. followed_by (arguments_part budget script reset) (events_part budget script)) stop p)
+  pub reset-stopped : (a b : Running T O E W) (budget : ℕ) (outputs : Outputs) (script : ScriptView) (b1 g1 : ℕ) (stop : Stop) → Stopped telling a b (reset_part budget script) b1 g1 budget stop
+      → Stopped telling a b (run budget outputs script) b1 g1 budget stop
+  reset-stopped a b budget outputs script b1 g1 stop p =
+      stopped-as a b (λ s. followed_by (reset_part budget script s) (after_reset budget outputs script)) (run budget outputs script) b1 g1 budget stop (run-is budget outputs script)
+      (stopped-first a b (reset_part budget script) (after_reset budget outputs script) b1 g1 budget stop p)
 
-  pub arguments-stopped : (a b c : Running T O E W) (budget : ℕ) (script : ScriptView) (b1 g1 : ℕ) (stop : Stop) → Done telling a b (reset_part budget script) b1 g1 budget → Stopped telling b c (arguments_part budget script) stop
-      → Stopped telling a c (run budget script) stop
-  arguments-stopped a b c budget script b1 g1 stop p q =
-      stopped-as a c (λ s. followed_by (reset_part budget script s) (λ reset. followed_by (arguments_part budget script reset) (events_part budget script))) (run budget script) stop (run-is budget script)
-      (stopped-later a b c (reset_part budget script) (λ reset. followed_by (arguments_part budget script reset) (events_part budget script)) b1 g1 budget stop p
-      (stopped-first b c (arguments_part budget script) (events_part budget script) stop q))
+  pub arguments-stopped : (a b c : Running T O E W) (budget : ℕ) (outputs : Outputs) (script : ScriptView) (b1 g1 b2 g2 : ℕ) (stop : Stop) → Done telling a b (reset_part budget script) b1 g1 budget
+      → Stopped telling b c (arguments_part budget script) b2 g2 budget stop → Stopped telling a c (run budget outputs script) (b1 + b2) (g1 + g2) budget stop
+  arguments-stopped a b c budget outputs script b1 g1 b2 g2 stop p q =
+      stopped-as a c (λ s. followed_by (reset_part budget script s) (after_reset budget outputs script)) (run budget outputs script) (b1 + b2) (g1 + g2) budget stop (run-is budget outputs script)
+      (stopped-later a b c (reset_part budget script) (after_reset budget outputs script) b1 g1 b2 g2 budget stop p
+      (stopped-first b c (arguments_part budget script) (events_part budget outputs script) b2 g2 budget stop q))
 
-  pub events-stopped : (a b c d : Running T O E W) (budget : ℕ) (script : ScriptView) (b1 g1 b2 g2 : ℕ) (stop : Stop) → Done telling a b (reset_part budget script) b1 g1 budget → Done telling b c (arguments_part budget script) b2 g2 budget
-      → Stopped telling c d (events_part budget script) stop → Stopped telling a d (run budget script) stop
-  events-stopped a b c d budget script b1 g1 b2 g2 stop p q r =
-      stopped-as a d (λ s. followed_by (reset_part budget script s) (λ reset. followed_by (arguments_part budget script reset) (events_part budget script))) (run budget script) stop (run-is budget script)
-      (stopped-later a b d (reset_part budget script) (λ reset. followed_by (arguments_part budget script reset) (events_part budget script)) b1 g1 budget stop p
-      (stopped-later b c d (arguments_part budget script) (events_part budget script) b2 g2 budget stop q r))
+  pub events-stopped : (a b c d : Running T O E W) (budget : ℕ) (outputs : Outputs) (script : ScriptView) (b1 g1 b2 g2 b3 g3 : ℕ) (stop : Stop) → Done telling a b (reset_part budget script) b1 g1 budget
+      → Done telling b c (arguments_part budget script) b2 g2 budget → Stopped telling c d (events_part budget outputs script) b3 g3 budget stop
+      → Stopped telling a d (run budget outputs script) (b1 + (b2 + b3)) (g1 + (g2 + g3)) budget stop
+  events-stopped a b c d budget outputs script b1 g1 b2 g2 b3 g3 stop p q r =
+      stopped-as a d (λ s. followed_by (reset_part budget script s) (after_reset budget outputs script)) (run budget outputs script) (b1 + (b2 + b3)) (g1 + (g2 + g3)) budget stop (run-is budget outputs script)
+      (stopped-later a b d (reset_part budget script) (after_reset budget outputs script) b1 g1 (b2 + b3) (g2 + g3) budget stop p
+      (stopped-later b c d (arguments_part budget script) (events_part budget outputs script) b2 g2 b3 g3 budget stop q r))
 
   -- the end was shown, or not
   pub ends-run : (ended : H → Core → List ℕ → Moment → H) (before now : Running T O E W) (part : State → Trail) (watcher_new : W) → FollowsFrom telling.tree telling.out telling.err telling.held telling.shown before now part
-      → ((page : List ℕ) → IsPage (Reads now.bus now.core) page → telling.held watcher_new ≡ ended (telling.held now.watcher) now.core page (record { instructions = now.tally.instructions; address = now.core.at }))
+      → ((page : List ℕ) → IsPage (Reads telling.tree now.bus now.core) page → telling.held watcher_new ≡ ended (telling.held now.watcher) now.core page (record { instructions = now.tally.instructions; address = now.core.at }))
       → EndsFrom telling.tree telling.out telling.err telling.held telling.shown ended before (running now.core now.bus now.tally watcher_new) part
   ends-run ended before now part watcher_new follows shown_end = record {
     from = λ devices stands.
@@ -449,7 +504,7 @@ module _ {T O E W H : Type 0} (telling : Telling T O E W H) where
           devices = f.devices;
           tally = f.tally;
           world = f.world;
-          watcher = shown_end (ports_read 256 (state_of now last.devices)) (is_page now.bus (state_of now last.devices) f.devices)
+          watcher = shown_end (ports_read 256 (state_of now last.devices)) (is_page telling.tree now.bus (state_of now last.devices) f.devices)
               ∙ ap (λ h. ended h now.core (ports_read 256 (state_of now last.devices)) (moment_of (state_of now last.devices))) f.watcher
               ∙ ap (λ (s : State). ended (shown_all telling.shown (telling.held before.watcher) (part (state_of before devices)).moments) s.core (ports_read 256 s) (moment_of s))
               (reached telling.tree telling.out telling.err telling.held telling.shown before now (part (state_of before devices)) f);

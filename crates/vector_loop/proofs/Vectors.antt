@@ -73,7 +73,7 @@ module _ {T O E W H : Type 0} (told_tree : T → Option Nodes) (told_out : O →
     ends : breaks left done.last ≡ breaks budget (begun_at at (state_of before devices))
 
   pub record Along (before now : Running T O E W) (budget at left : ℕ) : Type 0 where
-    from : (devices : DeviceState) → BusStandsFor before.bus devices → SoFar before now budget at left devices
+    from : (devices : DeviceState) → BusStandsFor told_tree before.bus devices → SoFar before now budget at left devices
 
   -- the same with the number written otherwise
   pub along-left : (before now : Running T O E W) (budget at left other : ℕ) → left ≡ other → Along before now budget at left → Along before now budget at other
@@ -81,7 +81,7 @@ module _ {T O E W H : Type 0} (told_tree : T → Option Nodes) (told_out : O →
 
   -- the watcher was shown the machine
   abbrev pub Watched : Running T O E W → W → Type 0
-  Watched now watcher_new = (page : List ℕ) → IsPage (Reads now.bus now.core) page
+  Watched now watcher_new = (page : List ℕ) → IsPage (Reads told_tree now.bus now.core) page
       → held watcher_new ≡ shown (held now.watcher) now.core page (record { instructions = now.tally.instructions; address = now.core.at })
 
   pub along-start : (core : Core) (bus : Bus T O E) (tally : Tally) (watcher : W) (budget at : ℕ)
@@ -132,7 +132,7 @@ module _ {T O E W H : Type 0} (told_tree : T → Option Nodes) (told_out : O →
   }
 
   pub broke-ends : (before now : Running T O E W) (budget at left : ℕ) → Along before now budget at (suc left) → opcode_at now.core ≡ 0
-      → (devices : DeviceState) → BusStandsFor before.bus devices → Broke ≡ vector_end budget at (state_of before devices)
+      → (devices : DeviceState) → BusStandsFor told_tree before.bus devices → Broke ≡ vector_end budget at (state_of before devices)
   broke-ends before now budget at left along breaks devices stands =
       let so_far = along.from devices stands in
       let on : at_break so_far.done.last ≡ true = ap (λ (c : Core). opcode_at c == 0) (sym so_far.follows.core) ∙ is_zero (opcode_at now.core) breaks in
@@ -149,7 +149,7 @@ module _ {T O E W H : Type 0} (told_tree : T → Option Nodes) (told_out : O →
   }
 
   pub cut-ends : (before now : Running T O E W) (budget at : ℕ) → Along before now budget at 0
-      → (devices : DeviceState) → BusStandsFor before.bus devices → Cut ≡ vector_end budget at (state_of before devices)
+      → (devices : DeviceState) → BusStandsFor told_tree before.bus devices → Cut ≡ vector_end budget at (state_of before devices)
   cut-ends before now budget at along devices stands =
       let so_far = along.from devices stands in
       end-is budget at (state_of before devices) false (sym (breaks-zero so_far.done.last) ∙ so_far.ends)

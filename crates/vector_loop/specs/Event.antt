@@ -1,12 +1,15 @@
 -- What an event of a run does (Varvara device reference; profile: the order).
-use Rattle.std.specs.Prelude.{ℕ, ◌==◌, List, [], ◌∷◌, if◌then◌else◌}
+use Rattle.std.specs.Prelude.{ℕ, ◌+◌, ◌*◌, ◌==◌, Bool, false, List, [], ◌∷◌, if◌then◌else◌, slice_index_or}
 use Rattle.input_ports.specs.declared.Input.{Input as DeviceInput}
 use Rattle.input_ports.specs.Page.{stores_of, stores_after, vector_of}
 use Rattle.play_script.specs.declared.script.Event.{Event}
 use Rattle.play_script.specs.declared.script.Event.TheVariants.{Input, EndInput, Frame, Device, Shot}
+use Rattle.audio_mixer.specs.Sounds.{frame_of, endings}
 use Rattle.varvara_bus.specs.History.{stored, stored_short}
-use Rattle.vector_loop.specs.State.{State, with_stored, with_next_frame, with_counted, is_over}
-use Rattle.vector_loop.specs.Trail.{Trail, stays, followed_by}
+use Rattle.vector_loop.specs.declared.output.Outputs.{Outputs}
+use Rattle.vector_loop.specs.State.{State, with_stored, with_next_frame, with_rendered, with_counted, is_over}
+use Rattle.vector_loop.specs.Trail.{Trail, stays, makes, followed_by}
+use Rattle.vector_loop.specs.Outputs.{appended_to, picture_bytes, samples_bytes}
 use Rattle.vector_loop.specs.Vector.{vector}
 
 -- the vector whose address is the short in two ports; none is run where it is 0
@@ -20,6 +23,11 @@ vector_in budget port state = vector_at budget (stored_short state.devices.histo
 unfoldable pub unless_over : (State → Trail) → State → Trail
 unless_over rest state = if is_over state then stays state else rest state
 
+-- one thing after the other is given, each unless the run is over
+unfoldable pub give_each : {X : Type 0} → (X → State → Trail) → List X → State → Trail
+give_each given [] state = stays state
+give_each given (first ∷ rest) state = followed_by (unless_over (given first) state) (give_each given rest)
+
 -- the console is given a byte of this kind
 unfoldable pub console : ℕ → ℕ → ℕ → State → Trail
 console budget byte kind state = vector_in budget 0x10 (with_stored ((0x12, byte) ∷ (0x17, kind) ∷ []) state)
@@ -30,17 +38,42 @@ device budget input state = followed_by (vector_in budget (vector_of input) (wit
     (stored state.devices.history) input) state))
     (unless_over (λ after. stays (with_stored (stores_after input) after)))
 
--- a frame begins, and the screen's vector is run
-unfoldable pub frame : ℕ → State → Trail
-frame budget state = vector_in budget 0x20 (with_next_frame state)
+-- 735 pairs of samples are rendered, and kept where they are asked for
+abbrev pub samples_kept : Outputs → State → Trail
+samples_kept outputs state =
+    makes (appended_to outputs.samples (samples_bytes (frame_of state.core.memory state.devices.sounds))) (with_rendered state)
+
+-- the vector of a voice whose note has ended
+abbrev pub vector_where : ℕ → Bool → ℕ → State → Trail
+vector_where budget ended voice state = if ended then vector_in budget (0x30 + 0x10 * voice) state else stays state
+
+-- the vectors of the voices whose notes have ended, in order of their numbers
+abbrev pub ended_vectors : ℕ → List Bool → State → Trail
+ended_vectors budget ended = give_each (λ voice. vector_where budget (slice_index_or ended voice false) voice) (0 ∷ 1 ∷ 2 ∷ 3 ∷ [])
+
+-- what is heard in a frame
+unfoldable pub heard : ℕ → Outputs → State → Trail
+heard budget outputs state = followed_by (samples_kept outputs state) (ended_vectors budget (endings 735 state.devices.sounds))
+
+-- the screen's vector is run, and then all is done that is heard
+unfoldable pub shown_and_heard : ℕ → Outputs → State → Trail
+shown_and_heard budget outputs state = followed_by (vector_in budget 0x20 state) (unless_over (heard budget outputs))
+
+-- a frame begins first
+unfoldable pub frame : ℕ → Outputs → State → Trail
+frame budget outputs state = shown_and_heard budget outputs (with_next_frame state)
+
+-- the picture is kept, where pictures are asked for
+unfoldable pub shot : Outputs → State → Trail
+shot outputs state = makes (appended_to outputs.frames (picture_bytes state.devices)) state
 
 -- what each event of a script does, once it is counted
-abbrev pub happens : ℕ → Event → State → Trail
-happens budget (Input byte) = console budget byte 1
-happens budget EndInput = console budget 0 4
-happens budget (Device input) = device budget input
-happens budget Frame = frame budget
-happens budget Shot = stays
+abbrev pub happens : ℕ → Outputs → Event → State → Trail
+happens budget outputs (Input byte) = console budget byte 1
+happens budget outputs EndInput = console budget 0 4
+happens budget outputs (Device input) = device budget input
+happens budget outputs Frame = frame budget outputs
+happens budget outputs Shot = shot outputs
 
-unfoldable pub give : ℕ → Event → State → Trail
-give budget event state = happens budget event (with_counted event state)
+unfoldable pub give : ℕ → Outputs → Event → State → Trail
+give budget outputs event state = happens budget outputs event (with_counted event state)

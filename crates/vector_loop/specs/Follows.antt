@@ -1,5 +1,5 @@
 -- What it is for a machine, its bus, a tally and a watcher to follow a trail.
-use Rattle.std.specs.Prelude.{◌≡◌, ℕ, ◌+◌, ◌*◌, ◌^◌, ◌≤◌, List, Option}
+use Rattle.std.specs.Prelude.{◌≡◌, ℕ, ◌+◌, ◌*◌, ◌≤◌, List, Option}
 use Rattle.uxn_io.specs.Files.{Nodes}
 use Rattle.uxn_io.specs.Outside.{World, changed_by, IsCutOff}
 use Rattle.uxn_opcodes.specs.declared.Core.{Core}
@@ -36,21 +36,21 @@ pub record HasGrown (before now : Tally) (begun given budget : ℕ) : Type 0 whe
   pub shots : now.shots ≤ before.shots + given
   pub later : before.instructions ≤ now.instructions
 
--- so many more vectors, each of at most so many instructions, and so many events can be counted
-pub record HasRoom (tally : Tally) (begun given budget : ℕ) : Type 0 where
-  pub instructions : tally.instructions + begun * budget ≤ 2 ^ 61
-  pub vectors : tally.vectors + begun ≤ 2 ^ 61
-  pub cuts : tally.cuts + begun ≤ 2 ^ 61
-  pub events : tally.events + given ≤ 2 ^ 61
-  pub frames : tally.frames + given ≤ 2 ^ 61
-  pub shots : tally.shots + given ≤ 2 ^ 61
+-- so many more vectors, each of at most so many instructions, and so many events can be counted up to a limit
+pub record HasRoom (limit : ℕ) (tally : Tally) (begun given budget : ℕ) : Type 0 where
+  pub instructions : tally.instructions + begun * budget ≤ limit
+  pub vectors : tally.vectors + begun ≤ limit
+  pub cuts : tally.cuts + begun ≤ limit
+  pub events : tally.events + given ≤ limit
+  pub frames : tally.frames + given ≤ limit
+  pub shots : tally.shots + given ≤ limit
 
 module _ {T O E W H : Type 0} (told_tree : T → Option Nodes) (told_out : O → Option (List ℕ)) (told_err : E
     → Option (List ℕ)) (held : W → H) (shown : H → Core → List ℕ → Moment → H) where
   -- all of a trail was done: the last state is reached, the changes are made, and the watcher was shown all moments
   pub record Follows (before now : Running T O E W) (trail : Trail) : Type 0 where
     pub core : now.core ≡ trail.last.core
-    pub devices : BusStandsFor now.bus trail.last.devices
+    pub devices : BusStandsFor told_tree now.bus trail.last.devices
     pub tally : now.tally ≡ trail.last.tally
     pub world : world_of told_tree told_out told_err now.bus ≡ changed_by (world_of told_tree told_out told_err before.bus) trail.changes
     pub watcher : held now.watcher ≡ shown_all shown (held before.watcher) trail.moments
@@ -62,19 +62,19 @@ module _ {T O E W H : Type 0} (told_tree : T → Option Nodes) (told_out : O →
 
   -- the same from each state that the bus stood for
   pub record FollowsFrom (before now : Running T O E W) (part : State → Trail) : Type 0 where
-    pub from : (devices : DeviceState) → BusStandsFor before.bus devices → Follows before now (part (state_of before devices))
+    pub from : (devices : DeviceState) → BusStandsFor told_tree before.bus devices → Follows before now (part (state_of before devices))
 
   pub record FallsShortFrom (before now : Running T O E W) (part : State → Trail) : Type 0 where
-    pub from : (devices : DeviceState) → BusStandsFor before.bus devices → FallsShort before now (part (state_of before devices))
+    pub from : (devices : DeviceState) → BusStandsFor told_tree before.bus devices → FallsShort before now (part (state_of before devices))
 
   -- all of a run was done, and the watcher was shown its end
   pub record Ends (ended : H → Core → List ℕ → Moment → H) (before now : Running T O E W) (trail : Trail) : Type 0 where
     pub core : now.core ≡ trail.last.core
-    pub devices : BusStandsFor now.bus trail.last.devices
+    pub devices : BusStandsFor told_tree now.bus trail.last.devices
     pub tally : now.tally ≡ trail.last.tally
     pub world : world_of told_tree told_out told_err now.bus ≡ changed_by (world_of told_tree told_out told_err before.bus) trail.changes
     pub watcher : held now.watcher ≡ ended (shown_all shown (held before.watcher) trail.moments) trail.last.core
         (ports_read 256 trail.last) (moment_of trail.last)
 
   pub record EndsFrom (ended : H → Core → List ℕ → Moment → H) (before now : Running T O E W) (part : State → Trail) : Type 0 where
-    pub from : (devices : DeviceState) → BusStandsFor before.bus devices → Ends ended before now (part (state_of before devices))
+    pub from : (devices : DeviceState) → BusStandsFor told_tree before.bus devices → Ends ended before now (part (state_of before devices))

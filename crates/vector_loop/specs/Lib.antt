@@ -4,6 +4,8 @@ pub mod Vector
 pub mod Watch
 pub mod Follows
 pub mod Answers
+pub mod Making
+pub mod Outputs
 pub mod Event
 pub mod Run
 pub mod Touching

@@ -2,15 +2,11 @@
 use Rattle.std.specs.Prelude.{ℕ, ◌==◌, if◌then◌else◌, List, [], ◌∷◌, ◌++◌, length, map}
 use Rattle.play_script.specs.Scripts.{ScriptView}
 use Rattle.varvara_bus.specs.History.{Store}
+use Rattle.vector_loop.specs.declared.output.Outputs.{Outputs}
 use Rattle.vector_loop.specs.State.{State, with_stored}
-use Rattle.vector_loop.specs.Trail.{Trail, stays, followed_by}
+use Rattle.vector_loop.specs.Trail.{Trail, followed_by}
 use Rattle.vector_loop.specs.Vector.{vector}
-use Rattle.vector_loop.specs.Event.{unless_over, console, give}
-
--- one thing after the other is given, each unless the run is over
-unfoldable pub give_each : {X : Type 0} → (X → State → Trail) → List X → State → Trail
-give_each given [] state = stays state
-give_each given (first ∷ rest) state = followed_by (unless_over (given first) state) (give_each given rest)
+use Rattle.vector_loop.specs.Event.{give_each, console, give}
 
 -- a byte of the console with its kind
 abbrev pub ConsoleByte : Type 0
@@ -38,8 +34,8 @@ made_ready [] = []
 made_ready (text ∷ texts) = (0x17, 1) ∷ []
 
 -- the whole run from a state on
-unfoldable pub run : ℕ → ScriptView → State → Trail
-run budget script state =
+unfoldable pub run : ℕ → Outputs → ScriptView → State → Trail
+run budget outputs script state =
     followed_by (vector budget 0x0100 (with_stored (made_ready script.arguments) state)) (λ reset.
     followed_by (give_each (console_byte budget) (arguments_given script.arguments) reset)
-    (give_each (give budget) script.events))
+    (give_each (give budget outputs) script.events))

@@ -2,7 +2,7 @@
 use Rattle.std.specs.Prelude.{ℕ, ◌+◌, ◌==◌, Bool, not, List}
 use Rattle.uxn_opcodes.specs.declared.Core.{Core}
 use Rattle.varvara_bus.specs.History.{Store, stored}
-use Rattle.varvara_bus.specs.State.{DeviceState, storing, next_frame}
+use Rattle.varvara_bus.specs.State.{DeviceState, storing, next_frame, rendered}
 use Rattle.play_script.specs.declared.script.Event.{Event}
 use Rattle.play_script.specs.declared.script.Event.TheVariants.{Frame, Shot}
 use Rattle.vector_loop.specs.declared.tally.Tally.{Tally}
@@ -17,12 +17,15 @@ pub record State : Type 0 where
 abbrev pub new_tally : Tally
 new_tally = record { instructions = 0; vectors = 0; cuts = 0; events = 0; frames = 0; shots = 0 }
 
--- bytes are stored in ports, and a frame begins
+-- bytes are stored in ports, a frame begins, and its samples are rendered
 abbrev pub with_stored : List Store → State → State
 with_stored stores state = record state { devices = storing stores state.devices }
 
 abbrev pub with_next_frame : State → State
 with_next_frame state = record state { devices = next_frame state.devices }
+
+abbrev pub with_rendered : State → State
+with_rendered state = record state { devices = rendered state.devices }
 
 -- the byte in port 0f is not 0, which ends the run
 abbrev pub is_over : State → Bool

@@ -13,6 +13,10 @@ pub record Trail : Type 0 where
 abbrev pub stays : State → Trail
 stays state = record { moments = []; changes = []; last = state }
 
+-- these changes, and then this state; no instruction
+abbrev pub makes : List Change → State → Trail
+makes changes state = record { moments = []; changes = changes; last = state }
+
 -- a part followed by what is done from its last state on
 abbrev pub followed_by : Trail → (State → Trail) → Trail
 followed_by first rest = record {

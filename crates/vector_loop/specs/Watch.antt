@@ -6,10 +6,10 @@ use Rattle.varvara_bus.specs.Reads.{read_of}
 use Rattle.vector_loop.specs.declared.watch.Moment.{Moment}
 use Rattle.vector_loop.specs.State.{State}
 
--- a list of what the 256 ports read
+-- a list of what the 256 ports read: whatever a port reads stands at its place
 pub record IsPage (reads : ℕ → ℕ → Type 0) (page : List ℕ) : Type 0 where
   pub size : length page ≡ 256
-  pub bytes : (port : ℕ) → port < 256 → reads port (slice_index page port)
+  pub bytes : (port byte : ℕ) → port < 256 → reads port byte → byte ≡ slice_index page port
 
 -- what this many ports read in a state, from port 0 on
 unfoldable pub ports_read : ℕ → State → List ℕ

@@ -1,26 +1,26 @@
 //! Events.
-ghost use Rattle.std.specs.Prelude.{◌≡◌, ◌+◌, ◌*◌, ◌^◌, ◌<◌, ◌≤◌, OnOk, OnErr, IfErr, None};
+ghost use Rattle.std.specs.Prelude.{◌≡◌, ◌+◌, ◌*◌, ◌^◌, ◌<◌, ◌≤◌, OnOk, OnErr, IfErr};
 ghost use Rattle.play_script.specs.declared.script.Event.TheVariants as events;
 ghost use Rattle.uxn_io.specs.Faults.{Ledger};
 ghost use Rattle.uxn_opcodes.specs.Ports.{blame_of};
-ghost use Rattle.varvara_bus.specs.Bus.{SameLent, SameBus, frames_begun, bus_faults};
-ghost use Rattle.vector_loop.specs.Event.{vector_in, console, device, frame, give};
+ghost use Rattle.varvara_bus.specs.Bus.{SameLent, SameBus, FilesStay, frames_begun, bus_faults};
+ghost use Rattle.vector_loop.specs.Event.{vector_in, console, device, give};
+ghost use Rattle.vector_loop.specs.Outputs.{OutputsThere};
 ghost use Rattle.vector_loop.specs.Follows.{running, FollowsFrom, FallsShortFrom, HasGrown};
 
+use crate::frame::give_frame;
+use crate::output::{Outputs, keep_picture};
 use crate::tally::Tally;
 use crate::vector::run_vector;
 use crate::watch::Watcher;
 use input_ports::{Input, vector_port};
 use play_script::Event;
-use uxn_io::{Path, Sink, Tree};
+use uxn_io::{Sink, Tree};
 use uxn_opcodes::{Core, Stop};
 use varvara_bus::Bus;
 
 /// The port of the console's vector.
 const CONSOLE_VECTOR: u8 = 0x10;
-
-/// The port of the screen's vector.
-const SCREEN_VECTOR: u8 = 0x20;
 
 /// The port of the state, which ends the run where it is not 0.
 pub(crate) const STATE: u8 = 0x0f;
@@ -31,17 +31,8 @@ const INPUT: u8 = 1;
 /// The kind of the end of the console's input.
 const END: u8 = 4;
 
-/// The files that a run appends to.
-#[derive(Clone, Copy, Debug, PartialEq, Eq)]
-pub struct Outputs {
-    /// Where pictures go.
-    pub frames: Option<Path>,
-    /// Where samples go.
-    pub samples: Option<Path>,
-}
-
 /// Runs the vector whose address is in two ports, unless it is 0.
-fn run_vector_in<'a, T: Tree, O: Sink, E: Sink, W: Watcher>(
+pub(crate) fn run_vector_in<'a, T: Tree, O: Sink, E: Sink, W: Watcher>(
     core: &mut Core,
     bus: &mut Bus<'a, T, O, E>,
     port: u8,
@@ -61,7 +52,7 @@ fn run_vector_in<'a, T: Tree, O: Sink, E: Sink, W: Watcher>(
     ensures grown { HasGrown tally.old tally.new 1 0 budget }
     ensures ledger { Ledger (bus_faults T.faults O.faults E.faults bus.old) (bus_faults T.faults O.faults E.faults bus.new) (blame_of result) }
     ensures memory { IfErr result (λ stop. stop ≡ Stop.NoMemory → W.may_refuse) }
-    ensures same { SameBus bus.old bus.new }
+    ensures same { SameBus T.told bus.old bus.new }
 {
     let at = bus.stored_short(port);
     if at == 0 {
@@ -94,7 +85,7 @@ pub(crate) fn give_console<'a, T: Tree, O: Sink, E: Sink, W: Watcher>(
     ensures grown { HasGrown tally.old tally.new 1 0 budget }
     ensures ledger { Ledger (bus_faults T.faults O.faults E.faults bus.old) (bus_faults T.faults O.faults E.faults bus.new) (blame_of result) }
     ensures memory { IfErr result (λ stop. stop ≡ Stop.NoMemory → W.may_refuse) }
-    ensures same { SameBus bus.old bus.new }
+    ensures same { SameBus T.told bus.old bus.new }
 {
     bus.give(byte, kind);
     match run_vector_in(core, bus, CONSOLE_VECTOR, budget, tally, watcher) {
@@ -123,7 +114,7 @@ fn give_device<'a, T: Tree, O: Sink, E: Sink, W: Watcher>(
     ensures grown { HasGrown tally.old tally.new 1 0 budget }
     ensures ledger { Ledger (bus_faults T.faults O.faults E.faults bus.old) (bus_faults T.faults O.faults E.faults bus.new) (blame_of result) }
     ensures memory { IfErr result (λ stop. stop ≡ Stop.NoMemory → W.may_refuse) }
-    ensures same { SameBus bus.old bus.new }
+    ensures same { SameBus T.told bus.old bus.new }
 {
     bus.apply(input);
     match run_vector_in(core, bus, vector_port(input), budget, tally, watcher) {
@@ -137,49 +128,18 @@ fn give_device<'a, T: Tree, O: Sink, E: Sink, W: Watcher>(
     }
 }
 
-/// Begins a frame and runs the screen's vector.
-fn give_frame<'a, T: Tree, O: Sink, E: Sink, W: Watcher>(
-    core: &mut Core,
-    bus: &mut Bus<'a, T, O, E>,
-    budget: u32,
-    tally: &mut Tally,
-    watcher: &mut W,
-) -> Result<(), Stop>
-    requires frames { frames_begun bus.old < 1000000 }
-    requires budget { 1 ≤ budget }
-    requires instructions { tally.old.instructions ≤ 2 ^ 62 }
-    requires vectors { tally.old.vectors ≤ 2 ^ 62 }
-    requires cuts { tally.old.cuts ≤ 2 ^ 62 }
-    ensures ok { OnOk result (FollowsFrom T.told O.told E.told W.held W.shown
-        (running core.old bus.old tally.old watcher.old) (running core.new bus.new tally.new watcher.new) (frame budget)) }
-    ensures err { OnErr result (FallsShortFrom T.told O.told E.told W.held W.shown
-        (running core.old bus.old tally.old watcher.old) (running core.new bus.new tally.new watcher.new) (frame budget)) }
-    ensures grown { HasGrown tally.old tally.new 1 0 budget }
-    ensures ledger { Ledger (bus_faults T.faults O.faults E.faults bus.old) (bus_faults T.faults O.faults E.faults bus.new) (blame_of result) }
-    ensures memory { IfErr result (λ stop. stop ≡ Stop.NoMemory → W.may_refuse) }
-    ensures lent { SameLent bus.old bus.new }
-    ensures begun { frames_begun bus.new ≤ frames_begun bus.old + 1 }
-{
-    bus.frame_begins();
-    match run_vector_in(core, bus, SCREEN_VECTOR, budget, tally, watcher) {
-        Ok(()) => Ok(()),
-        Err(stop) => Err(stop),
-    }
-}
-
 /// Gives one event of a script: its ports are stored, its vector is run unless it is 0, and what is 0 again
 /// after the vector is stored, unless the state is then not 0.
 pub fn run_event<'a, T: Tree, O: Sink, E: Sink, W: Watcher>(
     core: &mut Core,
     bus: &mut Bus<'a, T, O, E>,
     event: &Event,
-    _outputs: &Outputs,
+    outputs: &Outputs,
     budget: u32,
     tally: &mut Tally,
     watcher: &mut W,
 ) -> Result<(), Stop>
-    requires pictures { _outputs.now.frames ≡ None }
-    requires samples { _outputs.now.samples ≡ None }
+    requires outputs { OutputsThere outputs.now (T.told bus.old.tree.now) }
     requires frames { event.now ≡ events.Frame → frames_begun bus.old < 1000000 }
     requires budget { 1 ≤ budget }
     requires instructions { tally.old.instructions ≤ 2 ^ 61 }
@@ -191,15 +151,16 @@ pub fn run_event<'a, T: Tree, O: Sink, E: Sink, W: Watcher>(
 
     // From each state that the bus stood for, all of the event was done, or a front of what it does.
     ensures ok { OnOk result (FollowsFrom T.told O.told E.told W.held W.shown
-        (running core.old bus.old tally.old watcher.old) (running core.new bus.new tally.new watcher.new) (give budget event.now)) }
+        (running core.old bus.old tally.old watcher.old) (running core.new bus.new tally.new watcher.new) (give budget outputs.now event.now)) }
     ensures err { OnErr result (FallsShortFrom T.told O.told E.told W.held W.shown
-        (running core.old bus.old tally.old watcher.old) (running core.new bus.new tally.new watcher.new) (give budget event.now)) }
+        (running core.old bus.old tally.old watcher.old) (running core.new bus.new tally.new watcher.new) (give budget outputs.now event.now)) }
     ensures grown { HasGrown tally.old tally.new 5 1 budget }
 
     // A fault comes only where its count rose; memory is wanting only to the watcher.
     ensures ledger { Ledger (bus_faults T.faults O.faults E.faults bus.old) (bus_faults T.faults O.faults E.faults bus.new) (blame_of result) }
     ensures memory { IfErr result (λ stop. stop ≡ Stop.NoMemory → W.may_refuse) }
     ensures lent { SameLent bus.old bus.new }
+    ensures files { FilesStay (T.told bus.old.tree.now) (T.told bus.new.tree.now) }
     ensures begun { frames_begun bus.new ≤ frames_begun bus.old + 1 }
 {
     tally.events += 1;
@@ -218,14 +179,17 @@ pub fn run_event<'a, T: Tree, O: Sink, E: Sink, W: Watcher>(
         },
         Event::Frame => {
             tally.frames += 1;
-            match give_frame(core, bus, budget, tally, watcher) {
+            match give_frame(core, bus, outputs, budget, tally, watcher) {
                 Ok(()) => Ok(()),
                 Err(stop) => Err(stop),
             }
         }
         Event::Shot => {
             tally.shots += 1;
-            Ok(())
+            match keep_picture(bus, &outputs.frames) {
+                Ok(()) => Ok(()),
+                Err(stop) => Err(stop),
+            }
         }
     }
 }

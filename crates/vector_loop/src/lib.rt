@@ -2,6 +2,8 @@
 #![tactic(auto)]
 
 mod event;
+mod frame;
+mod output;
 mod run;
 mod tally;
 #[cfg(test)]
@@ -9,7 +11,8 @@ mod tests;
 mod vector;
 mod watch;
 
-pub use event::{Outputs, run_event};
+pub use event::run_event;
+pub use output::Outputs;
 pub use run::run_script;
 pub use tally::{Tally, VectorEnd};
 pub use vector::run_vector;

@@ -1,14 +1,14 @@
 //! Whole runs.
-ghost use Rattle.std.specs.Prelude.{◌≡◌, ◌+◌, ◌*◌, ◌<◌, ◌≤◌, ◌++◌, [], ◌∷◌, length, None, OnOk, OnErr, IfOk, IfErr};
+ghost use Rattle.std.specs.Prelude.{◌≡◌, ◌+◌, ◌*◌, ◌^◌, ◌<◌, ◌≤◌, ◌++◌, [], ◌∷◌, length, OnOk, OnErr, IfOk, IfErr};
 ghost use Rattle.uxn_io.specs.Faults.{Ledger};
 ghost use Rattle.uxn_opcodes.specs.Ports.{blame_of};
 ghost use Rattle.play_script.specs.Held.{bytes_in};
 ghost use Rattle.varvara_bus.specs.State.{DeviceState, storing};
-ghost use Rattle.varvara_bus.specs.Bus.{SameLent, BusStandsFor, ChangesDevices, frames_begun, bus_faults};
+ghost use Rattle.varvara_bus.specs.Bus.{SameLent, FilesStay, BusStandsFor, ChangesDevices, frames_begun, bus_faults};
 ghost use Rattle.vector_loop.specs.State.{new_tally};
-ghost use Rattle.vector_loop.specs.Event.{unless_over, console, give};
+ghost use Rattle.vector_loop.specs.Outputs.{OutputsThere};
+ghost use Rattle.vector_loop.specs.Event.{unless_over, give_each, console, give};
 ghost use Rattle.vector_loop.specs.Run.{
-  give_each,
   console_byte,
   argument_bytes,
   arguments_given,
@@ -17,9 +17,10 @@ ghost use Rattle.vector_loop.specs.Run.{
   run,
 };
 ghost use Rattle.vector_loop.specs.Follows.{running, FallsShortFrom, EndsFrom, HasRoom};
-ghost use Rattle.vector_loop.specs.Answers.{Answers};
+ghost use Rattle.vector_loop.specs.Answers.{telling_of, Answers};
 
-use crate::event::{Outputs, STATE, give_console, run_event};
+use crate::event::{STATE, give_console, run_event};
+use crate::output::Outputs;
 use crate::tally::Tally;
 use crate::vector::run_vector;
 use crate::watch::{Moment, Watcher};
@@ -54,18 +55,8 @@ fn give_byte<'a, T: Tree, O: Sink, E: Sink, W: Watcher>(
     watcher: &mut W,
 ) -> Result<(), Stop>
     requires budget { 1 ≤ budget }
-    requires room { HasRoom tally.old 1 0 budget }
-    ensures { Answers (record {
-      tree = T.told;
-      out = O.told;
-      err = E.told;
-      tree_faults = T.faults;
-      out_faults = O.faults;
-      err_faults = E.faults;
-      held = W.held;
-      shown = W.shown;
-      may_refuse = W.may_refuse;
-    })
+    requires room { HasRoom (2 ^ 61) tally.old 1 0 budget }
+    ensures { Answers (telling_of T.told O.told E.told T.faults O.faults E.faults W.held W.shown W.may_refuse)
         (running core.old bus.old tally.old watcher.old) (running core.new bus.new tally.new watcher.new)
         (unless_over (console budget byte kind)) 1 0 budget result }
 {
@@ -89,18 +80,8 @@ fn give_argument<'a, T: Tree, O: Sink, E: Sink, W: Watcher>(
     watcher: &mut W,
 ) -> Result<(), Stop>
     requires budget { 1 ≤ budget }
-    requires room { HasRoom tally.old (length text.now + 1) 0 budget }
-    ensures { Answers (record {
-      tree = T.told;
-      out = O.told;
-      err = E.told;
-      tree_faults = T.faults;
-      out_faults = O.faults;
-      err_faults = E.faults;
-      held = W.held;
-      shown = W.shown;
-      may_refuse = W.may_refuse;
-    })
+    requires room { HasRoom (2 ^ 61) tally.old (length text.now + 1) 0 budget }
+    ensures { Answers (telling_of T.told O.told E.told T.faults O.faults E.faults W.held W.shown W.may_refuse)
         (running core.old bus.old tally.old watcher.old) (running core.new bus.new tally.new watcher.new)
         (give_each (console_byte budget) (argument_bytes text.now ++ (10, kind) ∷ [])) (length text.now + 1) 0 budget result }
 {
@@ -133,18 +114,8 @@ fn give_arguments<'a, T: Tree, O: Sink, E: Sink, W: Watcher>(
     watcher: &mut W,
 ) -> Result<(), Stop>
     requires budget { 1 ≤ budget }
-    requires room { HasRoom tally.old (length (arguments_given (bytes_in arguments.now))) 0 budget }
-    ensures { Answers (record {
-      tree = T.told;
-      out = O.told;
-      err = E.told;
-      tree_faults = T.faults;
-      out_faults = O.faults;
-      err_faults = E.faults;
-      held = W.held;
-      shown = W.shown;
-      may_refuse = W.may_refuse;
-    })
+    requires room { HasRoom (2 ^ 61) tally.old (length (arguments_given (bytes_in arguments.now))) 0 budget }
+    ensures { Answers (telling_of T.told O.told E.told T.faults O.faults E.faults W.held W.shown W.may_refuse)
         (running core.old bus.old tally.old watcher.old) (running core.new bus.new tally.new watcher.new)
         (give_each (console_byte budget) (arguments_given (bytes_in arguments.now))) (length (arguments_given (bytes_in arguments.now))) 0 budget result }
 {
@@ -170,24 +141,13 @@ fn give_event<'a, T: Tree, O: Sink, E: Sink, W: Watcher>(
     tally: &mut Tally,
     watcher: &mut W,
 ) -> Result<(), Stop>
-    requires pictures { outputs.now.frames ≡ None }
-    requires samples { outputs.now.samples ≡ None }
+    requires outputs { OutputsThere outputs.now (T.told bus.old.tree.now) }
     requires frames { frames_begun bus.old < 1000000 }
     requires budget { 1 ≤ budget }
-    requires room { HasRoom tally.old 5 1 budget }
-    ensures { Answers (record {
-      tree = T.told;
-      out = O.told;
-      err = E.told;
-      tree_faults = T.faults;
-      out_faults = O.faults;
-      err_faults = E.faults;
-      held = W.held;
-      shown = W.shown;
-      may_refuse = W.may_refuse;
-    })
+    requires room { HasRoom (2 ^ 61) tally.old 5 1 budget }
+    ensures { Answers (telling_of T.told O.told E.told T.faults O.faults E.faults W.held W.shown W.may_refuse)
         (running core.old bus.old tally.old watcher.old) (running core.new bus.new tally.new watcher.new)
-        (unless_over (give budget event.now)) 5 1 budget result }
+        (unless_over (give budget outputs.now event.now)) 5 1 budget result }
 {
     if bus.stored(STATE) != 0 {
         return Ok(());
@@ -208,24 +168,13 @@ fn give_events<'a, T: Tree, O: Sink, E: Sink, W: Watcher>(
     tally: &mut Tally,
     watcher: &mut W,
 ) -> Result<(), Stop>
-    requires pictures { outputs.now.frames ≡ None }
-    requires samples { outputs.now.samples ≡ None }
+    requires outputs { OutputsThere outputs.now (T.told bus.old.tree.now) }
     requires frames { frames_begun bus.old + length events.now ≤ 1000000 }
     requires budget { 1 ≤ budget }
-    requires room { HasRoom tally.old (length events.now * 5) (length events.now) budget }
-    ensures { Answers (record {
-      tree = T.told;
-      out = O.told;
-      err = E.told;
-      tree_faults = T.faults;
-      out_faults = O.faults;
-      err_faults = E.faults;
-      held = W.held;
-      shown = W.shown;
-      may_refuse = W.may_refuse;
-    })
+    requires room { HasRoom (2 ^ 61) tally.old (length events.now * 5) (length events.now) budget }
+    ensures { Answers (telling_of T.told O.told E.told T.faults O.faults E.faults W.held W.shown W.may_refuse)
         (running core.old bus.old tally.old watcher.old) (running core.new bus.new tally.new watcher.new)
-        (give_each (give budget) events.now) (length events.now * 5) (length events.now) budget result }
+        (give_each (give budget outputs.now) events.now) (length events.now * 5) (length events.now) budget result }
 {
     for event in events {
         match give_event(core, bus, event, outputs, budget, tally, watcher) {
@@ -238,8 +187,8 @@ fn give_events<'a, T: Tree, O: Sink, E: Sink, W: Watcher>(
 
 /// Tells the program by port 17 whether arguments will come.
 fn make_ready<'a, T: Tree, O: Sink, E: Sink>(bus: &mut Bus<'a, T, O, E>, arguments: &[Bytes])
-    ensures devices { (state : DeviceState) → BusStandsFor bus.old state
-        → BusStandsFor bus.new (storing (made_ready (bytes_in arguments.now)) state) }
+    ensures devices { (state : DeviceState) → BusStandsFor T.told bus.old state
+        → BusStandsFor T.told bus.new (storing (made_ready (bytes_in arguments.now)) state) }
     ensures others { ChangesDevices bus.old bus.new }
     ensures frames { frames_begun bus.new ≡ frames_begun bus.old }
 {
@@ -258,21 +207,21 @@ pub fn run_script<'a, T: Tree, O: Sink, E: Sink, W: Watcher>(
     budget: u32,
     watcher: &mut W,
 ) -> Result<Tally, Stop>
-    requires pictures { outputs.now.frames ≡ None }
-    requires samples { outputs.now.samples ≡ None }
+    requires outputs { OutputsThere outputs.now (T.told bus.old.tree.now) }
     requires frames { frames_begun bus.old ≡ 0 }
     requires budget { 1 ≤ budget }
 
     // From each state that the bus stood for, all of the run was done, or a front of what it does.
     ensures ok { IfOk result (λ tally. EndsFrom T.told O.told E.told W.held W.shown W.ended
-        (running core.old bus.old new_tally watcher.old) (running core.new bus.new tally watcher.new) (run budget script.now)) }
+        (running core.old bus.old new_tally watcher.old) (running core.new bus.new tally watcher.new) (run budget outputs.now script.now)) }
     ensures err { OnErr result (FallsShortFrom T.told O.told E.told W.held W.shown
-        (running core.old bus.old new_tally watcher.old) (running core.new bus.new new_tally watcher.new) (run budget script.now)) }
+        (running core.old bus.old new_tally watcher.old) (running core.new bus.new new_tally watcher.new) (run budget outputs.now script.now)) }
 
     // A fault comes only where its count rose; memory is wanting only to the watcher.
     ensures ledger { Ledger (bus_faults T.faults O.faults E.faults bus.old) (bus_faults T.faults O.faults E.faults bus.new) (blame_of result) }
     ensures memory { IfErr result (λ stop. stop ≡ Stop.NoMemory → W.may_refuse) }
     ensures lent { SameLent bus.old bus.new }
+    ensures files { OnOk result (FilesStay (T.told bus.old.tree.now) (T.told bus.new.tree.now)) }
 {
     script.known();
     let mut tally = Tally {

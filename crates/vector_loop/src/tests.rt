@@ -1,9 +1,12 @@
 //! Vectors and whole runs: what they put, and what they count.
 
+ghost use Rattle.std.specs.Prelude.{◌≡◌, true, IfSome};
+ghost use Rattle.varvara_bus.specs.Bus.{IsFileWhereTold};
+
 use super::*;
 use play_script::read_script;
 use std::test::Fail;
-use uxn_io::{MemSink, MemTree};
+use uxn_io::{Failed, Kind, MemSink, MemTree, Path, Tree};
 use uxn_opcodes::Core;
 use varvara_bus::{Bus, Clock, Devices};
 
@@ -175,5 +178,128 @@ fn a_fault_ends_the_run(rt: HostRuntime) -> Result<(), Fail> {
         Err(uxn_opcodes::Stop::SinkFault)
     );
     assert_eq!(rt; out.bytes(), b"a".as_slice());
+    Ok(())
+}
+
+/// Whether an output is a file, or is not asked for.
+#[tactic(auto, using(varvara_bus::specs::Laws::told_file))]
+fn is_there<T: Tree>(tree: &mut T, output: &Option<Path>) -> bool
+    ensures there { result ≡ true → IfSome output.now (IsFileWhereTold (T.told tree.new)) }
+    ensures same { T.told tree.new ≡ T.told tree.old }
+{
+    match output {
+        None => true,
+        Some(path) => match tree.kind(path) {
+            Ok(Kind::File(_)) => true,
+            _ => false,
+        },
+    }
+}
+
+/// A program and its script; what it puts, how many instructions and vectors it runs, the front of the picture and its
+/// length, and how many of the first samples are the loud ones of a held note.
+type Kept = (
+    &'static [u8],
+    &'static [u8],
+    &'static [u8],
+    [u64; 2],
+    &'static [u8],
+    [usize; 3],
+);
+
+const KEPT: [Kept; 4] = [
+    // A green pixel on a red screen of 8 by 8.
+    (
+        &[
+            0xa0, 0xf0, 0x00, 0x80, 0x08, 0x37, 0xa0, 0x0f, 0x00, 0x80, 0x0a, 0x37, 0xa0, 0x00,
+            0x08, 0x80, 0x22, 0x37, 0xa0, 0x00, 0x08, 0x80, 0x24, 0x37, 0x80, 0x01, 0x80, 0x2e,
+            0x17, 0x00,
+        ],
+        b"shot",
+        b"",
+        [16, 1],
+        b"P6\n8 8\n255\n\x00\xff\x00\xff\x00\x00\xff\x00\x00",
+        [203, 0, 0],
+    ),
+    // The state ends the run before the shot.
+    (
+        &[0x80, 0x85, 0x80, 0x0f, 0x17, 0x00],
+        b"input \"hi\nshot",
+        b"",
+        [4, 1],
+        b"",
+        [0, 0, 0],
+    ),
+    // A note of one byte that repeats.
+    (
+        &[
+            0xa0, 0x01, 0x17, 0x80, 0x3c, 0x37, 0xa0, 0x00, 0x01, 0x80, 0x3a, 0x37, 0x80, 0xf0,
+            0x80, 0x3e, 0x17, 0x80, 0x3c, 0x80, 0x3f, 0x17, 0x00, 0xff,
+        ],
+        b"frame",
+        b"",
+        [13, 1],
+        b"",
+        [0, 735, 735],
+    ),
+    // One that does not: its voice's vector is run after the frame.
+    (
+        &[
+            0xa0, 0x01, 0x1e, 0x80, 0x30, 0x37, 0xa0, 0x01, 0x1d, 0x80, 0x3c, 0x37, 0xa0, 0x00,
+            0x01, 0x80, 0x3a, 0x37, 0x80, 0xf0, 0x80, 0x3e, 0x17, 0x80, 0xbc, 0x80, 0x3f, 0x17,
+            0x00, 0xff, 0x80, 0x41, 0x80, 0x18, 0x17, 0x00,
+        ],
+        b"frame",
+        b"A",
+        [20, 2],
+        b"",
+        [0, 735, 168],
+    ),
+];
+
+#[test]
+fn pictures_and_samples_are_kept(rt: HostRuntime) -> Result<(), Fail> {
+    let outputs = Outputs {
+        frames: Some(Path::read(b"p")?),
+        samples: Some(Path::read(b"s")?),
+    };
+    for (rom, text, put, [instructions, vectors], picture, [length, pairs, loud]) in &KEPT {
+        let script = read_script(rt.alloc(), text)?;
+        let mut devices = Devices::new(rt.alloc(), None, CLOCK)?;
+        let mut tree = MemTree::new(rt.alloc(), &[], 2, 3000, &[])?;
+        for output in [b"p", b"s"] {
+            assert_eq!(rt; tree.create(&Path::read(output)?), Ok(true));
+        }
+        let mut out = MemSink::new(rt.alloc(), 100, &[])?;
+        let mut err = MemSink::new(rt.alloc(), 0, &[])?;
+        assert!(rt; is_there(&mut tree, &outputs.frames));
+        assert!(rt; is_there(&mut tree, &outputs.samples));
+        let mut bus = Bus::new(&mut devices, &mut tree, &mut out, &mut err);
+        assert!(rt; rom.len() < 100);
+        assert!(rt; bus.frames() == 0);
+        let mut core = Core::new(rt.alloc(), rom)?;
+        let ran = run_script(&mut core, &mut bus, &script, &outputs, 100, &mut NoWatch)?;
+        assert_eq!(rt; [ran.instructions, ran.vectors], [*instructions, *vectors]);
+        assert_eq!(rt; out.bytes(), *put);
+        let shown = tree
+            .node(&Path::read(b"p")?)
+            .map(|node| node.bytes.as_slice());
+        let heard = tree
+            .node(&Path::read(b"s")?)
+            .map(|node| node.bytes.as_slice());
+        let (Some(shown), Some(heard)) = (shown, heard) else {
+            return Err(Fail::from(Failed));
+        };
+        assert_eq!(rt; (shown.len(), heard.len()), (*length, 4 * pairs));
+        assert!(rt; shown.starts_with(picture));
+        for (place, byte) in heard.iter().enumerate() {
+            let sample: [u8; 4] = if place / 4 < *loud {
+                [0x52, 0x2a, 0, 0]
+            } else {
+                [0; 4]
+            };
+            assert_eq!(rt; *byte, sample[place % 4]);
+        }
+    }
     Ok(())
 }

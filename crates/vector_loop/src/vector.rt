@@ -31,7 +31,7 @@ pub fn run_vector<'a, T: Tree, O: Sink, E: Sink, W: Watcher>(
     // From each state that the bus stood for, all of the vector was done, or a front of what it does.
     ensures ok { OnOk result (FollowsFrom T.told O.told E.told W.held W.shown
         (running core.old bus.old tally.old watcher.old) (running core.new bus.new tally.new watcher.new) (vector budget at)) }
-    ensures end { IfOk result (λ end. (devices : DeviceState) → BusStandsFor bus.old devices
+    ensures end { IfOk result (λ end. (devices : DeviceState) → BusStandsFor T.told bus.old devices
         → end ≡ vector_end budget at (state_of (running core.old bus.old tally.old watcher.old) devices)) }
     ensures err { OnErr result (FallsShortFrom T.told O.told E.told W.held W.shown
         (running core.old bus.old tally.old watcher.old) (running core.new bus.new tally.new watcher.new) (vector budget at)) }
@@ -40,7 +40,7 @@ pub fn run_vector<'a, T: Tree, O: Sink, E: Sink, W: Watcher>(
     // Memory is wanting only to the watcher, and a fault comes only where its count rose.
     ensures ledger { Ledger (bus_faults T.faults O.faults E.faults bus.old) (bus_faults T.faults O.faults E.faults bus.new) (blame_of result) }
     ensures memory { IfErr result (λ stop. stop ≡ Stop.NoMemory → W.may_refuse) }
-    ensures same { SameBus bus.old bus.new }
+    ensures same { SameBus T.told bus.old bus.new }
 {
     core.at = at;
     tally.vectors += 1;

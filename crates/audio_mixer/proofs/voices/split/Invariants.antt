@@ -1,4 +1,3 @@
-use Rattle.std.specs.Prelude.{◌≡◌, ◌+◌, ◌/◌, ◌%◌}
 use Rattle.audio_mixer.proofs.voices.split.Given as goal
 use Rattle.audio_mixer.proofs.Divisions.{IsSplit}
 

@@ -1,22 +1,14 @@
 use Rattle.std.proofs.Common.{ℕ, [], ◌∷◌, ◌++◌, drop}
-use Rattle.vector_loop.specs.Run.{give_each, console_byte, argument_bytes}
+use Rattle.vector_loop.specs.Event.{give_each}
+use Rattle.vector_loop.specs.Run.{console_byte, argument_bytes}
+use Rattle.vector_loop.specs.Answers.{telling_of}
 use Rattle.vector_loop.specs.Follows.{running}
 use Rattle.vector_loop.proofs.Runs.{Going}
 use Rattle.vector_loop.proofs.run.give_argument.Given as goal
 
 abbrev pub invariant-loop-byte : goal.invariant-loop-byte
 invariant-loop-byte g l = record {
-  going : Going (record {
-    tree = g.T.Tree.told;
-    out = g.O.Sink.told;
-    err = g.E.Sink.told;
-    tree_faults = g.T.Tree.faults;
-    out_faults = g.O.Sink.faults;
-    err_faults = g.E.Sink.faults;
-    held = g.W.Watcher.held;
-    shown = g.W.Watcher.shown;
-    may_refuse = g.W.Watcher.may_refuse;
-  })
+  going : Going (telling_of g.T.Tree.told g.O.Sink.told g.E.Sink.told g.T.Tree.faults g.O.Sink.faults g.E.Sink.faults g.W.Watcher.held g.W.Watcher.shown g.W.Watcher.may_refuse)
       (running l.fn.core l.fn.bus l.fn.tally l.fn.watcher) (running l.core l.bus l.tally l.watcher)
       (give_each (console_byte l.budget) (argument_bytes l.text ++ (10, l.kind) ∷ []))
       (give_each (console_byte l.budget) (drop l.byte-index (argument_bytes l.text ++ (10, l.kind) ∷ []))) l.byte-index 0 l.budget;

@@ -1,7 +1,8 @@
 use Rattle.std.proofs.Common.{◌≡◌, ◌+◌, ◌-◌, ◌<◌, ◌≤◌, length, drop, [], refl, arith, ap, ◌∙◌}
 use Rattle.play_script.specs.Held.{bytes_in}
-use Rattle.vector_loop.specs.Run.{arguments_given, console_byte, give_each}
-use Rattle.vector_loop.proofs.Runs.{held-at, held-length, given-length, room-left, room-within, going-start, going-argument, going-argument_stopped, going-as, going-end, done-within, each-past}
+use Rattle.vector_loop.specs.Event.{give_each}
+use Rattle.vector_loop.specs.Run.{arguments_given, console_byte}
+use Rattle.vector_loop.proofs.Runs.{held-at, held-length, given-length, room-left, room-within, going-start, going-argument, going-argument_stopped, going-as, going-end, done-within, stopped-within, each-past}
 use Rattle.vector_loop.proofs.run.give_arguments.Goals as goal
 
 pub loop-text-init : goal.loop-text-init
@@ -15,8 +16,8 @@ give_argument-requires-clause-room g c =
     let is = held-at c.args.arguments.now c.loop-text.text-index c.text-item.result c.loop-text-test.true c.text-item.is in
     let size = given-length (bytes_in c.args.arguments.now) c.loop-text.text-index c.text-item.result.list (c.loop-text.following - 1) within is left in
     let same : length c.as_slice.result.now ≡ length c.text-item.result.list = ap length c.as_slice.ensures in
-    room-left _ _ c.loop-text.invariant.begun 0 (length c.as_slice.result.now + 1) 0 c.args.budget
-    (room-within _ _ _ _ _ _ (omega (arith, c.loop-text.invariant.counted, size, same)) (omega arith) c.requires.room)
+    room-left _ _ _ c.loop-text.invariant.begun 0 (length c.as_slice.result.now + 1) 0 c.args.budget
+    (room-within _ _ _ _ _ _ _ (omega (arith, c.loop-text.invariant.counted, size, same)) (omega arith) c.requires.room)
     c.loop-text.invariant.going.done.grown
 
 pub loop-text-preserved : goal.loop-text-preserved
@@ -40,8 +41,10 @@ returns-in-Err g c =
     let left : (c.loop-text.following - 1) + c.loop-text.text-index + 1 ≡ length (bytes_in c.args.arguments.now) = omega (arith, all, c.loop-text.invariant.following, c.loop-text-test.true) in
     let within : c.loop-text.text-index < length (bytes_in c.args.arguments.now) = omega (arith, all, c.loop-text-test.true) in
     let is = held-at c.args.arguments.now c.loop-text.text-index c.text-item.result c.loop-text-test.true c.text-item.is in
-    going-argument_stopped _ _ _ _ _ (bytes_in c.args.arguments.now) c.loop-text.text-index c.text-item.result.list (c.loop-text.following - 1) c.loop-text.invariant.begun 0 c.args.budget _ within is left
-    c.loop-text.invariant.going (rw (c.as_slice.ensures, c.kind_before-kind.ensures) at c.in-Err.ensures)
+    let size = given-length (bytes_in c.args.arguments.now) c.loop-text.text-index c.text-item.result.list (c.loop-text.following - 1) within is left in
+    stopped-within _ _ _ _ (c.loop-text.invariant.begun + (length c.text-item.result.list + 1)) 0 _ _ c.args.budget _ (omega (arith, c.loop-text.invariant.counted, size)) (omega arith)
+    (going-argument_stopped _ _ _ _ _ (bytes_in c.args.arguments.now) c.loop-text.text-index c.text-item.result.list (c.loop-text.following - 1) c.loop-text.invariant.begun 0 (length c.text-item.result.list + 1) 0 c.args.budget _ within is left
+    c.loop-text.invariant.going (rw (c.as_slice.ensures, c.kind_before-kind.ensures) at c.in-Err.ensures))
 
 pub returns : goal.returns
 returns g c =

@@ -1,6 +1,8 @@
 use Rattle.std.proofs.Common.{◌≡◌, ℕ, ◌+◌, drop, length}
 use Rattle.play_script.specs.Held.{bytes_in}
-use Rattle.vector_loop.specs.Run.{give_each, console_byte, arguments_given}
+use Rattle.vector_loop.specs.Event.{give_each}
+use Rattle.vector_loop.specs.Run.{console_byte, arguments_given}
+use Rattle.vector_loop.specs.Answers.{telling_of}
 use Rattle.vector_loop.specs.Follows.{running}
 use Rattle.vector_loop.proofs.Runs.{Going}
 use Rattle.vector_loop.proofs.run.give_arguments.Given as goal
@@ -8,17 +10,7 @@ use Rattle.vector_loop.proofs.run.give_arguments.Given as goal
 abbrev pub invariant-loop-text : goal.invariant-loop-text
 invariant-loop-text g l = record {
   begun : ℕ;
-  going : Going (record {
-    tree = g.T.Tree.told;
-    out = g.O.Sink.told;
-    err = g.E.Sink.told;
-    tree_faults = g.T.Tree.faults;
-    out_faults = g.O.Sink.faults;
-    err_faults = g.E.Sink.faults;
-    held = g.W.Watcher.held;
-    shown = g.W.Watcher.shown;
-    may_refuse = g.W.Watcher.may_refuse;
-  })
+  going : Going (telling_of g.T.Tree.told g.O.Sink.told g.E.Sink.told g.T.Tree.faults g.O.Sink.faults g.E.Sink.faults g.W.Watcher.held g.W.Watcher.shown g.W.Watcher.may_refuse)
       (running l.fn.core l.fn.bus l.fn.tally l.fn.watcher) (running l.core l.bus l.tally l.watcher)
       (give_each (console_byte l.budget) (arguments_given (bytes_in l.arguments)))
       (give_each (console_byte l.budget) (arguments_given (drop l.text-index (bytes_in l.arguments)))) begun 0 l.budget;

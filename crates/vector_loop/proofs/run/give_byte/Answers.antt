@@ -12,13 +12,17 @@ returns-in-Ok g c = done-not_over _ _ _ (console c.args.budget c.args.byte c.arg
   grown = c.in-Ok.ensures.grown;
   faults = c.in-Ok.ensures.ledger;
   lent = c.in-Ok.ensures.same.lent;
+  files = c.in-Ok.ensures.same.files;
   frames = omega (arith, c.in-Ok.ensures.same.frames);
 })
 
 pub returns-in-Err : goal.returns-in-Err
-returns-in-Err g c = stopped-not_over _ _ _ (console c.args.budget c.args.byte c.args.kind) c.stored.result _ c.stored.ensures.stored c.if-stored-ne0.false (record {
+returns-in-Err g c = stopped-not_over _ _ _ (console c.args.budget c.args.byte c.args.kind) c.stored.result 1 0 c.args.budget _ c.stored.ensures.stored c.if-stored-ne0.false (record {
   short = c.in-Err.ensures.err;
   ledger = c.in-Err.ensures.ledger;
   memory = c.in-Err.ensures.memory;
+  grown = c.in-Err.ensures.grown;
   lent = c.in-Err.ensures.same.lent;
+  files = c.in-Err.ensures.same.files;
+  frames = omega (arith, c.in-Err.ensures.same.frames);
 })

@@ -3,21 +3,25 @@ use Rattle.vector_loop.proofs.Runs.{done-over, done-not_over, stopped-not_over}
 use Rattle.vector_loop.proofs.run.give_event.Goals as goal
 
 pub returns-then-stored-ne0 : goal.returns-then-stored-ne0
-returns-then-stored-ne0 g c = done-over _ _ (give c.args.budget c.args.event.now) c.stored.result 5 1 c.args.budget c.stored.ensures.stored c.if-stored-ne0.true
+returns-then-stored-ne0 g c = done-over _ _ (give c.args.budget c.args.outputs.now c.args.event.now) c.stored.result 5 1 c.args.budget c.stored.ensures.stored c.if-stored-ne0.true
 
 pub returns-in-Ok : goal.returns-in-Ok
-returns-in-Ok g c = done-not_over _ _ _ (give c.args.budget c.args.event.now) c.stored.result 5 1 c.args.budget c.stored.ensures.stored c.if-stored-ne0.false (record {
+returns-in-Ok g c = done-not_over _ _ _ (give c.args.budget c.args.outputs.now c.args.event.now) c.stored.result 5 1 c.args.budget c.stored.ensures.stored c.if-stored-ne0.false (record {
   follows = c.in-Ok.ensures.ok;
   grown = c.in-Ok.ensures.grown;
   faults = c.in-Ok.ensures.ledger;
   lent = c.in-Ok.ensures.lent;
+  files = c.in-Ok.ensures.files;
   frames = c.in-Ok.ensures.begun;
 })
 
 pub returns-in-Err : goal.returns-in-Err
-returns-in-Err g c = stopped-not_over _ _ _ (give c.args.budget c.args.event.now) c.stored.result _ c.stored.ensures.stored c.if-stored-ne0.false (record {
+returns-in-Err g c = stopped-not_over _ _ _ (give c.args.budget c.args.outputs.now c.args.event.now) c.stored.result 5 1 c.args.budget _ c.stored.ensures.stored c.if-stored-ne0.false (record {
   short = c.in-Err.ensures.err;
   ledger = c.in-Err.ensures.ledger;
   memory = c.in-Err.ensures.memory;
+  grown = c.in-Err.ensures.grown;
   lent = c.in-Err.ensures.lent;
+  files = c.in-Err.ensures.files;
+  frames = c.in-Err.ensures.begun;
 })

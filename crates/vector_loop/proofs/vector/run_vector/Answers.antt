@@ -7,7 +7,7 @@ use Rattle.vector_loop.proofs.vector.run_vector.Goals as goal
 pub loop-less-init : goal.loop-less-init
 loop-less-init g c = record {
   along = along-start _ _ _ _ _ c.args.core.now c.args.bus.now c.args.tally.now c.args.watcher.now c.args.budget c.args.at;
-  same = same-itself c.args.bus.now;
+  same = same-itself _ c.args.bus.now;
   faults = refl;
   within = omega arith;
   instructions = refl;
@@ -24,7 +24,7 @@ loop-less-preserved g c =
     let ran = rw c.in-Ok-Ran.field-0-is at c.in-Ok-Ran.ensures.instruction in
     record {
       along = along-ran _ _ _ _ _ _ _ _ _ _ _ _ _ (along-left _ _ _ _ _ _ _ _ _ _ _ one c.loop-less.invariant.along) c.in-Ok.ensures.ok ran (not-break _ _ _ _ _ _ _ ran);
-      same = same-again _ _ _ c.loop-less.invariant.same (instruction-lent _ _ _ _ _ _ _ _ ran);
+      same = same-again _ _ _ _ c.loop-less.invariant.same (instruction-lent _ _ _ _ _ _ _ _ ran);
       faults = c.in-Ok-Ran.ensures.ledger ∙ c.loop-less.invariant.faults;
       within = omega (arith, one, c.loop-less.invariant.within);
       instructions = omega (arith, one, c.loop-less.invariant.instructions);
@@ -53,7 +53,7 @@ returns-in-Ok-Broke-clause-end g c =
 pub returns-in-Ok-Broke-clause-same : goal.returns-in-Ok-Broke-clause-same
 returns-in-Ok-Broke-clause-same g c =
     let ran = rw c.in-Ok-Broke.field-0-is at c.in-Ok-Broke.ensures.instruction in
-    same-again _ _ _ c.loop-less.invariant.same (instruction-lent _ _ _ _ _ _ _ _ ran)
+    same-again _ _ _ _ c.loop-less.invariant.same (instruction-lent _ _ _ _ _ _ _ _ ran)
 
 pub returns-in-Err-clause-err : goal.returns-in-Err-clause-err
 returns-in-Err-clause-err g c =
@@ -64,7 +64,7 @@ pub returns-in-Err-clause-memory : goal.returns-in-Err-clause-memory
 returns-in-Err-clause-memory g c wanted = absurd (instruction-fault _ _ _ _ _ _ _ _ c.in-Err.ensures.instruction wanted)
 
 pub returns-in-Err-clause-same : goal.returns-in-Err-clause-same
-returns-in-Err-clause-same g c = same-again _ _ _ c.loop-less.invariant.same (instruction-lent _ _ _ _ _ _ _ _ c.in-Err.ensures.instruction)
+returns-in-Err-clause-same g c = same-again _ _ _ _ c.loop-less.invariant.same (instruction-lent _ _ _ _ _ _ _ _ c.in-Err.ensures.instruction)
 
 pub returns-clause-ok : goal.returns-clause-ok
 returns-clause-ok g c =

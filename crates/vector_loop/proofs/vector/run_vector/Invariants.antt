@@ -8,7 +8,7 @@ abbrev pub invariant-loop-less : goal.invariant-loop-less
 invariant-loop-less g l = record {
   along : Along g.T.Tree.told g.O.Sink.told g.E.Sink.told g.W.Watcher.held g.W.Watcher.shown
       (running l.fn.core l.fn.bus l.fn.tally l.fn.watcher) (running l.core l.bus l.tally l.watcher) l.budget l.at l.left;
-  same : SameBus l.fn.bus l.bus;
+  same : SameBus g.T.Tree.told l.fn.bus l.bus;
   faults : bus_faults g.T.Tree.faults g.O.Sink.faults g.E.Sink.faults l.bus ≡ bus_faults g.T.Tree.faults g.O.Sink.faults g.E.Sink.faults l.fn.bus;
   within : l.left ≤ l.budget;
   instructions : l.tally.instructions + l.left ≡ l.fn.tally.instructions + l.budget;

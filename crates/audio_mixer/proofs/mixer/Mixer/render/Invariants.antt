@@ -1,4 +1,4 @@
-use Rattle.std.specs.Prelude.{◌≡◌, ℕ}
+use Rattle.std.specs.Prelude.{ℕ}
 use Rattle.audio_mixer.proofs.mixer.Mixer.render.Given as goal
 use Rattle.audio_mixer.specs.Sounds.{Sound}
 use Rattle.audio_mixer.specs.Voices.{StandsFor}

@@ -1,6 +1,4 @@
-use Rattle.std.specs.Prelude.{◌≡◌, min, ◌≤◌}
-use Rattle.std.proofs.Common.{sym, ◌∙◌, arith}
-use Rattle.audio_mixer.specs.Notes.{loudness, attack_of, decay_of, sustain_of, release_of}
+use Rattle.std.proofs.Common.{◌∙◌}
 use Rattle.audio_mixer.proofs.voices.Playing.loudness.Goals as goal
 use Rattle.audio_mixer.proofs.Ages.{loudness-kept-of}
 

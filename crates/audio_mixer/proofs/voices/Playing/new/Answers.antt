@@ -1,6 +1,5 @@
 use Rattle.std.specs.Prelude.{refl}
 use Rattle.std.proofs.Common.{sym, arith}
-use Rattle.std.proofs.Math.Nat.{zero-mul, zero-div}
 use Rattle.audio_mixer.proofs.voices.Playing.new.Goals as goal
 use Rattle.audio_mixer.proofs.Ages.{rest-none, place-none}
 

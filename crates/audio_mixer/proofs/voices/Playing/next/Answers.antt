@@ -1,6 +1,6 @@
-use Rattle.std.specs.Prelude.{◌≡◌, ◌+◌, min, false, refl}
-use Rattle.std.proofs.Common.{sym, ◌∙◌, ap, arith}
-use Rattle.audio_mixer.specs.Notes.{is_released, release_of}
+use Rattle.std.specs.Prelude.{◌≡◌, false, refl}
+use Rattle.std.proofs.Common.{sym, ◌∙◌, arith}
+use Rattle.audio_mixer.specs.Notes.{is_released}
 use Rattle.audio_mixer.proofs.voices.Playing.next.Goals as goal
 use Rattle.audio_mixer.proofs.Overs.{gives-pair, not-ended, over-next}
 

@@ -1,4 +1,4 @@
-use Rattle.std.specs.Prelude.{◌≡◌, ◌+◌, ◌<◌}
+use Rattle.std.specs.Prelude.{◌+◌, ◌<◌}
 use Rattle.std.proofs.Common.{sym}
 use Rattle.audio_mixer.specs.Notes.{length_of}
 use Rattle.audio_mixer.proofs.voices.Playing.place_ahead.Goals as goal

@@ -1,0 +1,6 @@
+pub mod MemoryLemmas
+pub mod NameLemmas
+pub mod SignLemmas
+pub mod ReadLemmas
+pub mod ActLemmas
+pub mod WriteLemmas

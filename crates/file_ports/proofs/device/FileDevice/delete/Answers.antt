@@ -1,0 +1,13 @@
+use Rattle.std.proofs.Common.{rules}
+use Rattle.uxn_io.proofs.AppendLemmas.{on_err}
+use Rattle.file_ports.proofs.ActLemmas.{delete-done, delete-cut}
+use Rattle.file_ports.proofs.device.FileDevice.delete.Goals as goal
+
+pub returns-in_ok-gone-in-Some-clause-ok : goal.returns-in_ok-gone-in-Some-clause-ok
+returns-in_ok-gone-in-Some-clause-ok g c = λ memory.
+    delete-done c.in-Some.path c.self.inside.path c.self.inside.mode c.args.self.now memory _ _ c.in_ok-gone-in-Some.gone c.from.result (search rules) c.self.view_is c.in_ok-gone-in-Some.ensures.answer c.in_ok-gone-in-Some.ensures.ok c.from.ensures
+
+pub returns-in_err-gone-in-Some-clause-err : goal.returns-in_err-gone-in-Some-clause-err
+returns-in_err-gone-in-Some-clause-err g c =
+    on_err c.from_residual.result _
+    (λ memory. delete-cut c.in-Some.path c.self.inside.path c.self.inside.mode c.args.self.now memory _ _ (search rules) c.self.view_is c.in_err-gone-in-Some.ensures.err)

@@ -1,0 +1,16 @@
+use Rattle.std.proofs.Common.{◌≡◌, ◌∙◌, rules, IfSome, subst}
+use Rattle.file_ports.specs.declared.mode.Mode.{Mode}
+use Rattle.file_ports.specs.Actions.{reading, given, seen_of}
+use Rattle.file_ports.specs.Answers.{GivesPiece}
+use Rattle.uxn_io.specs.Files.{Nodes}
+use Rattle.file_ports.proofs.ActLemmas.{read-done, told_back}
+use Rattle.file_ports.proofs.device.FileDevice.read.Goals as goal
+
+pub returns-in_ok-count-in-Some-clause-ok : goal.returns-in_ok-count-in-Some-clause-ok
+returns-in_ok-count-in-Some-clause-ok g c =
+    let Reads : Mode → Type 0 = λ m. IfSome (g.T.Tree.told c.args.tree.now) (λ nodes. c.in_ok-mode-in-Some.mode ≡ reading m (seen_of nodes c.in-Some.path)) in
+    let Gives : Nodes → Type 0 = λ nodes. GivesPiece (given c.in_ok-mode-in-Some.mode (seen_of nodes c.in-Some.path) c.count_from.result) c.args.memory.now c.args.at c.in_ok-count-in-Some.count c.read_on.new.memory in
+    read-done c.args.at c.args.length c.count_from.result c.in-Some.path c.self.inside.path c.self.inside.mode c.in_ok-mode-in-Some.mode c.in_ok-count-in-Some.mode c.args.self.now c.args.memory.now c.read_on.new.memory _ _
+    c.in_ok-count-in-Some.count (search rules) c.self.view_is c.count_from.ensures.count (c.in_ok-count-in-Some.ensures.same ∙ c.in_ok-mode-in-Some.ensures.same)
+    (subst Reads c.replace-mode.ensures.value c.in_ok-mode-in-Some.ensures.mode)
+    (told_back (g.T.Tree.told c.args.tree.now) (g.T.Tree.told c.reading.new.tree) Gives c.in_ok-mode-in-Some.ensures.same c.in_ok-count-in-Some.ensures.piece) c.in_ok-count-in-Some.ensures.mode

@@ -1,0 +1,29 @@
+use Rattle.std.proofs.Common.{◌∙◌, ℕ, rules, refl, ap, take, drop}
+use Rattle.uxn_io.proofs.AppendLemmas.{on_err}
+use Rattle.file_ports.specs.declared.mode.Mode.TheVariants.{Idle}
+use Rattle.file_ports.proofs.WriteLemmas.{write-none, write-some, write-cut}
+use Rattle.file_ports.proofs.device.FileDevice.write.Goals as goal
+
+pub returns-in_err-add-in-Some-clause-err : goal.returns-in_err-add-in-Some-clause-err
+returns-in_err-add-in-Some-clause-err g c =
+    on_err c.from_residual.result _
+    (write-cut c.args.at c.args.length c.args.keep c.is_writing-is_writing.result c.in-Some.path c.slice-piece.result.now c.self.inside.path c.self.inside.mode c.args.self.now c.args.memory.now _ _ (search rules) c.self.view_is
+    c.is_writing-is_writing.ensures
+    (c.slice-piece.ensures ∙ ap (λ (n : ℕ). take n (drop c.args.at c.args.memory.now)) c.count_from.ensures.count)
+    c.in_err-add-in-Some.ensures.front)
+
+pub returns-then-not-branch-clause-ok : goal.returns-then-not-branch-clause-ok
+returns-then-not-branch-clause-ok g c =
+    write-none c.args.at c.args.length c.args.keep c.in_ok-add-in-Some.field-0 c.is_writing-is_writing.result c.in-Some.path c.slice-piece.result.now c.self.inside.path c.self.inside.mode Idle c.args.self.now c.args.memory.now _ _
+    (search rules) c.self.view_is
+    c.is_writing-is_writing.ensures
+    (c.slice-piece.ensures ∙ ap (λ (n : ℕ). take n (drop c.args.at c.args.memory.now)) c.count_from.ensures.count)
+    c.in_ok-add-in-Some.ensures.added c.if-not-branch.true refl
+
+pub returns-else-not-branch-clause-ok : goal.returns-else-not-branch-clause-ok
+returns-else-not-branch-clause-ok g c =
+    write-some c.args.at c.args.length _ c.args.keep c.in_ok-add-in-Some.field-0 c.is_writing-is_writing.result c.in-Some.path c.slice-piece.result.now c.self.inside.path c.self.inside.mode c.args.self.now c.args.memory.now _ _
+    (search rules) c.self.view_is
+    c.is_writing-is_writing.ensures
+    (c.slice-piece.ensures ∙ ap (λ (n : ℕ). take n (drop c.args.at c.args.memory.now)) c.count_from.ensures.count)
+    c.in_ok-add-in-Some.ensures.added c.if-not-branch.false refl

@@ -1,0 +1,30 @@
+use Rattle.std.proofs.Common.{◌∙◌, ◌+◌, ◌++◌, ℕ, ap, take, drop, arith}
+use Rattle.std.proofs.lemmas.List.{length-take, take-append-le}
+use Rattle.file_ports.proofs.ReadLemmas.{told_more, told_end}
+use Rattle.file_ports.proofs.reading.put_file.Goals as goal
+
+pub loop-done-preserved : goal.loop-done-preserved
+loop-done-preserved g c =
+    let taken = c.in_ok-taken.taken in
+    let chunk = c.loop-done.chunk in
+    let into = c.read.new.into in
+    let size = length-take c.min-wanted.result chunk in
+    record {
+      within = omega (arith, c.in_ok-taken.ensures.count, size);
+      told =
+          told_more _ _ c.args.path.now c.args.memory.now c.loop-done.memory c.put.new.self (take taken (into ++ drop c.min-wanted.result chunk)) (take c.min-wanted.result chunk) into c.args.place c.args.at c.loop-done.done taken _
+          (omega arith) (ap (λ (n : ℕ). c.args.place + n) c.from-in-loop-done.ensures) c.loop-done.invariant.same c.loop-done.invariant.told c.in_ok-taken.ensures.ok
+          (take-append-le taken into (drop c.min-wanted.result chunk) (omega (arith, c.in_ok-taken.ensures.count, size))) c.put.ensures;
+      same = c.in_ok-taken.ensures.same ∙ c.loop-done.invariant.same;
+      faults = c.in_ok-taken.ensures.ledger ∙ c.loop-done.invariant.faults;
+      left = record {
+        files = λ some. omega (arith, c.loop-done.invariant.left.files some, c.in_ok-taken.ensures.left.files);
+        bytes = λ some. omega (arith, c.loop-done.invariant.left.files some, c.loop-done.invariant.left.bytes some, c.in_ok-taken.ensures.left.bytes);
+      };
+    }
+
+pub returns-then-taken-eq0-clause-piece : goal.returns-then-taken-eq0-clause-piece
+returns-then-taken-eq0-clause-piece g c =
+    let size = length-take c.min-wanted.result c.loop-done.chunk in
+    told_end _ _ c.args.path.now c.args.memory.now c.loop-done.memory (take c.min-wanted.result c.loop-done.chunk) c.read.new.into c.args.place c.args.at c.loop-done.done c.in_ok-taken.taken c.args.count _
+    (ap (λ (n : ℕ). c.args.place + n) c.from-in-loop-done.ensures) c.loop-done.invariant.same c.loop-done.invariant.told c.in_ok-taken.ensures.ok c.if-taken-eq0.true (omega (arith, size)) c.loop-done.invariant.within

@@ -1,0 +1,15 @@
+-- The digits that are left complete the number.
+use Rattle.std.proofs.Common.{◌≡◌, ◌≤◌, length}
+use Rattle.uxn_memory.specs.Bytes.{with_bytes}
+use Rattle.file_ports.specs.Signs.{hex_digits}
+use Rattle.file_ports.proofs.signs.put_digits.Given as goal
+
+abbrev pub invariant-loop-left : goal.invariant-loop-left
+invariant-loop-left l = record {
+  within : l.left ≤ l.count;
+  size : length l.memory ≡ 65536;
+  digits : with_bytes l.memory l.at (hex_digits l.left l.rest) ≡ with_bytes l.fn.memory l.at (hex_digits l.count l.value);
+}
+
+abbrev pub decreases-loop-left : goal.decreases-loop-left
+decreases-loop-left l = l.left

@@ -1,0 +1,10 @@
+pub mod RootPart
+pub mod Device
+pub mod Names
+pub mod Signs
+pub mod Listing
+pub mod Actions
+pub mod Answers
+pub mod Beneath
+pub mod PartLaws
+pub mod ActLaws

@@ -1,0 +1,189 @@
+//! A file device.
+ghost use Rattle.std.specs.Prelude.{◌≡◌, ℕ, ◌+◌, ◌<◌, ◌≤◌, List, None, Err, false, IfOk, IfSome, IsOk, OnOk, OnErr, is_err};
+ghost use Rattle.std.specs.Option.{option_copied};
+ghost use Rattle.uxn_io.specs.Faults.{Counted};
+ghost use Rattle.uxn_io.specs.Changes.{new_files};
+ghost use Rattle.uxn_io.specs.Room.{Leaves};
+ghost use Rattle.file_ports.specs.Device.{idle_at, Suits};
+ghost use Rattle.file_ports.specs.Names.{path_named};
+ghost use Rattle.file_ports.specs.Actions.{Read, Write, Stat, Delete, count_from};
+ghost use Rattle.file_ports.specs.Answers.{Acted, ActedNowhere, CutOff, RoomFor, TakesNames, has_failed};
+
+use crate::mode::Mode;
+use crate::names::path_named;
+use crate::reading::{read_on, reading};
+use crate::signs::put_signs;
+use crate::stop::FileStop;
+use crate::writing::add;
+use std::alloc::Global;
+use std::marker::Model;
+use std::mem;
+use uxn_io::{Kind, Path, Tree};
+use uxn_memory::Memory;
+
+/// A file device: the path that was named, if there is one, and what it is doing.
+#[derive(Drop)]
+pub struct FileDevice {
+    alloc: Global,
+    path: Option<Path>,
+    mode: Mode,
+}
+
+impl Model for FileDevice {
+    ghost use Rattle.file_ports.specs.Device.{FileState};
+
+    ghost Value = { FileState };
+
+    ghost view = { λ d. record { path = d.path; mode = d.mode } };
+}
+
+/// How many bytes are meant by a length at an address: none past `ffff`.
+fn count_from(at: u16, length: u16) -> u16
+    ensures count { result ≡ count_from at length }
+    ensures within { at + result ≤ 65536 }
+{
+    u32::from(length).min(65536 - u32::from(at)) as u16
+}
+
+impl FileDevice {
+    /// A device without a path. It takes no memory.
+    pub fn new(alloc: Global) -> FileDevice
+        ensures { result ≡ idle_at None }
+    {
+        FileDevice {
+            alloc,
+            path: None,
+            mode: Mode::Idle,
+        }
+    }
+
+    /// Takes the name at an address: its path beneath the root, or none. The device does nothing then. The
+    /// success is 0.
+    pub fn name(&mut self, memory: &Memory, at: u16, root: Option<&Path>)
+        ensures named { self.new ≡ idle_at (path_named (option_copied root.entry) memory.now at) }
+        ensures suits { Suits (option_copied root.entry) self.new }
+    {
+        self.path = path_named(memory, at, root);
+        self.mode = Mode::Idle;
+    }
+
+    /// Puts bytes of the file, or of the folder's listing, in memory, and answers how many. After a stop the
+    /// device does nothing.
+    pub fn read<T: Tree>(
+        &mut self,
+        tree: &mut T,
+        memory: &mut Memory,
+        at: u16,
+        length: u16,
+    ) -> Result<u16, FileStop>
+        ensures ok { OnOk result (Acted (Read at length) self.old memory.old (T.told tree.old) (T.told tree.new) result self.new memory.new) }
+        ensures nowhere { ActedNowhere (Read at length) self.old memory.old result self.new memory.new }
+        ensures untouched { self.old.path ≡ None → tree.new ≡ tree.old }
+        ensures same { T.told tree.new ≡ T.told tree.old }
+        ensures names { result ≡ Err FileStop.NoMemory → TakesNames self.old (T.told tree.old) }
+        ensures stopped { OnErr result (self.new ≡ idle_at self.old.path) }
+        ensures path { self.new.path ≡ self.old.path }
+        ensures ledger { Counted (T.faults tree.old) (T.faults tree.new) (has_failed result) }
+        ensures sure { 0 < (T.sure tree.old).files → has_failed result ≡ false }
+        ensures left { has_failed result ≡ false → Leaves (T.sure tree.old) (T.sure tree.new) 0 0 }
+    {
+        match self.path {
+            Some(path) => {
+                let mode = mem::replace(&mut self.mode, Mode::Idle);
+                let mode = reading(self.alloc, tree, &path, mode)?;
+                let (count, mode) = read_on(tree, &path, mode, memory, at, count_from(at, length))?;
+                self.mode = mode;
+                Ok(count)
+            }
+            None => Ok(0),
+        }
+    }
+
+    /// Adds bytes of memory to the file, and answers how many: to one that is made empty first, unless the device is
+    /// writing already, or is to keep a file that is there. After a stop the device does nothing.
+    pub fn write<T: Tree>(
+        &mut self,
+        tree: &mut T,
+        memory: &Memory,
+        at: u16,
+        length: u16,
+        keep: bool,
+    ) -> Result<u16, FileStop>
+        ensures ok { OnOk result (Acted (Write at length keep) self.old memory.now (T.told tree.old) (T.told tree.new) result self.new memory.now) }
+        ensures err { OnErr result (CutOff (Write at length keep) self.old memory.now (T.told tree.old) (T.told tree.new)) }
+        ensures nowhere { ActedNowhere (Write at length keep) self.old memory.now result self.new memory.now }
+        ensures untouched { self.old.path ≡ None → tree.new ≡ tree.old }
+        ensures fault { OnErr result (result ≡ Err FileStop.TreeFault) }
+        ensures stopped { OnErr result (self.new ≡ idle_at self.old.path) }
+        ensures path { self.new.path ≡ self.old.path }
+        ensures ledger { Counted (T.faults tree.old) (T.faults tree.new) (has_failed result) }
+        ensures sure { IfSome (T.told tree.old) (λ nodes. IfSome self.old.path (λ path.
+            RoomFor nodes path (count_from at length) (T.sure tree.old) → IsOk result)) }
+        ensures left { OnOk result (IfSome (T.told tree.old) (λ nodes. IfSome self.old.path (λ path.
+            RoomFor nodes path (count_from at length) (T.sure tree.old) → Leaves (T.sure tree.old) (T.sure tree.new) (new_files nodes path) 0))) }
+    {
+        match self.path {
+            Some(path) => {
+                let is_writing = self.mode.is_writing();
+                self.mode = Mode::Idle;
+                let piece = memory.slice(at, count_from(at, length));
+                if !add(tree, &path, piece, is_writing, keep)? {
+                    return Ok(0);
+                }
+                self.mode = Mode::Writing;
+                Ok(piece.len() as u16)
+            }
+            None => Ok(0),
+        }
+    }
+
+    /// Puts signs for what is there in memory, and answers their number, or 0 where nothing is there.
+    pub fn stat<T: Tree>(
+        &mut self,
+        tree: &mut T,
+        memory: &mut Memory,
+        at: u16,
+        length: u16,
+    ) -> Result<u16, FileStop>
+        ensures ok { OnOk result (Acted (Stat at length) self.old memory.old (T.told tree.old) (T.told tree.new) result self.new memory.new) }
+        ensures nowhere { ActedNowhere (Stat at length) self.old memory.old result self.new memory.new }
+        ensures untouched { self.old.path ≡ None → tree.new ≡ tree.old }
+        ensures same { T.told tree.new ≡ T.told tree.old }
+        ensures fault { OnErr result (result ≡ Err FileStop.TreeFault) }
+        ensures stopped { OnErr result (memory.new ≡ memory.old) }
+        ensures device { self.new ≡ self.old }
+        ensures ledger { Counted (T.faults tree.old) (T.faults tree.new) (has_failed result) }
+        ensures sure { 0 < (T.sure tree.old).files → IsOk result }
+        ensures left { OnOk result (Leaves (T.sure tree.old) (T.sure tree.new) 0 0) }
+    {
+        let count = count_from(at, length);
+        if let Some(path) = self.path {
+            let kind = tree.kind(&path)?;
+            return Ok(put_signs(memory, at, count, kind));
+        }
+        Ok(put_signs(memory, at, count, Kind::Missing))
+    }
+
+    /// Takes the file away, and answers 1, or 0 where none is there. The device does nothing then.
+    pub fn delete<T: Tree>(&mut self, tree: &mut T) -> Result<u16, FileStop>
+        ensures ok { OnOk result ((memory : List ℕ) → Acted Delete self.old memory (T.told tree.old) (T.told tree.new) result self.new memory) }
+        ensures err { OnErr result ((memory : List ℕ) → CutOff Delete self.old memory (T.told tree.old) (T.told tree.new)) }
+        ensures nowhere { (memory : List ℕ) → ActedNowhere Delete self.old memory result self.new memory }
+        ensures untouched { self.old.path ≡ None → tree.new ≡ tree.old }
+        ensures fault { OnErr result (result ≡ Err FileStop.TreeFault) }
+        ensures stopped { OnErr result (self.new ≡ idle_at self.old.path) }
+        ensures path { self.new.path ≡ self.old.path }
+        ensures ledger { Counted (T.faults tree.old) (T.faults tree.new) (has_failed result) }
+        ensures sure { 0 < (T.sure tree.old).files → IsOk result }
+        ensures left { IfOk result (λ gone. Leaves (T.sure tree.old) (T.sure tree.new) 0 gone) }
+    {
+        match self.path {
+            Some(path) => {
+                self.mode = Mode::Idle;
+                let gone = tree.remove(&path)?;
+                Ok(u16::from(gone))
+            }
+            None => Ok(0),
+        }
+    }
+}

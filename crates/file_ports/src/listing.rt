@@ -1,0 +1,56 @@
+//! The text that is read of a folder.
+ghost use Rattle.std.specs.Prelude.{◌≡◌, ◌++◌, IfOk};
+ghost use Rattle.file_ports.specs.Listing.{line_of, listing_of};
+
+use crate::signs::four_signs;
+use std::alloc::{AllocError, Global};
+use std::marker::Model;
+use uxn_io::{Entry, Kind};
+
+/// A folder's listing.
+#[derive(Drop)]
+pub(crate) struct Listing {
+    text: Vec<u8>,
+}
+
+impl Model for Listing {
+    ghost use Rattle.std.specs.Prelude.{ℕ, List};
+
+    ghost Value = { List ℕ };
+
+    ghost view = { λ l. l.text.items };
+}
+
+impl Listing {
+    /// The listing of these children. Errors with want of memory.
+    pub(crate) fn of(alloc: Global, entries: &[Entry]) -> Result<Listing, AllocError>
+        ensures { IfOk result (λ listing. listing ≡ listing_of entries.now) }
+    {
+        let mut text = Vec::new(alloc);
+        for entry in entries {
+            put_line(&mut text, entry)?;
+        }
+        Ok(Listing { text })
+    }
+
+    /// Its bytes.
+    pub(crate) fn as_slice(&self) -> &[u8]
+        ensures { result.now ≡ self.now }
+    {
+        self.text.as_slice()
+    }
+}
+
+/// Puts the line of a child: four signs, a space, its name, a slash where it is a folder, and a newline.
+fn put_line(text: &mut Vec<u8>, entry: &Entry) -> Result<(), AllocError>
+    ensures { IfOk result (λ _. text.new.items ≡ text.old.items ++ line_of entry.now) }
+{
+    text.extend_from_slice(&four_signs(entry.kind))?;
+    text.push(b' ')?;
+    text.extend_from_slice(entry.name.bytes())?;
+    if matches!(entry.kind, Kind::Folder) {
+        text.push(b'/')?;
+    }
+    text.push(b'\n')?;
+    Ok(())
+}

@@ -1,0 +1,173 @@
+//! Reads: of a file, and of a folder's listing.
+ghost use Rattle.std.specs.Prelude.{◌≡◌, ℕ, ◌+◌, ◌-◌, ◌^◌, ◌<◌, ◌≤◌, false, take, drop, IfOk, IfSome, IsOk, OnOk, Err, is_err, min};
+ghost use Rattle.uxn_io.specs.Faults.{Counted};
+ghost use Rattle.uxn_io.specs.Files.{bytes_from, kind_at};
+ghost use Rattle.uxn_io.specs.Children.{children};
+ghost use Rattle.uxn_io.specs.Room.{Leaves};
+ghost use Rattle.file_ports.specs.Device.{is_reading};
+ghost use Rattle.file_ports.specs.Listing.{listing_of};
+ghost use Rattle.file_ports.specs.Actions.{seen_of, looked, reading, given, moved};
+ghost use Rattle.file_ports.specs.Answers.{has_failed, GivesPiece};
+
+use crate::listing::Listing;
+use crate::mode::Mode;
+use crate::stop::FileStop;
+use std::alloc::Global;
+use uxn_io::{Failed, Kind, NamesStop, Path, Tree};
+use uxn_memory::Memory;
+
+/// How many bytes of a file are read at once.
+const CHUNK: usize = 4096;
+
+/// What a device does that looks at its path to read what is there.
+fn look<T: Tree>(alloc: Global, tree: &mut T, path: &Path) -> Result<Mode, FileStop>
+    ensures mode { IfOk result (λ mode. IfSome (T.told tree.old) (λ nodes. mode ≡ looked (kind_at nodes path.now) (children nodes path.now))) }
+    ensures same { T.told tree.new ≡ T.told tree.old }
+    ensures ledger { Counted (T.faults tree.old) (T.faults tree.new) (has_failed result) }
+    ensures sure { 0 < (T.sure tree.old).files → has_failed result ≡ false }
+    ensures left { has_failed result ≡ false → Leaves (T.sure tree.old) (T.sure tree.new) 0 0 }
+    ensures folder { result ≡ Err FileStop.NoMemory → IfSome (T.told tree.old) (λ nodes. kind_at nodes path.now ≡ Kind.Folder) }
+{
+    match tree.kind(path)? {
+        Kind::Missing => Ok(Mode::Idle),
+        Kind::File(_) => Ok(Mode::ReadingFile(0)),
+        Kind::Folder => {
+            let listing = list(alloc, tree, path)?;
+            Ok(Mode::ReadingListing(0, listing))
+        }
+    }
+}
+
+/// The listing of a folder.
+fn list<T: Tree>(alloc: Global, tree: &mut T, folder: &Path) -> Result<Listing, FileStop>
+    requires { IfSome (T.told tree.old) (λ nodes. kind_at nodes folder.now ≡ Kind.Folder) }
+    ensures listing { IfOk result (λ listing. IfSome (T.told tree.old) (λ nodes. listing ≡ listing_of (children nodes folder.now))) }
+    ensures same { T.told tree.new ≡ T.told tree.old }
+    ensures ledger { Counted (T.faults tree.old) (T.faults tree.new) (has_failed result) }
+    ensures sure { 0 < (T.sure tree.old).files → has_failed result ≡ false }
+    ensures left { has_failed result ≡ false → Leaves (T.sure tree.old) (T.sure tree.new) 0 0 }
+{
+    match tree.names(alloc, folder) {
+        Ok(entries) => {
+            let listing = Listing::of(alloc, &entries)?;
+            Ok(listing)
+        }
+        Err(NamesStop::Failed) => Err(FileStop::TreeFault),
+        Err(NamesStop::NoMemory) => Err(FileStop::NoMemory),
+    }
+}
+
+/// What a device reads: one that is not reading first looks at its path.
+pub(crate) fn reading<T: Tree>(
+    alloc: Global,
+    tree: &mut T,
+    path: &Path,
+    mode: Mode,
+) -> Result<Mode, FileStop>
+    ensures mode { IfOk result (λ now. IfSome (T.told tree.old) (λ nodes. now ≡ reading mode (seen_of nodes path.now))) }
+    ensures same { T.told tree.new ≡ T.told tree.old }
+    ensures ledger { Counted (T.faults tree.old) (T.faults tree.new) (has_failed result) }
+    ensures sure { 0 < (T.sure tree.old).files → has_failed result ≡ false }
+    ensures left { has_failed result ≡ false → Leaves (T.sure tree.old) (T.sure tree.new) 0 0 }
+    ensures looks { result ≡ Err FileStop.NoMemory → is_reading mode ≡ false }
+    ensures folder { result ≡ Err FileStop.NoMemory → IfSome (T.told tree.old) (λ nodes. kind_at nodes path.now ≡ Kind.Folder) }
+{
+    match mode {
+        Mode::Idle | Mode::Writing => look(alloc, tree, path),
+        Mode::ReadingFile(place) => Ok(Mode::ReadingFile(place)),
+        Mode::ReadingListing(place, listing) => Ok(Mode::ReadingListing(place, listing)),
+    }
+}
+
+/// Puts bytes of what is read in memory, at most so many, and says how many and what the device does then.
+pub(crate) fn read_on<T: Tree>(
+    tree: &mut T,
+    path: &Path,
+    mode: Mode,
+    memory: &mut Memory,
+    at: u16,
+    count: u16,
+) -> Result<(u16, Mode), Failed>
+    requires { at + count ≤ 65536 }
+    ensures piece { IfOk result (λ read. IfSome (T.told tree.old) (λ nodes.
+        GivesPiece (given mode (seen_of nodes path.now) count) memory.old at read.0 memory.new)) }
+    ensures mode { IfOk result (λ read. read.1 ≡ moved mode read.0) }
+    ensures same { T.told tree.new ≡ T.told tree.old }
+    ensures ledger { Counted (T.faults tree.old) (T.faults tree.new) (is_err result) }
+    ensures sure { 0 < (T.sure tree.old).files → IsOk result }
+    ensures left { OnOk result (Leaves (T.sure tree.old) (T.sure tree.new) 0 0) }
+{
+    match mode {
+        Mode::Idle => Ok((0, Mode::Idle)),
+        Mode::ReadingFile(place) => {
+            let most = most_from(place, count);
+            let taken = put_file(tree, path, place, memory, at, most)?;
+            Ok((taken, Mode::ReadingFile(place + u64::from(taken))))
+        }
+        Mode::ReadingListing(place, listing) => {
+            let most = most_from(place, count);
+            let taken = put_rest(listing.as_slice(), place, memory, at, most);
+            Ok((
+                taken,
+                Mode::ReadingListing(place + u64::from(taken), listing),
+            ))
+        }
+        Mode::Writing => Ok((0, Mode::Writing)),
+    }
+}
+
+/// How many bytes may be read from a place on, so that no place is over the last.
+fn most_from(place: u64, count: u16) -> u16
+    ensures most { result ≡ min count (2 ^ 64 - 1 - place) }
+    ensures within { result ≤ count }
+    ensures fits { place + result < 2 ^ 64 }
+{
+    u64::from(count).min(u64::MAX - place) as u16
+}
+
+/// Puts bytes from a place on in memory, so many or as many as are left, and says how many.
+fn put_rest(bytes: &[u8], place: u64, memory: &mut Memory, at: u16, count: u16) -> u16
+    requires { at + count ≤ 65536 }
+    ensures piece { GivesPiece (take count (drop place bytes.now)) memory.old at result memory.new }
+    ensures within { result ≤ count }
+{
+    let start = bytes.len().min(place as usize);
+    let rest = &bytes[start..];
+    let taken = rest.len().min(usize::from(count));
+    memory.put(at, &rest[..taken]);
+    taken as u16
+}
+
+/// Puts bytes of a file from a place on in memory, so many or as many as are left, and says how many.
+fn put_file<T: Tree>(
+    tree: &mut T,
+    path: &Path,
+    place: u64,
+    memory: &mut Memory,
+    at: u16,
+    count: u16,
+) -> Result<u16, Failed>
+    requires room { at + count ≤ 65536 }
+    requires places { place + count < 2 ^ 64 }
+    ensures piece { IfOk result (λ n. IfSome (T.told tree.old) (λ nodes.
+        GivesPiece (take count (bytes_from nodes path.now place)) memory.old at n memory.new)) }
+    ensures within { IfOk result (λ n. n ≤ count) }
+    ensures same { T.told tree.new ≡ T.told tree.old }
+    ensures ledger { Counted (T.faults tree.old) (T.faults tree.new) (is_err result) }
+    ensures sure { 0 < (T.sure tree.old).files → IsOk result }
+    ensures left { OnOk result (Leaves (T.sure tree.old) (T.sure tree.new) 0 0) }
+{
+    memory.known();
+    let mut chunk = [0; CHUNK];
+    let mut done = 0;
+    while done < count {
+        let wanted = CHUNK.min(usize::from(count - done));
+        let taken = tree.read(path, place + u64::from(done), &mut chunk[..wanted])?;
+        if taken == 0 {
+            return Ok(done);
+        }
+        memory.put(at + done, &chunk[..taken]);
+        done += taken as u16;
+    }
+    Ok(done)
+}

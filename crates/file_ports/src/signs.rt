@@ -1,0 +1,118 @@
+//! The signs by which a stat shows what is there.
+ghost use Rattle.std.specs.Prelude.{◌≡◌, ◌+◌, ◌%◌, ◌^◌, ◌≤◌, nat_lt, replicate};
+ghost use Rattle.uxn_io.specs.NumberText.{hex_digit};
+ghost use Rattle.uxn_memory.specs.Bytes.{with_bytes};
+ghost use Rattle.file_ports.specs.Signs.{hex_digits, signs};
+ghost use Rattle.file_ports.specs.Actions.{stat_success};
+
+use uxn_io::{Kind, hex_byte, hex_short};
+use uxn_memory::Memory;
+
+/// The sign for nothing there.
+const MISSING: u8 = b'!';
+
+/// The sign for a folder.
+const FOLDER: u8 = b'-';
+
+/// The sign for a size that needs more digits.
+const TOO_BIG: u8 = b'?';
+
+/// The last hexadecimal digit of a number.
+fn last_digit(value: u64) -> u8
+    ensures { result ≡ hex_digit (value % 16) }
+{
+    let [_, digit] = hex_byte((value % 16) as u8);
+    digit
+}
+
+/// Whether so many hexadecimal digits are enough for a number.
+fn fits(value: u64, count: u16) -> bool
+    ensures { result ≡ nat_lt value (16 ^ count) }
+{
+    let mut rest = value;
+    let mut left = count;
+    while rest > 0 && left > 0 {
+        rest /= 16;
+        left -= 1;
+    }
+    rest == 0
+}
+
+/// Puts a number in so many hexadecimal digits, with zeros before it.
+fn put_digits(memory: &mut Memory, at: u16, count: u16, value: u64)
+    requires { at + count ≤ 65536 }
+    ensures { memory.new ≡ with_bytes memory.old at (hex_digits count value) }
+{
+    memory.known();
+    let mut rest = value;
+    let mut left = count;
+    while left > 0 {
+        left -= 1;
+        memory.set(at + left, last_digit(rest));
+        rest /= 16;
+    }
+}
+
+/// Puts the same sign so many times.
+#[tactic(auto, using(crate::proofs::MemoryLemmas::with_same))]
+fn put_same(memory: &mut Memory, at: u16, count: u16, sign: u8)
+    requires { at + count ≤ 65536 }
+    ensures { memory.new ≡ with_bytes memory.old at (replicate count sign) }
+{
+    memory.known();
+    memory.fill(count, at, sign);
+}
+
+/// Puts so many signs for a size.
+#[tactic(auto, unfolding(crate::specs::Signs::signs))]
+fn put_size(memory: &mut Memory, at: u16, count: u16, size: u64)
+    requires { at + count ≤ 65536 }
+    ensures { memory.new ≡ with_bytes memory.old at (signs count (Kind.File size)) }
+{
+    if fits(size, count) {
+        put_digits(memory, at, count, size);
+    } else {
+        put_same(memory, at, count, TOO_BIG);
+    }
+}
+
+/// Puts so many signs for what is there, and answers their number, or 0 where nothing is there.
+#[tactic(auto, unfolding(crate::specs::Signs::signs))]
+pub(crate) fn put_signs(memory: &mut Memory, at: u16, count: u16, kind: Kind) -> u16
+    requires { at + count ≤ 65536 }
+    ensures memory { memory.new ≡ with_bytes memory.old at (signs count kind) }
+    ensures success { result ≡ stat_success kind count }
+{
+    match kind {
+        Kind::Missing => {
+            put_same(memory, at, count, MISSING);
+            0
+        }
+        Kind::File(size) => {
+            put_size(memory, at, count, size);
+            count
+        }
+        Kind::Folder => {
+            put_same(memory, at, count, FOLDER);
+            count
+        }
+    }
+}
+
+/// Four signs for what is there.
+#[tactic(auto, unfolding(crate::specs::Signs::signs), using(crate::proofs::SignLemmas::short_digits))]
+pub(crate) fn four_signs(kind: Kind) -> [u8; 4]
+    ensures { result ≡ signs 4 kind }
+{
+    match kind {
+        Kind::Missing => [MISSING; 4],
+        Kind::File(size) => {
+            if size < 65536 {
+                hex_short(size as u16)
+            } else {
+                [TOO_BIG; 4]
+            }
+        }
+        Kind::Folder => [FOLDER; 4],
+    }
+}

@@ -1,0 +1,6 @@
+pub mod LogLaw
+pub mod BitSets
+pub mod Tables
+pub mod Nearest
+pub mod Obeying
+pub mod FirstFault

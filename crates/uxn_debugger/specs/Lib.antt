@@ -1,0 +1,7 @@
+pub mod Lines
+pub mod Reading
+pub mod Printing
+pub mod Log
+pub mod Watching
+pub mod Bits
+pub mod Kinds

@@ -1,0 +1,17 @@
+//! The debugger: commands, and a watcher that does them during a run and keeps a log.
+#![tactic(auto)]
+
+mod breaks;
+mod command;
+mod debugger;
+mod keyword;
+mod line;
+mod place;
+mod printing;
+mod reading;
+#[cfg(test)]
+mod tests;
+
+pub use command::{CommandKind, CommandStop, DebugCommand};
+pub use debugger::{Debugger, the_log_is_that_of_the_run};
+pub use reading::read_commands;

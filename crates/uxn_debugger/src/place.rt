@@ -1,0 +1,25 @@
+//! Where a run stands, and where it is to be watched next.
+
+use vector_loop::Moment;
+
+// Where a run stands.
+#[derive(Clone, Copy, Debug)]
+pub(crate) enum Place {
+    // Before an instruction.
+    Before(Moment),
+    // At its end.
+    End(Moment),
+}
+
+// What the debugger waits for.
+#[derive(Clone, Copy, Debug)]
+pub(crate) enum Goal {
+    // The first moment of the run.
+    FirstMoment,
+    // The next moment after so many more.
+    MomentAfter(u32),
+    // The next moment at a break address.
+    BreakAddress,
+    // Nothing: no command is left.
+    Nothing,
+}

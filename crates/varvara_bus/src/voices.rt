@@ -1,0 +1,63 @@
+//! The ports of the voices.
+ghost use Rattle.std.specs.Prelude.{◌≡◌, ◌≤◌};
+ghost use Rattle.audio_mixer.specs.Sounds.{frame_of, endings};
+ghost use Rattle.varvara_bus.specs.State.{DeviceState, StandFor, clock_of, rendered};
+ghost use Rattle.varvara_bus.specs.Voices.{number_of, note_at, voice_byte};
+ghost use Rattle.varvara_bus.specs.Effect.{note_started};
+
+use crate::devices::{Devices, stored, stored_short};
+use crate::ports::{Voice, VoicePart};
+use audio_mixer::Start;
+use uxn_memory::Memory;
+
+/// The note that is stored at the ports of a voice, the first of which is given.
+fn note_at(devices: &Devices, base: u8) -> Start
+    requires { base ≤ 0x60 }
+    ensures { (state : DeviceState) → StandFor devices.now state → result ≡ note_at state.history base }
+{
+    Start {
+        adsr: stored_short(devices, base + 0x08),
+        length: stored_short(devices, base + 0x0a),
+        addr: stored_short(devices, base + 0x0c),
+        volume: stored(devices, base + 0x0e),
+        pitch: stored(devices, base + 0x0f),
+    }
+}
+
+/// Starts the note that is stored at the ports of a voice.
+#[inline(never)]
+pub(crate) fn start_note(devices: &mut Devices, voice: Voice)
+    ensures stands { (state : DeviceState) → StandFor devices.old state → StandFor devices.new (note_started voice state) }
+    ensures frames { devices.new.time.frames ≡ devices.old.time.frames }
+    ensures clock { clock_of devices.new ≡ clock_of devices.old }
+    ensures root { devices.new.root ≡ devices.old.root }
+{
+    let note = note_at(devices, voice.base());
+    devices.mixer.start(voice.number(), &note);
+}
+
+/// A byte of what a voice shows.
+#[inline(never)]
+pub(crate) fn voice_shown(devices: &Devices, voice: Voice, part: VoicePart) -> u8
+    ensures { (state : DeviceState) → StandFor devices.now state → result ≡ voice_byte part (state.sounds (number_of voice)) }
+{
+    let voice = voice.number();
+    match part {
+        VoicePart::PositionHigh => (devices.mixer.position(voice) / 256) as u8,
+        VoicePart::PositionLow => (devices.mixer.position(voice) % 256) as u8,
+        VoicePart::Output => devices.mixer.output(voice),
+    }
+}
+
+/// Renders a frame of samples, and says which voices' notes ended in it.
+pub(crate) fn render(devices: &mut Devices, memory: &Memory, into: &mut [i16; 1470]) -> [bool; 4]
+    ensures frame { (state : DeviceState) → StandFor devices.old state → into.new ≡ frame_of memory.now state.sounds }
+    ensures ends { (state : DeviceState) → StandFor devices.old state → result ≡ endings 735 state.sounds }
+    ensures stands { (state : DeviceState) → StandFor devices.old state → StandFor devices.new (rendered state) }
+    ensures page { devices.new.page ≡ devices.old.page }
+    ensures frames { devices.new.time.frames ≡ devices.old.time.frames }
+    ensures clock { clock_of devices.new ≡ clock_of devices.old }
+    ensures root { devices.new.root ≡ devices.old.root }
+{
+    devices.mixer.render(memory, into)
+}

@@ -1,0 +1,39 @@
+-- The files that a run appends to: pictures, as PPM files of Netpbm, and samples (profile).
+use Rattle.std.specs.Prelude.{ℕ, ◌/◌, ◌%◌, List, [], ◌∷◌, ◌++◌, map, ℤ, Option, Some, None, IfSome}
+use Rattle.std.specs.List.{flat_map, range_with_len}
+use Rattle.std.specs.Int.{w16, cast_unsigned}
+use Rattle.uxn_io.specs.Files.{Nodes}
+use Rattle.uxn_io.specs.Outside.{Change, ToFile}
+use Rattle.screen_frame.specs.Colours.{colours_of}
+use Rattle.screen_frame.specs.Ppm.{head_bytes}
+use Rattle.screen_layers.specs.Pictures.{picture_row_of}
+use Rattle.varvara_bus.specs.History.{colour_bytes}
+use Rattle.varvara_bus.specs.State.{DeviceState}
+use Rattle.varvara_bus.specs.Bus.{IsFileWhereTold}
+use Rattle.vector_loop.specs.declared.output.Outputs.{Outputs}
+
+-- bytes appended to an output, where it is asked for
+abbrev pub appended_to : Option (List ℕ) → List ℕ → List Change
+appended_to None bytes = []
+appended_to (Some path) bytes = map (λ byte. ToFile path byte) bytes
+
+-- a row of the picture that is shown, in the colours that are stored
+abbrev pub row_of : DeviceState → ℕ → List ℕ
+row_of devices y = picture_row_of (colours_of (colour_bytes devices.history)) devices.picture y
+
+-- the file of the picture that is shown: its head, and its rows from the top
+unfoldable pub picture_bytes : DeviceState → List ℕ
+picture_bytes devices =
+    head_bytes devices.picture.width devices.picture.height ++ flat_map (row_of devices) (range_with_len 0 devices.picture.height)
+
+-- a sample as a signed short, its low byte first
+abbrev pub sample_bytes : ℤ → List ℕ
+sample_bytes sample = cast_unsigned w16 sample % 256 ∷ cast_unsigned w16 sample / 256 ∷ []
+
+abbrev pub samples_bytes : List ℤ → List ℕ
+samples_bytes samples = flat_map sample_bytes samples
+
+-- each output that is asked for is a file, where the tree tells its contents
+pub record OutputsThere (outputs : Outputs) (told : Option Nodes) : Type 0 where
+  pub frames : IfSome outputs.frames (IsFileWhereTold told)
+  pub samples : IfSome outputs.samples (IsFileWhereTold told)
