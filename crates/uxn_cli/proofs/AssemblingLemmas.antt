@@ -15,11 +15,12 @@ use Rattle.uxn_cli.specs.declared.refusal.Refusal.{Refusal}
 use Rattle.uxn_cli.specs.declared.refusal.Refusal.TheVariants.{NoOutput}
 use Rattle.uxn_cli.specs.World.{world, Text, with_empty, with_texts, CanMake, CanFill, HasWrittenFront}
 use Rattle.uxn_cli.specs.Outputs.{seen_text, seen_texts, paths_of}
+use Rattle.uxn_cli.specs.Job.{text_at}
 use Rattle.uxn_cli.specs.Request.{root_by, HasApartOutputs}
-use Rattle.uxn_cli.specs.Verdict.{and_then, View, Work, Write, source_in, text_at, texts_of, inputs_by, outputs_by, outputs_of, clashes, blocked_seen, made_by, judged}
+use Rattle.uxn_cli.specs.Verdict.{and_then, View, Work, Write, source_in, texts_of, inputs_by, outputs_by, outputs_of, clashes, blocked_seen, made_by, judged}
 use Rattle.uxn_cli.specs.Answer.{IsViewOf, Judges, HasEnded, IsRefused, HasCut}
 use Rattle.uxn_cli.proofs.ChangeLemmas.{written-changes, written-cut}
-use Rattle.uxn_cli.proofs.VerdictLemmas.{unread_script}
+use Rattle.uxn_cli.proofs.VerdictLemmas.{unread_script, unread_commands}
 use Rattle.uxn_cli.specs.Causes.{verdict_on}
 use Rattle.uxn_cli.specs.Room.{Takes, TakesFor, TreeSuffices}
 use Rattle.uxn_cli.proofs.ApartLemmas.{makes_all, fills_all}
@@ -28,12 +29,12 @@ use Rattle.uxn_cli.proofs.SureLemmas.{fills_more}
 
 -- the view of `asm`
 abbrev pub asm_view : (tree : Option Nodes) (task : Task) → FileBytes → Option (List ℕ) → View
-asm_view tree task file blocked = record { file = file; symbols = NoFile; script = (unread_script tree task).0; blocked = blocked }
+asm_view tree task file blocked = record { file = file; symbols = NoFile; script = (unread_script tree task).0; commands = (unread_commands tree task).0; blocked = blocked }
 
 pub sees_asm : (tree : Option Nodes) (task : Task) (file : FileBytes) (blocked : Option (List ℕ)) → task.command ≡ Assemble
     → IfSome tree (λ nodes. file ≡ whole_file (file_at nodes task.file) 4194304) → IfSome tree (λ nodes. blocked ≡ blocked_seen nodes task) → IsViewOf tree task (asm_view tree task file blocked)
-sees_asm None task file blocked asm found looked = record { file = tt; symbols = tt; script = tt; blocked = tt }
-sees_asm (Some nodes) task file blocked asm found looked = record { file = rw asm found; symbols = rw asm refl; script = refl; blocked = looked }
+sees_asm None task file blocked asm found looked = record { file = tt; symbols = tt; script = tt; commands = tt; blocked = tt }
+sees_asm (Some nodes) task file blocked asm found looked = record { file = rw asm found; symbols = rw asm refl; script = refl; commands = refl; blocked = looked }
 
 then_made : (said : Result (List ℕ) Rattle.uxn_cli.specs.declared.refusal.Refusal.Refusal) (work : List ℕ → Work) (blocked : Option (List ℕ))
     → and_then (and_then said (λ source. Ok (work source))) (made_by blocked) ≡ and_then said (λ source. made_by blocked (work source))

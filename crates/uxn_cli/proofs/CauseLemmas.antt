@@ -10,7 +10,7 @@ use Rattle.uxn_cli.specs.declared.words.Command.{Command}
 use Rattle.uxn_cli.specs.declared.words.Command.TheVariants.{Play, Debug, Assemble, Disassemble}
 use Rattle.uxn_cli.specs.declared.task.Task.{Task}
 use Rattle.uxn_cli.specs.declared.refusal.Refusal.{Refusal}
-use Rattle.uxn_cli.specs.declared.refusal.Refusal.TheVariants.{NotUnderstood, NoPath, NoOutput, Missing, Faulty, LongRom, BadSymbols, BadScript}
+use Rattle.uxn_cli.specs.declared.refusal.Refusal.TheVariants.{NotUnderstood, NoPath, NoOutput, Missing, Faulty, LongRom, BadSymbols, BadScript, BadCommands}
 use Rattle.std.proofs.lemmas.Bool.Decides.{nat_tests}
 use Rattle.uxn_io.specs.Faults.{Nobody}
 use Rattle.uxn_cli.specs.Blame.{blame_at, early_status}
@@ -18,13 +18,17 @@ use Rattle.uxn_cli.specs.Lines.{text_of, line_of, status_of}
 use Rattle.uxn_io.specs.Outside.{World, changed_by-err}
 use Rattle.play_script.specs.declared.script.ScriptKind.{ScriptKind}
 use Rattle.play_script.specs.Scripts.{ScriptView, script_of}
+use Rattle.tal_words.specs.declared.name.Label.{Label}
+use Rattle.uxn_debugger.specs.declared.command.DebugCommand.{DebugCommand}
+use Rattle.uxn_debugger.specs.declared.command.CommandKind.{CommandKind}
+use Rattle.uxn_debugger.specs.Reading.{commands_of_text}
 use Rattle.system_port.specs.DebugText.{exit_code_of}
 use Rattle.varvara_bus.specs.History.{stored}
 use Rattle.uxn_cli.specs.Job.{Job, trail_of}
-use Rattle.uxn_cli.specs.Verdict.{and_then, View, Work, Run, Write, Print, view_of, source_by, source_in, rom_in, labels_by, labels_in, script_from, script_in, job_of, program_in, texts_of, work_of, made_by, judged, verdict}
+use Rattle.uxn_cli.specs.Verdict.{and_then, View, Work, Run, Write, Print, view_of, source_by, source_in, rom_in, labels_by, labels_at, labels_in, given_in, debug_labels, commands_from, commands_in, script_from, script_in, job_of, program_in, texts_of, work_of, made_by, judged, verdict}
 use Rattle.uxn_cli.specs.Outcome.{outcome_of}
 use Rattle.uxn_cli.specs.Answer.{IsViewOf, Judges, HasOutcome, HasEnded, EndsEarly, Answers}
-use Rattle.uxn_cli.specs.Causes.{IsEarly, IsExactly, verdict_on, IsIllegal, IsPathless, IsMissing, IsFaulty, IsUnfit, IsBadScript, IsBlocked, EndsWith, PutsLine}
+use Rattle.uxn_cli.specs.Causes.{IsEarly, IsExactly, verdict_on, IsIllegal, IsPathless, IsMissing, IsFaulty, IsUnfit, IsBadScript, IsBadCommands, IsBlocked, EndsWith, PutsLine}
 use Rattle.tal_symbols.specs.Reading.{symbols_in}
 use Rattle.tal_listing.specs.Disassembly.{disassembly}
 
@@ -84,6 +88,11 @@ only_code code small (Err _) e = absurd (omega arith)
 is_ended : (code : ℕ) (v : Result Work Refusal) → EndsWith code v → status_by v ≡ code
 is_ended code v ends = ap status_by ends.1 ∙ ends.2
 
+only_commands : (v : Result Work Refusal) → status_by v ≡ 133 → IsBadCommands v
+only_commands (Err (BadCommands number kind)) e = (number, kind, refl)
+only_commands (Ok work) e = absurd (omega (arith, is_code work))
+only_commands _ e = absurd (omega arith)
+
 only_script : (v : Result Work Refusal) → status_by v ≡ 132 → IsBadScript v
 only_script (Err (BadScript number kind)) e = (number, kind, refl)
 only_script (Ok work) e = absurd (omega (arith, is_code work))
@@ -132,16 +141,40 @@ script-later (Some path) NoFile = omega arith
 script-later (Some path) (TooLong length) = omega arith
 script-later (Some path) (Found text) = from-later (script_of text.list)
 
+at-later : (path : List ℕ) (file : FileBytes) → IsLater (labels_at path file)
+at-later path NoFile = omega arith
+at-later path (TooLong length) = omega arith
+at-later path (Found bytes) = elim (symbols_in bytes.list) as (λ s. IsLater (labels_by s)) [ Ok labels ↦ tt | Err bad ↦ (let le : 130 ≤ 134 = omega arith in le) ]
+
+given-later : (path : Option (List ℕ)) (file : FileBytes) → IsLater (given_in path file)
+given-later None file = tt
+given-later (Some path) file = then-later (labels_at path file) (λ labels. Ok (Some labels)) (at-later path file) (λ labels. tt)
+
+read-later : (said : Result (List DebugCommand) (ℕ × CommandKind)) → IsLater (commands_from said)
+read-later (Ok commands) = tt
+read-later (Err fault) = omega arith
+
+commands-later : (labels : List Label) (path : Option (List ℕ)) (file : FileBytes) → IsLater (commands_in labels path file)
+commands-later labels None file = tt
+commands-later labels (Some path) NoFile = omega arith
+commands-later labels (Some path) (TooLong length) = omega arith
+commands-later labels (Some path) (Found text) = read-later (commands_of_text labels text.list)
+
 program-later : (rom : Bool) (path : List ℕ) (file : FileBytes) → IsLater (program_in rom path file)
 program-later true path file = rom-later path file
 program-later false path file = then-later (source_in path file) (λ source. Ok (rom_of source)) (source-later path file) (λ source. tt)
 
 work-later : (command : Command) (task : Task) (view : View) → IsLater (work_of command task view)
 work-later Play task view =
-    then-later (program_in task.rom task.file view.file) (λ rom. and_then (script_in task.script view.script) (λ script. Ok (Run (job_of task rom script))))
+    then-later (program_in task.rom task.file view.file) (λ rom. and_then (script_in task.script view.script) (λ script. Ok (Run (job_of task rom script None))))
     (program-later task.rom task.file view.file)
-    (λ rom. then-later (script_in task.script view.script) (λ script. Ok (Run (job_of task rom script))) (script-later task.script view.script) (λ script. tt))
-work-later Debug task view = omega arith
+    (λ rom. then-later (script_in task.script view.script) (λ script. Ok (Run (job_of task rom script None))) (script-later task.script view.script) (λ script. tt))
+work-later Debug task view =
+    then-later (program_in task.rom task.file view.file) _ (program-later task.rom task.file view.file)
+    (λ rom. then-later (given_in task.symbols view.symbols) _ (given-later task.symbols view.symbols)
+    (λ given. then-later (script_in task.script view.script) _ (script-later task.script view.script)
+    (λ script. then-later (commands_in (debug_labels given task.rom view.file) task.commands view.commands) _
+    (commands-later (debug_labels given task.rom view.file) task.commands view.commands) (λ commands. tt))))
 work-later Assemble task view = then-later (source_in task.file view.file) (λ source. Ok (Write (texts_of task source))) (source-later task.file view.file) (λ source. tt)
 work-later Disassemble task view =
     then-later (rom_in task.file view.file) (λ rom. and_then (labels_in task.symbols view.symbols) (λ labels. Ok (Print (disassembly rom labels))))
@@ -161,7 +194,7 @@ later-status (Err refusal) number later e large small = omega arith
 
 -- the verdict on what stands in a tree that tells its contents
 same_view : (nodes : Nodes) (task : Task) (view : View) → IsViewOf (Some nodes) task view → view ≡ view_of nodes task
-same_view nodes task view seen = rw (← seen.file, ← seen.symbols, ← seen.script, ← seen.blocked) refl
+same_view nodes task view seen = rw (← seen.file, ← seen.symbols, ← seen.script, ← seen.commands, ← seen.blocked) refl
 
 pub told_verdict : (nodes : Nodes) (asked : Result Task Refusal) (found : Result Work Refusal) → Judges asked (Some nodes) found → found ≡ verdict_on nodes asked
 told_verdict nodes (Err refusal) found j = sym j.judged
@@ -233,6 +266,9 @@ module _ (asked : Result Task Refusal) (before now : World) (answer : ℕ) where
 
   pub exactly_script : Answers asked before now answer → IfSome before.files (λ nodes. IsExactly answer 132 (IsBadScript (verdict_on nodes asked)))
   exactly_script = exactly_told before.files refl 132 (omega arith) IsBadScript only_script (λ v p. ap status_by p.2)
+
+  pub exactly_commands : Answers asked before now answer → IfSome before.files (λ nodes. IsExactly answer 133 (IsBadCommands (verdict_on nodes asked)))
+  exactly_commands = exactly_told before.files refl 133 (omega arith) IsBadCommands only_commands (λ v p. ap status_by p.2)
 
   exactly_code : (code : ℕ) → code ≤ 127 → Answers asked before now answer → IfSome before.files (λ nodes. IsExactly answer code (EndsWith code (verdict_on nodes asked)))
   exactly_code code small = exactly_told before.files refl code (omega arith) (EndsWith code) (only_code code small) (is_ended code)

@@ -4,7 +4,8 @@ pub mod LineLemmas
 pub mod WordLemmas
 pub mod ChangeLemmas
 pub mod VerdictLemmas
-pub mod PlayLemmas
+pub mod ReadyLemmas
+pub mod RunLemmas
 pub mod CauseLemmas
 pub mod OutputLemmas
 pub mod ApartLemmas

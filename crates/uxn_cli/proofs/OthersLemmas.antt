@@ -17,14 +17,17 @@ use Rattle.uxn_cli.specs.declared.words.Command.TheVariants.{Play, Debug, Assemb
 use Rattle.uxn_cli.specs.declared.task.Task.{Task}
 use Rattle.uxn_cli.specs.declared.refusal.Refusal.{Refusal}
 use Rattle.uxn_cli.specs.World.{Text}
-use Rattle.uxn_cli.specs.Job.{Job, outputs_in, trail_of, trail_by, start_with, report_at, report_of}
-use Rattle.uxn_cli.specs.Verdict.{and_then, View, Work, Run, Write, Print, source_in, rom_in, labels_in, program_in, script_in, job_of, texts_of, outputs_by, outputs_of, work_of, made_by, judged, verdict}
-use Rattle.uxn_cli.specs.Outcome.{outcome_of, creating, filling_all, running, writing}
+use Rattle.uxn_opcodes.specs.declared.Core.{Core}
+use Rattle.vector_loop.specs.declared.output.Outputs.{Outputs}
+use Rattle.vector_loop.specs.Trail.{Trail}
+use Rattle.vector_loop.specs.Touching.{IsOther, run-leaves}
+use Rattle.uxn_cli.specs.Job.{Debugging, Job, log_in, outputs_in, outputs_by as run_outputs_by, trail_of, trail_by, start_with, text_at, log_by}
+use Rattle.uxn_cli.specs.Verdict.{and_then, View, Work, Run, Write, Print, source_in, rom_in, labels_in, program_in, script_in, given_in, debug_labels, commands_in, debugging, job_of, texts_of, outputs_by, outputs_of, work_of, made_by, judged, verdict}
+use Rattle.uxn_cli.specs.Outcome.{outcome_of, creating, filling_all, reporting, running, writing}
 use Rattle.uxn_cli.specs.Answer.{Judges, HasCut, IsCut, Answers}
 use Rattle.uxn_cli.specs.Causes.{IsNoOutput, KeepsOthers}
 use Rattle.uxn_cli.proofs.ChangeLemmas.{paths_in, creating-spares, filling-spares, writing-spares}
 use Rattle.uxn_cli.proofs.AssemblingLemmas.{paths-texts_of}
-use Rattle.uxn_cli.proofs.PlayLemmas.{trail-spares}
 
 -- ---- which files a verdict writes
 
@@ -49,10 +52,15 @@ same_work found work paths is e = (let same : found ≡ work = cc in subst (λ w
 
 work-paths : (command : Command) (task : Task) (view : View) (work : Work) → work_of command task view ≡ Ok work → paths_by work ≡ outputs_by command task
 work-paths Play task view work e =
-    written_by (program_in task.rom task.file view.file) (λ rom. and_then (script_in task.script view.script) (λ script. Ok (Run (job_of task rom script)))) _ work
-    (λ rom f. written_by (script_in task.script view.script) (λ script. Ok (Run (job_of task rom script))) _ work
-    (λ script h. same_work (Run (job_of task rom script)) work _ refl h) f) e
-work-paths Debug task view work e = absurd cc
+    written_by (program_in task.rom task.file view.file) _ _ work
+    (λ rom f. written_by (script_in task.script view.script) _ _ work
+    (λ script h. same_work (Run (job_of task rom script None)) work _ refl h) f) e
+work-paths Debug task view work e =
+    written_by (program_in task.rom task.file view.file) _ _ work
+    (λ rom f. written_by (given_in task.symbols view.symbols) _ _ work
+    (λ given p. written_by (script_in task.script view.script) _ _ work
+    (λ script q. written_by (commands_in (debug_labels given task.rom view.file) task.commands view.commands) _ _ work
+    (λ commands h. same_work (Run (job_of task rom script (Some (debugging task commands (debug_labels given task.rom view.file))))) work _ refl h) q) p) f) e
 work-paths Assemble task view work e =
     written_by (source_in task.file view.file) (λ source. Ok (Write (texts_of task source))) _ work (λ source h. same_work (Write (texts_of task source)) work _ (paths-texts_of task source) h) e
 work-paths Disassemble task view work e =
@@ -62,24 +70,50 @@ work-paths Disassemble task view work e =
 
 -- ---- which paths it leaves alone
 
-report-spares : (path : List ℕ) (report : Option (List ℕ)) (text : List ℕ) → list_any (bytes_eq path) (paths_in (report_at report text)) ≡ false → Each (Spares path) (filling_all (report_at report text))
-report-spares path report text none = filling-spares path (report_at report text) none
+any-first : (path : List ℕ) (first last : List (List ℕ)) → list_any (bytes_eq path) (first ++ last) ≡ false → list_any (bytes_eq path) first ≡ false
+any-first path [] last none = refl
+any-first path (other ∷ first) last none =
+    elim (bytes_eq path other) as (λ b. (b || list_any (bytes_eq path) (first ++ last)) ≡ false → (b || list_any (bytes_eq path) first) ≡ false) [ true ↦ λ e. absurd cc | false ↦ λ e. any-first path first last e ] none
 
 any-last : (path : List ℕ) (first last : List (List ℕ)) → list_any (bytes_eq path) (first ++ last) ≡ false → list_any (bytes_eq path) last ≡ false
 any-last path [] last none = none
 any-last path (other ∷ first) last none =
     elim (bytes_eq path other) as (λ b. (b || list_any (bytes_eq path) (first ++ last)) ≡ false → list_any (bytes_eq path) last ≡ false) [ true ↦ λ e. absurd cc | false ↦ λ e. any-last path first last e ] none
 
-report-path : (path : List ℕ) (report : Option (List ℕ)) (text : List ℕ) → list_any (bytes_eq path) (option_to_list report) ≡ false
-    → list_any (bytes_eq path) (paths_in (report_at report text)) ≡ false
-report-path path None text none = none
-report-path path (Some file) text none = none
+text-spares : (path : List ℕ) (file : Option (List ℕ)) (text : List ℕ) → list_any (bytes_eq path) (option_to_list file) ≡ false → Each (Spares path) (filling_all (text_at file text))
+text-spares path None text none = tt
+text-spares path (Some file) text none = filling-spares path (record { path = file; bytes = text } ∷ []) none
+
+log-spares : (path : List ℕ) (debug : Option Debugging) (trail : Trail) → list_any (bytes_eq path) (log_in debug) ≡ false → Each (Spares path) (filling_all (log_by debug trail))
+log-spares path None trail none = tt
+log-spares path (Some debugging) trail none = text-spares path debugging.log _ none
+
+other-output : (path : List ℕ) (output : Option (List ℕ)) → list_any (bytes_eq path) (option_to_list output) ≡ false → IsOther path output
+other-output path None none = tt
+other-output path (Some file) none = elim (bytes_eq path file) as (λ b. (b || false) ≡ false → b ≡ false) [ true ↦ λ e. absurd cc | false ↦ λ e. refl ] none
+
+trail-spares : (path : List ℕ) (budget : ℕ) (outputs : Outputs) (script : ScriptView) (core : Core) → IsOther path outputs.frames → IsOther path outputs.samples
+    → Each (Spares path) (trail_by budget outputs script core).changes
+unfolding trail_by
+trail-spares path budget outputs script core frames samples = (run-leaves path outputs frames samples budget script).alone (start_with core script)
+
+job-spares : (path : List ℕ) (job : Job) → list_any (bytes_eq path) (outputs_in job) ≡ false → Each (Spares path) (running job)
+unfolding running
+job-spares path job none =
+    let frames = option_to_list job.frames in
+    let samples = option_to_list job.samples in
+    let report = option_to_list job.report in
+    let runs = any-last path (log_in job.debug) (frames ++ samples ++ report) none in
+    let first = any-first path (frames ++ samples) report runs in
+    each-append (Spares path) (creating (outputs_in job)) _ (creating-spares path (outputs_in job) none)
+    (each-append (Spares path) (reporting job.report (trail_of job)) _
+    (each-append (Spares path) (trail_of job).changes _
+    (trail-spares path job.budget (run_outputs_by job.frames job.samples) job.script (new_core job.rom) (other-output path job.frames (any-first path frames samples first)) (other-output path job.samples (any-last path frames samples first)))
+    (text-spares path job.report _ (any-last path (frames ++ samples) report runs)))
+    (log-spares path job.debug (trail_of job) (any-first path (log_in job.debug) (frames ++ samples ++ report) none)))
 
 work-spares : (path : List ℕ) (work : Work) → list_any (bytes_eq path) (paths_by work) ≡ false → Each (Spares path) (outcome_of (Ok work)).changes
-unfolding running
-work-spares path (Run job) none =
-    each-append (Spares path) (creating (outputs_in job)) _ (creating-spares path (outputs_in job) none)
-    (each-append (Spares path) (trail_of job).changes _ (trail-spares path job.budget job.script (new_core job.rom)) (report-spares path job.report _ (report-path path job.report _ (any-last path (option_to_list job.frames ++ option_to_list job.samples) (option_to_list job.report) none))))
+work-spares path (Run job) none = job-spares path job none
 work-spares path (Write texts) none = writing-spares path texts none
 work-spares path (Print text) none = each-map (Spares path) (λ byte. ToOut byte) text (λ byte. tt)
 
@@ -102,7 +136,8 @@ early-kept : (path : List ℕ) (asked : Result Task Refusal) (before now : World
 early-kept path asked before now TreeFault apart (inl same) = same-kept path before now same
 early-kept path asked before now TreeFault apart (inr cut) = cut-kept path asked before now TreeFault apart cut
 early-kept path asked before now SinkFault apart cut = cut-kept path asked before now SinkFault apart cut
-early-kept path asked before now NoMemory apart same = same-kept path before now same
+early-kept path asked before now NoMemory apart (inl same) = same-kept path before now same
+early-kept path asked before now NoMemory apart (inr cut) = cut-kept path asked before now NoMemory apart cut
 
 pub keeps_others : (asked : Result Task Refusal) (before now : World) (answer : ℕ) → Answers asked before now answer → KeepsOthers asked before.files now.files
 keeps_others asked before now answer (inl ended) path apart =

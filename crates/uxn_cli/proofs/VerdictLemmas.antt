@@ -9,9 +9,9 @@ use Rattle.uxn_io.specs.WholeFile.{whole_file}
 use Rattle.uxn_opcodes.specs.declared.Stop.{Stop}
 use Rattle.uxn_opcodes.specs.declared.Stop.TheVariants.{TreeFault, SinkFault, NoMemory}
 use Rattle.uxn_cli.specs.declared.task.Task.{Task}
-use Rattle.uxn_cli.specs.declared.words.Command.TheVariants.{Debug, Disassemble}
+use Rattle.uxn_cli.specs.declared.words.Command.TheVariants.{Disassemble}
 use Rattle.uxn_cli.specs.declared.refusal.Refusal.{Refusal}
-use Rattle.uxn_cli.specs.declared.refusal.Refusal.TheVariants.{NotUnderstood, Missing}
+use Rattle.uxn_cli.specs.declared.refusal.Refusal.TheVariants.{NotUnderstood}
 use Rattle.uxn_cli.specs.declared.refusal.Halt.{Halt}
 use Rattle.uxn_cli.specs.declared.refusal.Halt.TheVariants.{Refused, Stopped}
 use Rattle.uxn_io.specs.Told.{extended, HasTakenFront}
@@ -22,7 +22,7 @@ use Rattle.uxn_cli.specs.Blame.{Stops}
 use Rattle.uxn_cli.specs.Words.{settings}
 use Rattle.uxn_cli.specs.World.{world}
 use Rattle.uxn_cli.specs.Request.{and_then, legal, paths_in, apart, request}
-use Rattle.uxn_cli.specs.Verdict.{View, view_of, Work, Print, rom_in, labels_in, symbols_by, script_seen, blocked_seen, made_by, judged, verdict}
+use Rattle.uxn_cli.specs.Verdict.{View, Work, Print, rom_in, labels_in, symbols_by, symbols_seen, script_seen, commands_seen, blocked_seen, made_by, judged, verdict}
 use Rattle.uxn_cli.specs.Follows.{Follows}
 use Rattle.uxn_cli.specs.Answer.{IsViewOf, IsViewFor, IsRefused, Performs, Ends}
 
@@ -58,18 +58,18 @@ step_failed seen asked view tree new_tree out err (Refused refusal) f is_view sa
   same = ap (λ t. world t out err) same;
 }
 step_failed seen asked view tree new_tree out err (Stopped TreeFault) f is_view same = inl (ap (λ t. world t out err) same)
-step_failed seen asked view tree new_tree out err (Stopped NoMemory) f is_view same = ap (λ t. world t out err) same
+step_failed seen asked view tree new_tree out err (Stopped NoMemory) f is_view same = inl (ap (λ t. world t out err) same)
 step_failed seen asked view tree new_tree out err (Stopped SinkFault) f is_view same = absurd cc
 
 -- the words were refused, whatever the tree holds
 pub words_failed : (asked : Result Task Refusal) (tree : Option Nodes) (out err : Option (List ℕ)) (halt : Halt) → Follows (λ (task : Task). task) (Err halt) asked
     → Performs asked (world tree out err) (world tree out err) (Err halt)
 words_failed asked tree out err (Refused refusal) f = rw f (record {
-  judges = record { view = record { file = NoFile; symbols = NoFile; script = NoFile; blocked = None }; seen = tt; judged = refl };
+  judges = record { view = record { file = NoFile; symbols = NoFile; script = NoFile; commands = NoFile; blocked = None }; seen = tt; judged = refl };
   same = refl;
 })
 words_failed asked tree out err (Stopped TreeFault) f = inl refl
-words_failed asked tree out err (Stopped NoMemory) f = refl
+words_failed asked tree out err (Stopped NoMemory) f = inl refl
 words_failed asked tree out err (Stopped SinkFault) f = absurd cc
 
 -- what a tree that is not asked may hold
@@ -81,30 +81,26 @@ abbrev pub unread_script : (tree : Option Nodes) (task : Task) → (script : Fil
 unread_script None task = (NoFile, tt)
 unread_script (Some nodes) task = (script_seen nodes task, refl)
 
+abbrev pub unread_commands : (tree : Option Nodes) (task : Task) → (commands : FileBytes) × IfSome tree (λ nodes. commands ≡ commands_seen nodes task)
+unread_commands None task = (NoFile, tt)
+unread_commands (Some nodes) task = (commands_seen nodes task, refl)
+
+abbrev pub unread_symbols : (tree : Option Nodes) (task : Task) → (symbols : FileBytes) × IfSome tree (λ nodes. symbols ≡ symbols_seen nodes task)
+unread_symbols None task = (NoFile, tt)
+unread_symbols (Some nodes) task = (symbols_seen nodes task, refl)
+
 abbrev pub unlooked : (tree : Option Nodes) (task : Task) → (blocked : Option (List ℕ)) × IfSome tree (λ nodes. blocked ≡ blocked_seen nodes task)
 unlooked None task = (None, tt)
 unlooked (Some nodes) task = (blocked_seen nodes task, refl)
 
--- `debug` is not built
-pub undebugged : (task : Task) (tree : Option Nodes) (out err : Option (List ℕ)) → task.command ≡ Debug
-    → Performs (Ok task) (world tree out err) (world tree out err) (Err (Refused (Missing task.file)))
-undebugged task None out err debug = record {
-  judges = record { view = record { file = NoFile; symbols = NoFile; script = NoFile; blocked = None }; seen = record { file = tt; symbols = tt; script = tt; blocked = tt }; judged = rw debug refl };
-  same = refl;
-}
-undebugged task (Some nodes) out err debug = record {
-  judges = record { view = view_of nodes task; seen = record { file = refl; symbols = refl; script = refl; blocked = refl }; judged = rw debug refl };
-  same = refl;
-}
-
 -- the view of `dis`
 abbrev pub dis_view : (tree : Option Nodes) (task : Task) → FileBytes → FileBytes → View
-dis_view tree task file symbols = record { file = file; symbols = symbols; script = (unread_script tree task).0; blocked = None }
+dis_view tree task file symbols = record { file = file; symbols = symbols; script = (unread_script tree task).0; commands = (unread_commands tree task).0; blocked = None }
 
 pub sees_dis : (tree : Option Nodes) (task : Task) (file symbols : FileBytes) → task.command ≡ Disassemble
     → IfSome tree (λ nodes. file ≡ whole_file (file_at nodes task.file) 65280) → IfSome tree (λ nodes. symbols ≡ symbols_by nodes task.symbols) → IsViewOf tree task (dis_view tree task file symbols)
-sees_dis None task file symbols dis found read = record { file = tt; symbols = tt; script = tt; blocked = tt }
-sees_dis (Some nodes) task file symbols dis found read = rw dis (record { file = found; symbols = read; script = refl; blocked = refl })
+sees_dis None task file symbols dis found read = record { file = tt; symbols = tt; script = tt; commands = tt; blocked = tt }
+sees_dis (Some nodes) task file symbols dis found read = rw dis (record { file = found; symbols = read; script = refl; commands = refl; blocked = refl })
 
 pub judged-dis : (tree : Option Nodes) (task : Task) (file symbols : FileBytes) → task.command ≡ Disassemble
     → judged task (dis_view tree task file symbols) ≡ and_then (rom_in task.file file) (λ rom. and_then (labels_in task.symbols symbols) (λ labels. Ok (Print (disassembly rom labels))))
@@ -144,5 +140,5 @@ refusal_ends asked before tree out err new_err refusal (Err SinkFault) r ok stop
     let P : World → Type 0 = λ w. IsCutText w (world tree out new_err) (map (λ byte. ToErr byte) (line_of refusal)) in
     let from = subst P r.same cut in
     record { found = Err refusal; judges = r.judges; may = tt; cut = from.cut; short = λ text. from.short }
-refusal_ends asked before tree out err new_err refusal (Err NoMemory) r ok stops = ap (λ e. world tree out e) stops ∙ r.same
+refusal_ends asked before tree out err new_err refusal (Err NoMemory) r ok stops = inl (ap (λ e. world tree out e) stops ∙ r.same)
 refusal_ends asked before tree out err new_err refusal (Err TreeFault) r ok stops = absurd stops

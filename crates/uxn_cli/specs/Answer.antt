@@ -1,5 +1,5 @@
 -- What a call gives, and what stands where it ends early.
-use Rattle.std.specs.Prelude.{◌≡◌, ◌≢◌, ℕ, [], List, Option, Result, Ok, Err, IfOk, IfSome, ◌⊎◌}
+use Rattle.std.specs.Prelude.{◌≡◌, ◌≢◌, ℕ, [], List, Option, Result, Ok, Err, IfOk, IfSome, IsSome, ◌⊎◌}
 use Rattle.uxn_io.specs.Files.{Nodes}
 use Rattle.uxn_io.specs.Outside.{World, changed_by, IsCutOff}
 use Rattle.uxn_opcodes.specs.declared.Stop.{Stop}
@@ -9,7 +9,7 @@ use Rattle.uxn_cli.specs.declared.refusal.Refusal.{Refusal}
 use Rattle.uxn_cli.specs.declared.refusal.Halt.{Halt}
 use Rattle.uxn_cli.specs.declared.refusal.Halt.TheVariants.{Refused, Stopped}
 use Rattle.uxn_cli.specs.Blame.{early_status}
-use Rattle.uxn_cli.specs.Verdict.{View, Work, Run, Write, Print, file_seen, symbols_seen, script_seen, blocked_seen, verdict}
+use Rattle.uxn_cli.specs.Verdict.{View, Work, Run, Write, Print, file_seen, symbols_seen, script_seen, commands_seen, blocked_seen, verdict}
 use Rattle.uxn_cli.specs.Outcome.{Outcome, outcome_of}
 
 -- the status and all that stands outside are those of an outcome
@@ -22,6 +22,7 @@ pub record IsViewOf (tree : Option Nodes) (task : Task) (view : View) : Type 0 w
   pub file : IfSome tree (λ nodes. view.file ≡ file_seen nodes task)
   pub symbols : IfSome tree (λ nodes. view.symbols ≡ symbols_seen nodes task)
   pub script : IfSome tree (λ nodes. view.script ≡ script_seen nodes task)
+  pub commands : IfSome tree (λ nodes. view.commands ≡ commands_seen nodes task)
   pub blocked : IfSome tree (λ nodes. view.blocked ≡ blocked_seen nodes task)
 
 abbrev pub IsViewFor : Option Nodes → Result Task Refusal → View → Type 0
@@ -44,11 +45,13 @@ pub record IsRefused (asked : Result Task Refusal) (before now : World) (refusal
   pub judges : Judges asked before.files (Err refusal)
   pub same : now ≡ before
 
--- what may stop a call in the middle of its changes: a sink where bytes are put on one, the tree where files are written
+-- what may stop a call in the middle of its changes: a sink where bytes are put on one, the tree where files are written, and
+-- want of memory where a debugger watches a run
 abbrev pub MayStop : Result Work Refusal → Stop → Type 0
 MayStop (Err refusal) SinkFault = Unit {0}
 MayStop (Ok (Run job)) TreeFault = Unit {0}
 MayStop (Ok (Run job)) SinkFault = Unit {0}
+MayStop (Ok (Run job)) NoMemory = IsSome job.debug
 MayStop (Ok (Write texts)) TreeFault = Unit {0}
 MayStop (Ok (Print text)) SinkFault = Unit {0}
 MayStop _ _ = ⊥
@@ -71,7 +74,7 @@ pub record HasCut (asked : Result Task Refusal) (before now : World) (stop : Sto
 abbrev pub IsCut : Result Task Refusal → World → World → Stop → Type 0
 IsCut asked before now TreeFault = (now ≡ before) ⊎ HasCut asked before now TreeFault
 IsCut asked before now SinkFault = HasCut asked before now SinkFault
-IsCut asked before now NoMemory = now ≡ before
+IsCut asked before now NoMemory = (now ≡ before) ⊎ HasCut asked before now NoMemory
 
 -- how the work ended
 abbrev pub Performs : Result Task Refusal → World → World → Result ℕ Halt → Type 0

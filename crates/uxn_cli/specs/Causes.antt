@@ -10,9 +10,10 @@ use Rattle.uxn_io.specs.Files.{Nodes}
 use Rattle.tal_words.specs.declared.fault.Fault.{Fault}
 use Rattle.tal_symbols.specs.declared.stop.SymbolKind.{SymbolKind}
 use Rattle.play_script.specs.declared.script.ScriptKind.{ScriptKind}
+use Rattle.uxn_debugger.specs.declared.command.CommandKind.{CommandKind}
 use Rattle.uxn_cli.specs.declared.task.Task.{Task}
 use Rattle.uxn_cli.specs.declared.refusal.Refusal.{Refusal}
-use Rattle.uxn_cli.specs.declared.refusal.Refusal.TheVariants.{NotUnderstood, NoPath, NoOutput, Missing, Faulty, LongRom, BadSymbols, BadScript}
+use Rattle.uxn_cli.specs.declared.refusal.Refusal.TheVariants.{NotUnderstood, NoPath, NoOutput, Missing, Faulty, LongRom, BadSymbols, BadScript, BadCommands}
 use Rattle.uxn_cli.specs.Verdict.{Work, and_then, view_of, judged, outputs_of}
 use Rattle.uxn_cli.specs.Outcome.{outcome_of}
 
@@ -30,7 +31,7 @@ abbrev pub verdict_on : Nodes → Result Task Refusal → Result Work Refusal
 verdict_on nodes asked = and_then asked (λ task. judged task (view_of nodes task))
 
 -- which verdict it is: words that are not legal, or name no path; an input that is no file; a source with a fault; a ROM that is
--- too long or a symbol file that is refused; a script that is refused; an output that clashes or cannot be made; and work that
+-- too long or a symbol file that is refused; a script or commands that are refused; an output that clashes or cannot be made; and work that
 -- is to be done
 abbrev pub IsIllegal : {A : Type 0} → Result A Refusal → Type 0
 IsIllegal verdict = verdict ≡ Err NotUnderstood
@@ -50,6 +51,9 @@ IsUnfit verdict =
 
 abbrev pub IsBadScript : {A : Type 0} → Result A Refusal → Type 0
 IsBadScript verdict = (number : ℕ) × (kind : ScriptKind) × (verdict ≡ Err (BadScript number kind))
+
+abbrev pub IsBadCommands : {A : Type 0} → Result A Refusal → Type 0
+IsBadCommands verdict = (number : ℕ) × (kind : CommandKind) × (verdict ≡ Err (BadCommands number kind))
 
 abbrev pub IsBlocked : {A : Type 0} → Result A Refusal → Type 0
 IsBlocked verdict = (path : List ℕ) × (verdict ≡ Err (NoOutput path))

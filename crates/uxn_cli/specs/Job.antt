@@ -1,5 +1,6 @@
--- What `play` runs: a ROM with a script, each vector of at most so many instructions; and its report.
-use Rattle.std.specs.Prelude.{ℕ, List, [], ◌∷◌, ◌++◌, codes, decimal, Option, Some, None, option_to_list}
+-- What is run: a ROM with a script, each vector of at most so many instructions; its pictures, its samples and its report; and
+-- the commands of a debugger that watches it.
+use Rattle.std.specs.Prelude.{ℕ, List, map, [], ◌∷◌, ◌++◌, codes, decimal, Option, Some, None, option_to_list}
 use Rattle.uxn_opcodes.specs.declared.Core.{Core}
 use Rattle.uxn_opcodes.specs.Rule.{new_core}
 use Rattle.system_port.specs.DebugText.{exit_code_of}
@@ -11,8 +12,19 @@ use Rattle.varvara_bus.specs.State.{new_state}
 use Rattle.vector_loop.specs.declared.tally.Tally.{Tally}
 use Rattle.vector_loop.specs.State.{State, new_tally}
 use Rattle.vector_loop.specs.Trail.{Trail}
+use Rattle.vector_loop.specs.declared.output.Outputs.{Outputs}
 use Rattle.vector_loop.specs.Run.{run}
+use Rattle.vector_loop.specs.Watch.{ports_read, moment_of}
+use Rattle.tal_words.specs.declared.name.Label.{Label}
+use Rattle.uxn_debugger.specs.declared.command.DebugCommand.{DebugCommand}
+use Rattle.uxn_debugger.specs.Log.{Shown, log_of}
 use Rattle.uxn_cli.specs.World.{Text}
+
+-- what a debugger does: its commands, the labels that its log names, and the file of the log
+pub record Debugging : Type 0 where
+  pub commands : List DebugCommand
+  pub labels : List Label
+  pub log : Option (List ℕ)
 
 pub record Job : Type 0 where
   pub rom : List ℕ
@@ -21,10 +33,19 @@ pub record Job : Type 0 where
   pub frames : Option (List ℕ)
   pub samples : Option (List ℕ)
   pub report : Option (List ℕ)
+  pub debug : Option Debugging
 
 -- the files that it writes, in the order of the usage line
+abbrev pub log_in : Option Debugging → List (List ℕ)
+log_in None = []
+log_in (Some debugging) = option_to_list debugging.log
+
 abbrev pub outputs_in : Job → List (List ℕ)
-outputs_in job = option_to_list job.frames ++ option_to_list job.samples ++ option_to_list job.report
+outputs_in job = log_in job.debug ++ (option_to_list job.frames ++ option_to_list job.samples ++ option_to_list job.report)
+
+-- the files that it appends to while it runs
+abbrev pub outputs_by : Option (List ℕ) → Option (List ℕ) → Outputs
+outputs_by frames samples = record { frames = frames; samples = samples }
 
 -- the clock of a script is that of the machine
 abbrev pub clock_by : ScriptClock → Clock
@@ -34,12 +55,12 @@ clock_by clock = record { seconds = clock.seconds; offset = clock.offset }
 abbrev pub start_with : Core → ScriptView → State
 start_with core script = record { core = core; devices = new_state (clock_by script.clock) None; tally = new_tally }
 
-unfoldable pub trail_by : ℕ → ScriptView → Core → Trail
-trail_by budget script core = run budget script (start_with core script)
+unfoldable pub trail_by : ℕ → Outputs → ScriptView → Core → Trail
+trail_by budget outputs script core = run budget outputs script (start_with core script)
 
 -- that of the ROM
 abbrev pub trail_of : Job → Trail
-trail_of job = trail_by job.budget job.script (new_core job.rom)
+trail_of job = trail_by job.budget (outputs_by job.frames job.samples) job.script (new_core job.rom)
 
 -- the exit code: the low seven bits of port 0f at the end
 abbrev pub exit_in : State → ℕ
@@ -63,10 +84,21 @@ report_text exit tally =
     ++ report_line (codes "frames") tally.frames
     ++ report_line (codes "shots") tally.shots
 
--- the report's file, where one is asked for
-abbrev pub report_at : Option (List ℕ) → List ℕ → List Text
-report_at None text = []
-report_at (Some path) text = record { path = path; bytes = text } ∷ []
+-- a text in a file, where the file is asked for
+abbrev pub text_at : Option (List ℕ) → List ℕ → List Text
+text_at None bytes = []
+text_at (Some path) bytes = record { path = path; bytes = bytes } ∷ []
 
 abbrev pub report_of : Option (List ℕ) → State → List Text
-report_of path end = report_at path (report_text (exit_in end) end.tally)
+report_of path end = text_at path (report_text (exit_in end) end.tally)
+
+-- what a debugger is shown of a state, and its log over a whole run
+abbrev pub shown_of : State → Shown
+shown_of state = record { core = state.core; page = ports_read 256 state; moment = moment_of state }
+
+unfoldable pub log_text : Debugging → Trail → List ℕ
+log_text debugging trail = log_of debugging.labels (map shown_of trail.moments) (shown_of trail.last) debugging.commands
+
+abbrev pub log_by : Option Debugging → Trail → List Text
+log_by None trail = []
+log_by (Some debugging) trail = text_at debugging.log (log_text debugging trail)

@@ -1,7 +1,7 @@
 -- What the words and the view of the tree determine before anything is done: a refusal, or the work.
 use Rattle.std.specs.Prelude.{◌≡◌, ℕ, Bool, true, false, not, nat_lt, ◌||◌, List, [], ◌∷◌, ◌++◌, count_by}
 use Rattle.std.specs.Prelude.{find, Option, Some, None, option_to_list, Result, Ok, Err}
-use Rattle.std.specs.Prelude.{if◌then◌else◌}
+use Rattle.std.specs.Prelude.{if◌then◌else◌, unwrap_or}
 use Rattle.std.specs.List.{list_any}
 use Rattle.std.specs.Str.{bytes_eq}
 use Rattle.tal_words.specs.declared.fault.Fault.{Fault}
@@ -17,6 +17,10 @@ use Rattle.tal_listing.specs.Listing.{listing_of}
 use Rattle.play_script.specs.declared.script.ScriptKind.{ScriptKind}
 use Rattle.play_script.specs.declared.script.ScriptKind.TheVariants.{LongScript}
 use Rattle.play_script.specs.Scripts.{ScriptView, script_of}
+use Rattle.uxn_debugger.specs.declared.command.DebugCommand.{DebugCommand}
+use Rattle.uxn_debugger.specs.declared.command.CommandKind.{CommandKind}
+use Rattle.uxn_debugger.specs.declared.command.CommandKind.TheVariants.{LongCommands}
+use Rattle.uxn_debugger.specs.Reading.{commands_of_text}
 use Rattle.uxn_io.specs.declared.trees.FileBytes.{FileBytes}
 use Rattle.uxn_io.specs.declared.trees.FileBytes.TheVariants.{Found, Missing as NoFile, TooLong}
 use Rattle.uxn_io.specs.ByteList.{tight}
@@ -27,17 +31,18 @@ use Rattle.uxn_cli.specs.declared.words.Command.{Command}
 use Rattle.uxn_cli.specs.declared.words.Command.TheVariants.{Play, Debug, Assemble, Disassemble}
 use Rattle.uxn_cli.specs.declared.task.Task.{Task}
 use Rattle.uxn_cli.specs.declared.refusal.Refusal.{Refusal}
-use Rattle.uxn_cli.specs.declared.refusal.Refusal.TheVariants.{NoOutput, Missing, Faulty, LongRom, BadSymbols, BadScript}
-use Rattle.uxn_cli.specs.Job.{Job}
+use Rattle.uxn_cli.specs.declared.refusal.Refusal.TheVariants.{NoOutput, Missing, Faulty, LongRom, BadSymbols, BadScript, BadCommands}
+use Rattle.uxn_cli.specs.Job.{Debugging, Job, text_at}
 use Rattle.uxn_cli.specs.World.{Text}
 
 pub use Rattle.uxn_cli.specs.Request.{and_then, inputs_by, outputs_by, outputs_of, clashes, HasApartOutputs}
 
--- what the tree shows a task: its file, its file of symbols, its script, and the first output that cannot be made
+-- what the tree shows a task: its file, its file of symbols, its script, its commands, and the first output that cannot be made
 pub record View : Type 0 where
   pub file : FileBytes
   pub symbols : FileBytes
   pub script : FileBytes
+  pub commands : FileBytes
   pub blocked : Option (List ℕ)
 
 -- no more bytes of a file are looked at: 65,280 of a ROM, and 4,194,304 of a source
@@ -60,7 +65,7 @@ symbols_by nodes (Some path) = whole_file (file_at nodes path) 16777216
 
 abbrev pub symbols_input : Command → Task → Option (List ℕ)
 symbols_input Play task = None
-symbols_input Debug task = None
+symbols_input Debug task = task.symbols
 symbols_input Assemble task = None
 symbols_input Disassemble task = task.symbols
 
@@ -75,6 +80,10 @@ script_by nodes (Some path) = whole_file (file_at nodes path) 4194304
 abbrev pub script_seen : Nodes → Task → FileBytes
 script_seen nodes task = script_by nodes task.script
 
+-- the commands of a debugger
+abbrev pub commands_seen : Nodes → Task → FileBytes
+commands_seen nodes task = script_by nodes task.commands
+
 abbrev pub blocked_seen : Nodes → Task → Option (List ℕ)
 blocked_seen nodes task = find (λ path. not (can_create nodes path)) (outputs_of task)
 
@@ -83,6 +92,7 @@ view_of nodes task = record {
   file = file_seen nodes task;
   symbols = symbols_seen nodes task;
   script = script_seen nodes task;
+  commands = commands_seen nodes task;
   blocked = blocked_seen nodes task;
 }
 
@@ -121,10 +131,6 @@ abbrev pub program_in : Bool → List ℕ → FileBytes → Result (List ℕ) Re
 program_in true path file = rom_in path file
 program_in false path file = and_then (source_in path file) (λ source. Ok (rom_of source))
 
-abbrev pub text_at : Option (List ℕ) → List ℕ → List Text
-text_at None bytes = []
-text_at (Some path) bytes = record { path = path; bytes = bytes } ∷ []
-
 -- a source's ROM, symbols and listing
 abbrev pub program_of : List ℕ → Program
 program_of source = record { rom = rom_of source; places = (layout source).words; labels = (layout source).labels }
@@ -148,9 +154,41 @@ abbrev pub script_in : Option (List ℕ) → FileBytes → Result ScriptView Ref
 script_in None file = script_from (script_of [])
 script_in (Some path) file = script_at path file
 
--- a run of a ROM with a script
-abbrev pub job_of : Task → List ℕ → ScriptView → Job
-job_of task rom script = record {
+-- the labels of the source in a file
+abbrev pub own_labels : Bool → FileBytes → List Label
+own_labels false (Found source) = (layout source.list).labels
+own_labels _ _ = []
+
+-- the labels of a symbol file, where one is given
+abbrev pub given_in : Option (List ℕ) → FileBytes → Result (Option (List Label)) Refusal
+given_in None file = Ok None
+given_in (Some path) file = and_then (labels_at path file) (λ labels. Ok (Some labels))
+
+-- the labels of a debugger: those, else those of the source
+abbrev pub debug_labels : Option (List Label) → Bool → FileBytes → List Label
+debug_labels given rom file = unwrap_or given (own_labels rom file)
+
+-- the commands in a file that is there (130) and not refused (133)
+abbrev pub commands_from : Result (List DebugCommand) (ℕ × CommandKind) → Result (List DebugCommand) Refusal
+commands_from (Ok commands) = Ok commands
+commands_from (Err fault) = Err (BadCommands fault.0 fault.1)
+
+abbrev pub commands_at : List Label → List ℕ → FileBytes → Result (List DebugCommand) Refusal
+commands_at labels path NoFile = Err (Missing path)
+commands_at labels path (TooLong length) = Err (BadCommands 1 LongCommands)
+commands_at labels path (Found text) = commands_from (commands_of_text labels text.list)
+
+abbrev pub commands_in : List Label → Option (List ℕ) → FileBytes → Result (List DebugCommand) Refusal
+commands_in labels None file = Ok []
+commands_in labels (Some path) file = commands_at labels path file
+
+abbrev pub debugging : Task → List DebugCommand → List Label → Debugging
+debugging task commands labels = record { commands = commands; labels = labels; log = task.log }
+
+-- a run of a ROM with a script, which a debugger may watch
+abbrev pub job_of : Task → List ℕ → ScriptView → Option Debugging → Job
+job_of task rom script debug = record {
+  debug = debug;
   rom = rom;
   script = script;
   budget = task.budget;
@@ -169,8 +207,13 @@ pub data Work : Type 0 where
 abbrev pub work_of : Command → Task → View → Result Work Refusal
 work_of Play task view =
     and_then (program_in task.rom task.file view.file) (λ rom.
-    and_then (script_in task.script view.script) (λ script. Ok (Run (job_of task rom script))))
-work_of Debug task view = Err (Missing task.file)
+    and_then (script_in task.script view.script) (λ script. Ok (Run (job_of task rom script None))))
+work_of Debug task view =
+    and_then (program_in task.rom task.file view.file) (λ rom.
+    and_then (given_in task.symbols view.symbols) (λ given.
+    and_then (script_in task.script view.script) (λ script.
+    and_then (commands_in (debug_labels given task.rom view.file) task.commands view.commands) (λ commands.
+    Ok (Run (job_of task rom script (Some (debugging task commands (debug_labels given task.rom view.file)))))))))
 work_of Assemble task view = and_then (source_in task.file view.file) (λ source. Ok (Write (texts_of task source)))
 work_of Disassemble task view =
     and_then (rom_in task.file view.file) (λ rom.

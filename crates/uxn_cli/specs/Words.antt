@@ -14,6 +14,7 @@ use Rattle.uxn_cli.specs.declared.task.Task.{Task}
 abbrev pub command_of : List ℕ → Option Command
 command_of name =
     if bytes_eq name (codes "play") then Some Play
+    else if bytes_eq name (codes "debug") then Some Debug
     else if bytes_eq name (codes "asm") then Some Assemble
     else if bytes_eq name (codes "dis") then Some Disassemble
     else None
@@ -36,7 +37,8 @@ required name = record { name = name; has_value = true; is_required = true }
 -- the options of a run
 abbrev pub run_choices : List Choice
 run_choices =
-    switch (codes "rom") ∷ optional (codes "script") ∷ optional (codes "report") ∷ optional (codes "budget") ∷ []
+    switch (codes "rom") ∷ optional (codes "script") ∷ optional (codes "frames") ∷ optional (codes "samples")
+    ∷ optional (codes "report") ∷ optional (codes "budget") ∷ []
 
 -- the options of each command
 abbrev pub choices_of : Command → List Choice

@@ -6,7 +6,7 @@ ghost use Rattle.uxn_io.specs.Room.{Leaves};
 ghost use Rattle.uxn_io.specs.WholeFile.{KeepsLimit, has_failed};
 ghost use Rattle.tal_rom.specs.Assembly.{IsAssembled};
 ghost use Rattle.uxn_cli.specs.World.{world};
-ghost use Rattle.uxn_cli.specs.Verdict.{source_in, rom_in, labels_in, symbols_by};
+ghost use Rattle.uxn_cli.specs.Verdict.{source_in, rom_in, labels_at, labels_in, symbols_by};
 ghost use Rattle.uxn_cli.specs.Follows.{Follows};
 ghost use Rattle.uxn_cli.specs.Answer.{Performs};
 ghost use Rattle.uxn_cli.specs.Blame.{blame_in, OnRefused};
@@ -31,7 +31,7 @@ pub const SOURCE_LIMIT: u32 = 4_194_304;
 pub const ROM_LIMIT: u32 = 65_280;
 
 /// The greatest length of a symbol file in bytes.
-const SYMBOLS_LIMIT: u32 = 16_777_216;
+pub const SYMBOLS_LIMIT: u32 = 16_777_216;
 
 /// The fault of a source that is over its limit.
 const LONG_SOURCE: Fault = Fault {
@@ -104,13 +104,10 @@ fn read_optional<T: Tree>(
     }
 }
 
-/// The labels in a symbol file, unless no file is there or it is refused. Without a path there are none.
-fn accept_labels(alloc: Global, path: &Option<Path>, file: FileBytes) -> Result<Vec<Label>, Halt>
-    ensures { Follows (λ labels. labels.items) result (labels_in path.now file) }
+/// The labels in a symbol file, unless no file is there or it is refused.
+pub fn labels_at(alloc: Global, path: &Path, file: FileBytes) -> Result<Vec<Label>, Halt>
+    ensures { Follows (λ labels. labels.items) result (labels_at path.now file) }
 {
-    let Some(path) = path else {
-        return Ok(Vec::new(alloc));
-    };
     match file {
         FileBytes::Found(bytes) => match read_symbols(alloc, bytes.as_slice()) {
             Ok(labels) => Ok(labels),
@@ -121,6 +118,16 @@ fn accept_labels(alloc: Global, path: &Option<Path>, file: FileBytes) -> Result<
         },
         FileBytes::Missing => Err(Halt::Refused(Refusal::Missing(*path))),
         FileBytes::TooLong(_) => Err(Halt::Refused(Refusal::BadSymbols(0, SymbolKind::Long))),
+    }
+}
+
+/// The labels in a symbol file, where there is a path. Without a path there are none.
+fn accept_labels(alloc: Global, path: &Option<Path>, file: FileBytes) -> Result<Vec<Label>, Halt>
+    ensures { Follows (λ labels. labels.items) result (labels_in path.now file) }
+{
+    match path {
+        Some(path) => labels_at(alloc, path, file),
+        None => Ok(Vec::new(alloc)),
     }
 }
 

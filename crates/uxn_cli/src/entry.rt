@@ -8,11 +8,12 @@ ghost use Rattle.uxn_cli.specs.Follows.{Follows};
 ghost use Rattle.uxn_cli.specs.Answer.{Performs, Ends, Answers};
 ghost use Rattle.uxn_cli.specs.Blame.{blame_in, blame_by, blame_at, early_status, OnRefused};
 ghost use Rattle.uxn_cli.specs.Room.{TreeSuffices, SinksSuffice};
-ghost use Rattle.uxn_cli.specs.Causes.{IsExactly, verdict_on, IsIllegal, IsPathless, IsMissing, IsFaulty, IsUnfit, IsBadScript, IsBlocked, EndsWith, KeepsOthers, PutsLine};
+ghost use Rattle.uxn_cli.specs.Causes.{IsExactly, verdict_on, IsIllegal, IsPathless, IsMissing, IsFaulty, IsUnfit, IsBadScript, IsBadCommands, IsBlocked, EndsWith, KeepsOthers, PutsLine};
 ghost use Rattle.uxn_cli.specs.Outcome.{outcome_of};
 
 use super::assembling::assemble_files;
 use super::commands::disassemble_rom;
+use super::debugging::debug;
 use super::playing::play;
 use super::refusal::{Halt, Refusal};
 use super::task::{Task, apart, paths_in};
@@ -58,7 +59,7 @@ fn perform<T: Tree, O: Sink, E: Sink>(
     let task = request(alloc, words)?;
     match task.command {
         Command::Play => play(alloc, &task, tree, out, err),
-        Command::Debug => Err(Halt::Refused(Refusal::Missing(task.file))),
+        Command::Debug => debug(alloc, &task, tree, out, err),
         Command::Assemble => assemble_files(alloc, &task, tree),
         Command::Disassemble => disassemble_rom(alloc, &task, tree, out, err),
     }
@@ -154,6 +155,7 @@ pub fn uxn<T: Tree, O: Sink, E: Sink>(
     ensures faulty { IfSome (T.told tree.old) (λ nodes. IsExactly result 131 (IsFaulty (verdict_on nodes (request (map string_bytes words.now))))) }
     ensures unfit { IfSome (T.told tree.old) (λ nodes. IsExactly result 134 (IsUnfit (verdict_on nodes (request (map string_bytes words.now))))) }
     ensures bad_script { IfSome (T.told tree.old) (λ nodes. IsExactly result 132 (IsBadScript (verdict_on nodes (request (map string_bytes words.now))))) }
+    ensures bad_commands { IfSome (T.told tree.old) (λ nodes. IsExactly result 133 (IsBadCommands (verdict_on nodes (request (map string_bytes words.now))))) }
     ensures blocked { IfSome (T.told tree.old) (λ nodes. IsExactly result 135 (IsBlocked (verdict_on nodes (request (map string_bytes words.now))))) }
     ensures accepted { IfSome (T.told tree.old) (λ nodes. (code : ℕ) → code ≤ 127
         → IsExactly result code (EndsWith code (verdict_on nodes (request (map string_bytes words.now))))) }

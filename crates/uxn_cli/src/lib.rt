@@ -3,13 +3,18 @@
 
 mod assembling;
 mod commands;
+mod debugging;
 mod entry;
 mod laws;
+mod machine;
+mod making;
 mod outputs;
 mod playing;
+mod program;
 mod refusal;
 mod report;
 mod running;
+mod scripts;
 mod task;
 #[cfg(test)]
 mod tests;

@@ -9,6 +9,7 @@ use play_script::ScriptKind;
 use std::alloc::{AllocError, Global};
 use tal_symbols::SymbolKind;
 use tal_words::Fault;
+use uxn_debugger::CommandKind;
 use uxn_io::{Bytes, Failed, Path, ReadStop, Sink, decimal, put_all};
 use uxn_opcodes::Stop;
 
@@ -31,6 +32,8 @@ pub enum Refusal {
     BadSymbols(u32, SymbolKind),
     /// The first faulty line of a script, counted from 1, and what is wrong with it.
     BadScript(u32, ScriptKind),
+    /// The first faulty line of a debugger's commands, counted from 1, and what is wrong with it.
+    BadCommands(u32, CommandKind),
 }
 
 /// Why a call ended before its work was done.
@@ -93,6 +96,7 @@ impl Refusal {
             Refusal::Faulty(..) => 131,
             Refusal::LongRom(_) | Refusal::BadSymbols(..) => 134,
             Refusal::BadScript(..) => 132,
+            Refusal::BadCommands(..) => 133,
         }
     }
 
@@ -109,6 +113,7 @@ impl Refusal {
             Refusal::LongRom(length) => rom_line(alloc, *length),
             Refusal::BadSymbols(entry, kind) => symbols_line(alloc, *entry, *kind),
             Refusal::BadScript(line, kind) => script_line(alloc, *line, *kind),
+            Refusal::BadCommands(line, kind) => commands_line(alloc, *line, *kind),
         }
     }
 
@@ -183,6 +188,18 @@ fn script_line(alloc: Global, number: u32, kind: ScriptKind) -> Result<Vec<u8>, 
     ensures { IfOk result (λ made. made.items ≡ line_of (Refusal.BadScript number kind)) }
 {
     let mut line = Vec::from_slice(alloc, b"script ")?;
+    line.extend_from_slice(&decimal(u64::from(number)))?;
+    line.extend_from_slice(b": ")?;
+    line.extend_from_slice(kind.name().as_bytes())?;
+    line.push(b'\n')?;
+    Ok(line)
+}
+
+/// Names the first faulty line of a debugger's commands, and what is wrong with it.
+fn commands_line(alloc: Global, number: u32, kind: CommandKind) -> Result<Vec<u8>, AllocError>
+    ensures { IfOk result (λ made. made.items ≡ line_of (Refusal.BadCommands number kind)) }
+{
+    let mut line = Vec::from_slice(alloc, b"commands ")?;
     line.extend_from_slice(&decimal(u64::from(number)))?;
     line.extend_from_slice(b": ")?;
     line.extend_from_slice(kind.name().as_bytes())?;

@@ -65,6 +65,8 @@ fn command_named(name: &[u8]) -> Option<Command>
 {
     if name == b"play".as_slice() {
         Some(Command::Play)
+    } else if name == b"debug".as_slice() {
+        Some(Command::Debug)
     } else if name == b"asm".as_slice() {
         Some(Command::Assemble)
     } else if name == b"dis".as_slice() {
@@ -178,6 +180,8 @@ fn with_run_options<'a>(
 {
     let parser = with_switch(alloc, parser, "rom")?;
     let parser = with_option(alloc, parser, "script", false)?;
+    let parser = with_option(alloc, parser, "frames", false)?;
+    let parser = with_option(alloc, parser, "samples", false)?;
     let parser = with_option(alloc, parser, "report", false)?;
     with_option(alloc, parser, "budget", false)
 }

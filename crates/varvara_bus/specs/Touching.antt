@@ -19,6 +19,7 @@ use Rattle.uxn_opcodes.specs.Model.{Machine, after_instruction, access_done, wri
 use Rattle.varvara_bus.specs.declared.ports.Action.{Action}
 use Rattle.varvara_bus.specs.declared.ports.Action.TheVariants.{Stores, Expands, SetsWorkingPointer, SetsReturnPointer}
 use Rattle.varvara_bus.specs.declared.ports.Action.TheVariants.{PutsDebugText, PutsOut, PutsErr}
+use Rattle.varvara_bus.specs.declared.ports.Action.TheVariants.{AsksWidth, AsksHeight, DrawsPixel, DrawsSprite, StartsNote}
 use Rattle.varvara_bus.specs.State.{DeviceState, storing}
 use Rattle.varvara_bus.specs.Effect.{act, debug_bytes, action_of, effect}
 use Rattle.varvara_bus.specs.Model.{Devised, varvara, instruction_effect}
@@ -124,6 +125,11 @@ act-spares path SetsReturnPointer byte devices core = tt
 act-spares path PutsDebugText byte devices core = each-map (Spares path) (λ letter. ToErr letter) (debug_bytes byte core) (λ letter. tt)
 act-spares path PutsOut byte devices core = (tt, tt)
 act-spares path PutsErr byte devices core = (tt, tt)
+act-spares path AsksWidth byte devices core = tt
+act-spares path AsksHeight byte devices core = tt
+act-spares path DrawsPixel byte devices core = tt
+act-spares path DrawsSprite byte devices core = tt
+act-spares path (StartsNote voice) byte devices core = tt
 
 effect-spares : (path : List ℕ) (devices : DeviceState) (core : Core) (port byte : ℕ) → Each (Spares path) (effect devices core port byte).changes
 unfolding effect

@@ -1,5 +1,5 @@
 use Rattle.uxn_cli.proofs.VerdictLemmas.{refusal_ends}
-use Rattle.uxn_cli.proofs.PlayLemmas.{refused-surely}
+use Rattle.uxn_cli.proofs.RunLemmas.{refused-surely}
 use Rattle.uxn_cli.proofs.entry.answer.Goals as goal
 
 pub returns-in-Err-Refused-clause-ends : goal.returns-in-Err-Refused-clause-ends

@@ -1,6 +1,6 @@
 use Rattle.std.proofs.Common.{◌≡◌, rules}
 use Rattle.std.specs.Prelude.{Err}
-use Rattle.uxn_cli.proofs.VerdictLemmas.{words_failed, undebugged}
+use Rattle.uxn_cli.proofs.VerdictLemmas.{words_failed}
 use Rattle.uxn_cli.proofs.entry.perform.Goals as goal
 
 pub returns-in_err-task-clause-performs : goal.returns-in_err-task-clause-performs
@@ -11,8 +11,11 @@ returns-in_err-task-clause-performs g c =
 pub returns-in-Assemble-clause-performs : goal.returns-in-Assemble-clause-performs
 returns-in-Assemble-clause-performs g c = rw c.in_ok-task.ensures.follows (c.assemble_files.ensures.performs _ _)
 
-pub returns-in-Debug-clause-performs : goal.returns-in-Debug-clause-performs
-returns-in-Debug-clause-performs g c = rw c.in_ok-task.ensures.follows (undebugged c.in_ok-task.task _ _ _ c.in-Debug.is)
+pub returns-in-Debug-clause-sure_tree : goal.returns-in-Debug-clause-sure_tree
+returns-in-Debug-clause-sure_tree g c = rw c.in_ok-task.ensures.follows c.debug.ensures.sure_tree
+
+pub returns-in-Debug-clause-sure_sinks : goal.returns-in-Debug-clause-sure_sinks
+returns-in-Debug-clause-sure_sinks g c = rw c.in_ok-task.ensures.follows c.debug.ensures.sure_sinks
 
 pub returns-in-Play-clause-sure_tree : goal.returns-in-Play-clause-sure_tree
 returns-in-Play-clause-sure_tree g c = rw c.in_ok-task.ensures.follows c.play.ensures.sure_tree

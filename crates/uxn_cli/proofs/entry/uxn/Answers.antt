@@ -1,4 +1,4 @@
-use Rattle.uxn_cli.proofs.CauseLemmas.{exactly_illegal, exactly_pathless, exactly_missing, exactly_faulty, exactly_unfit, exactly_script, exactly_blocked, exactly_accepted, is_untouched, is_quiet, puts_line}
+use Rattle.uxn_cli.proofs.CauseLemmas.{exactly_illegal, exactly_pathless, exactly_missing, exactly_faulty, exactly_unfit, exactly_script, exactly_commands, exactly_blocked, exactly_accepted, is_untouched, is_quiet, puts_line}
 use Rattle.uxn_cli.proofs.OthersLemmas.{keeps_others}
 use Rattle.uxn_cli.proofs.entry.uxn.Goals as goal
 
@@ -37,3 +37,6 @@ returns-clause-others g c = keeps_others _ _ _ _ c.status_of.ensures.outcome
 
 pub returns-clause-bad_script : goal.returns-clause-bad_script
 returns-clause-bad_script g c = exactly_script _ _ _ _ c.status_of.ensures.outcome
+
+pub returns-clause-bad_commands : goal.returns-clause-bad_commands
+returns-clause-bad_commands g c = exactly_commands _ _ _ _ c.status_of.ensures.outcome

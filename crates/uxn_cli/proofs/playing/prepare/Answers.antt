@@ -1,9 +1,19 @@
-use Rattle.std.proofs.Common.{◌≡◌, rules}
+use Rattle.std.proofs.Common.{◌≡◌, ◌∙◌, rules}
 use Rattle.std.specs.Prelude.{Err}
-use Rattle.uxn_cli.proofs.PlayLemmas.{unloaded}
+use Rattle.uxn_cli.specs.Prepared.{rom_in_program}
+use Rattle.uxn_cli.proofs.ReadyLemmas.{play-unloaded, play-unscripted, play-ready}
 use Rattle.uxn_cli.proofs.playing.prepare.Goals as goal
 
-pub returns-in_err-core-clause-prepares : goal.returns-in_err-core-clause-prepares
-returns-in_err-core-clause-prepares g c =
-    let result : c.from_residual.result ≡ Err c.in_err-core.field-0.0 = search rules in
-    rw result (unloaded c.args.task.now (g.T.Tree.told c.args.tree.now) c.in_err-core.field-0.0 c.in_err-core.ensures.loads)
+pub returns-in_err-program-clause-prepares : goal.returns-in_err-program-clause-prepares
+returns-in_err-program-clause-prepares g c =
+    let result : c.from_residual.result ≡ Err c.in_err-program.field-0.0 = search rules in
+    rw result (play-unloaded c.args.task.now (g.T.Tree.told c.args.tree.now) c.requires c.in_err-program.field-0.0 c.in_err-program.ensures.loads)
+
+pub returns-in_err-script-clause-prepares : goal.returns-in_err-script-clause-prepares
+returns-in_err-script-clause-prepares g c =
+    let result : c.from_residual-in_err-script.result ≡ Err c.in_err-script.field-0.0 = search rules in
+    rw result (play-unscripted c.args.task.now (g.T.Tree.told c.args.tree.now) c.requires c.in_ok-program.program c.in_ok-program.ensures.loads c.in_err-script.field-0.0
+    (rw c.in_ok-program.ensures.same at c.in_err-script.ensures.script))
+
+pub returns-clause-prepares : goal.returns-clause-prepares
+returns-clause-prepares g c = ?
