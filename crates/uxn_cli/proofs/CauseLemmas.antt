@@ -12,8 +12,9 @@ use Rattle.uxn_cli.specs.declared.task.Task.{Task}
 use Rattle.uxn_cli.specs.declared.refusal.Refusal.{Refusal}
 use Rattle.uxn_cli.specs.declared.refusal.Refusal.TheVariants.{NotUnderstood, NoPath, NoOutput, Missing, Faulty, LongRom, BadSymbols, BadScript, BadCommands}
 use Rattle.std.proofs.lemmas.Bool.Decides.{nat_tests}
-use Rattle.uxn_io.specs.Faults.{Nobody}
-use Rattle.uxn_cli.specs.Blame.{blame_at, early_status}
+use Rattle.uxn_io.specs.Faults.{Counts, Rose, Ledger, TreeRose, OutRose, ErrRose, Nobody, TheTree, ASink}
+use Rattle.uxn_opcodes.specs.declared.Stop.{Stop}
+use Rattle.uxn_cli.specs.Blame.{blame_of, blame_at, early_status}
 use Rattle.uxn_cli.specs.Lines.{text_of, line_of, status_of}
 use Rattle.uxn_io.specs.Outside.{World, changed_by-err}
 use Rattle.play_script.specs.declared.script.ScriptKind.{ScriptKind}
@@ -325,3 +326,21 @@ module _ (asked : Result Task Refusal) (before now : World) (answer : ℕ) where
 -- who is to blame for a status
 pub blame-ended : (answer : ℕ) → answer ≤ 135 → blame_at answer ≡ Nobody
 blame-ended answer small = grind (arith, nat_tests)
+
+pub tree-blamed : (stop : Stop) → early_status stop ≡ 136 → blame_of stop ≡ TheTree
+tree-blamed TreeFault e = refl
+tree-blamed SinkFault e = absurd (omega (arith, e))
+tree-blamed NoMemory e = absurd (omega (arith, e))
+
+pub sink-blamed : (stop : Stop) → early_status stop ≡ 137 → blame_of stop ≡ ASink
+sink-blamed TreeFault e = absurd (omega (arith, e))
+sink-blamed SinkFault e = refl
+sink-blamed NoMemory e = absurd (omega (arith, e))
+
+-- which counts rose with a status
+pub tree-rose : (before now : Counts) (status : ℕ) → Ledger before now (blame_at status) → status ≡ 136 → Rose before.tree now.tree
+tree-rose before now status ledger is = (let rose : TreeRose before now = rw is at ledger in rose.tree)
+
+pub sink-rose : (before now : Counts) (status : ℕ) → Ledger before now (blame_at status) → status ≡ 137 → Rose before.out now.out ⊎ Rose before.err now.err
+sink-rose before now status ledger is =
+    (let rose : OutRose before now ⊎ ErrRose before now = rw is at ledger in elim rose [ inl rise ↦ inl rise.out | inr rise ↦ inr rise.err ])

@@ -1,5 +1,5 @@
 -- The inputs of `play` and `debug`, met one after the other.
-use Rattle.std.proofs.Common.{◌≡◌, ◌≢◌, ℕ, Bool, true, false, List, [], ◌∷◌, ◌++◌, refl, ap, sym, ◌∙◌}
+use Rattle.std.proofs.Common.{◌≡◌, ◌≢◌, ℕ, Bool, true, false, List, [], ◌∷◌, ◌++◌, refl, ap, sym, ◌∙◌, subst}
 use Rattle.std.specs.Prelude.{Option, Some, None, Result, Ok, Err, IfSome, unwrap_or, option_map}
 use Rattle.tal_words.specs.declared.name.Label.{Label}
 use Rattle.tal_rom.specs.Assembly.{rom_of, layout}
@@ -31,6 +31,10 @@ module _ (task : Task) (tree : Option Nodes) where
     work = is;
   }
 
+  -- an input that was seen in the tree as it was
+  pub seen-here : {A : Type 0} (seen_in : Nodes → FileBytes) (said : FileBytes → Result A Refusal) (says : Result A Refusal) (told : Option Nodes) → told ≡ tree → Sees told seen_in said says → Sees tree seen_in said says
+  seen-here seen_in said says told same there = subst (λ t. Sees t seen_in said says) same there
+
   -- ---- `play`
 
   module _ (play : task.command ≡ Play) where
@@ -55,15 +59,21 @@ module _ (task : Task) (tree : Option Nodes) where
           ≡ and_then (script_in task.script script) (λ given. Ok (Run (job_of task (rom_in_program program) given None)))
       loaded_play script = ap (λ s. and_then s (λ rom. and_then (script_in task.script script) (λ given. Ok (Run (job_of task rom given None))))) loads.rom
 
-      pub play-unscripted : (halt : Halt) → Accepts {B = ScriptView} (λ script. script) tree (λ nodes. script_by nodes task.script) (script_in task.script) (Err halt) → Unready tree task halt
-      play-unscripted (Stopped stop) accepts = accepts
-      play-unscripted (Refused refusal) accepts =
+      unscripted_play : (halt : Halt) → Accepts {B = ScriptView} (λ script. script) tree (λ nodes. script_by nodes task.script) (script_in task.script) (Err halt) → Unready tree task halt
+      unscripted_play (Stopped stop) accepts = accepts
+      unscripted_play (Refused refusal) accepts =
           play_seen loads.file accepts.file loads.seen accepts.seen (Err refusal)
           (loaded_play accepts.file ∙ ap (λ s. and_then s (λ given. Ok (Run (job_of task (rom_in_program program) given None)))) accepts.said_so)
 
-      pub play-ready : (script : ScriptView) → Accepts (λ (s : ScriptView). s) tree (λ nodes. script_by nodes task.script) (script_in task.script) (Ok script)
+      pub play-unscripted : (halt : Halt) (told : Option Nodes) → told ≡ tree → Accepts {B = ScriptView} (λ script. script) told (λ nodes. script_by nodes task.script) (script_in task.script) (Err halt)
+          → Unready tree task halt
+      play-unscripted halt told same accepts =
+          unscripted_play halt (subst (λ t. Accepts {B = ScriptView} (λ script. script) t (λ nodes. script_by nodes task.script) (script_in task.script) (Err halt)) same accepts)
+
+      pub play-ready : (script : ScriptView) (told : Option Nodes) → told ≡ tree → Sees told (λ nodes. script_by nodes task.script) (script_in task.script) (Ok script)
           → SeesWork tree task (Ok (Run (job_of task (rom_in_program program) script None)))
-      play-ready script accepts =
+      play-ready script told same there =
+          let accepts = seen-here _ _ _ told same there in
           play_seen loads.file accepts.file loads.seen accepts.seen (Ok (Run (job_of task (rom_in_program program) script None)))
           (loaded_play accepts.file ∙ ap (λ s. and_then s (λ given. Ok (Run (job_of task (rom_in_program program) given None)))) accepts.said_so)
 
@@ -108,12 +118,17 @@ module _ (task : Task) (tree : Option Nodes) where
           ≡ from_symbols loads.file symbols script commands (rom_in_program program)
       loaded symbols script commands = ap (λ s. and_then s (from_symbols loads.file symbols script commands)) loads.rom
 
-      pub debug-ungiven : (halt : Halt) → Accepts {B = Option (List Label)} (λ given. given) tree (λ nodes. symbols_by nodes task.symbols) (given_in task.symbols) (Err halt) → Unready tree task halt
-      debug-ungiven (Stopped stop) accepts = accepts
-      debug-ungiven (Refused refusal) accepts =
+      ungiven : (halt : Halt) → Accepts {B = Option (List Label)} (λ given. given) tree (λ nodes. symbols_by nodes task.symbols) (given_in task.symbols) (Err halt) → Unready tree task halt
+      ungiven (Stopped stop) accepts = accepts
+      ungiven (Refused refusal) accepts =
           debug_seen loads.file accepts.file (unread_script tree task).0 (unread_commands tree task).0 loads.seen accepts.seen (unread_script tree task).1 (unread_commands tree task).1 (Err refusal)
           (loaded accepts.file (unread_script tree task).0 (unread_commands tree task).0
           ∙ ap (λ s. and_then s (λ given. from_script (unread_script tree task).0 (unread_commands tree task).0 (rom_in_program program) (debug_labels given task.rom loads.file))) accepts.said_so)
+
+      pub debug-ungiven : (halt : Halt) (told : Option Nodes) → told ≡ tree → Accepts {B = Option (List Label)} (λ given. given) told (λ nodes. symbols_by nodes task.symbols) (given_in task.symbols) (Err halt)
+          → Unready tree task halt
+      debug-ungiven halt told same accepts =
+          ungiven halt (subst (λ t. Accepts {B = Option (List Label)} (λ given. given) t (λ nodes. symbols_by nodes task.symbols) (given_in task.symbols) (Err halt)) same accepts)
 
       module _ (given : Option (List Label)) (gives : Sees tree (λ nodes. symbols_by nodes task.symbols) (given_in task.symbols) (Ok given)) where
         abbrev pub labels : List Label
@@ -128,25 +143,39 @@ module _ (task : Task) (tree : Option Nodes) where
             loaded gives.file script commands ∙ ap (λ s. and_then s (λ g. from_script script commands (rom_in_program program) (debug_labels g task.rom loads.file))) gives.said_so
             ∙ ap (from_script script commands (rom_in_program program)) same_labels
 
-        pub debug-unscripted : (halt : Halt) → Accepts {B = ScriptView} (λ script. script) tree (λ nodes. script_by nodes task.script) (script_in task.script) (Err halt) → Unready tree task halt
-        debug-unscripted (Stopped stop) accepts = accepts
-        debug-unscripted (Refused refusal) accepts =
+        unscripted_debug : (halt : Halt) → Accepts {B = ScriptView} (λ script. script) tree (λ nodes. script_by nodes task.script) (script_in task.script) (Err halt) → Unready tree task halt
+        unscripted_debug (Stopped stop) accepts = accepts
+        unscripted_debug (Refused refusal) accepts =
             debug_seen loads.file gives.file accepts.file (unread_commands tree task).0 loads.seen gives.seen accepts.seen (unread_commands tree task).1 (Err refusal)
             (given_so accepts.file (unread_commands tree task).0 ∙ ap (λ s. and_then s (from_commands (unread_commands tree task).0 (rom_in_program program) labels)) accepts.said_so)
+
+        pub debug-unscripted : (halt : Halt) (told : Option Nodes) → told ≡ tree → Accepts {B = ScriptView} (λ script. script) told (λ nodes. script_by nodes task.script) (script_in task.script) (Err halt)
+            → Unready tree task halt
+        debug-unscripted halt told same accepts =
+            unscripted_debug halt (subst (λ t. Accepts {B = ScriptView} (λ script. script) t (λ nodes. script_by nodes task.script) (script_in task.script) (Err halt)) same accepts)
 
         module _ (script : ScriptView) (scripted : Sees tree (λ nodes. script_by nodes task.script) (script_in task.script) (Ok script)) where
           scripted_so : (commands : FileBytes) → and_then (program_in task.rom task.file loads.file) (from_symbols loads.file gives.file scripted.file commands)
               ≡ from_commands commands (rom_in_program program) labels script
           scripted_so commands = given_so scripted.file commands ∙ ap (λ s. and_then s (from_commands commands (rom_in_program program) labels)) scripted.said_so
 
-          pub debug-uncommanded : (halt : Halt) → Accepts {B = List DebugCommand} (λ commands. commands) tree (λ nodes. script_by nodes task.commands) (commands_in labels task.commands) (Err halt) → Unready tree task halt
-          debug-uncommanded (Stopped stop) accepts = accepts
-          debug-uncommanded (Refused refusal) accepts =
+          uncommanded : (halt : Halt) → Accepts {B = List DebugCommand} (λ commands. commands) tree (λ nodes. script_by nodes task.commands) (commands_in labels task.commands) (Err halt) → Unready tree task halt
+          uncommanded (Stopped stop) accepts = accepts
+          uncommanded (Refused refusal) accepts =
               debug_seen loads.file gives.file scripted.file accepts.file loads.seen gives.seen scripted.seen accepts.seen (Err refusal)
               (scripted_so accepts.file ∙ ap (λ s. and_then s (λ g. Ok (watched (rom_in_program program) script g labels))) accepts.said_so)
 
-          pub debug-ready : (commands : List DebugCommand) → Sees tree (λ nodes. script_by nodes task.commands) (commands_in labels task.commands) (Ok commands)
+          pub debug-uncommanded : (halt : Halt) (told : Option Nodes) (shown : List Label) → told ≡ tree → shown ≡ labels
+              → Accepts {B = List DebugCommand} (λ commands. commands) told (λ nodes. script_by nodes task.commands) (commands_in shown task.commands) (Err halt) → Unready tree task halt
+          debug-uncommanded halt told shown same is accepts =
+              uncommanded halt (subst (λ l. Accepts {B = List DebugCommand} (λ commands. commands) tree (λ nodes. script_by nodes task.commands) (commands_in l task.commands) (Err halt)) is
+              (subst (λ t. Accepts {B = List DebugCommand} (λ commands. commands) t (λ nodes. script_by nodes task.commands) (commands_in shown task.commands) (Err halt)) same accepts))
+
+          pub debug-ready : (commands : List DebugCommand) (told : Option Nodes) (shown : List Label) → told ≡ tree → shown ≡ labels
+              → Sees told (λ nodes. script_by nodes task.commands) (commands_in shown task.commands) (Ok commands)
               → SeesWork tree task (Ok (Run (job_of task (rom_in_program program) script (Some (debugging task commands labels)))))
-          debug-ready commands commanded =
+          debug-ready commands told shown same is there =
+              let commanded : Sees tree (λ nodes. script_by nodes task.commands) (commands_in labels task.commands) (Ok commands) =
+              subst (λ l. Sees tree (λ nodes. script_by nodes task.commands) (commands_in l task.commands) (Ok commands)) is (seen-here _ _ _ told same there) in
               debug_seen loads.file gives.file scripted.file commanded.file loads.seen gives.seen scripted.seen commanded.seen _
               (scripted_so commanded.file ∙ ap (λ s. and_then s (λ g. Ok (watched (rom_in_program program) script g labels))) commanded.said_so)

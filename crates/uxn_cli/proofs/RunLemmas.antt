@@ -1,5 +1,5 @@
 -- What `play` and `debug` do, step by step.
-use Rattle.std.proofs.Common.{◌≡◌, ◌≢◌, ◌<◌, length, ℕ, Bool, true, false, not, List, [], ◌∷◌, ◌++◌, map, refl, ap, sym, ◌∙◌, subst, inl, inr, append_assoc, append-nil}
+use Rattle.std.proofs.Common.{◌≡◌, ◌≢◌, ◌<◌, length, ℕ, Bool, true, false, not, List, [], ◌∷◌, ◌++◌, map, refl, ap, sym, ◌∙◌, subst, inl, inr, append_assoc, append-nil, arith}
 use Rattle.std.specs.Prelude.{Option, Some, None, Result, Ok, Err, IfSome, IsSome, option_map, option_to_list, find, is_some, ◌||◌, ◌⊎◌, fold}
 use Rattle.std.specs.List.{list_any}
 use Rattle.std.specs.Str.{bytes_eq}
@@ -14,7 +14,7 @@ use Rattle.uxn_io.specs.Changes.{can_create, with_appended, HasAppendedFront}
 use Rattle.uxn_io.specs.Files.{Nodes, Node, file_at, bytes_of}
 use Rattle.uxn_io.specs.Outside.{Change, World, changed_by, changed_by-append, IsCutOff, cut-first, cut-later}
 use Rattle.uxn_io.specs.Appending.{cut-file}
-use Rattle.uxn_io.specs.Room.{Room}
+use Rattle.uxn_io.specs.Room.{Room, Leaves}
 use Rattle.uxn_opcodes.specs.declared.Core.{Core}
 use Rattle.uxn_opcodes.specs.declared.Stop.{Stop}
 use Rattle.uxn_opcodes.specs.declared.Stop.TheVariants.{TreeFault, SinkFault, NoMemory}
@@ -102,13 +102,26 @@ shown-fold : (states : List State) (held : Watching) → shown_all after_moment 
 shown-fold [] held = refl
 shown-fold (state ∷ states) held = shown-fold states (shown_to held (shown_of state))
 
-pub kept-log : KeepsTheLog → (commands : List DebugCommand) (labels : List Label) (file : Option (List ℕ)) (trail : Trail) (now : Watching)
-    → WasShown after_moment after_end (new_watching commands labels) trail now
+pub kept-log : KeepsTheLog → (commands : List DebugCommand) (labels : List Label) (file : Option (List ℕ)) (trail : Trail) (before now : Watching)
+    → before ≡ new_watching commands labels → WasShown after_moment after_end before trail now
     → now.log ≡ log_text (record { commands = commands; labels = labels; log = file }) trail
 unfolding log_text
-kept-log keeps commands labels file trail now was =
-    ap (λ w. w.log) was ∙ ap (λ held. (ended_by held (shown_of trail.last)).log) (shown-fold trail.moments (new_watching commands labels))
+kept-log keeps commands labels file trail before now new was =
+    ap (λ w. w.log) was ∙ ap (λ held. (ended_by (shown_all after_moment held trail.moments) (shown_of trail.last)).log) new
+    ∙ ap (λ held. (ended_by held (shown_of trail.last)).log) (shown-fold trail.moments (new_watching commands labels))
     ∙ keeps commands labels (map shown_of trail.moments) (shown_of trail.last)
+
+-- a run, its report, and a text behind it
+pub texts-after : (before middle now : World) (changes : List Change) (file : Option (List ℕ)) (text last : List ℕ) → text ≡ last → middle ≡ changed_by before changes
+    → now ≡ changed_by middle (filling_all (text_at file text)) → now ≡ changed_by before (changes ++ filling_all (text_at file last))
+texts-after before middle now changes file text last same ran is =
+    is ∙ ap (λ t. changed_by middle (filling_all (text_at file t))) same ∙ ap (λ w. changed_by w (filling_all (text_at file last))) ran
+    ∙ sym (changed_by-append before changes (filling_all (text_at file last)))
+
+pub cut-after : (before middle now : World) (changes : List Change) (file : Option (List ℕ)) (text last : List ℕ) → text ≡ last → middle ≡ changed_by before changes
+    → IsCutOff middle now (filling_all (text_at file text)) → IsCutOff before now (changes ++ filling_all (text_at file last))
+cut-after before middle now changes file text last same ran cut =
+    cut-later before middle now changes (filling_all (text_at file last)) ran (subst (λ t. IsCutOff middle now (filling_all (text_at file t))) same cut)
 
 -- ---- what is sure
 
@@ -330,12 +343,69 @@ module _ (task : Task) (tree : Option Nodes) where
       is_cut_run now NoMemory memory cut = inr (record { found = Ok (Run job); judges = judges_run m.looked; may = memory refl; cut = run-cut now cut; short = λ text. absurd text })
 
 -- a machine that is ready runs the trail of its job
-pub ready-trail : (tree : Option Nodes) (task : Task) (debug : Option Debugging) (machine : Machine) (ready : IsReady tree task debug machine)
-    → trail_by task.budget (outputs_for task) machine.script machine.core ≡ trail_of (job_of task ready.rom machine.script debug)
-ready-trail tree task debug machine ready = ap (trail_by task.budget (outputs_for task) machine.script) ready.core
+module _ (tree : Option Nodes) (task : Task) (debug : Option Debugging) (machine : Machine) (ready : IsReady tree task debug machine) where
+  abbrev ready-job : Job
+  ready-job = job_of task ready.rom machine.script debug
 
+  abbrev machine-trail : Trail
+  machine-trail = trail_by task.budget (outputs_for task) machine.script machine.core
+
+  ready-trail : machine-trail ≡ trail_of ready-job
+  ready-trail = ap (trail_by task.budget (outputs_for task) machine.script) ready.core
+
+  module _ (outs : outputs_of task ≡ outputs_in ready-job) (told : Option Nodes) (same : told ≡ tree) (new : Option Nodes) where
+    pub ready-unmade : (out err : Option (List ℕ)) (halt : Halt) → MakesOutputs (outputs_of task) told new (Err halt) → Performs (Ok task) (world tree out err) (world new out err) (Err halt)
+    ready-unmade out err halt makes = unmade task tree ready-job ready.sees outs new out err halt (subst (λ t. MakesOutputs (outputs_of task) t new (Err halt)) same makes)
+
+    pub ready-unmade-tree : (start here : Room) (P : Type 0) → Leaves start here 0 0
+        → (0 < here.files → P → IfSome told (λ nodes. None ≡ find (λ path. not (can_create nodes path)) (outputs_of task)))
+        → IfSome tree (λ nodes. TreeSuffices (verdict_on nodes (Ok task)) start → P → ⊥)
+    ready-unmade-tree start here P left sure =
+        unmade-tree task tree ready-job ready.sees outs start here P (λ some. (let files = left.files some in omega (arith, files, some)))
+        (λ some p. subst (λ t. IfSome t (λ nodes. None ≡ find (λ path. not (can_create nodes path)) (outputs_of task))) same (sure some p))
+
+    module _ (makes : Made (outputs_of task) told new) where
+      ready-made : Made (outputs_of task) tree new
+      ready-made = subst (λ t. Made (outputs_of task) t new) same makes
+
+      pub ready-run : (out err : Option (List ℕ)) (now : World) (answer : ℕ) → answer ≡ exit_in machine-trail.last
+          → now ≡ changed_by (world new out err) (reporting task.report machine-trail ++ filling_all (log_by debug machine-trail)) → HasEnded (Ok task) (world tree out err) now answer
+      ready-run out err now answer status ran =
+          is_run task tree ready-job ready.sees outs new ready-made out err now answer (status ∙ ap (λ t. exit_in t.last) ready-trail)
+          (ran ∙ ap (λ t. changed_by (world new out err) (reporting task.report t ++ filling_all (log_by debug t))) ready-trail)
+
+      pub ready-cut : (out err : Option (List ℕ)) (now : World) (stop : Stop) → (stop ≡ NoMemory → IsSome debug)
+          → IsCutOff (world new out err) now (reporting task.report machine-trail ++ filling_all (log_by debug machine-trail)) → IsCut (Ok task) (world tree out err) now stop
+      ready-cut out err now stop memory cut =
+          is_cut_run task tree ready-job ready.sees outs new ready-made out err now stop memory
+          (subst (λ t. IsCutOff (world new out err) now (reporting task.report t ++ filling_all (log_by debug t))) ready-trail cut)
+
+      pub ready-tree : (start : Room) (P : Type 0) → IfSome tree (λ nodes. TreeSuffices (verdict_on nodes (Ok task)) start → P)
+      ready-tree start P = run-tree task tree ready-job ready.sees outs start P ready-made.looked
+
+      pub ready-sinks : (out err : ℕ) (P : Type 0) → IfSome tree (λ nodes. SinksSuffice (verdict_on nodes (Ok task)) out err → P)
+      ready-sinks out err P = run-sinks task tree ready-job ready.sees outs out err P ready-made.looked
+
+-- what `play` makes, and what `debug` makes
 pub play-outputs : (task : Task) → task.command ≡ Play → outputs_of task ≡ run_outputs task
 play-outputs task play = rw play refl
 
 pub debug-outputs : (task : Task) → task.command ≡ Debug → outputs_of task ≡ option_to_list task.log ++ run_outputs task
 debug-outputs task debug = rw debug refl
+
+module _ (task : Task) (told new : Option Nodes) (makes : Made (outputs_of task) told new) where
+  pub play-files : task.command ≡ Play → RunFiles task new
+  play-files play = run-files [] task new (λ path among. makes.files path (rw (play-outputs task play) among))
+
+  pub debug-files : task.command ≡ Debug → RunFiles task new
+  debug-files debug = run-files (option_to_list task.log) task new (λ path among. makes.files path (rw (debug-outputs task debug) among))
+
+  pub debug-log : task.command ≡ Debug → IfSome task.log (IsFileWhereTold new)
+  debug-log debug = log-file task.log (run_outputs task) new (λ path among. makes.files path (rw (debug-outputs task debug) among))
+
+-- where nothing is written after a report
+pub nothing-after : (before now : World) (changes : List Change) → now ≡ changed_by before changes → now ≡ changed_by before (changes ++ [])
+nothing-after before now changes is = is ∙ ap (changed_by before) (sym (append-nil changes))
+
+pub cut-before-nothing : (before now : World) (changes : List Change) → IsCutOff before now changes → IsCutOff before now (changes ++ [])
+cut-before-nothing before now changes cut = subst (IsCutOff before now) (sym (append-nil changes)) cut

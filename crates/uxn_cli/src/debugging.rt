@@ -30,7 +30,9 @@ use super::task::Task;
 use super::words::Command;
 use std::alloc::Global;
 use tal_words::Label;
-use uxn_debugger::{CommandKind, CommandStop, DebugCommand, Debugger, read_commands};
+use uxn_debugger::{
+    CommandKind, CommandStop, DebugCommand, Debugger, read_commands, the_log_is_that_of_the_run,
+};
 use uxn_io::{Failed, FileBytes, Path, Sink, Tree, read_file};
 use uxn_opcodes::Stop;
 
@@ -198,6 +200,7 @@ fn debug_made<T: Tree, O: Sink, E: Sink>(
         program,
         given,
     } = session;
+    the_log_is_that_of_the_run();
     let mut debugger = Debugger::new(alloc, commands, labels_of(&program, &given));
     let status = run_made(task, machine, tree, out, err, &mut debugger)?;
     match write_text(&task.log, debugger.log(), tree) {

@@ -126,12 +126,18 @@ fn status_of<T: Tree, O: Sink, E: Sink>(
 /// Does all that the program does: reads what the `words` after its name ask for, does it on the tree
 /// and the two sinks, and gives the exit status.
 ///
-/// `play SRC` assembles the source in the file SRC and runs its ROM from the reset vector, for at most
-/// 4,000,000 instructions; with `--rom` the file is the ROM. The bytes that it writes to the ports 18
-/// and 19 go to `out` and `err`. The status is then 0. A refusal puts its one line on `err` and nothing
-/// else: 128 for words that are not legal, 129 for a word that is no path, 130 for an input that is no
-/// file, 131 for a source with a fault, 134 for a ROM of more than 65,280 bytes. The call ends early
-/// with 136 where the tree failed, with 137 where a sink failed, and with 138 where memory is wanting.
+/// - `play SRC` assembles the source in the file SRC, or with `--rom` takes it as a ROM, and runs it over the
+///   script of `--script`, each vector for at most `--budget` instructions. Bytes to the ports 18 and 19 go to
+///   `out` and `err`; pictures, samples and the report go to the files of `--frames`, `--samples` and `--report`.
+/// - `debug SRC --commands C --log P` does the same, follows the commands on the way, and writes the log.
+/// - `asm SRC --out P` writes a ROM, and a symbol file and a listing where they are asked for.
+/// - `dis ROM` prints a disassembly.
+///
+/// The status of a run is its exit code, 0 to 127, and else 0. A refusal puts its one line on `err` and nothing
+/// else: 128 for words that are not legal, 129 for a word that is no path, 130 for an input that is no file, 131
+/// for a source with a fault, 132 for a script and 133 for commands with a faulty line, 134 for a ROM of more than
+/// 65,280 bytes or a faulty symbol file, 135 for an output that clashes or cannot be made. The call ends early with
+/// 136 where the tree failed, with 137 where a sink failed, and with 138 where memory is wanting.
 pub fn uxn<T: Tree, O: Sink, E: Sink>(
     alloc: Global,
     words: &[String],

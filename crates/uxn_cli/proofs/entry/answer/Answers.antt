@@ -11,3 +11,6 @@ returns-in-Err-Refused-clause-sure_sinks g c =
     let refused = rw c.in-Err-Refused.field-0-is at c.in-Err-Refused.ensures.performs in
     let kept = rw c.in-Err-Refused.field-0-is at c.in-Err-Refused.ensures.kept in
     refused-surely (g.T.Tree.told c.args.tree.now) _ c.in-Err-Refused.refusal _ _ _ refused.judges (rw kept at c.put.ensures.sure)
+
+pub returns-in-Err-Stopped-clause-sure_tree : goal.returns-in-Err-Stopped-clause-sure_tree
+returns-in-Err-Stopped-clause-sure_tree g c = rw c.in-Err-Stopped.field-0-is at c.in-Err-Stopped.ensures.sure_tree
