@@ -43,7 +43,7 @@ fn spelled(word: &[u8]) -> Option<u64>
     }
 }
 
-/// A number from `low` to `high`.
+/// The number from `low` to `high` that a word is, in decimal without a leading zero.
 #[tactic(auto, unfolding(crate::specs::Values::number_within))]
 pub fn number_within(low: u64, high: u64, word: &[u8]) -> Option<u64>
     ensures number { result ≡ number_within low high word.now }

@@ -19,7 +19,7 @@ use Rattle.uxn_io.specs.Changes.{can_create, with_created, with_appended}
 use Rattle.uxn_io.specs.Files.{Nodes, Node, File, file_at, bytes_at, bytes_of, is_folder, is_folder_at, has_parent}
 use Rattle.uxn_io.proofs.ComponentLemmas.{under_answer}
 use Rattle.uxn_cli.specs.World.{Text, with_empty, with_bytes, with_texts, CanMake, AreFiles, CanFill}
-use Rattle.uxn_cli.specs.Verdict.{meets, clashes}
+use Rattle.uxn_cli.specs.Request.{meets, clashes}
 use Rattle.uxn_cli.proofs.OutputLemmas.{insert-file}
 
 -- ---- a path lies under its parent
@@ -182,6 +182,25 @@ module _ (inputs outputs : List (List ℕ)) where
   apart_from (path ∷ paths) none within =
       let here = found_none path paths none in
       (avoids path paths paths here.1 (λ q. omega arith) within, apart_from paths here.1 (λ q. omega (arith, within q, count-tail (meets q) path paths)))
+
+-- paths that clash with no more places clash with fewer
+counted-more : (p : List ℕ → Bool) (more places : List (List ℕ)) → count_by p places ≤ count_by p (more ++ places)
+counted-more p [] places = omega arith
+counted-more p (x ∷ more) places = omega (arith, counted-more p more places, count-tail p x (more ++ places))
+
+clash-fewer : (inputs more places : List (List ℕ)) (path : List ℕ) → clashes inputs (more ++ places) path ≡ false → clashes inputs places path ≡ false
+unfolding clashes
+clash-fewer inputs more places path e =
+    let few : nat_lt 1 (count_by (meets path) (more ++ places)) ≡ false = or_left (nat_lt 1 (count_by (meets path) (more ++ places))) (list_any (bytes_eq path) inputs) e in
+    let last : list_any (bytes_eq path) inputs ≡ false = or_last (nat_lt 1 (count_by (meets path) (more ++ places))) (list_any (bytes_eq path) inputs) e in
+    let fewer : nat_lt 1 (count_by (meets path) places) ≡ false = (let le = counted-more (meets path) more places in grind (arith, nat_tests)) in
+    rw (fewer, last) refl
+
+pub no_clash-fewer : (inputs more places paths : List (List ℕ)) → find (clashes inputs (more ++ places)) paths ≡ None → find (clashes inputs places) paths ≡ None
+no_clash-fewer inputs more places [] e = refl
+no_clash-fewer inputs more places (path ∷ paths) e =
+    let here = found_none inputs (more ++ places) path paths e in
+    rw (clash-fewer inputs more places path here.0) (no_clash-fewer inputs more places paths here.1)
 
 -- the outputs of a task that do not clash and that are not blocked
 pub makes_all : (inputs : List (List ℕ)) (texts : List Text) (nodes : Nodes) → find (clashes inputs (map (λ t. t.path) texts)) (map (λ t. t.path) texts) ≡ None

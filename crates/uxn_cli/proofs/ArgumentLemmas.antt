@@ -229,18 +229,24 @@ module _ {Z : Type 0} (read : Option Row → Z) (id : Text) where
     blind same choices,
   )
 
--- no switch has the name that is read
-pub no_switch_unseen : {Z : Type 0} (read : Option Row → Z) (id : Text) (choices : List Choice)
-    → list_all (λ choice. choice.has_value || not (bytes_eq choice.name id)) choices ≡ true → AllUnseen read id choices
-no_switch_unseen read id [] e = tt
-no_switch_unseen read id (choice ∷ choices) e =
-    let parts = both (choice.has_value || not (bytes_eq choice.name id)) _ e in
-    (other choice.has_value (bytes_eq choice.name id) parts.0, no_switch_unseen read id choices parts.1)
+-- every switch has this name
+abbrev pub has_only_switch : Text → List Choice → Bool
+has_only_switch name choices = list_all (λ choice. choice.has_value || bytes_eq choice.name name) choices
+
+-- then no default of a switch is seen where another name is read
+pub no_switch_unseen : {Z : Type 0} (read : Option Row → Z) (name id : Text) (choices : List Choice) → has_only_switch name choices ≡ true → bytes_eq name id ≡ false
+    → AllUnseen read id choices
+no_switch_unseen read name id [] e apart = tt
+no_switch_unseen read name id (choice ∷ choices) e apart =
+    let parts = both (choice.has_value || bytes_eq choice.name name) _ e in
+    (other choice.has_value (bytes_eq choice.name name) refl parts.0, no_switch_unseen read name id choices parts.1 apart)
   where
-    other : (has_value same : Bool) → (has_value || not same) ≡ true → read (cond (not has_value && same) (Some (default_row choice.name)) None) ≡ read None
-    other true same h = refl
-    other false false h = refl
-    other false true h = absurd (true≢false (sym h))
+    other : (has_value same : Bool) → bytes_eq choice.name name ≡ same → (has_value || same) ≡ true
+        → read (cond (not has_value && bytes_eq choice.name id) (Some (default_row choice.name)) None) ≡ read None
+    other true same s h = refl
+    other false false s h = absurd (true≢false (sym h))
+    other false true s h =
+        ap (λ b. read (cond b (Some (default_row choice.name)) None)) (ap (λ n. bytes_eq n id) ((bytes_eq-Decides choice.name name).0 s) ∙ apart)
 
 choice_has_no_fault : (name : Text) (has_value required : Bool) (rows : List Row) → default_fault rows (ruled name (Some name) None has_value required) ≡ []
 choice_has_no_fault name true required rows = elim (has_row name rows) as (λ b. cond (b || true) [] (or_else [] []) ≡ []) [ true ↦ refl | false ↦ refl ]

@@ -15,37 +15,35 @@ use Rattle.uxn_cli.specs.declared.refusal.Refusal.{Refusal}
 use Rattle.uxn_cli.specs.declared.refusal.Refusal.TheVariants.{NoOutput}
 use Rattle.uxn_cli.specs.World.{world, Text, with_empty, with_texts, CanMake, CanFill, HasWrittenFront}
 use Rattle.uxn_cli.specs.Outputs.{seen_text, seen_texts, paths_of}
-use Rattle.uxn_cli.specs.Verdict.{and_then, View, Work, Write, source_in, text_at, texts_of, inputs_by, outputs_by, outputs_of, clashes, blocked_seen, made_by, judged}
-use Rattle.uxn_cli.specs.Answer.{IsViewOf, Judges, HasEnded, IsRefused, HasCutWork}
-use Rattle.uxn_cli.proofs.Growth.{extended-nothing}
+use Rattle.uxn_cli.specs.Job.{text_at}
+use Rattle.uxn_cli.specs.Request.{root_by, HasApartOutputs}
+use Rattle.uxn_cli.specs.Verdict.{and_then, View, Work, Write, source_in, texts_of, inputs_by, outputs_by, outputs_of, clashes, blocked_seen, made_by, judged}
+use Rattle.uxn_cli.specs.Answer.{IsViewOf, Judges, HasEnded, IsRefused, HasCut}
+use Rattle.uxn_cli.proofs.ChangeLemmas.{written-changes, written-cut}
+use Rattle.uxn_cli.proofs.VerdictLemmas.{unread_script, unread_commands}
 use Rattle.uxn_cli.specs.Causes.{verdict_on}
-use Rattle.uxn_cli.specs.Room.{Takes, TreeSuffices}
+use Rattle.uxn_cli.specs.Room.{Takes, TakesFor, TreeSuffices}
 use Rattle.uxn_cli.proofs.ApartLemmas.{makes_all, fills_all}
 use Rattle.uxn_cli.proofs.CauseLemmas.{told_verdict}
 use Rattle.uxn_cli.proofs.SureLemmas.{fills_more}
 
 -- the view of `asm`
-abbrev pub asm_view : FileBytes → Option (List ℕ) → View
-asm_view file blocked = record { file = file; symbols = NoFile; blocked = blocked }
+abbrev pub asm_view : (tree : Option Nodes) (task : Task) → FileBytes → Option (List ℕ) → View
+asm_view tree task file blocked = record { file = file; symbols = NoFile; script = (unread_script tree task).0; commands = (unread_commands tree task).0; blocked = blocked }
 
 pub sees_asm : (tree : Option Nodes) (task : Task) (file : FileBytes) (blocked : Option (List ℕ)) → task.command ≡ Assemble
-    → IfSome tree (λ nodes. file ≡ whole_file (file_at nodes task.file) 4194304) → IfSome tree (λ nodes. blocked ≡ blocked_seen nodes task) → IsViewOf tree task (asm_view file blocked)
-sees_asm None task file blocked asm found looked = record { file = tt; symbols = tt; blocked = tt }
-sees_asm (Some nodes) task file blocked asm found looked = record { file = rw asm found; symbols = rw asm refl; blocked = looked }
-
--- what a tree that is not asked may hold
-pub unlooked : (tree : Option Nodes) (task : Task) → (blocked : Option (List ℕ)) × IfSome tree (λ nodes. blocked ≡ blocked_seen nodes task)
-unlooked None task = (None, tt)
-unlooked (Some nodes) task = (blocked_seen nodes task, refl)
+    → IfSome tree (λ nodes. file ≡ whole_file (file_at nodes task.file) 4194304) → IfSome tree (λ nodes. blocked ≡ blocked_seen nodes task) → IsViewOf tree task (asm_view tree task file blocked)
+sees_asm None task file blocked asm found looked = record { file = tt; symbols = tt; script = tt; commands = tt; blocked = tt }
+sees_asm (Some nodes) task file blocked asm found looked = record { file = rw asm found; symbols = rw asm refl; script = refl; commands = refl; blocked = looked }
 
 then_made : (said : Result (List ℕ) Rattle.uxn_cli.specs.declared.refusal.Refusal.Refusal) (work : List ℕ → Work) (blocked : Option (List ℕ))
     → and_then (and_then said (λ source. Ok (work source))) (made_by blocked) ≡ and_then said (λ source. made_by blocked (work source))
 then_made (Ok source) work blocked = refl
 then_made (Err refusal) work blocked = refl
 
-pub judged-asm : (task : Task) (file : FileBytes) (blocked : Option (List ℕ)) → task.command ≡ Assemble
-    → judged task (asm_view file blocked) ≡ and_then (source_in task.file file) (λ source. made_by blocked (Write (texts_of task source)))
-judged-asm task file blocked asm = rw asm (then_made (source_in task.file file) (λ source. Write (texts_of task source)) blocked)
+pub judged-asm : (tree : Option Nodes) (task : Task) (file : FileBytes) (blocked : Option (List ℕ)) → task.command ≡ Assemble
+    → judged task (asm_view tree task file blocked) ≡ and_then (source_in task.file file) (λ source. made_by blocked (Write (texts_of task source)))
+judged-asm tree task file blocked asm = rw asm (then_made (source_in task.file file) (λ source. Write (texts_of task source)) blocked)
 
 -- the files that are written are the outputs
 path-text_at : (path : Option (List ℕ)) (bytes : List ℕ) → map (λ (t : Text). t.path) (text_at path bytes) ≡ option_to_list path
@@ -59,7 +57,7 @@ paths-texts_of task source =
     (map-append (λ (t : Text). t.path) (text_at task.out _) (text_at task.symbols _) ∙ ap₂ (λ a b. a ++ b) (path-text_at task.out _) (path-text_at task.symbols _))
     (path-text_at task.listing _)
 
-seen_paths : (outputs : List Output) → map (λ (t : Text). t.path) (seen_texts outputs) ≡ paths_of outputs
+pub seen_paths : (outputs : List Output) → map (λ (t : Text). t.path) (seen_texts outputs) ≡ paths_of outputs
 seen_paths [] = refl
 seen_paths (output ∷ outputs) = ap (λ ps. output.path ∷ ps) (seen_paths outputs)
 
@@ -78,22 +76,26 @@ module _ (task : Task) (asm : task.command ≡ Assemble) (tree : Option Nodes) (
   judges_asm : (blocked : Option (List ℕ)) → IfSome tree (λ nodes. blocked ≡ find (λ path. not (can_create nodes path)) (paths_of outputs))
       → Judges (Ok task) tree (made_by blocked (Write (texts_of task source)))
   judges_asm blocked looked = record {
-    view = asm_view file blocked;
+    view = asm_view tree task file blocked;
     seen = sees_asm tree task file blocked asm found (looked_at blocked looked);
-    judged = judged-asm task file blocked asm ∙ ap (λ said. and_then said (λ s. made_by blocked (Write (texts_of task s)))) accepted;
+    judged = judged-asm tree task file blocked asm ∙ ap (λ said. and_then said (λ s. made_by blocked (Write (texts_of task s)))) accepted;
   }
 
+  -- `asm` has no root
+  no_clash : HasApartOutputs task → find (clashes (inputs_by task.command task) (outputs_of task)) (outputs_of task) ≡ None
+  no_clash apart = ap (λ c. find (clashes (inputs_by task.command task) (option_to_list (root_by c task) ++ outputs_of task)) (outputs_of task)) (sym asm) ∙ apart
+
   -- what was looked at can be made
-  pub can_write : (told : Option Nodes) → told ≡ tree → find (clashes (inputs_by task.command task) (outputs_of task)) (outputs_of task) ≡ None
+  pub can_write : (told : Option Nodes) → told ≡ tree → HasApartOutputs task
       → IfSome tree (λ nodes. None ≡ find (λ path. not (can_create nodes path)) (paths_of outputs)) → IfSome told (CanMake (seen_texts outputs))
   can_write told same apart looked = rw same (go tree (rw paths at looked))
     where
       go : (t : Option Nodes) → IfSome t (λ nodes. None ≡ find (λ path. not (can_create nodes path)) (outputs_of task)) → IfSome t (CanMake (seen_texts outputs))
       go None l = tt
-      go (Some nodes) l = makes_all (inputs_by task.command task) (seen_texts outputs) nodes (rw text_paths apart) (rw text_paths l)
+      go (Some nodes) l = makes_all (inputs_by task.command task) (seen_texts outputs) nodes (rw text_paths (no_clash apart)) (rw text_paths l)
 
   -- the files that the verdict asks for are surely written
-  pub sure_files : (start here : Room) (P : Type 0) → find (clashes (inputs_by task.command task) (outputs_of task)) (outputs_of task) ≡ None
+  pub sure_files : (start here : Room) (P : Type 0) → HasApartOutputs task
       → IfSome tree (λ nodes. None ≡ find (λ path. not (can_create nodes path)) (paths_of outputs)) → Leaves start here 0 0
       → IfSome tree (λ nodes. length outputs < here.files → CanFill here.bytes (seen_texts outputs) (with_empty (seen_texts outputs) nodes) → P)
       → IfSome tree (λ nodes. TreeSuffices (verdict_on nodes (Ok task)) start → P)
@@ -104,8 +106,8 @@ module _ (task : Task) (asm : task.command ≡ Assemble) (tree : Option Nodes) (
           → IfSome t (λ nodes. TreeSuffices (verdict_on nodes (Ok task)) start → P)
       go None j l s = tt
       go (Some nodes) j l s = λ takes.
-          let V : Result Work Refusal → Type 0 = λ v. TreeSuffices v start in
-          let room : Takes start (texts_of task source) = subst V (sym (told_verdict nodes (Ok task) (Ok (Write (texts_of task source))) j)) takes in
+          let V : Result Work Refusal → Type 0 = λ v. TakesFor v start in
+          let room : Takes start (texts_of task source) = subst V (sym (told_verdict nodes (Ok task) (Ok (Write (texts_of task source))) j)) takes.takes in
           let mine : Takes start (seen_texts outputs) = rw texts room in
           let few = mine.files in
           let count = length-map outputs seen_text in
@@ -113,7 +115,7 @@ module _ (task : Task) (asm : task.command ≡ Assemble) (tree : Option Nodes) (
           let more = left.files some in
           let size = left.bytes some in
           s (omega (arith, few, count, more)) (fills_more start.bytes here.bytes (seen_texts outputs) (with_empty (seen_texts outputs) nodes) size
-          (fills_all (inputs_by task.command task) (seen_texts outputs) nodes start.bytes (rw text_paths apart) (rw text_paths l) mine.bytes))
+          (fills_all (inputs_by task.command task) (seen_texts outputs) nodes start.bytes (rw text_paths (no_clash apart)) (rw text_paths l) mine.bytes))
 
   module _ (out err : Option (List ℕ)) (now : Option Nodes) where
     -- an output that cannot be made
@@ -121,22 +123,31 @@ module _ (task : Task) (asm : task.command ≡ Assemble) (tree : Option Nodes) (
         → IsRefused (Ok task) (world tree out err) (world now out err) (NoOutput path)
     is_blocked path looked same = record { judges = judges_asm (Some path) looked; same = ap (λ t. world t out err) same }
 
+    can_here : HasApartOutputs task → IfSome tree (λ nodes. None ≡ find (λ p. not (can_create nodes p)) (paths_of outputs))
+        → IfSome tree (CanMake (texts_of task source))
+    can_here apart looked = rw texts at (can_write tree refl apart looked)
+
     -- a fault while the files were written
-    pub is_cut : IfSome tree (λ nodes. None ≡ find (λ p. not (can_create nodes p)) (paths_of outputs)) → HasWrittenFront tree now (seen_texts outputs)
-        → HasCutWork (Ok task) (world tree out err) (world now out err) TreeFault
-    is_cut looked front = record {
-      work = Write (texts_of task source);
+    pub is_cut : HasApartOutputs task → IfSome tree (λ nodes. None ≡ find (λ p. not (can_create nodes p)) (paths_of outputs))
+        → HasWrittenFront tree now (seen_texts outputs) → HasCut (Ok task) (world tree out err) (world now out err) TreeFault
+    is_cut apart looked front = record {
+      found = Ok (Write (texts_of task source));
       judges = judges_asm None looked;
-      cut = record { tree = rw (← texts) front; out = refl; err = refl };
+      may = tt;
+      cut = written-cut out err (texts_of task source) tree now (can_here apart looked) (rw (← texts) front);
+      short = λ text. absurd text;
     }
 
     -- all files were written
-    pub is_written : IfSome tree (λ nodes. None ≡ find (λ p. not (can_create nodes p)) (paths_of outputs)) → now ≡ option_map (with_texts (seen_texts outputs)) tree
-        → HasEnded (Ok task) (world tree out err) (world now out err) 0
-    is_written looked written = record {
+    pub is_written : HasApartOutputs task → IfSome tree (λ nodes. None ≡ find (λ p. not (can_create nodes p)) (paths_of outputs))
+        → now ≡ option_map (with_texts (seen_texts outputs)) tree → HasEnded (Ok task) (world tree out err) (world now out err) 0
+    is_written apart looked written = record {
       found = Ok (Write (texts_of task source));
       judges = judges_asm None looked;
-      has = record { status = refl; tree = rw (← texts) written; out = sym (extended-nothing out); err = sym (extended-nothing err) };
+      has = record {
+        status = refl;
+        world = ap (λ t. world t out err) (written ∙ ap (λ ts. option_map (with_texts ts) tree) texts) ∙ sym (written-changes out err (texts_of task source) tree (can_here apart looked));
+      };
     }
 
 -- a file that a tree which tells nothing did not make
@@ -146,9 +157,9 @@ is_unmade task asm tree now file source path out err accepted none gone =
     let P : Option Nodes → Type 0 = λ t. IsRefused (Ok task) (world t out err) (world now out err) (NoOutput path) in
     subst P (sym none) (record {
       judges = record {
-        view = asm_view file (Some path);
+        view = asm_view None task file (Some path);
         seen = sees_asm None task file (Some path) asm tt tt;
-        judged = judged-asm task file (Some path) asm ∙ ap (λ said. and_then said (λ s. made_by (Some path) (Write (texts_of task s)))) accepted;
+        judged = judged-asm None task file (Some path) asm ∙ ap (λ said. and_then said (λ s. made_by (Some path) (Write (texts_of task s)))) accepted;
       };
       same = ap (λ t. world t out err) gone;
     })

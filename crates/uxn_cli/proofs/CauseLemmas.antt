@@ -1,4 +1,4 @@
-use Rattle.std.proofs.Common.{◌≡◌, ℕ, ◌≤◌, ◌⊎◌, Bool, true, false, List, refl, ap, sym, ◌∙◌, inl, inr, subst, arith}
+use Rattle.std.proofs.Common.{◌≡◌, ℕ, ◌≤◌, ◌⊎◌, Bool, true, false, List, [], refl, ap, sym, ◌∙◌, inl, inr, subst, arith}
 use Rattle.std.specs.Prelude.{Option, Some, None, Result, Ok, Err, IfSome}
 use Rattle.tal_rom.specs.Assembly.{first_fault, rom_of}
 use Rattle.uxn_io.specs.declared.trees.FileBytes.{FileBytes}
@@ -7,54 +7,69 @@ use Rattle.uxn_io.specs.ByteList.{ByteList}
 use Rattle.uxn_io.specs.Files.{Nodes}
 use Rattle.uxn_opcodes.specs.declared.Stop.TheVariants.{TreeFault, SinkFault, NoMemory}
 use Rattle.uxn_cli.specs.declared.words.Command.{Command}
-use Rattle.uxn_cli.specs.declared.words.Command.TheVariants.{Play, Assemble, Disassemble}
+use Rattle.uxn_cli.specs.declared.words.Command.TheVariants.{Play, Debug, Assemble, Disassemble}
 use Rattle.uxn_cli.specs.declared.task.Task.{Task}
 use Rattle.uxn_cli.specs.declared.refusal.Refusal.{Refusal}
-use Rattle.uxn_cli.specs.declared.refusal.Refusal.TheVariants.{NotUnderstood, NoPath, NoOutput, Missing, Faulty, LongRom, BadSymbols}
+use Rattle.uxn_cli.specs.declared.refusal.Refusal.TheVariants.{NotUnderstood, NoPath, NoOutput, Missing, Faulty, LongRom, BadSymbols, BadScript, BadCommands}
 use Rattle.std.proofs.lemmas.Bool.Decides.{nat_tests}
-use Rattle.uxn_io.specs.Faults.{Nobody}
-use Rattle.uxn_cli.specs.Blame.{blame_at, early_status}
-use Rattle.uxn_cli.specs.Lines.{text_of, status_of}
-use Rattle.uxn_cli.specs.World.{World}
-use Rattle.uxn_cli.specs.Verdict.{and_then, View, Work, Run, Write, Print, view_of, source_by, source_in, rom_in, labels_by, labels_in, program_in, texts_of, work_of, made_by, judged, verdict}
+use Rattle.uxn_io.specs.Faults.{Counts, Rose, Ledger, TreeRose, OutRose, ErrRose, Nobody, TheTree, ASink}
+use Rattle.uxn_opcodes.specs.declared.Stop.{Stop}
+use Rattle.uxn_cli.specs.Blame.{blame_of, blame_at, early_status}
+use Rattle.uxn_cli.specs.Lines.{text_of, line_of, status_of}
+use Rattle.uxn_io.specs.Outside.{World, changed_by-err}
+use Rattle.play_script.specs.declared.script.ScriptKind.{ScriptKind}
+use Rattle.play_script.specs.Scripts.{ScriptView, script_of}
+use Rattle.tal_words.specs.declared.name.Label.{Label}
+use Rattle.uxn_debugger.specs.declared.command.DebugCommand.{DebugCommand}
+use Rattle.uxn_debugger.specs.declared.command.CommandKind.{CommandKind}
+use Rattle.uxn_debugger.specs.Reading.{commands_of_text}
+use Rattle.system_port.specs.DebugText.{exit_code_of}
+use Rattle.varvara_bus.specs.History.{stored}
+use Rattle.uxn_cli.specs.Job.{Job, trail_of}
+use Rattle.uxn_cli.specs.Verdict.{and_then, View, Work, Run, Write, Print, view_of, source_by, source_in, rom_in, labels_by, labels_at, labels_in, given_in, debug_labels, commands_from, commands_in, script_from, script_in, job_of, program_in, texts_of, work_of, made_by, judged, verdict}
 use Rattle.uxn_cli.specs.Outcome.{outcome_of}
 use Rattle.uxn_cli.specs.Answer.{IsViewOf, Judges, HasOutcome, HasEnded, EndsEarly, Answers}
-use Rattle.uxn_cli.specs.Causes.{IsEarly, IsExactly, verdict_on, IsIllegal, IsPathless, IsMissing, IsFaulty, IsUnfit, IsBlocked, IsAccepted, PutsLine}
+use Rattle.uxn_cli.specs.Causes.{IsEarly, IsExactly, verdict_on, IsIllegal, IsPathless, IsMissing, IsFaulty, IsUnfit, IsBadScript, IsBadCommands, IsBlocked, EndsWith, PutsLine}
 use Rattle.tal_symbols.specs.Reading.{symbols_in}
 use Rattle.tal_listing.specs.Disassembly.{disassembly}
-use Rattle.uxn_cli.proofs.Growth.{extended-nothing}
-use Rattle.uxn_cli.proofs.VerdictLemmas.{no_texts}
+
+code-small : (state : ℕ) → exit_code_of state ≤ 127
+code-small state = omega arith
+
+-- the state at the end of a run
+abbrev exit_state : Job → ℕ
+exit_state job = stored (trail_of job).last.devices.history 0x0f
 
 abbrev pub status_by : Result Work Refusal → ℕ
 status_by found = (outcome_of found).status
 
--- the status of work that is done is 0
-is_zero : (work : Work) → status_by (Ok work) ≡ 0
-is_zero (Run rom) = refl
-is_zero (Write texts) = refl
-is_zero (Print text) = refl
+-- the status of work that is done is an exit code
+is_code : (work : Work) → status_by (Ok work) ≤ 127
+is_code (Run job) = code-small (exit_state job)
+is_code (Write texts) = omega arith
+is_code (Print text) = omega arith
 
 -- an outcome is no early end
 pub is_small : (v : Result Work Refusal) → status_by v ≤ 135
-is_small (Ok work) = omega (arith, is_zero work)
+is_small (Ok work) = omega (arith, is_code work)
 is_small (Err NotUnderstood) = omega arith
 is_small _ = omega arith
 
 -- which verdict has a status
 only_missing : (v : Result Work Refusal) → status_by v ≡ 130 → IsMissing v
 only_missing (Err (Missing path)) e = (path, refl)
-only_missing (Ok work) e = absurd (omega (arith, is_zero work))
+only_missing (Ok work) e = absurd (omega (arith, is_code work))
 only_missing _ e = absurd (omega arith)
 
 only_faulty : (v : Result Work Refusal) → status_by v ≡ 131 → IsFaulty v
 only_faulty (Err (Faulty fault word)) e = (fault, word, refl)
-only_faulty (Ok work) e = absurd (omega (arith, is_zero work))
+only_faulty (Ok work) e = absurd (omega (arith, is_code work))
 only_faulty _ e = absurd (omega arith)
 
 only_unfit : (v : Result Work Refusal) → status_by v ≡ 134 → IsUnfit v
 only_unfit (Err (LongRom length)) e = inl (length, refl)
 only_unfit (Err (BadSymbols entry kind)) e = inr (entry, kind, refl)
-only_unfit (Ok work) e = absurd (omega (arith, is_zero work))
+only_unfit (Ok work) e = absurd (omega (arith, is_code work))
 only_unfit _ e = absurd (omega arith)
 
 is_unfit : (v : Result Work Refusal) → IsUnfit v → status_by v ≡ 134
@@ -63,13 +78,26 @@ is_unfit v (inr p) = ap status_by p.2
 
 only_blocked : (v : Result Work Refusal) → status_by v ≡ 135 → IsBlocked v
 only_blocked (Err (NoOutput path)) e = (path, refl)
-only_blocked (Ok work) e = absurd (omega (arith, is_zero work))
+only_blocked (Ok work) e = absurd (omega (arith, is_code work))
 only_blocked _ e = absurd (omega arith)
 
-only_accepted : (v : Result Work Refusal) → status_by v ≡ 0 → IsAccepted v
-only_accepted (Ok work) e = (work, refl)
-only_accepted (Err NotUnderstood) e = absurd (omega arith)
-only_accepted _ e = absurd (omega arith)
+only_code : (code : ℕ) → code ≤ 127 → (v : Result Work Refusal) → status_by v ≡ code → EndsWith code v
+only_code code small (Ok work) e = (work, refl, e)
+only_code code small (Err NotUnderstood) e = absurd (omega arith)
+only_code code small (Err _) e = absurd (omega arith)
+
+is_ended : (code : ℕ) (v : Result Work Refusal) → EndsWith code v → status_by v ≡ code
+is_ended code v ends = ap status_by ends.1 ∙ ends.2
+
+only_commands : (v : Result Work Refusal) → status_by v ≡ 133 → IsBadCommands v
+only_commands (Err (BadCommands number kind)) e = (number, kind, refl)
+only_commands (Ok work) e = absurd (omega (arith, is_code work))
+only_commands _ e = absurd (omega arith)
+
+only_script : (v : Result Work Refusal) → status_by v ≡ 132 → IsBadScript v
+only_script (Err (BadScript number kind)) e = (number, kind, refl)
+only_script (Ok work) e = absurd (omega (arith, is_code work))
+only_script _ e = absurd (omega arith)
 
 only_illegal : (r : Refusal) → status_of r ≡ 128 → r ≡ NotUnderstood
 only_illegal NotUnderstood e = refl
@@ -98,18 +126,56 @@ rom-later path NoFile = omega arith
 rom-later path (TooLong length) = omega arith
 rom-later path (Found rom) = tt
 
+from-later : (said : Result ScriptView (ℕ × ScriptKind)) → IsLater (script_from said)
+from-later (Ok script) = tt
+from-later (Err fault) = omega arith
+
 labels-later : (path : Option (List ℕ)) (file : FileBytes) → IsLater (labels_in path file)
 labels-later None file = tt
 labels-later (Some path) NoFile = omega arith
 labels-later (Some path) (TooLong length) = omega arith
 labels-later (Some path) (Found bytes) = elim (symbols_in bytes.list) as (λ s. IsLater (labels_by s)) [ Ok labels ↦ tt | Err bad ↦ (let le : 130 ≤ 134 = omega arith in le) ]
 
+script-later : (path : Option (List ℕ)) (file : FileBytes) → IsLater (script_in path file)
+script-later None file = from-later (script_of [])
+script-later (Some path) NoFile = omega arith
+script-later (Some path) (TooLong length) = omega arith
+script-later (Some path) (Found text) = from-later (script_of text.list)
+
+at-later : (path : List ℕ) (file : FileBytes) → IsLater (labels_at path file)
+at-later path NoFile = omega arith
+at-later path (TooLong length) = omega arith
+at-later path (Found bytes) = elim (symbols_in bytes.list) as (λ s. IsLater (labels_by s)) [ Ok labels ↦ tt | Err bad ↦ (let le : 130 ≤ 134 = omega arith in le) ]
+
+given-later : (path : Option (List ℕ)) (file : FileBytes) → IsLater (given_in path file)
+given-later None file = tt
+given-later (Some path) file = then-later (labels_at path file) (λ labels. Ok (Some labels)) (at-later path file) (λ labels. tt)
+
+read-later : (said : Result (List DebugCommand) (ℕ × CommandKind)) → IsLater (commands_from said)
+read-later (Ok commands) = tt
+read-later (Err fault) = omega arith
+
+commands-later : (labels : List Label) (path : Option (List ℕ)) (file : FileBytes) → IsLater (commands_in labels path file)
+commands-later labels None file = tt
+commands-later labels (Some path) NoFile = omega arith
+commands-later labels (Some path) (TooLong length) = omega arith
+commands-later labels (Some path) (Found text) = read-later (commands_of_text labels text.list)
+
 program-later : (rom : Bool) (path : List ℕ) (file : FileBytes) → IsLater (program_in rom path file)
 program-later true path file = rom-later path file
 program-later false path file = then-later (source_in path file) (λ source. Ok (rom_of source)) (source-later path file) (λ source. tt)
 
 work-later : (command : Command) (task : Task) (view : View) → IsLater (work_of command task view)
-work-later Play task view = then-later (program_in task.rom task.file view.file) (λ rom. Ok (Run rom)) (program-later task.rom task.file view.file) (λ rom. tt)
+work-later Play task view =
+    then-later (program_in task.rom task.file view.file) (λ rom. and_then (script_in task.script view.script) (λ script. Ok (Run (job_of task rom script None))))
+    (program-later task.rom task.file view.file)
+    (λ rom. then-later (script_in task.script view.script) (λ script. Ok (Run (job_of task rom script None))) (script-later task.script view.script) (λ script. tt))
+work-later Debug task view =
+    then-later (program_in task.rom task.file view.file) _ (program-later task.rom task.file view.file)
+    (λ rom. then-later (given_in task.symbols view.symbols) _ (given-later task.symbols view.symbols)
+    (λ given. then-later (script_in task.script view.script) _ (script-later task.script view.script)
+    (λ script. then-later (commands_in (debug_labels given task.rom view.file) task.commands view.commands) _
+    (commands-later (debug_labels given task.rom view.file) task.commands view.commands) (λ commands. tt))))
 work-later Assemble task view = then-later (source_in task.file view.file) (λ source. Ok (Write (texts_of task source))) (source-later task.file view.file) (λ source. tt)
 work-later Disassemble task view =
     then-later (rom_in task.file view.file) (λ rom. and_then (labels_in task.symbols view.symbols) (λ labels. Ok (Print (disassembly rom labels))))
@@ -124,12 +190,12 @@ judged-later : (task : Task) (view : View) → IsLater (judged task view)
 judged-later task view = then-later (work_of task.command task view) (made_by view.blocked) (work-later task.command task view) (made-later view.blocked)
 
 later-status : (found : Result Work Refusal) (number : ℕ) → IsLater found → status_by found ≡ number → 128 ≤ number → number ≤ 129 → ⊥
-later-status (Ok work) number later e large small = omega (arith, is_zero work)
+later-status (Ok work) number later e large small = omega (arith, is_code work)
 later-status (Err refusal) number later e large small = omega arith
 
 -- the verdict on what stands in a tree that tells its contents
 same_view : (nodes : Nodes) (task : Task) (view : View) → IsViewOf (Some nodes) task view → view ≡ view_of nodes task
-same_view nodes task view seen = rw (← seen.file, ← seen.symbols, ← seen.blocked) refl
+same_view nodes task view seen = rw (← seen.file, ← seen.symbols, ← seen.script, ← seen.commands, ← seen.blocked) refl
 
 pub told_verdict : (nodes : Nodes) (asked : Result Task Refusal) (found : Result Work Refusal) → Judges asked (Some nodes) found → found ≡ verdict_on nodes asked
 told_verdict nodes (Err refusal) found j = sym j.judged
@@ -158,8 +224,8 @@ module _ (asked : Result Task Refusal) (before now : World) (answer : ℕ) where
   early_large (inr (inr e)) = omega arith
 
   -- a status comes exactly with a fact, where a verdict has that status exactly with it
-  exactly : (status : ℕ) (P : Type 0) → status ≤ 135 → ((found : Result Work Refusal) → Judges asked before.tree found → status_by found ≡ status → P)
-      → ((found : Result Work Refusal) → Judges asked before.tree found → P → status_by found ≡ status) → Answers asked before now answer → IsExactly answer status P
+  exactly : (status : ℕ) (P : Type 0) → status ≤ 135 → ((found : Result Work Refusal) → Judges asked before.files found → status_by found ≡ status → P)
+      → ((found : Result Work Refusal) → Judges asked before.files found → P → status_by found ≡ status) → Answers asked before now answer → IsExactly answer status P
   exactly status P small only whenever (inl ended) = record {
     only = λ e. only ended.found ended.judges (sym ended.has.status ∙ e);
     whenever = λ p. inl (ended.has.status ∙ whenever ended.found ended.judges p);
@@ -178,60 +244,76 @@ module _ (asked : Result Task Refusal) (before now : World) (answer : ℕ) where
       (λ found j e. pathless_asked asked j.view (ap status_by j.judged ∙ e)) (λ found j p. sym (ap status_by j.judged) ∙ ap (λ a. status_by (verdict a j.view)) p.1)
 
   -- the same for a status that what stands in the tree decides
-  exactly_told : (tree : Option Nodes) → before.tree ≡ tree → (status : ℕ) → status ≤ 135 → (Is : Result Work Refusal → Type 0)
+  exactly_told : (tree : Option Nodes) → before.files ≡ tree → (status : ℕ) → status ≤ 135 → (Is : Result Work Refusal → Type 0)
       → ((v : Result Work Refusal) → status_by v ≡ status → Is v) → ((v : Result Work Refusal) → Is v → status_by v ≡ status)
       → Answers asked before now answer → IfSome tree (λ nodes. IsExactly answer status (Is (verdict_on nodes asked)))
   exactly_told None same status small Is only whenever a = tt
   exactly_told (Some nodes) same status small Is only whenever a =
-      let on : (found : Result Work Refusal) → Judges asked before.tree found → found ≡ verdict_on nodes asked = λ found j. told_verdict nodes asked found (subst (λ t. Judges asked t found) same j) in
+      let on : (found : Result Work Refusal) → Judges asked before.files found → found ≡ verdict_on nodes asked = λ found j. told_verdict nodes asked found (subst (λ t. Judges asked t found) same j) in
       exactly status (Is (verdict_on nodes asked)) small (λ found j e. only (verdict_on nodes asked) (ap status_by (sym (on found j)) ∙ e))
       (λ found j p. ap status_by (on found j) ∙ whenever (verdict_on nodes asked) p) a
 
-  pub exactly_missing : Answers asked before now answer → IfSome before.tree (λ nodes. IsExactly answer 130 (IsMissing (verdict_on nodes asked)))
-  exactly_missing = exactly_told before.tree refl 130 (omega arith) IsMissing only_missing (λ v p. ap status_by p.1)
+  pub exactly_missing : Answers asked before now answer → IfSome before.files (λ nodes. IsExactly answer 130 (IsMissing (verdict_on nodes asked)))
+  exactly_missing = exactly_told before.files refl 130 (omega arith) IsMissing only_missing (λ v p. ap status_by p.1)
 
-  pub exactly_faulty : Answers asked before now answer → IfSome before.tree (λ nodes. IsExactly answer 131 (IsFaulty (verdict_on nodes asked)))
-  exactly_faulty = exactly_told before.tree refl 131 (omega arith) IsFaulty only_faulty (λ v p. ap status_by p.2)
+  pub exactly_faulty : Answers asked before now answer → IfSome before.files (λ nodes. IsExactly answer 131 (IsFaulty (verdict_on nodes asked)))
+  exactly_faulty = exactly_told before.files refl 131 (omega arith) IsFaulty only_faulty (λ v p. ap status_by p.2)
 
-  pub exactly_unfit : Answers asked before now answer → IfSome before.tree (λ nodes. IsExactly answer 134 (IsUnfit (verdict_on nodes asked)))
-  exactly_unfit = exactly_told before.tree refl 134 (omega arith) IsUnfit only_unfit is_unfit
+  pub exactly_unfit : Answers asked before now answer → IfSome before.files (λ nodes. IsExactly answer 134 (IsUnfit (verdict_on nodes asked)))
+  exactly_unfit = exactly_told before.files refl 134 (omega arith) IsUnfit only_unfit is_unfit
 
-  pub exactly_blocked : Answers asked before now answer → IfSome before.tree (λ nodes. IsExactly answer 135 (IsBlocked (verdict_on nodes asked)))
-  exactly_blocked = exactly_told before.tree refl 135 (omega arith) IsBlocked only_blocked (λ v p. ap status_by p.1)
+  pub exactly_blocked : Answers asked before now answer → IfSome before.files (λ nodes. IsExactly answer 135 (IsBlocked (verdict_on nodes asked)))
+  exactly_blocked = exactly_told before.files refl 135 (omega arith) IsBlocked only_blocked (λ v p. ap status_by p.1)
 
-  pub exactly_accepted : Answers asked before now answer → IfSome before.tree (λ nodes. IsExactly answer 0 (IsAccepted (verdict_on nodes asked)))
-  exactly_accepted = exactly_told before.tree refl 0 (omega arith) IsAccepted only_accepted (λ v p. ap status_by p.1 ∙ is_zero p.0)
+  pub exactly_script : Answers asked before now answer → IfSome before.files (λ nodes. IsExactly answer 132 (IsBadScript (verdict_on nodes asked)))
+  exactly_script = exactly_told before.files refl 132 (omega arith) IsBadScript only_script (λ v p. ap status_by p.2)
+
+  pub exactly_commands : Answers asked before now answer → IfSome before.files (λ nodes. IsExactly answer 133 (IsBadCommands (verdict_on nodes asked)))
+  exactly_commands = exactly_told before.files refl 133 (omega arith) IsBadCommands only_commands (λ v p. ap status_by p.2)
+
+  exactly_code : (code : ℕ) → code ≤ 127 → Answers asked before now answer → IfSome before.files (λ nodes. IsExactly answer code (EndsWith code (verdict_on nodes asked)))
+  exactly_code code small = exactly_told before.files refl code (omega arith) (EndsWith code) (only_code code small) (is_ended code)
+
+  pub exactly_accepted : Answers asked before now answer → IfSome before.files (λ nodes. (code : ℕ) → code ≤ 127 → IsExactly answer code (EndsWith code (verdict_on nodes asked)))
+  exactly_accepted a = go before.files (λ code small. exactly_code code small a)
+    where
+      go : (tree : Option Nodes) → ((code : ℕ) → code ≤ 127 → IfSome tree (λ nodes. IsExactly answer code (EndsWith code (verdict_on nodes asked))))
+          → IfSome tree (λ nodes. (code : ℕ) → code ≤ 127 → IsExactly answer code (EndsWith code (verdict_on nodes asked)))
+      go None h = tt
+      go (Some nodes) h = h
 
   -- a refusal puts its one line on the error output, and nothing on the other
   refusal_of : HasEnded asked before now answer → 128 ≤ answer → (refusal : Refusal) × HasOutcome (outcome_of (Err refusal)) before now answer
   refusal_of ended large = go ended.found ended.has
     where
       go : (found : Result Work Refusal) → HasOutcome (outcome_of found) before now answer → (refusal : Refusal) × HasOutcome (outcome_of (Err refusal)) before now answer
-      go (Ok work) has = absurd (let e = has.status in omega (arith, is_zero work))
+      go (Ok work) has = absurd (let e = has.status in omega (arith, is_code work))
       go (Err refusal) has = (refusal, has)
 
   pub is_quiet : Answers asked before now answer → 128 ≤ answer → answer ≤ 135 → now.out ≡ before.out
-  is_quiet (inl ended) large small = (refusal_of ended large).1.out ∙ extended-nothing before.out
+  is_quiet (inl ended) large small = let r = refusal_of ended large in ap (λ w. w.out) (r.1.world ∙ changed_by-err before (line_of r.0))
   is_quiet (inr early) large small = let later = early_large (early_is early) in absurd (omega arith)
 
   pub puts_line : Answers asked before now answer → 128 ≤ answer → answer ≤ 135 → PutsLine before.err now.err
-  puts_line (inl ended) large small = let r = refusal_of ended large in (text_of r.0, r.1.err)
+  puts_line (inl ended) large small = let r = refusal_of ended large in (text_of r.0, ap (λ w. w.err) (r.1.world ∙ changed_by-err before (line_of r.0)))
   puts_line (inr early) large small = let later = early_large (early_is early) in absurd (omega arith)
 
-  pub is_untouched : Answers asked before now answer → 128 ≤ answer → answer ≤ 135 → now.tree ≡ before.tree
-  is_untouched (inl ended) large small = (refusal_of ended large).1.tree ∙ no_texts before.tree
+  pub is_untouched : Answers asked before now answer → 128 ≤ answer → answer ≤ 135 → now.files ≡ before.files
+  is_untouched (inl ended) large small = let r = refusal_of ended large in ap (λ w. w.files) (r.1.world ∙ changed_by-err before (line_of r.0))
   is_untouched (inr early) large small = let later = early_large (early_is early) in absurd (omega arith)
 
   -- what is accepted ends with its exit code, unless a count rose or memory was wanting
   pub completes : (TreeRose OutRose ErrRose : Type 0) → Answers asked before now answer → (answer ≡ 136 → TreeRose) → (answer ≡ 137 → OutRose ⊎ ErrRose)
-      → IfSome before.tree (λ nodes. IsAccepted (verdict_on nodes asked) → (TreeRose → ⊥) → (OutRose → ⊥) → (ErrRose → ⊥) → (answer ≡ 0) ⊎ (answer ≡ 138))
-  completes TreeRose OutRose ErrRose a by_tree by_sink = go before.tree (exactly_accepted a)
+      → IfSome before.files (λ nodes. (work : Work) → verdict_on nodes asked ≡ Ok work → (TreeRose → ⊥) → (OutRose → ⊥) → (ErrRose → ⊥)
+      → (answer ≡ (outcome_of (Ok work)).status) ⊎ (answer ≡ 138))
+  completes TreeRose OutRose ErrRose a by_tree by_sink = go before.files (exactly_accepted a)
     where
-      go : (tree : Option Nodes) → IfSome tree (λ nodes. IsExactly answer 0 (IsAccepted (verdict_on nodes asked)))
-          → IfSome tree (λ nodes. IsAccepted (verdict_on nodes asked) → (TreeRose → ⊥) → (OutRose → ⊥) → (ErrRose → ⊥) → (answer ≡ 0) ⊎ (answer ≡ 138))
+      go : (tree : Option Nodes) → IfSome tree (λ nodes. (code : ℕ) → code ≤ 127 → IsExactly answer code (EndsWith code (verdict_on nodes asked)))
+          → IfSome tree (λ nodes. (work : Work) → verdict_on nodes asked ≡ Ok work → (TreeRose → ⊥) → (OutRose → ⊥) → (ErrRose → ⊥)
+          → (answer ≡ (outcome_of (Ok work)).status) ⊎ (answer ≡ 138))
       go None h = tt
-      go (Some nodes) h = λ accepted t o e. elim (h.whenever accepted) [
-        | inl zero ↦ inl zero
+      go (Some nodes) h = λ work accepted t o e. elim ((h (status_by (Ok work)) (is_code work)).whenever (work, accepted, refl)) [
+        | inl code ↦ inl code
         | inr early ↦ elim early [
           | inl is_tree ↦ absurd (t (by_tree is_tree))
           | inr rest ↦ elim rest [
@@ -244,3 +326,21 @@ module _ (asked : Result Task Refusal) (before now : World) (answer : ℕ) where
 -- who is to blame for a status
 pub blame-ended : (answer : ℕ) → answer ≤ 135 → blame_at answer ≡ Nobody
 blame-ended answer small = grind (arith, nat_tests)
+
+pub tree-blamed : (stop : Stop) → early_status stop ≡ 136 → blame_of stop ≡ TheTree
+tree-blamed TreeFault e = refl
+tree-blamed SinkFault e = absurd (omega (arith, e))
+tree-blamed NoMemory e = absurd (omega (arith, e))
+
+pub sink-blamed : (stop : Stop) → early_status stop ≡ 137 → blame_of stop ≡ ASink
+sink-blamed TreeFault e = absurd (omega (arith, e))
+sink-blamed SinkFault e = refl
+sink-blamed NoMemory e = absurd (omega (arith, e))
+
+-- which counts rose with a status
+pub tree-rose : (before now : Counts) (status : ℕ) → Ledger before now (blame_at status) → status ≡ 136 → Rose before.tree now.tree
+tree-rose before now status ledger is = (let rose : TreeRose before now = rw is at ledger in rose.tree)
+
+pub sink-rose : (before now : Counts) (status : ℕ) → Ledger before now (blame_at status) → status ≡ 137 → Rose before.out now.out ⊎ Rose before.err now.err
+sink-rose before now status ledger is =
+    (let rose : OutRose before now ⊎ ErrRose before now = rw is at ledger in elim rose [ inl rise ↦ inl rise.out | inr rise ↦ inr rise.err ])

@@ -1,10 +1,11 @@
 pub mod Growth
-pub mod Along
-pub mod Reset
 pub mod ArgumentLemmas
 pub mod LineLemmas
 pub mod WordLemmas
+pub mod ChangeLemmas
 pub mod VerdictLemmas
+pub mod ReadyLemmas
+pub mod RunLemmas
 pub mod CauseLemmas
 pub mod OutputLemmas
 pub mod ApartLemmas

@@ -1,172 +1,146 @@
-use Rattle.std.proofs.Common.{◌≡◌, ℕ, zero, suc, Bool, true, false, true≢false, cond, List, [], ◌∷◌, map, take, refl, ap, sym, ◌∙◌, subst, inl, inr}
-use Rattle.std.specs.Prelude.{Option, Some, None, Result, Ok, Err, IfSome, option_map, ◌||◌, slice_get}
+-- What other paths keep.
+use Rattle.std.proofs.Common.{◌≡◌, ℕ, Bool, true, false, cond, List, [], ◌∷◌, ◌++◌, map, refl, ap, sym, ◌∙◌, subst, inl, inr}
+use Rattle.std.specs.Prelude.{Option, Some, None, Result, Ok, Err, IfSome, option_to_list, ◌||◌}
 use Rattle.std.specs.List.{list_any}
 use Rattle.std.specs.Str.{bytes_eq}
-use Rattle.std.specs.FinMap as fin
-use Rattle.std.proofs.lemmas.Slice.Eq.{bytes_eq-Decides}
+use Rattle.tal_words.specs.declared.name.Label.{Label}
 use Rattle.tal_listing.specs.Disassembly.{disassembly}
-use Rattle.uxn_io.specs.Changes.{can_create, with_created, with_appended}
-use Rattle.uxn_io.specs.Files.{Nodes, File}
+use Rattle.uxn_io.specs.Files.{Nodes}
+use Rattle.uxn_io.specs.Outside.{Change, ToOut, ToErr, World, changed_by}
 use Rattle.uxn_opcodes.specs.declared.Stop.{Stop}
 use Rattle.uxn_opcodes.specs.declared.Stop.TheVariants.{TreeFault, SinkFault, NoMemory}
+use Rattle.play_script.specs.Scripts.{ScriptView}
+use Rattle.varvara_bus.specs.Touching.{Spares, Each, each-append, each-map, told_at, spared, spared-front, kept-node}
+use Rattle.uxn_opcodes.specs.Rule.{new_core}
 use Rattle.uxn_cli.specs.declared.words.Command.{Command}
-use Rattle.uxn_cli.specs.declared.words.Command.TheVariants.{Play, Assemble, Disassemble}
+use Rattle.uxn_cli.specs.declared.words.Command.TheVariants.{Play, Debug, Assemble, Disassemble}
 use Rattle.uxn_cli.specs.declared.task.Task.{Task}
 use Rattle.uxn_cli.specs.declared.refusal.Refusal.{Refusal}
-use Rattle.uxn_cli.specs.World.{World, Text, with_empty, with_bytes, with_texts, HasWrittenFront}
-use Rattle.uxn_cli.specs.Verdict.{and_then, View, Work, Run, Write, Print, source_in, rom_in, labels_in, program_in, texts_of, outputs_by, outputs_of, work_of, made_by, judged, verdict}
-use Rattle.uxn_cli.specs.Outcome.{outcome_of}
-use Rattle.uxn_cli.specs.Answer.{IsCutWork, Judges, HasCutWork, IsCut, Answers}
+use Rattle.uxn_cli.specs.World.{Text}
+use Rattle.uxn_opcodes.specs.declared.Core.{Core}
+use Rattle.vector_loop.specs.declared.output.Outputs.{Outputs}
+use Rattle.vector_loop.specs.Trail.{Trail}
+use Rattle.vector_loop.specs.Touching.{IsOther, run-leaves}
+use Rattle.uxn_cli.specs.Job.{Debugging, Job, log_in, outputs_in, outputs_by as run_outputs_by, trail_of, trail_by, start_with, text_at, log_by}
+use Rattle.uxn_cli.specs.Verdict.{and_then, View, Work, Run, Write, Print, source_in, rom_in, labels_in, program_in, script_in, given_in, debug_labels, commands_in, debugging, job_of, texts_of, outputs_by, outputs_of, work_of, made_by, judged, verdict}
+use Rattle.uxn_cli.specs.Outcome.{outcome_of, creating, filling_all, reporting, running, writing}
+use Rattle.uxn_cli.specs.Answer.{Judges, HasCut, IsCut, Answers}
 use Rattle.uxn_cli.specs.Causes.{IsNoOutput, KeepsOthers}
-use Rattle.uxn_cli.proofs.ApartLemmas.{other_node}
+use Rattle.uxn_cli.proofs.ChangeLemmas.{paths_in, creating-spares, filling-spares, writing-spares}
 use Rattle.uxn_cli.proofs.AssemblingLemmas.{paths-texts_of}
 
--- ---- which files are written
+-- ---- which files a verdict writes
 
 made_ok : (said : Result Work Refusal) (blocked : Option (List ℕ)) (work : Work) → and_then said (made_by blocked) ≡ Ok work → said ≡ Ok work
 made_ok (Err refusal) blocked work e = absurd cc
 made_ok (Ok found) None work e = e
 made_ok (Ok found) (Some path) work e = absurd cc
 
-no_write : {A : Type 0} (said : Result A Refusal) (put : A → Work) (texts : List Text) → ((a : A) → put a ≡ Write texts → ⊥) → and_then said (λ a. Ok (put a)) ≡ Ok (Write texts) → ⊥
-no_write (Err refusal) put texts apart e = cc
-no_write (Ok a) put texts apart e = apart a cc
+-- the files that work writes
+abbrev paths_by : Work → List (List ℕ)
+paths_by (Run job) = outputs_in job
+paths_by (Write texts) = paths_in texts
+paths_by (Print text) = []
 
-written_by : (said : Result (List ℕ) Refusal) (f : List ℕ → List Text) (texts : List Text) → and_then said (λ source. Ok (Write (f source))) ≡ Ok (Write texts) → (source : List ℕ) × (texts ≡ f source)
-written_by (Err refusal) f texts e = absurd cc
-written_by (Ok source) f texts e = (source, cc)
+written_by : {A : Type 0} (said : Result A Refusal) (next : A → Result Work Refusal) (paths : List (List ℕ)) (work : Work)
+    → ((value : A) → next value ≡ Ok work → paths_by work ≡ paths) → and_then said next ≡ Ok work → paths_by work ≡ paths
+written_by (Err refusal) next paths work all e = absurd cc
+written_by (Ok value) next paths work all e = all value e
 
-printed_by : (said : Result (List ℕ) Refusal) (labels : Result (List Rattle.tal_words.specs.declared.name.Label.Label) Refusal) (texts : List Text)
-    → and_then said (λ rom. and_then labels (λ l. Ok (Print (disassembly rom l)))) ≡ Ok (Write texts) → ⊥
-printed_by (Err refusal) labels texts e = cc
-printed_by (Ok rom) labels texts e = no_write labels (λ l. Print (disassembly rom l)) texts (λ l h. cc) e
+same_work : (found work : Work) (paths : List (List ℕ)) → paths_by found ≡ paths → ◌≡◌ {A = Result Work Refusal} (Ok found) (Ok work) → paths_by work ≡ paths
+same_work found work paths is e = (let same : found ≡ work = cc in subst (λ w. paths_by w ≡ paths) same is)
 
-work-texts : (command : Command) (task : Task) (view : View) (texts : List Text) → work_of command task view ≡ Ok (Write texts) → map (λ (t : Text). t.path) texts ≡ outputs_by command task
-work-texts Play task view texts e = absurd (no_write (program_in task.rom task.file view.file) Run texts (λ rom h. cc) e)
-work-texts Assemble task view texts e =
-    let written = written_by (source_in task.file view.file) (texts_of task) texts e in
-    ap (map (λ (t : Text). t.path)) written.1 ∙ paths-texts_of task written.0
-work-texts Disassemble task view texts e = absurd (printed_by (rom_in task.file view.file) (labels_in task.symbols view.symbols) texts e)
+work-paths : (command : Command) (task : Task) (view : View) (work : Work) → work_of command task view ≡ Ok work → paths_by work ≡ outputs_by command task
+work-paths Play task view work e =
+    written_by (program_in task.rom task.file view.file) _ _ work
+    (λ rom f. written_by (script_in task.script view.script) _ _ work
+    (λ script h. same_work (Run (job_of task rom script None)) work _ refl h) f) e
+work-paths Debug task view work e =
+    written_by (program_in task.rom task.file view.file) _ _ work
+    (λ rom f. written_by (given_in task.symbols view.symbols) _ _ work
+    (λ given p. written_by (script_in task.script view.script) _ _ work
+    (λ script q. written_by (commands_in (debug_labels given task.rom view.file) task.commands view.commands) _ _ work
+    (λ commands h. same_work (Run (job_of task rom script (Some (debugging task commands (debug_labels given task.rom view.file))))) work _ refl h) q) p) f) e
+work-paths Assemble task view work e =
+    written_by (source_in task.file view.file) (λ source. Ok (Write (texts_of task source))) _ work (λ source h. same_work (Write (texts_of task source)) work _ (paths-texts_of task source) h) e
+work-paths Disassemble task view work e =
+    written_by (rom_in task.file view.file) (λ rom. and_then (labels_in task.symbols view.symbols) (λ labels. Ok (Print (disassembly rom labels)))) _ work
+    (λ rom f. written_by (labels_in task.symbols view.symbols) (λ labels. Ok (Print (disassembly rom labels))) _ work
+    (λ labels h. same_work (Print (disassembly rom labels)) work _ refl h) f) e
 
-judged-texts : (task : Task) (view : View) (texts : List Text) → judged task view ≡ Ok (Write texts) → map (λ (t : Text). t.path) texts ≡ outputs_of task
-judged-texts task view texts e = work-texts task.command task view texts (made_ok (work_of task.command task view) view.blocked (Write texts) e)
+-- ---- which paths it leaves alone
 
--- the path is none of these
-abbrev IsNone : List ℕ → List Text → Type 0
-IsNone path texts = list_any (bytes_eq path) (map (λ (t : Text). t.path) texts) ≡ false
+any-first : (path : List ℕ) (first last : List (List ℕ)) → list_any (bytes_eq path) (first ++ last) ≡ false → list_any (bytes_eq path) first ≡ false
+any-first path [] last none = refl
+any-first path (other ∷ first) last none =
+    elim (bytes_eq path other) as (λ b. (b || list_any (bytes_eq path) (first ++ last)) ≡ false → (b || list_any (bytes_eq path) first) ≡ false) [ true ↦ λ e. absurd cc | false ↦ λ e. any-first path first last e ] none
 
-no_text : (asked : Result Task Refusal) (view : View) (path : List ℕ) (texts : List Text) → IsNoOutput asked path → verdict asked view ≡ Ok (Write texts) → IsNone path texts
-no_text (Err refusal) view path texts apart e = absurd cc
-no_text (Ok task) view path texts apart e = ap (list_any (bytes_eq path)) (judged-texts task view texts e) ∙ apart
+any-last : (path : List ℕ) (first last : List (List ℕ)) → list_any (bytes_eq path) (first ++ last) ≡ false → list_any (bytes_eq path) last ≡ false
+any-last path [] last none = none
+any-last path (other ∷ first) last none =
+    elim (bytes_eq path other) as (λ b. (b || list_any (bytes_eq path) (first ++ last)) ≡ false → list_any (bytes_eq path) last ≡ false) [ true ↦ λ e. absurd cc | false ↦ λ e. any-last path first last e ] none
 
-found_texts : (asked : Result Task Refusal) (view : View) (path : List ℕ) (found : Result Work Refusal) → IsNoOutput asked path → verdict asked view ≡ found → IsNone path (outcome_of found).texts
-found_texts asked view path (Err refusal) apart e = refl
-found_texts asked view path (Ok (Run rom)) apart e = refl
-found_texts asked view path (Ok (Print text)) apart e = refl
-found_texts asked view path (Ok (Write texts)) apart e = no_text asked view path texts apart e
+text-spares : (path : List ℕ) (file : Option (List ℕ)) (text : List ℕ) → list_any (bytes_eq path) (option_to_list file) ≡ false → Each (Spares path) (filling_all (text_at file text))
+text-spares path None text none = tt
+text-spares path (Some file) text none = filling-spares path (record { path = file; bytes = text } ∷ []) none
 
--- ---- what other paths keep
+log-spares : (path : List ℕ) (debug : Option Debugging) (trail : Trail) → list_any (bytes_eq path) (log_in debug) ≡ false → Each (Spares path) (filling_all (log_by debug trail))
+log-spares path None trail none = tt
+log-spares path (Some debugging) trail none = text-spares path debugging.log _ none
 
-parts : (a b : Bool) → (a || b) ≡ false → (a ≡ false) × (b ≡ false)
-parts true b e = absurd (true≢false e)
-parts false b e = (refl, e)
+other-output : (path : List ℕ) (output : Option (List ℕ)) → list_any (bytes_eq path) (option_to_list output) ≡ false → IsOther path output
+other-output path None none = tt
+other-output path (Some file) none = elim (bytes_eq path file) as (λ b. (b || false) ≡ false → b ≡ false) [ true ↦ λ e. absurd cc | false ↦ λ e. refl ] none
 
-differs : (path other : List ℕ) → bytes_eq path other ≡ false → path ≡ other → ⊥
-differs path other e same = true≢false (sym ((bytes_eq-Decides path other).1 same) ∙ e)
+trail-spares : (path : List ℕ) (budget : ℕ) (outputs : Outputs) (script : ScriptView) (core : Core) → IsOther path outputs.frames → IsOther path outputs.samples
+    → Each (Spares path) (trail_by budget outputs script core).changes
+unfolding trail_by
+trail-spares path budget outputs script core frames samples = (run-leaves path outputs frames samples budget script).alone (start_with core script)
 
-created-other : (nodes : Nodes) (path other : List ℕ) → (path ≡ other → ⊥) → fin.get (with_created other nodes) path ≡ fin.get nodes path
-created-other nodes path other apart =
-    elim (can_create nodes other) as (λ b. fin.get (cond b (fin.insert nodes other (File [])) nodes) path ≡ fin.get nodes path) [ true ↦ other_node nodes other path (File []) apart | false ↦ refl ]
+job-spares : (path : List ℕ) (job : Job) → list_any (bytes_eq path) (outputs_in job) ≡ false → Each (Spares path) (running job)
+unfolding running
+job-spares path job none =
+    let frames = option_to_list job.frames in
+    let samples = option_to_list job.samples in
+    let report = option_to_list job.report in
+    let runs = any-last path (log_in job.debug) (frames ++ samples ++ report) none in
+    let first = any-first path (frames ++ samples) report runs in
+    each-append (Spares path) (creating (outputs_in job)) _ (creating-spares path (outputs_in job) none)
+    (each-append (Spares path) (reporting job.report (trail_of job)) _
+    (each-append (Spares path) (trail_of job).changes _
+    (trail-spares path job.budget (run_outputs_by job.frames job.samples) job.script (new_core job.rom) (other-output path job.frames (any-first path frames samples first)) (other-output path job.samples (any-last path frames samples first)))
+    (text-spares path job.report _ (any-last path (frames ++ samples) report runs)))
+    (log-spares path job.debug (trail_of job) (any-first path (log_in job.debug) (frames ++ samples ++ report) none)))
 
-appended-other : (nodes : Nodes) (path other bytes : List ℕ) → (path ≡ other → ⊥) → fin.get (with_appended other bytes nodes) path ≡ fin.get nodes path
-appended-other nodes path other [] apart = refl
-appended-other nodes path other (byte ∷ more) apart = other_node nodes other path _ apart
+work-spares : (path : List ℕ) (work : Work) → list_any (bytes_eq path) (paths_by work) ≡ false → Each (Spares path) (outcome_of (Ok work)).changes
+work-spares path (Run job) none = job-spares path job none
+work-spares path (Write texts) none = writing-spares path texts none
+work-spares path (Print text) none = each-map (Spares path) (λ byte. ToOut byte) text (λ byte. tt)
 
-empty-other : (texts : List Text) (nodes : Nodes) (path : List ℕ) → IsNone path texts → fin.get (with_empty texts nodes) path ≡ fin.get nodes path
-empty-other [] nodes path none = refl
-empty-other (text ∷ texts) nodes path none =
-    let p = parts (bytes_eq path text.path) (list_any (bytes_eq path) (map (λ (t : Text). t.path) texts)) none in
-    empty-other texts (with_created text.path nodes) path p.1 ∙ created-other nodes path text.path (differs path text.path p.0)
+found-spares : (asked : Result Task Refusal) (view : View) (path : List ℕ) (found : Result Work Refusal) → IsNoOutput asked path → verdict asked view ≡ found → Each (Spares path) (outcome_of found).changes
+found-spares asked view path (Err refusal) apart e = each-map (Spares path) (λ byte. ToErr byte) _ (λ byte. tt)
+found-spares (Err refusal) view path (Ok work) apart e = absurd cc
+found-spares (Ok task) view path (Ok work) apart e =
+    work-spares path work (ap (list_any (bytes_eq path)) (work-paths task.command task view work (made_ok (work_of task.command task view) view.blocked work e)) ∙ apart)
 
-bytes-other : (texts : List Text) (nodes : Nodes) (path : List ℕ) → IsNone path texts → fin.get (with_bytes texts nodes) path ≡ fin.get nodes path
-bytes-other [] nodes path none = refl
-bytes-other (text ∷ texts) nodes path none =
-    let p = parts (bytes_eq path text.path) (list_any (bytes_eq path) (map (λ (t : Text). t.path) texts)) none in
-    bytes-other texts (with_appended text.path text.bytes nodes) path p.1 ∙ appended-other nodes path text.path text.bytes (differs path text.path p.0)
+-- ---- what stands there afterwards
 
-texts-other : (texts : List Text) (nodes : Nodes) (path : List ℕ) → IsNone path texts → fin.get (with_texts texts nodes) path ≡ fin.get nodes path
-unfolding with_texts
-texts-other texts nodes path none = bytes-other texts (with_empty texts nodes) path none ∙ empty-other texts nodes path none
+same-kept : (path : List ℕ) (before now : World) → now ≡ before → told_at path now.files ≡ told_at path before.files
+same-kept path before now e = ap (λ w. told_at path w.files) e
 
-none-take : (texts : List Text) (count : ℕ) (path : List ℕ) → IsNone path texts → IsNone path (take count texts)
-none-take texts zero path none = refl
-none-take [] (suc count) path none = refl
-none-take (text ∷ texts) (suc count) path none =
-    let p = parts (bytes_eq path text.path) (list_any (bytes_eq path) (map (λ (t : Text). t.path) texts)) none in
-    let rest = none-take texts count path p.1 in
-    ap (λ b. b || list_any (bytes_eq path) (map (λ (t : Text). t.path) (take count texts))) p.0 ∙ rest
+cut-kept : (path : List ℕ) (asked : Result Task Refusal) (before now : World) (stop : Stop) → IsNoOutput asked path → HasCut asked before now stop → told_at path now.files ≡ told_at path before.files
+cut-kept path asked before now stop apart cut =
+    spared-front path before now (outcome_of cut.found).changes (found-spares asked cut.judges.view path cut.found apart cut.judges.judged) cut.cut
 
-none-get : (texts : List Text) (count : ℕ) (path : List ℕ) (text : Text) → IsNone path texts → slice_get texts count ≡ Some text → path ≡ text.path → ⊥
-none-get [] count path text none at = absurd cc
-none-get (first ∷ texts) zero path text none at =
-    let p = parts (bytes_eq path first.path) (list_any (bytes_eq path) (map (λ (t : Text). t.path) texts)) none in
-    let same : first ≡ text = cc in
-    subst (λ (t : Text). path ≡ t.path → ⊥) same (differs path first.path p.0)
-none-get (first ∷ texts) (suc count) path text none at =
-    let p = parts (bytes_eq path first.path) (list_any (bytes_eq path) (map (λ (t : Text). t.path) texts)) none in
-    none-get texts count path text p.1 at
+early-kept : (path : List ℕ) (asked : Result Task Refusal) (before now : World) (stop : Stop) → IsNoOutput asked path → IsCut asked before now stop → told_at path now.files ≡ told_at path before.files
+early-kept path asked before now TreeFault apart (inl same) = same-kept path before now same
+early-kept path asked before now TreeFault apart (inr cut) = cut-kept path asked before now TreeFault apart cut
+early-kept path asked before now SinkFault apart cut = cut-kept path asked before now SinkFault apart cut
+early-kept path asked before now NoMemory apart (inl same) = same-kept path before now same
+early-kept path asked before now NoMemory apart (inr cut) = cut-kept path asked before now NoMemory apart cut
 
--- a change that leaves a path as it was
-abbrev Leaves : List ℕ → Option Nodes → Option Nodes → Type 0
-Leaves path before now = IfSome before (λ old. IfSome now (λ new. fin.get new path ≡ fin.get old path))
-
-leaves_by : (path : List ℕ) (change : Nodes → Nodes) (before now : Option Nodes) → ((nodes : Nodes) → fin.get (change nodes) path ≡ fin.get nodes path) → now ≡ option_map change before → Leaves path before now
-leaves_by path change None now keeps e = tt
-leaves_by path change (Some nodes) now keeps e = rw e (keeps nodes)
-
-front-leaves : (path : List ℕ) (texts : List Text) (before now : Option Nodes) → IsNone path texts → HasWrittenFront before now texts → Leaves path before now
-front-leaves path texts before now none (inl made) = leaves_by path (with_empty (take made.count texts)) before now (λ nodes. empty-other (take made.count texts) nodes path (none-take texts made.count path none)) made.told
-front-leaves path texts None now none (inr filled) = tt
-front-leaves path texts (Some nodes) now none (inr filled) =
-    let keeps : (n : Nodes) → fin.get (with_appended filled.text.path (take filled.front.count filled.text.bytes) (with_bytes (take filled.count texts) (with_empty texts n))) path ≡ fin.get n path = λ n.
-    appended-other _ path filled.text.path _ (none-get texts filled.count path filled.text none filled.next)
-    ∙ bytes-other (take filled.count texts) (with_empty texts n) path (none-take texts filled.count path none) ∙ empty-other texts n path none in
-    rw filled.front.told (keeps nodes)
-
-work-leaves : (path : List ℕ) (asked : Result Task Refusal) (before now : World) (stop : Stop) → IsNoOutput asked path → HasCutWork asked before now stop → Leaves path before.tree now.tree
-work-leaves path asked before now stop apart cut = go stop cut.work cut.judges cut.cut
-  where
-    same : now.tree ≡ before.tree → Leaves path before.tree now.tree
-    same e = (let P : Option Nodes → Type 0 = λ t. Leaves path before.tree t in subst P (sym e) (here before.tree))
-      where
-        here : (t : Option Nodes) → Leaves path t t
-        here None = tt
-        here (Some nodes) = refl
-
-    go : (s : Stop) (work : Work) → Judges asked before.tree (Ok work) → IsCutWork work before now s → Leaves path before.tree now.tree
-    go SinkFault (Run rom) j c = same c.tree
-    go SinkFault (Print text) j c = same c.tree
-    go TreeFault (Write texts) j c = front-leaves path texts before.tree now.tree (no_text asked j.view path texts apart j.judged) c.tree
-    go TreeFault (Run rom) j c = absurd c
-    go TreeFault (Print text) j c = absurd c
-    go SinkFault (Write texts) j c = absurd c
-    go NoMemory (Run rom) j c = absurd c
-    go NoMemory (Print text) j c = absurd c
-    go NoMemory (Write texts) j c = absurd c
-
-same-leaves : (path : List ℕ) (before now : Option Nodes) → now ≡ before → Leaves path before now
-same-leaves path None now e = tt
-same-leaves path (Some nodes) now e = rw e refl
-
-cut-leaves : (path : List ℕ) (asked : Result Task Refusal) (before now : World) (stop : Stop) → IsNoOutput asked path → IsCut asked before now stop → Leaves path before.tree now.tree
-cut-leaves path asked before now TreeFault apart (inl same) = same-leaves path before.tree now.tree (ap (λ w. w.tree) same)
-cut-leaves path asked before now TreeFault apart (inr cut) = work-leaves path asked before now TreeFault apart cut
-cut-leaves path asked before now SinkFault apart (inl line) = same-leaves path before.tree now.tree line.tree
-cut-leaves path asked before now SinkFault apart (inr cut) = work-leaves path asked before now SinkFault apart cut
-cut-leaves path asked before now NoMemory apart same = same-leaves path before.tree now.tree (ap (λ w. w.tree) same)
-
-pub keeps_others : (asked : Result Task Refusal) (before now : World) (answer : ℕ) → Answers asked before now answer → KeepsOthers asked before.tree now.tree
+pub keeps_others : (asked : Result Task Refusal) (before now : World) (answer : ℕ) → Answers asked before now answer → KeepsOthers asked before.files now.files
 keeps_others asked before now answer (inl ended) path apart =
-    leaves_by path (with_texts (outcome_of ended.found).texts) before.tree now.tree
-    (λ nodes. texts-other (outcome_of ended.found).texts nodes path (found_texts asked ended.judges.view path ended.found apart ended.judges.judged)) ended.has.tree
-keeps_others asked before now answer (inr early) path apart = cut-leaves path asked before now early.stop apart early.stands
+    kept-node path before.files now.files (ap (λ w. told_at path w.files) ended.has.world
+    ∙ spared path before (outcome_of ended.found).changes (found-spares asked ended.judges.view path ended.found apart ended.judges.judged))
+keeps_others asked before now answer (inr early) path apart = kept-node path before.files now.files (early-kept path asked before now early.stop apart early.stands)

@@ -116,7 +116,7 @@ pub insert-file : (nodes : Nodes) (path other bytes : List ℕ) → IsSome (file
 insert-file nodes path other bytes h =
     rw (fin.get-insert files_total nodes path (File bytes) other) (with_file (fin.get nodes other) (eq_by_cmp (slice_cmp nat_cmp) other path) bytes h)
 
-appended-file : (nodes : Nodes) (path other bytes : List ℕ) → IsSome (file_at nodes other) → IsSome (file_at (with_appended path bytes nodes) other)
+pub appended-file : (nodes : Nodes) (path other bytes : List ℕ) → IsSome (file_at nodes other) → IsSome (file_at (with_appended path bytes nodes) other)
 appended-file nodes path other [] h = h
 appended-file nodes path other (byte ∷ more) h = insert-file nodes path other _ h
 

@@ -1,5 +1,5 @@
 use Rattle.std.proofs.Common.{◌≡◌, ℕ, Bool, true, false, List, [], refl, ap, sym, ◌∙◌, subst, inl, inr}
-use Rattle.std.specs.Prelude.{Option, Some, None, Result, Ok, Err, IfSome, IfOk, IfErr, option_map}
+use Rattle.std.specs.Prelude.{Option, Some, None, Result, Ok, Err, IfSome, IfOk, IfErr, OnOk, OnErr, option_map, map}
 use Rattle.tal_listing.specs.Disassembly.{disassembly}
 use Rattle.tal_rom.specs.Assembly.{rom_of}
 use Rattle.uxn_io.specs.declared.trees.FileBytes.{FileBytes}
@@ -9,20 +9,22 @@ use Rattle.uxn_io.specs.WholeFile.{whole_file}
 use Rattle.uxn_opcodes.specs.declared.Stop.{Stop}
 use Rattle.uxn_opcodes.specs.declared.Stop.TheVariants.{TreeFault, SinkFault, NoMemory}
 use Rattle.uxn_cli.specs.declared.task.Task.{Task}
-use Rattle.uxn_cli.specs.declared.words.Command.TheVariants.{Play, Disassemble}
+use Rattle.uxn_cli.specs.declared.words.Command.TheVariants.{Disassemble}
 use Rattle.uxn_cli.specs.declared.refusal.Refusal.{Refusal}
 use Rattle.uxn_cli.specs.declared.refusal.Refusal.TheVariants.{NotUnderstood}
 use Rattle.uxn_cli.specs.declared.refusal.Halt.{Halt}
 use Rattle.uxn_cli.specs.declared.refusal.Halt.TheVariants.{Refused, Stopped}
 use Rattle.uxn_io.specs.Told.{extended, HasTakenFront}
+use Rattle.uxn_io.specs.Outside.{World, ToErr, changed_by, changed_by-err}
+use Rattle.uxn_cli.proofs.ChangeLemmas.{IsCutText, printed, print-cut, line-cut}
 use Rattle.uxn_cli.specs.Lines.{status_of, line_of}
 use Rattle.uxn_cli.specs.Blame.{Stops}
-use Rattle.uxn_cli.proofs.Growth.{extended-nothing}
 use Rattle.uxn_cli.specs.Words.{settings}
-use Rattle.uxn_cli.specs.World.{World, world, with_texts}
-use Rattle.uxn_cli.specs.Verdict.{and_then, legal, paths_in, apart, request, View, Work, Run, Write, Print, source_in, rom_in, labels_in, symbols_by, made_by, judged, verdict}
+use Rattle.uxn_cli.specs.World.{world}
+use Rattle.uxn_cli.specs.Request.{and_then, legal, paths_in, apart, request}
+use Rattle.uxn_cli.specs.Verdict.{View, Work, Print, rom_in, labels_in, symbols_by, symbols_seen, script_seen, commands_seen, blocked_seen, made_by, judged, verdict}
 use Rattle.uxn_cli.specs.Follows.{Follows}
-use Rattle.uxn_cli.specs.Answer.{IsCutWork, Works, IsViewOf, IsViewFor, IsRefused, Performs, Ends}
+use Rattle.uxn_cli.specs.Answer.{IsViewOf, IsViewFor, IsRefused, Performs, Ends}
 
 -- what the words ask for, where they are not legal and where they are
 pub request-illegal : (words : List (List ℕ)) → None ≡ settings words → request words ≡ Err NotUnderstood
@@ -56,102 +58,69 @@ step_failed seen asked view tree new_tree out err (Refused refusal) f is_view sa
   same = ap (λ t. world t out err) same;
 }
 step_failed seen asked view tree new_tree out err (Stopped TreeFault) f is_view same = inl (ap (λ t. world t out err) same)
-step_failed seen asked view tree new_tree out err (Stopped NoMemory) f is_view same = ap (λ t. world t out err) same
+step_failed seen asked view tree new_tree out err (Stopped NoMemory) f is_view same = inl (ap (λ t. world t out err) same)
 step_failed seen asked view tree new_tree out err (Stopped SinkFault) f is_view same = absurd cc
 
 -- the words were refused, whatever the tree holds
 pub words_failed : (asked : Result Task Refusal) (tree : Option Nodes) (out err : Option (List ℕ)) (halt : Halt) → Follows (λ (task : Task). task) (Err halt) asked
     → Performs asked (world tree out err) (world tree out err) (Err halt)
 words_failed asked tree out err (Refused refusal) f = rw f (record {
-  judges = record { view = record { file = NoFile; symbols = NoFile; blocked = None }; seen = tt; judged = refl };
+  judges = record { view = record { file = NoFile; symbols = NoFile; script = NoFile; commands = NoFile; blocked = None }; seen = tt; judged = refl };
   same = refl;
 })
 words_failed asked tree out err (Stopped TreeFault) f = inl refl
-words_failed asked tree out err (Stopped NoMemory) f = refl
+words_failed asked tree out err (Stopped NoMemory) f = inl refl
 words_failed asked tree out err (Stopped SinkFault) f = absurd cc
 
--- no file is written
-pub no_texts : (tree : Option Nodes) → option_map (with_texts []) tree ≡ tree
-unfolding with_texts
-no_texts None = refl
-no_texts (Some nodes) = refl
-
--- work on the two outputs alone
-abbrev pub IsPut : Work → Type 0
-IsPut (Run rom) = Unit {0}
-IsPut (Print text) = Unit {0}
-IsPut (Write texts) = ⊥
-
-put_outcome : (work : Work) (tree new_tree : Option Nodes) (out err new_out new_err : Option (List ℕ)) (answer : ℕ) → IsPut work → new_tree ≡ tree
-    → Works work (world None out err) (world None new_out new_err) (Ok answer) → Works work (world tree out err) (world new_tree new_out new_err) (Ok answer)
-put_outcome (Run rom) tree new_tree out err new_out new_err answer put same w = record { status = w.status; tree = same ∙ sym (no_texts tree); out = w.out; err = w.err }
-put_outcome (Print text) tree new_tree out err new_out new_err answer put same w = record { status = w.status; tree = same ∙ sym (no_texts tree); out = w.out; err = w.err }
-put_outcome (Write texts) tree new_tree out err new_out new_err answer put same w = absurd put
-
-put_cut : (work : Work) (tree new_tree : Option Nodes) (out err new_out new_err : Option (List ℕ)) → IsPut work → new_tree ≡ tree
-    → IsCutWork work (world None out err) (world None new_out new_err) SinkFault → IsCutWork work (world tree out err) (world new_tree new_out new_err) SinkFault
-put_cut (Run rom) tree new_tree out err new_out new_err put same w = record { tree = same }
-put_cut (Print text) tree new_tree out err new_out new_err put same w = record { tree = same; out = w.out; err = w.err }
-put_cut (Write texts) tree new_tree out err new_out new_err put same w = absurd put
-
-no_tree_cut : (work : Work) (before now : World) → IsPut work → IsCutWork work before now TreeFault → ⊥
-no_tree_cut (Run rom) before now put w = w
-no_tree_cut (Print text) before now put w = w
-no_tree_cut (Write texts) before now put w = put
-
--- the work that was asked for
-pub work_done : (asked : Result Task Refusal) (view : View) (work : Work) (tree new_tree : Option Nodes) (out err new_out new_err : Option (List ℕ)) (result : Result ℕ Halt)
-    → IsPut work → verdict asked view ≡ Ok work → IsViewFor tree asked view → new_tree ≡ tree → Works work (world None out err) (world None new_out new_err) result
-    → Performs asked (world tree out err) (world new_tree new_out new_err) result
-work_done asked view work tree new_tree out err new_out new_err (Ok answer) put e is_view same w = record {
-  found = Ok work;
-  judges = record { view = view; seen = is_view; judged = e };
-  has = put_outcome work tree new_tree out err new_out new_err answer put same w;
-}
-work_done asked view work tree new_tree out err new_out new_err (Err (Stopped SinkFault)) put e is_view same w =
-    inr (record { work = work; judges = record { view = view; seen = is_view; judged = e }; cut = put_cut work tree new_tree out err new_out new_err put same w })
-work_done asked view work tree new_tree out err new_out new_err (Err (Stopped NoMemory)) put e is_view same w =
-    rw same (ap (λ w. world tree w.out w.err) w)
-work_done asked view work tree new_tree out err new_out new_err (Err (Stopped TreeFault)) put e is_view same w = absurd (no_tree_cut work (world None out err) (world None new_out new_err) put w)
-work_done asked view work tree new_tree out err new_out new_err (Err (Refused refusal)) put e is_view same w = absurd w
-
--- the view of `play`
-abbrev pub play_view : FileBytes → View
-play_view file = record { file = file; symbols = NoFile; blocked = None }
-
-pub sees_play : (tree : Option Nodes) (task : Task) (rom : Bool) (limit : ℕ) (file : FileBytes) → task.command ≡ Play → task.rom ≡ rom
-    → Rattle.std.specs.Prelude.if◌then◌else◌ rom 65280 4194304 ≡ limit
-    → IfSome tree (λ nodes. file ≡ whole_file (file_at nodes task.file) limit) → IsViewOf tree task (play_view file)
-sees_play None task rom limit file play is same found = record { file = tt; symbols = tt; blocked = tt }
-sees_play (Some nodes) task rom limit file play is same found = rw play (record { file = rw (is, same) found; symbols = refl; blocked = refl })
-
--- what `play` judges, of a ROM file and of a source
-pub judged-rom : (task : Task) (file : FileBytes) → task.command ≡ Play → task.rom ≡ true → judged task (play_view file) ≡ and_then (rom_in task.file file) (λ rom. Ok (Run rom))
-judged-rom task file play rom = rw (play, rom) (then_ok (and_then (rom_in task.file file) (λ r. Ok (Run r))))
-
-pub judged-source : (task : Task) (file : FileBytes) → task.command ≡ Play → task.rom ≡ false
-    → judged task (play_view file) ≡ and_then (source_in task.file file) (λ source. Ok (Run (rom_of source)))
-judged-source task file play rom =
-    rw (play, rom) (then_ok (and_then (and_then (source_in task.file file) (λ source. Ok (rom_of source))) (λ r. Ok (Run r)))
-    ∙ then_then (source_in task.file file) (λ source. Ok (rom_of source)) (λ r. Ok (Run r)))
-
--- the view of `dis`
-abbrev pub dis_view : FileBytes → FileBytes → View
-dis_view file symbols = record { file = file; symbols = symbols; blocked = None }
-
-pub sees_dis : (tree : Option Nodes) (task : Task) (file symbols : FileBytes) → task.command ≡ Disassemble
-    → IfSome tree (λ nodes. file ≡ whole_file (file_at nodes task.file) 65280) → IfSome tree (λ nodes. symbols ≡ symbols_by nodes task.symbols) → IsViewOf tree task (dis_view file symbols)
-sees_dis None task file symbols dis found read = record { file = tt; symbols = tt; blocked = tt }
-sees_dis (Some nodes) task file symbols dis found read = rw dis (record { file = found; symbols = read; blocked = refl })
-
 -- what a tree that is not asked may hold
-pub unread : (tree : Option Nodes) (path : Option (List ℕ)) → (symbols : FileBytes) × IfSome tree (λ nodes. symbols ≡ symbols_by nodes path)
+abbrev pub unread : (tree : Option Nodes) (path : Option (List ℕ)) → (symbols : FileBytes) × IfSome tree (λ nodes. symbols ≡ symbols_by nodes path)
 unread None path = (NoFile, tt)
 unread (Some nodes) path = (symbols_by nodes path, refl)
 
-pub judged-dis : (task : Task) (file symbols : FileBytes) → task.command ≡ Disassemble
-    → judged task (dis_view file symbols) ≡ and_then (rom_in task.file file) (λ rom. and_then (labels_in task.symbols symbols) (λ labels. Ok (Print (disassembly rom labels))))
-judged-dis task file symbols dis = rw dis (then_ok (and_then (rom_in task.file file) (λ rom. and_then (labels_in task.symbols symbols) (λ labels. Ok (Print (disassembly rom labels))))))
+abbrev pub unread_script : (tree : Option Nodes) (task : Task) → (script : FileBytes) × IfSome tree (λ nodes. script ≡ script_seen nodes task)
+unread_script None task = (NoFile, tt)
+unread_script (Some nodes) task = (script_seen nodes task, refl)
+
+abbrev pub unread_commands : (tree : Option Nodes) (task : Task) → (commands : FileBytes) × IfSome tree (λ nodes. commands ≡ commands_seen nodes task)
+unread_commands None task = (NoFile, tt)
+unread_commands (Some nodes) task = (commands_seen nodes task, refl)
+
+abbrev pub unread_symbols : (tree : Option Nodes) (task : Task) → (symbols : FileBytes) × IfSome tree (λ nodes. symbols ≡ symbols_seen nodes task)
+unread_symbols None task = (NoFile, tt)
+unread_symbols (Some nodes) task = (symbols_seen nodes task, refl)
+
+abbrev pub unlooked : (tree : Option Nodes) (task : Task) → (blocked : Option (List ℕ)) × IfSome tree (λ nodes. blocked ≡ blocked_seen nodes task)
+unlooked None task = (None, tt)
+unlooked (Some nodes) task = (blocked_seen nodes task, refl)
+
+-- the view of `dis`
+abbrev pub dis_view : (tree : Option Nodes) (task : Task) → FileBytes → FileBytes → View
+dis_view tree task file symbols = record { file = file; symbols = symbols; script = (unread_script tree task).0; commands = (unread_commands tree task).0; blocked = None }
+
+pub sees_dis : (tree : Option Nodes) (task : Task) (file symbols : FileBytes) → task.command ≡ Disassemble
+    → IfSome tree (λ nodes. file ≡ whole_file (file_at nodes task.file) 65280) → IfSome tree (λ nodes. symbols ≡ symbols_by nodes task.symbols) → IsViewOf tree task (dis_view tree task file symbols)
+sees_dis None task file symbols dis found read = record { file = tt; symbols = tt; script = tt; commands = tt; blocked = tt }
+sees_dis (Some nodes) task file symbols dis found read = rw dis (record { file = found; symbols = read; script = refl; commands = refl; blocked = refl })
+
+pub judged-dis : (tree : Option Nodes) (task : Task) (file symbols : FileBytes) → task.command ≡ Disassemble
+    → judged task (dis_view tree task file symbols) ≡ and_then (rom_in task.file file) (λ rom. and_then (labels_in task.symbols symbols) (λ labels. Ok (Print (disassembly rom labels))))
+judged-dis tree task file symbols dis = rw dis (then_ok (and_then (rom_in task.file file) (λ rom. and_then (labels_in task.symbols symbols) (λ labels. Ok (Print (disassembly rom labels))))))
+
+-- a text that was printed, or was not
+pub print_done : (asked : Result Task Refusal) (view : View) (text : List ℕ) (tree new_tree : Option Nodes) (out err new_out : Option (List ℕ)) (result : Result ℕ Halt)
+    → verdict asked view ≡ Ok (Print text) → IsViewFor tree asked view → new_tree ≡ tree
+    → IfOk result (λ status. status ≡ 0) → OnOk result (new_out ≡ extended out text)
+    → OnErr result (HasTakenFront out new_out text) → OnErr result (result ≡ Err (Stopped SinkFault))
+    → Performs asked (world tree out err) (world new_tree new_out err) result
+print_done asked view text tree new_tree out err new_out (Ok answer) e is_view same zero put front stops = record {
+  found = Ok (Print text);
+  judges = record { view = view; seen = is_view; judged = e };
+  has = record { status = zero; world = rw same (printed tree out err new_out text put) };
+}
+print_done asked view text tree new_tree out err new_out (Err halt) e is_view same zero put front stops =
+    let is : halt ≡ Stopped SinkFault = cc in
+    let cut = print-cut tree out err new_out text front in
+    rw (is, same) (record { found = Ok (Print text); judges = record { view = view; seen = is_view; judged = e }; may = tt; cut = cut.cut; short = λ text. cut.short })
 
 -- a refusal whose line was put, or was not
 pub refusal_ends : (asked : Result Task Refusal) (before : World) (tree : Option Nodes) (out err new_err : Option (List ℕ)) (refusal : Refusal) (result : Result ℕ Stop)
@@ -162,19 +131,14 @@ refusal_ends asked before tree out err new_err refusal (Ok status) r ok stops = 
   judges = r.judges;
   has = record {
     status = ok.0;
-    tree = ap (λ w. w.tree) r.same ∙ sym (no_texts before.tree);
-    out = ap (λ w. w.out) r.same ∙ sym (extended-nothing before.out);
-    err = ok.1 ∙ ap (λ w. extended w.err (line_of refusal)) r.same;
+    world = ap (λ e. world tree out e) ok.1 ∙ sym (changed_by-err (world tree out err) (line_of refusal))
+        ∙ ap (λ w. changed_by w (map (λ byte. ToErr byte) (line_of refusal))) r.same;
   };
 }
 refusal_ends asked before tree out err new_err refusal (Err SinkFault) r ok stops =
-    let P : Option (List ℕ) → Type 0 = λ e. HasTakenFront e new_err (line_of refusal) in
-    inl (record {
-      refusal = refusal;
-      judges = r.judges;
-      tree = ap (λ w. w.tree) r.same;
-      out = ap (λ w. w.out) r.same;
-      err = subst P (ap (λ w. w.err) r.same) stops;
-    })
-refusal_ends asked before tree out err new_err refusal (Err NoMemory) r ok stops = ap (λ e. world tree out e) stops ∙ r.same
+    let cut = line-cut tree out err new_err (line_of refusal) stops in
+    let P : World → Type 0 = λ w. IsCutText w (world tree out new_err) (map (λ byte. ToErr byte) (line_of refusal)) in
+    let from = subst P r.same cut in
+    record { found = Err refusal; judges = r.judges; may = tt; cut = from.cut; short = λ text. from.short }
+refusal_ends asked before tree out err new_err refusal (Err NoMemory) r ok stops = inl (ap (λ e. world tree out e) stops ∙ r.same)
 refusal_ends asked before tree out err new_err refusal (Err TreeFault) r ok stops = absurd stops

@@ -12,29 +12,38 @@ use Rattle.clap.specs.declared.error.kind.ErrorKind.TheVariants.{OutOfMemory}
 use Rattle.clap.specs.declared.parser.matches.ArgMatches.{ArgMatches}
 use Rattle.clap.proofs.WalkLemmas.{first_value-rows}
 use Rattle.uxn_cli.specs.declared.words.Command.{Command}
-use Rattle.uxn_cli.specs.declared.words.Command.TheVariants.{Play, Assemble, Disassemble}
-use Rattle.uxn_cli.specs.declared.task.Task.{Task}
-use Rattle.uxn_cli.specs.Words.{Given, asked_by, asked_with, choices_of, command_of, file_name, is_legal, is_on, is_whole, items_of, settings, task_in, value_in, value_of}
+use Rattle.uxn_cli.specs.declared.words.Command.TheVariants.{Play, Debug, Assemble, Disassemble}
+use Rattle.uxn_cli.specs.Words.{Given, asked_by, asked_with, budget_in, choices_of, command_of, file_name, is_legal, is_on, is_whole, items_of, settings, task_in, value_in, value_of}
 use Rattle.uxn_cli.specs.Asked.{parser_for}
-use Rattle.uxn_cli.proofs.ArgumentLemmas.{blind, is_apart, items_first, no_switch_unseen, row, unseen, with_defaults}
+use Rattle.uxn_cli.proofs.ArgumentLemmas.{blind, has_only_switch, is_apart, items_first, no_switch_unseen, row, unseen, with_defaults}
 use Rattle.uxn_cli.proofs.LineLemmas.{Reads, Rejects, illegal, parsed}
 
 -- ---- the commands
 
 pub is_plain_parser : (command : Command) → is_simple_and_free (parser_for (choices_of command)) ≡ true
 is_plain_parser Play = refl
+is_plain_parser Debug = refl
 is_plain_parser Assemble = refl
 is_plain_parser Disassemble = refl
 
 simple_parser : (command : Command) → is_simple (parser_for (choices_of command)) ≡ true
 simple_parser Play = refl
+simple_parser Debug = refl
 simple_parser Assemble = refl
 simple_parser Disassemble = refl
 
 apart_choices : (command : Command) → is_apart (choices_of command) ≡ true
 apart_choices Play = refl
+apart_choices Debug = refl
 apart_choices Assemble = refl
 apart_choices Disassemble = refl
+
+-- the one switch of a command is `--rom`
+has_one_switch : (command : Command) → has_only_switch (codes "rom") (choices_of command) ≡ true
+has_one_switch Play = refl
+has_one_switch Debug = refl
+has_one_switch Assemble = refl
+has_one_switch Disassemble = refl
 
 -- ---- the values
 
@@ -44,36 +53,33 @@ first found = option_and_then (λ r. slice_get r.values 0) found
 abbrev on : Option Row → Bool
 on found = is_on (first found)
 
--- the command has no switch of this name
-abbrev has_no_switch : Command → Text → Bool
-has_no_switch command id = list_all (λ choice. choice.has_value || not (bytes_eq choice.name id)) (choices_of command)
-
 module _ (command : Command) (m : ArgMatches) (items : List Given) (rows : rows_of (found_of m) ≡ with_defaults (choices_of command) (map row items)) where
-  first_is : (id : Text) → has_no_switch command id ≡ true → first_value (found_of m) id ≡ value_of id items
-  first_is id none = first_value-rows (found_of m) id ∙ ap (first_of id) rows
-      ∙ unseen first id (choices_of command) (map row items) (no_switch_unseen first id (choices_of command) none) ∙ items_first id items
+  first_is : (id : Text) → bytes_eq (codes "rom") id ≡ false → first_value (found_of m) id ≡ value_of id items
+  first_is id other = first_value-rows (found_of m) id ∙ ap (first_of id) rows
+      ∙ unseen first id (choices_of command) (map row items) (no_switch_unseen first (codes "rom") id (choices_of command) (has_one_switch command) other) ∙ items_first id items
 
   on_is : (id : Text) → is_on (first_value (found_of m) id) ≡ is_on (value_of id items)
   on_is id = ap is_on (first_value-rows (found_of m) id ∙ ap (first_of id) rows)
       ∙ unseen on id (choices_of command) (map row items) (blind on id (λ name. refl) (choices_of command)) ∙ ap is_on (items_first id items)
 
-  same_task : has_no_switch command file_name ≡ true → has_no_switch command (codes "out") ≡ true → has_no_switch command (codes "symbols") ≡ true
-      → has_no_switch command (codes "listing") ≡ true
-      → task_in command (λ name. first_value (found_of m) name) ≡ task_in command (λ name. value_of name items)
-  same_task no_file no_out no_symbols no_listing =
-      let rom = on_is (codes "rom") in
-      let out = first_is (codes "out") no_out in
-      let symbols = first_is (codes "symbols") no_symbols in
-      let listing = first_is (codes "listing") no_listing in
-      let task : Bool → Option Text → Option Text → Option Text → Text → Task =
-      λ r o s l file. record { command = command; file = file; rom = r; out = o; symbols = s; listing = l } in
-      λ i. option_map (task (rom i) (out i) (symbols i) (listing i)) (first_is file_name no_file i)
-
-task_is : (command : Command) (m : ArgMatches) (items : List Given) → rows_of (found_of m) ≡ with_defaults (choices_of command) (map row items)
-    → task_in command (λ name. first_value (found_of m) name) ≡ task_in command (λ name. value_of name items)
-task_is Play m items rows = same_task Play m items rows refl refl refl refl
-task_is Assemble m items rows = same_task Assemble m items rows refl refl refl refl
-task_is Disassemble m items rows = same_task Disassemble m items rows refl refl refl refl
+  task_is : task_in command (λ name. first_value (found_of m) name) ≡ task_in command (λ name. value_of name items)
+  task_is = λ i.
+      option_and_then (λ file. option_map (λ budget. record {
+        command = command;
+        file = file;
+        rom = on_is (codes "rom") i;
+        budget = budget;
+        out = first_is (codes "out") refl i;
+        commands = first_is (codes "commands") refl i;
+        log = first_is (codes "log") refl i;
+        symbols = first_is (codes "symbols") refl i;
+        listing = first_is (codes "listing") refl i;
+        script = first_is (codes "script") refl i;
+        root = first_is (codes "root") refl i;
+        frames = first_is (codes "frames") refl i;
+        samples = first_is (codes "samples") refl i;
+        report = first_is (codes "report") refl i;
+      }) (budget_in (first_is (codes "budget") refl i))) (first_is file_name refl i)
 
 -- ---- the outcomes
 

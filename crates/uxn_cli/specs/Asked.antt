@@ -11,9 +11,17 @@ asked settings = record {
   command = settings.command;
   file = settings.file.now;
   rom = settings.rom;
+  budget = settings.budget;
   out = option_map (λ word. word.now) settings.out;
+  commands = option_map (λ word. word.now) settings.commands;
+  log = option_map (λ word. word.now) settings.log;
   symbols = option_map (λ word. word.now) settings.symbols;
   listing = option_map (λ word. word.now) settings.listing;
+  script = option_map (λ word. word.now) settings.script;
+  root = option_map (λ word. word.now) settings.root;
+  frames = option_map (λ word. word.now) settings.frames;
+  samples = option_map (λ word. word.now) settings.samples;
+  report = option_map (λ word. word.now) settings.report;
 }
 
 -- the arguments of `clap`'s command for a table of options: the file, and the options

@@ -9,10 +9,13 @@ use Rattle.uxn_io.specs.ByteList.{ByteList}
 use Rattle.uxn_io.specs.Files.{Nodes}
 use Rattle.tal_words.specs.declared.fault.Fault.{Fault}
 use Rattle.tal_symbols.specs.declared.stop.SymbolKind.{SymbolKind}
+use Rattle.play_script.specs.declared.script.ScriptKind.{ScriptKind}
+use Rattle.uxn_debugger.specs.declared.command.CommandKind.{CommandKind}
 use Rattle.uxn_cli.specs.declared.task.Task.{Task}
 use Rattle.uxn_cli.specs.declared.refusal.Refusal.{Refusal}
-use Rattle.uxn_cli.specs.declared.refusal.Refusal.TheVariants.{NotUnderstood, NoPath, NoOutput, Missing, Faulty, LongRom, BadSymbols}
+use Rattle.uxn_cli.specs.declared.refusal.Refusal.TheVariants.{NotUnderstood, NoPath, NoOutput, Missing, Faulty, LongRom, BadSymbols, BadScript, BadCommands}
 use Rattle.uxn_cli.specs.Verdict.{Work, and_then, view_of, judged, outputs_of}
+use Rattle.uxn_cli.specs.Outcome.{outcome_of}
 
 -- a fault of the tree, a fault of a sink, or want of memory ended the call early
 abbrev pub IsEarly : ℕ → Type 0
@@ -28,7 +31,8 @@ abbrev pub verdict_on : Nodes → Result Task Refusal → Result Work Refusal
 verdict_on nodes asked = and_then asked (λ task. judged task (view_of nodes task))
 
 -- which verdict it is: words that are not legal, or name no path; an input that is no file; a source with a fault; a ROM that is
--- too long or a symbol file that is refused; an output that clashes or cannot be made; and work that is to be done
+-- too long or a symbol file that is refused; a script or commands that are refused; an output that clashes or cannot be made; and work that
+-- is to be done
 abbrev pub IsIllegal : {A : Type 0} → Result A Refusal → Type 0
 IsIllegal verdict = verdict ≡ Err NotUnderstood
 
@@ -45,11 +49,21 @@ abbrev pub IsUnfit : {A : Type 0} → Result A Refusal → Type 0
 IsUnfit verdict =
     ((length : ℕ) × (verdict ≡ Err (LongRom length))) ⊎ ((entry : ℕ) × (kind : SymbolKind) × (verdict ≡ Err (BadSymbols entry kind)))
 
+abbrev pub IsBadScript : {A : Type 0} → Result A Refusal → Type 0
+IsBadScript verdict = (number : ℕ) × (kind : ScriptKind) × (verdict ≡ Err (BadScript number kind))
+
+abbrev pub IsBadCommands : {A : Type 0} → Result A Refusal → Type 0
+IsBadCommands verdict = (number : ℕ) × (kind : CommandKind) × (verdict ≡ Err (BadCommands number kind))
+
 abbrev pub IsBlocked : {A : Type 0} → Result A Refusal → Type 0
 IsBlocked verdict = (path : List ℕ) × (verdict ≡ Err (NoOutput path))
 
 abbrev pub IsAccepted : {A : Type 0} → Result A Refusal → Type 0
 IsAccepted {A} verdict = (work : A) × (verdict ≡ Ok work)
+
+-- what is accepted ends with this exit code
+abbrev pub EndsWith : ℕ → Result Work Refusal → Type 0
+EndsWith code verdict = (work : Work) × (verdict ≡ Ok work) × ((outcome_of (Ok work)).status ≡ code)
 
 -- a line and nothing else was put
 abbrev pub PutsLine : Option (List ℕ) → Option (List ℕ) → Type 0

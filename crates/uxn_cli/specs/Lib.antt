@@ -3,13 +3,14 @@ pub mod Asked
 pub mod Lines
 pub mod World
 pub mod Outputs
+pub mod Request
 pub mod Verdict
 pub mod Follows
 pub mod Blame
-pub mod Run
-pub mod Console
+pub mod Job
 pub mod Outcome
 pub mod Room
+pub mod Prepared
 pub mod Answer
 pub mod Causes
 pub mod OpcodeNames

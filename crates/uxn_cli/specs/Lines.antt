@@ -3,8 +3,10 @@ use Rattle.std.specs.Prelude.{ℕ, List, [], ◌∷◌, ◌++◌, codes, decimal
 use Rattle.tal_words.specs.declared.fault.Fault.{Fault}
 use Rattle.tal_words.specs.Faults.{kind_name}
 use Rattle.tal_symbols.specs.Answers.{symbol_kind_name}
+use Rattle.play_script.specs.Kinds.{kind_name as script_kind_name}
+use Rattle.uxn_debugger.specs.Kinds.{kind_name as command_kind_name}
 use Rattle.uxn_cli.specs.declared.refusal.Refusal.{Refusal}
-use Rattle.uxn_cli.specs.declared.refusal.Refusal.TheVariants.{NotUnderstood, NoPath, NoOutput, Missing, Faulty, LongRom, BadSymbols}
+use Rattle.uxn_cli.specs.declared.refusal.Refusal.TheVariants.{NotUnderstood, NoPath, NoOutput, Missing, Faulty, LongRom, BadSymbols, BadScript, BadCommands}
 
 abbrev pub status_of : Refusal → ℕ
 status_of NotUnderstood = 128
@@ -14,6 +16,8 @@ status_of (Missing path) = 130
 status_of (Faulty fault word) = 131
 status_of (LongRom length) = 134
 status_of (BadSymbols entry kind) = 134
+status_of (BadScript number kind) = 132
+status_of (BadCommands number kind) = 133
 
 -- a text and a newline
 abbrev pub line : List ℕ → List ℕ
@@ -32,6 +36,8 @@ text_of (Missing path) = codes "missing: " ++ path
 text_of (Faulty fault word) = fault_text fault word.list
 text_of (LongRom length) = codes "rom: " ++ decimal length ++ codes " bytes"
 text_of (BadSymbols entry kind) = codes "symbols " ++ decimal entry ++ codes ": " ++ symbol_kind_name kind
+text_of (BadScript number kind) = codes "script " ++ decimal number ++ codes ": " ++ script_kind_name kind
+text_of (BadCommands number kind) = codes "commands " ++ decimal number ++ codes ": " ++ command_kind_name kind
 
 abbrev pub line_of : Refusal → List ℕ
 line_of refusal = line (text_of refusal)

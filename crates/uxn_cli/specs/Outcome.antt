@@ -1,24 +1,47 @@
--- What a verdict gives: the status, the bytes added to both outputs, and the files that are written.
-use Rattle.std.specs.Prelude.{ℕ, List, [], Result, Ok, Err}
+-- What a verdict gives: the status, and the changes outside, in order.
+use Rattle.std.specs.Prelude.{ℕ, List, [], ◌∷◌, ◌++◌, map, Option, Some, None, Result, Ok, Err}
+use Rattle.std.specs.List.{flat_map}
+use Rattle.uxn_io.specs.Outside.{Change, ToOut, ToErr, Creates, ToFile}
 use Rattle.uxn_cli.specs.declared.refusal.Refusal.{Refusal}
 use Rattle.uxn_cli.specs.Lines.{status_of, line_of}
-use Rattle.uxn_cli.specs.Run.{Ports, reset_ports}
 use Rattle.uxn_cli.specs.World.{Text}
+use Rattle.vector_loop.specs.Trail.{Trail}
+use Rattle.uxn_cli.specs.Job.{Job, outputs_in, trail_of, exit_of, report_of, log_by}
 use Rattle.uxn_cli.specs.Verdict.{Work, Run, Write, Print}
 
 pub record Outcome : Type 0 where
   pub status : ℕ
-  pub out : List ℕ
-  pub err : List ℕ
-  pub texts : List Text
+  pub changes : List Change
 
--- the end of a run whose exit code is 0
-abbrev pub ended : Ports → Outcome
-ended ports = record { status = 0; out = ports.out; err = ports.err; texts = [] }
+-- files made, empty and in order
+abbrev pub creating : List (List ℕ) → List Change
+creating paths = map (λ path. Creates path) paths
 
--- a refusal puts its one line on the error output
+-- a file gets its bytes, and files theirs, in order
+abbrev pub filling : Text → List Change
+filling text = map (λ byte. ToFile text.path byte) text.bytes
+
+abbrev pub filling_all : List Text → List Change
+filling_all texts = flat_map filling texts
+
+-- files are written: all are made, and then they get their bytes
+unfoldable pub writing : List Text → List Change
+writing texts = creating (map (λ text. text.path) texts) ++ filling_all texts
+
+-- a text is printed
+abbrev pub printing : List ℕ → List Change
+printing text = map (λ byte. ToOut byte) text
+
+-- a run, and then its report
+abbrev pub reporting : Option (List ℕ) → Trail → List Change
+reporting report trail = trail.changes ++ filling_all (report_of report trail.last)
+
+-- a run: its files are made, it runs, its report is written, and then the log of a debugger
+unfoldable pub running : Job → List Change
+running job = creating (outputs_in job) ++ (reporting job.report (trail_of job) ++ filling_all (log_by job.debug (trail_of job)))
+
 abbrev pub outcome_of : Result Work Refusal → Outcome
-outcome_of (Err refusal) = record { status = status_of refusal; out = []; err = line_of refusal; texts = [] }
-outcome_of (Ok (Run rom)) = ended (reset_ports rom)
-outcome_of (Ok (Write texts)) = record { status = 0; out = []; err = []; texts = texts }
-outcome_of (Ok (Print text)) = record { status = 0; out = text; err = []; texts = [] }
+outcome_of (Err refusal) = record { status = status_of refusal; changes = map (λ byte. ToErr byte) (line_of refusal) }
+outcome_of (Ok (Run job)) = record { status = exit_of job; changes = running job }
+outcome_of (Ok (Write texts)) = record { status = 0; changes = writing texts }
+outcome_of (Ok (Print text)) = record { status = 0; changes = printing text }

@@ -1,7 +1,7 @@
 -- What the words and the view of the tree determine before anything is done: a refusal, or the work.
 use Rattle.std.specs.Prelude.{◌≡◌, ℕ, Bool, true, false, not, nat_lt, ◌||◌, List, [], ◌∷◌, ◌++◌, count_by}
 use Rattle.std.specs.Prelude.{find, Option, Some, None, option_to_list, Result, Ok, Err}
-use Rattle.std.specs.Prelude.{if◌then◌else◌}
+use Rattle.std.specs.Prelude.{if◌then◌else◌, unwrap_or}
 use Rattle.std.specs.List.{list_any}
 use Rattle.std.specs.Str.{bytes_eq}
 use Rattle.tal_words.specs.declared.fault.Fault.{Fault}
@@ -14,98 +14,41 @@ use Rattle.tal_symbols.specs.Reading.{Refusal as BadEntry, symbols_in}
 use Rattle.tal_symbols.specs.SymbolFile.{symbol_file}
 use Rattle.tal_listing.specs.Disassembly.{disassembly}
 use Rattle.tal_listing.specs.Listing.{listing_of}
-use Rattle.uxn_io.specs.declared.paths.PathFault.{PathFault}
+use Rattle.play_script.specs.declared.script.ScriptKind.{ScriptKind}
+use Rattle.play_script.specs.declared.script.ScriptKind.TheVariants.{LongScript}
+use Rattle.play_script.specs.Scripts.{ScriptView, script_of}
+use Rattle.uxn_debugger.specs.declared.command.DebugCommand.{DebugCommand}
+use Rattle.uxn_debugger.specs.declared.command.CommandKind.{CommandKind}
+use Rattle.uxn_debugger.specs.declared.command.CommandKind.TheVariants.{LongCommands}
+use Rattle.uxn_debugger.specs.Reading.{commands_of_text}
 use Rattle.uxn_io.specs.declared.trees.FileBytes.{FileBytes}
 use Rattle.uxn_io.specs.declared.trees.FileBytes.TheVariants.{Found, Missing as NoFile, TooLong}
 use Rattle.uxn_io.specs.ByteList.{tight}
 use Rattle.uxn_io.specs.Changes.{can_create}
 use Rattle.uxn_io.specs.Files.{Nodes, file_at}
-use Rattle.uxn_io.specs.PathText.{path_of, is_under}
 use Rattle.uxn_io.specs.WholeFile.{whole_file}
 use Rattle.uxn_cli.specs.declared.words.Command.{Command}
-use Rattle.uxn_cli.specs.declared.words.Command.TheVariants.{Play, Assemble, Disassemble}
+use Rattle.uxn_cli.specs.declared.words.Command.TheVariants.{Play, Debug, Assemble, Disassemble}
 use Rattle.uxn_cli.specs.declared.task.Task.{Task}
 use Rattle.uxn_cli.specs.declared.refusal.Refusal.{Refusal}
-use Rattle.uxn_cli.specs.declared.refusal.Refusal.TheVariants.{NotUnderstood, NoPath, NoOutput, Missing, Faulty, LongRom, BadSymbols}
-use Rattle.uxn_cli.specs.Words.{settings}
+use Rattle.uxn_cli.specs.declared.refusal.Refusal.TheVariants.{NoOutput, Missing, Faulty, LongRom, BadSymbols, BadScript, BadCommands}
+use Rattle.uxn_cli.specs.Job.{Debugging, Job, text_at}
 use Rattle.uxn_cli.specs.World.{Text}
 
--- a step after another: the first refusal counts
-abbrev pub and_then : {A B : Type 0} → Result A Refusal → (A → Result B Refusal) → Result B Refusal
-and_then (Ok value) next = next value
-and_then (Err refusal) next = Err refusal
+pub use Rattle.uxn_cli.specs.Request.{and_then, inputs_by, outputs_by, outputs_of, clashes, HasApartOutputs}
 
--- the words are legal (128)
-abbrev pub legal : Option Task → Result Task Refusal
-legal None = Err NotUnderstood
-legal (Some task) = Ok task
-
--- each word that names a file is a path (129), in the order of the usage line
-abbrev pub path_by : List ℕ → Result (List ℕ) PathFault → Result (List ℕ) Refusal
-path_by word (Err fault) = Err (NoPath (tight word))
-path_by word (Ok path) = Ok path
-
-abbrev pub path_in : List ℕ → Result (List ℕ) Refusal
-path_in word = path_by word (path_of word)
-
-abbrev pub optional_path_in : Option (List ℕ) → Result (Option (List ℕ)) Refusal
-optional_path_in None = Ok None
-optional_path_in (Some word) = and_then (path_in word) (λ path. Ok (Some path))
-
-abbrev pub paths_in : Task → Result Task Refusal
-paths_in task =
-    and_then (path_in task.file) (λ file.
-    and_then (optional_path_in task.out) (λ out.
-    and_then (optional_path_in task.symbols) (λ symbols.
-    and_then (optional_path_in task.listing) (λ listing.
-    Ok (record { command = task.command; file = file; rom = task.rom; out = out; symbols = symbols; listing = listing })))))
-
--- the files that a command reads, and those that it writes, in the order of the usage line
-abbrev pub inputs_by : Command → Task → List (List ℕ)
-inputs_by Play task = task.file ∷ []
-inputs_by Assemble task = task.file ∷ []
-inputs_by Disassemble task = task.file ∷ option_to_list task.symbols
-
-abbrev pub outputs_by : Command → Task → List (List ℕ)
-outputs_by Play task = []
-outputs_by Assemble task = option_to_list task.out ++ option_to_list task.symbols ++ option_to_list task.listing
-outputs_by Disassemble task = []
-
-abbrev pub outputs_of : Task → List (List ℕ)
-outputs_of task = outputs_by task.command task
-
--- two files clash where they are the same or one lies under the other
-abbrev pub meets : List ℕ → List ℕ → Bool
-meets path other = bytes_eq path other || is_under path other || is_under other path
-
--- an output clashes with another output (it meets itself), or is an input
-unfoldable pub clashes : List (List ℕ) → List (List ℕ) → List ℕ → Bool
-clashes inputs outputs path = nat_lt 1 (count_by (meets path) outputs) || list_any (bytes_eq path) inputs
-
-abbrev pub HasApartOutputs : Task → Type 0
-HasApartOutputs task = find (clashes (inputs_by task.command task) (outputs_of task)) (outputs_of task) ≡ None
-
--- no output clashes (135)
-abbrev pub apart_by : Task → Option (List ℕ) → Result Task Refusal
-apart_by task None = Ok task
-apart_by task (Some path) = Err (NoOutput path)
-
-abbrev pub apart : Task → Result Task Refusal
-apart task = apart_by task (find (clashes (inputs_by task.command task) (outputs_of task)) (outputs_of task))
-
--- what the words alone determine: the task, or why they are refused whatever the tree holds
-unfoldable pub request : List (List ℕ) → Result Task Refusal
-request words = and_then (legal (settings words)) (λ task. and_then (paths_in task) apart)
-
--- what the tree shows a task: its file, its file of symbols, and the first output that cannot be made
+-- what the tree shows a task: its file, its file of symbols, its script, its commands, and the first output that cannot be made
 pub record View : Type 0 where
   pub file : FileBytes
   pub symbols : FileBytes
+  pub script : FileBytes
+  pub commands : FileBytes
   pub blocked : Option (List ℕ)
 
 -- no more bytes of a file are looked at: 65,280 of a ROM, and 4,194,304 of a source
 abbrev pub limit_by : Command → Bool → ℕ
 limit_by Play rom = if rom then 65280 else 4194304
+limit_by Debug rom = if rom then 65280 else 4194304
 limit_by Assemble rom = 4194304
 limit_by Disassemble rom = 65280
 
@@ -122,17 +65,36 @@ symbols_by nodes (Some path) = whole_file (file_at nodes path) 16777216
 
 abbrev pub symbols_input : Command → Task → Option (List ℕ)
 symbols_input Play task = None
+symbols_input Debug task = task.symbols
 symbols_input Assemble task = None
 symbols_input Disassemble task = task.symbols
 
 abbrev pub symbols_seen : Nodes → Task → FileBytes
 symbols_seen nodes task = symbols_by nodes (symbols_input task.command task)
 
+-- the script, where it is an input
+abbrev pub script_by : Nodes → Option (List ℕ) → FileBytes
+script_by nodes None = NoFile
+script_by nodes (Some path) = whole_file (file_at nodes path) 4194304
+
+abbrev pub script_seen : Nodes → Task → FileBytes
+script_seen nodes task = script_by nodes task.script
+
+-- the commands of a debugger
+abbrev pub commands_seen : Nodes → Task → FileBytes
+commands_seen nodes task = script_by nodes task.commands
+
 abbrev pub blocked_seen : Nodes → Task → Option (List ℕ)
 blocked_seen nodes task = find (λ path. not (can_create nodes path)) (outputs_of task)
 
 abbrev pub view_of : Nodes → Task → View
-view_of nodes task = record { file = file_seen nodes task; symbols = symbols_seen nodes task; blocked = blocked_seen nodes task }
+view_of nodes task = record {
+  file = file_seen nodes task;
+  symbols = symbols_seen nodes task;
+  script = script_seen nodes task;
+  commands = commands_seen nodes task;
+  blocked = blocked_seen nodes task;
+}
 
 -- a source that is there (130) and has no fault (131); one that is too long is refused at its first word, as the empty word
 abbrev pub source_by : List ℕ → Option Fault → Result (List ℕ) Refusal
@@ -169,10 +131,6 @@ abbrev pub program_in : Bool → List ℕ → FileBytes → Result (List ℕ) Re
 program_in true path file = rom_in path file
 program_in false path file = and_then (source_in path file) (λ source. Ok (rom_of source))
 
-abbrev pub text_at : Option (List ℕ) → List ℕ → List Text
-text_at None bytes = []
-text_at (Some path) bytes = record { path = path; bytes = bytes } ∷ []
-
 -- a source's ROM, symbols and listing
 abbrev pub program_of : List ℕ → Program
 program_of source = record { rom = rom_of source; places = (layout source).words; labels = (layout source).labels }
@@ -182,15 +140,80 @@ texts_of task source =
     text_at task.out (rom_of source) ++ text_at task.symbols (symbol_file (layout source).labels)
     ++ text_at task.listing (listing_of source (program_of source))
 
+-- the script in a file that is there (130) and not refused (132); without a script it is that of an empty text
+abbrev pub script_from : Result ScriptView (ℕ × ScriptKind) → Result ScriptView Refusal
+script_from (Ok script) = Ok script
+script_from (Err fault) = Err (BadScript fault.0 fault.1)
+
+abbrev pub script_at : List ℕ → FileBytes → Result ScriptView Refusal
+script_at path NoFile = Err (Missing path)
+script_at path (TooLong length) = Err (BadScript 1 LongScript)
+script_at path (Found text) = script_from (script_of text.list)
+
+abbrev pub script_in : Option (List ℕ) → FileBytes → Result ScriptView Refusal
+script_in None file = script_from (script_of [])
+script_in (Some path) file = script_at path file
+
+-- the labels of the source in a file
+abbrev pub own_labels : Bool → FileBytes → List Label
+own_labels false (Found source) = (layout source.list).labels
+own_labels _ _ = []
+
+-- the labels of a symbol file, where one is given
+abbrev pub given_in : Option (List ℕ) → FileBytes → Result (Option (List Label)) Refusal
+given_in None file = Ok None
+given_in (Some path) file = and_then (labels_at path file) (λ labels. Ok (Some labels))
+
+-- the labels of a debugger: those, else those of the source
+abbrev pub debug_labels : Option (List Label) → Bool → FileBytes → List Label
+debug_labels given rom file = unwrap_or given (own_labels rom file)
+
+-- the commands in a file that is there (130) and not refused (133)
+abbrev pub commands_from : Result (List DebugCommand) (ℕ × CommandKind) → Result (List DebugCommand) Refusal
+commands_from (Ok commands) = Ok commands
+commands_from (Err fault) = Err (BadCommands fault.0 fault.1)
+
+abbrev pub commands_at : List Label → List ℕ → FileBytes → Result (List DebugCommand) Refusal
+commands_at labels path NoFile = Err (Missing path)
+commands_at labels path (TooLong length) = Err (BadCommands 1 LongCommands)
+commands_at labels path (Found text) = commands_from (commands_of_text labels text.list)
+
+abbrev pub commands_in : List Label → Option (List ℕ) → FileBytes → Result (List DebugCommand) Refusal
+commands_in labels None file = Ok []
+commands_in labels (Some path) file = commands_at labels path file
+
+abbrev pub debugging : Task → List DebugCommand → List Label → Debugging
+debugging task commands labels = record { commands = commands; labels = labels; log = task.log }
+
+-- a run of a ROM with a script, which a debugger may watch
+abbrev pub job_of : Task → List ℕ → ScriptView → Option Debugging → Job
+job_of task rom script debug = record {
+  debug = debug;
+  rom = rom;
+  script = script;
+  budget = task.budget;
+  frames = task.frames;
+  samples = task.samples;
+  report = task.report;
+}
+
 -- what is to be done: a ROM is run, files are written, or a text is printed
 pub data Work : Type 0 where
-  Run : (rom : List ℕ) → Work
+  Run : (job : Job) → Work
   Write : (texts : List Text) → Work
   Print : (text : List ℕ) → Work
 
 -- the work of a command, once its inputs are accepted one after the other
 abbrev pub work_of : Command → Task → View → Result Work Refusal
-work_of Play task view = and_then (program_in task.rom task.file view.file) (λ rom. Ok (Run rom))
+work_of Play task view =
+    and_then (program_in task.rom task.file view.file) (λ rom.
+    and_then (script_in task.script view.script) (λ script. Ok (Run (job_of task rom script None))))
+work_of Debug task view =
+    and_then (program_in task.rom task.file view.file) (λ rom.
+    and_then (given_in task.symbols view.symbols) (λ given.
+    and_then (script_in task.script view.script) (λ script.
+    and_then (commands_in (debug_labels given task.rom view.file) task.commands view.commands) (λ commands.
+    Ok (Run (job_of task rom script (Some (debugging task commands (debug_labels given task.rom view.file)))))))))
 work_of Assemble task view = and_then (source_in task.file view.file) (λ source. Ok (Write (texts_of task source)))
 work_of Disassemble task view =
     and_then (rom_in task.file view.file) (λ rom.

@@ -5,14 +5,16 @@ use Rattle.std.specs.Prelude.{if◌then◌else◌}
 use Rattle.std.specs.List.{list_any, before_first, after_first}
 use Rattle.std.specs.Option.{option_map_or}
 use Rattle.std.specs.Str.{bytes_eq}
+use Rattle.play_script.specs.Values.{number_within}
 use Rattle.uxn_cli.specs.declared.words.Command.{Command}
-use Rattle.uxn_cli.specs.declared.words.Command.TheVariants.{Play, Assemble, Disassemble}
+use Rattle.uxn_cli.specs.declared.words.Command.TheVariants.{Play, Debug, Assemble, Disassemble}
 use Rattle.uxn_cli.specs.declared.task.Task.{Task}
 
 -- the commands by name
 abbrev pub command_of : List ℕ → Option Command
 command_of name =
     if bytes_eq name (codes "play") then Some Play
+    else if bytes_eq name (codes "debug") then Some Debug
     else if bytes_eq name (codes "asm") then Some Assemble
     else if bytes_eq name (codes "dis") then Some Disassemble
     else None
@@ -32,9 +34,16 @@ optional name = record { name = name; has_value = true; is_required = false }
 abbrev pub required : List ℕ → Choice
 required name = record { name = name; has_value = true; is_required = true }
 
+-- the options of a run
+abbrev pub run_choices : List Choice
+run_choices =
+    switch (codes "rom") ∷ optional (codes "script") ∷ optional (codes "frames") ∷ optional (codes "samples")
+    ∷ optional (codes "report") ∷ optional (codes "budget") ∷ []
+
 -- the options of each command
 abbrev pub choices_of : Command → List Choice
-choices_of Play = switch (codes "rom") ∷ []
+choices_of Play = run_choices
+choices_of Debug = required (codes "commands") ∷ required (codes "log") ∷ optional (codes "symbols") ∷ run_choices
 choices_of Assemble = required (codes "out") ∷ optional (codes "symbols") ∷ optional (codes "listing") ∷ []
 choices_of Disassemble = optional (codes "symbols") ∷ []
 
@@ -137,16 +146,34 @@ is_whole choices items = each_once items && not (lacks_some choices items)
 abbrev pub is_on : Option (List ℕ) → Bool
 is_on value = option_map_or (λ text. bytes_eq text (codes "true")) value false
 
+-- the greatest number of instructions of a vector: 1 to 4,294,967,295, and without the option 4,000,000
+abbrev pub budget_in : Option (List ℕ) → Option ℕ
+budget_in None = Some 4000000
+budget_in (Some word) = number_within 1 4294967295 word
+
 -- what the values of a file and of options ask for, by their names
-abbrev pub task_in : Command → (List ℕ → Option (List ℕ)) → Option Task
-task_in command value_at = option_map (λ file. record {
+abbrev pub task_with : Command → (List ℕ → Option (List ℕ)) → List ℕ → ℕ → Task
+task_with command value_at file budget = record {
   command = command;
   file = file;
   rom = is_on (value_at (codes "rom"));
+  budget = budget;
   out = value_at (codes "out");
+  commands = value_at (codes "commands");
+  log = value_at (codes "log");
   symbols = value_at (codes "symbols");
   listing = value_at (codes "listing");
-}) (value_at file_name)
+  script = value_at (codes "script");
+  root = value_at (codes "root");
+  frames = value_at (codes "frames");
+  samples = value_at (codes "samples");
+  report = value_at (codes "report");
+}
+
+-- there is a file, and the budget is a number
+abbrev pub task_in : Command → (List ℕ → Option (List ℕ)) → Option Task
+task_in command value_at =
+    option_and_then (λ file. option_map (task_with command value_at file) (budget_in (value_at (codes "budget")))) (value_at file_name)
 
 abbrev pub asked_by : Command → List Given → Option Task
 asked_by command items = if is_whole (choices_of command) items then task_in command (λ name. value_of name items) else None

@@ -4,15 +4,11 @@ use Rattle.std.specs.Prelude.{Option, Some, IsSome}
 use Rattle.std.specs.Prelude.{option_map, ◌⊎◌}
 use Rattle.uxn_io.specs.Files.{Nodes, file_at, bytes_at}
 use Rattle.uxn_io.specs.Changes.{can_create, with_created, with_appended, HasAppendedFront}
+use Rattle.uxn_io.specs.Outside.{World}
 
 -- the files of the tree and the bytes that the two outputs took, where they are told
-pub record World : Type 0 where
-  pub tree : Option Nodes
-  pub out : Option (List ℕ)
-  pub err : Option (List ℕ)
-
 abbrev pub world : Option Nodes → Option (List ℕ) → Option (List ℕ) → World
-world tree out err = record { tree = tree; out = out; err = err }
+world tree out err = record { out = out; err = err; files = tree }
 
 -- a file, and the bytes that it is to hold
 pub record Text : Type 0 where

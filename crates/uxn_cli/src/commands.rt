@@ -1,21 +1,20 @@
-//! The commands.
-ghost use Rattle.std.specs.Prelude.{◌≡◌, ◌<◌, ◌≤◌, Ok, None, false, length, IfOk, IfSome};
+//! Inputs that are accepted, and what `dis` does.
+ghost use Rattle.std.specs.Prelude.{◌≡◌, ◌<◌, ◌≤◌, Ok, Err, None, false, length, IfOk, IsOk, IfSome, OnOk, OnErr, is_err};
+ghost use Rattle.uxn_io.specs.Told.{extended, HasTakenFront};
 ghost use Rattle.uxn_io.specs.Faults.{Counted, Ledger, TheTree, ASink, counts};
 ghost use Rattle.uxn_io.specs.Room.{Leaves};
 ghost use Rattle.uxn_io.specs.WholeFile.{KeepsLimit, has_failed};
 ghost use Rattle.tal_rom.specs.Assembly.{IsAssembled};
 ghost use Rattle.uxn_cli.specs.World.{world};
-ghost use Rattle.uxn_cli.specs.Verdict.{source_in, rom_in, labels_in, symbols_by, Run, Print};
+ghost use Rattle.uxn_cli.specs.Verdict.{source_in, rom_in, labels_at, labels_in, symbols_by};
 ghost use Rattle.uxn_cli.specs.Follows.{Follows};
-ghost use Rattle.uxn_cli.specs.Answer.{Works, Performs};
+ghost use Rattle.uxn_cli.specs.Answer.{Performs};
 ghost use Rattle.uxn_cli.specs.Blame.{blame_in, OnRefused};
 ghost use Rattle.uxn_cli.specs.Causes.{verdict_on};
 ghost use Rattle.uxn_cli.specs.Room.{SinksSuffice};
 
-use super::console::Console;
 use super::refusal::{Halt, Refusal};
 use super::task::Task;
-use super::vector::run_vector;
 use super::words::Command;
 use std::alloc::Global;
 use tal_listing::disassemble;
@@ -23,19 +22,16 @@ use tal_rom::{Assembly, assemble};
 use tal_symbols::{SymbolKind, SymbolStop, read_symbols};
 use tal_words::{AsmStop, Fault, FaultKind, Label, fault_word};
 use uxn_io::{Bytes, Failed, FileBytes, Path, ReadStop, Sink, Tree, put_all, read_file};
-use uxn_opcodes::{Core, Stop};
+use uxn_opcodes::Stop;
 
 /// The greatest length of a source in bytes.
 pub const SOURCE_LIMIT: u32 = 4_194_304;
 
 /// The greatest length of a ROM in bytes.
-const ROM_LIMIT: u32 = 65_280;
-
-/// The greatest number of instructions of a vector.
-const BUDGET: u32 = 4_000_000;
+pub const ROM_LIMIT: u32 = 65_280;
 
 /// The greatest length of a symbol file in bytes.
-const SYMBOLS_LIMIT: u32 = 16_777_216;
+pub const SYMBOLS_LIMIT: u32 = 16_777_216;
 
 /// The fault of a source that is over its limit.
 const LONG_SOURCE: Fault = Fault {
@@ -78,7 +74,7 @@ pub fn accept_source(alloc: Global, path: &Path, file: FileBytes) -> Result<Acce
 }
 
 /// The ROM in a file, unless no file is there or it is too long.
-fn accept_rom(path: &Path, file: FileBytes) -> Result<Bytes, Halt>
+pub fn accept_rom(path: &Path, file: FileBytes) -> Result<Bytes, Halt>
     requires { KeepsLimit 65280 file }
     ensures follows { Follows (λ rom. rom.list) result (rom_in path.now file) }
     ensures room { IfOk result (λ rom. length rom.list ≤ 65280) }
@@ -87,56 +83,6 @@ fn accept_rom(path: &Path, file: FileBytes) -> Result<Bytes, Halt>
         FileBytes::Found(rom) => Ok(rom),
         FileBytes::Missing => Err(Halt::Refused(Refusal::Missing(*path))),
         FileBytes::TooLong(length) => Err(Halt::Refused(Refusal::LongRom(length))),
-    }
-}
-
-/// Runs a ROM from its reset vector, and gives the exit code.
-fn run_rom<O: Sink, E: Sink>(
-    alloc: Global,
-    rom: &[u8],
-    out: &mut O,
-    err: &mut E,
-) -> Result<u8, Halt>
-    requires { length rom.now ≤ 65280 }
-    ensures works { Works (Run rom.now) (world None (O.told out.old) (E.told err.old)) (world None (O.told out.new) (E.told err.new)) result }
-    ensures ledger { Ledger (counts 0 (O.faults out.old) (E.faults err.old)) (counts 0 (O.faults out.new) (E.faults err.new)) (blame_in result) }
-    ensures no_tree { blame_in result ≡ TheTree → ⊥ }
-    ensures accepted { OnRefused result ⊥ }
-{
-    let mut core = Core::new(alloc, rom)?;
-    let mut console = Console::new(out, err);
-    match run_vector(&mut core, &mut console, BUDGET) {
-        Ok(()) => Ok(0),
-        Err(stop) => Err(Halt::Stopped(stop)),
-    }
-}
-
-/// Runs a source, or a ROM file.
-pub fn play<T: Tree, O: Sink, E: Sink>(
-    alloc: Global,
-    task: &Task,
-    tree: &mut T,
-    out: &mut O,
-    err: &mut E,
-) -> Result<u8, Halt>
-    requires { task.now.command ≡ Command.Play }
-    ensures performs { Performs (Ok task.now) (world (T.told tree.old) (O.told out.old) (E.told err.old))
-        (world (T.told tree.new) (O.told out.new) (E.told err.new)) result }
-    ensures ledger { Ledger (counts (T.faults tree.old) (O.faults out.old) (E.faults err.old))
-        (counts (T.faults tree.new) (O.faults out.new) (E.faults err.new)) (blame_in result) }
-    ensures kept { OnRefused result (err.new ≡ err.old) }
-    ensures sure_tree { 0 < (T.sure tree.old).files → blame_in result ≡ TheTree → ⊥ }
-    ensures sure_out { IfSome (T.told tree.old) (λ nodes. SinksSuffice (verdict_on nodes (Ok task.now)) (O.sure out.old) (E.sure err.old)
-        → blame_in result ≡ ASink → ⊥) }
-{
-    if task.rom {
-        let file = read_file(alloc, tree, &task.file, ROM_LIMIT)?;
-        let rom = accept_rom(&task.file, file)?;
-        run_rom(alloc, rom.as_slice(), out, err)
-    } else {
-        let file = read_file(alloc, tree, &task.file, SOURCE_LIMIT)?;
-        let accepted = accept_source(alloc, &task.file, file)?;
-        run_rom(alloc, accepted.assembly.rom(), out, err)
     }
 }
 
@@ -158,13 +104,10 @@ fn read_optional<T: Tree>(
     }
 }
 
-/// The labels in a symbol file, unless no file is there or it is refused. Without a path there are none.
-fn accept_labels(alloc: Global, path: &Option<Path>, file: FileBytes) -> Result<Vec<Label>, Halt>
-    ensures { Follows (λ labels. labels.items) result (labels_in path.now file) }
+/// The labels in a symbol file, unless no file is there or it is refused.
+pub fn labels_at(alloc: Global, path: &Path, file: FileBytes) -> Result<Vec<Label>, Halt>
+    ensures { Follows (λ labels. labels.items) result (labels_at path.now file) }
 {
-    let Some(path) = path else {
-        return Ok(Vec::new(alloc));
-    };
     match file {
         FileBytes::Found(bytes) => match read_symbols(alloc, bytes.as_slice()) {
             Ok(labels) => Ok(labels),
@@ -178,13 +121,24 @@ fn accept_labels(alloc: Global, path: &Option<Path>, file: FileBytes) -> Result<
     }
 }
 
+/// The labels in a symbol file, where there is a path. Without a path there are none.
+fn accept_labels(alloc: Global, path: &Option<Path>, file: FileBytes) -> Result<Vec<Label>, Halt>
+    ensures { Follows (λ labels. labels.items) result (labels_in path.now file) }
+{
+    match path {
+        Some(path) => labels_at(alloc, path, file),
+        None => Ok(Vec::new(alloc)),
+    }
+}
+
 /// Prints a text.
-fn print<O: Sink, E: Sink>(text: &[u8], out: &mut O, err: &mut E) -> Result<u8, Halt>
-    ensures works { Works (Print text.now) (world None (O.told out.old) (E.told err.old)) (world None (O.told out.new) (E.told err.new)) result }
-    ensures ledger { Ledger (counts 0 (O.faults out.old) (E.faults err.old)) (counts 0 (O.faults out.new) (E.faults err.new)) (blame_in result) }
-    ensures no_tree { blame_in result ≡ TheTree → ⊥ }
-    ensures accepted { OnRefused result ⊥ }
-    ensures sure { length text.now < O.sure out.old → blame_in result ≡ ASink → ⊥ }
+fn print<O: Sink>(text: &[u8], out: &mut O) -> Result<u8, Halt>
+    ensures ok { IfOk result (λ status. status ≡ 0) }
+    ensures put { OnOk result (O.told out.new ≡ extended (O.told out.old) text.now) }
+    ensures front { OnErr result (HasTakenFront (O.told out.old) (O.told out.new) text.now) }
+    ensures stops { OnErr result (result ≡ Err (Halt.Stopped Stop.SinkFault)) }
+    ensures ledger { Counted (O.faults out.old) (O.faults out.new) (is_err result) }
+    ensures sure { length text.now < O.sure out.old → IsOk result }
 {
     match put_all(out, text) {
         Ok(()) => Ok(0),
@@ -215,5 +169,5 @@ pub fn disassemble_rom<T: Tree, O: Sink, E: Sink>(
     let symbols = read_optional(alloc, tree, &task.symbols)?;
     let labels = accept_labels(alloc, &task.symbols, symbols)?;
     let text = disassemble(alloc, rom.as_slice(), &labels)?;
-    print(&text, out, err)
+    print(&text, out)
 }

@@ -1,16 +1,20 @@
 //! The top call, from the words to the status.
-ghost use Rattle.std.specs.Prelude.{◌≡◌, ◌≤◌, ◌⊎◌, map, string_bytes, IfOk, IfSome};
+ghost use Rattle.std.specs.Prelude.{◌≡◌, ◌≤◌, ◌⊎◌, ℕ, Ok, map, string_bytes, IfOk, IfSome};
 ghost use Rattle.uxn_io.specs.Faults.{Rose, Ledger, TheTree, ASink, counts};
 ghost use Rattle.uxn_cli.specs.World.{world};
-ghost use Rattle.uxn_cli.specs.Verdict.{request, HasApartOutputs};
+ghost use Rattle.uxn_cli.specs.Request.{request, HasApartOutputs};
+ghost use Rattle.uxn_cli.specs.Verdict.{Work};
 ghost use Rattle.uxn_cli.specs.Follows.{Follows};
 ghost use Rattle.uxn_cli.specs.Answer.{Performs, Ends, Answers};
 ghost use Rattle.uxn_cli.specs.Blame.{blame_in, blame_by, blame_at, early_status, OnRefused};
 ghost use Rattle.uxn_cli.specs.Room.{TreeSuffices, SinksSuffice};
-ghost use Rattle.uxn_cli.specs.Causes.{IsExactly, verdict_on, IsIllegal, IsPathless, IsMissing, IsFaulty, IsUnfit, IsBlocked, IsAccepted, KeepsOthers, PutsLine};
+ghost use Rattle.uxn_cli.specs.Causes.{IsExactly, verdict_on, IsIllegal, IsPathless, IsMissing, IsFaulty, IsUnfit, IsBadScript, IsBadCommands, IsBlocked, EndsWith, KeepsOthers, PutsLine};
+ghost use Rattle.uxn_cli.specs.Outcome.{outcome_of};
 
 use super::assembling::assemble_files;
-use super::commands::{disassemble_rom, play};
+use super::commands::disassemble_rom;
+use super::debugging::debug;
+use super::playing::play;
 use super::refusal::{Halt, Refusal};
 use super::task::{Task, apart, paths_in};
 use super::words::{Command, read_words};
@@ -22,6 +26,7 @@ use uxn_opcodes::Stop;
 fn request(alloc: Global, words: &[String]) -> Result<Task, Halt>
     ensures follows { Follows (λ task. task) result (request (map string_bytes words.now)) }
     ensures apart { IfOk result HasApartOutputs }
+    ensures budget { IfOk result (λ task. 1 ≤ task.budget) }
 {
     match read_words(alloc, words) {
         Ok(Some(settings)) => {
@@ -54,6 +59,7 @@ fn perform<T: Tree, O: Sink, E: Sink>(
     let task = request(alloc, words)?;
     match task.command {
         Command::Play => play(alloc, &task, tree, out, err),
+        Command::Debug => debug(alloc, &task, tree, out, err),
         Command::Assemble => assemble_files(alloc, &task, tree),
         Command::Disassemble => disassemble_rom(alloc, &task, tree, out, err),
     }
@@ -120,12 +126,18 @@ fn status_of<T: Tree, O: Sink, E: Sink>(
 /// Does all that the program does: reads what the `words` after its name ask for, does it on the tree
 /// and the two sinks, and gives the exit status.
 ///
-/// `play SRC` assembles the source in the file SRC and runs its ROM from the reset vector, for at most
-/// 4,000,000 instructions; with `--rom` the file is the ROM. The bytes that it writes to the ports 18
-/// and 19 go to `out` and `err`. The status is then 0. A refusal puts its one line on `err` and nothing
-/// else: 128 for words that are not legal, 129 for a word that is no path, 130 for an input that is no
-/// file, 131 for a source with a fault, 134 for a ROM of more than 65,280 bytes. The call ends early
-/// with 136 where the tree failed, with 137 where a sink failed, and with 138 where memory is wanting.
+/// - `play SRC` assembles the source in the file SRC, or with `--rom` takes it as a ROM, and runs it over the
+///   script of `--script`, each vector for at most `--budget` instructions. Bytes to the ports 18 and 19 go to
+///   `out` and `err`; pictures, samples and the report go to the files of `--frames`, `--samples` and `--report`.
+/// - `debug SRC --commands C --log P` does the same, follows the commands on the way, and writes the log.
+/// - `asm SRC --out P` writes a ROM, and a symbol file and a listing where they are asked for.
+/// - `dis ROM` prints a disassembly.
+///
+/// The status of a run is its exit code, 0 to 127, and else 0. A refusal puts its one line on `err` and nothing
+/// else: 128 for words that are not legal, 129 for a word that is no path, 130 for an input that is no file, 131
+/// for a source with a fault, 132 for a script and 133 for commands with a faulty line, 134 for a ROM of more than
+/// 65,280 bytes or a faulty symbol file, 135 for an output that clashes or cannot be made. The call ends early with
+/// 136 where the tree failed, with 137 where a sink failed, and with 138 where memory is wanting.
 pub fn uxn<T: Tree, O: Sink, E: Sink>(
     alloc: Global,
     words: &[String],
@@ -148,8 +160,11 @@ pub fn uxn<T: Tree, O: Sink, E: Sink>(
     ensures missing { IfSome (T.told tree.old) (λ nodes. IsExactly result 130 (IsMissing (verdict_on nodes (request (map string_bytes words.now))))) }
     ensures faulty { IfSome (T.told tree.old) (λ nodes. IsExactly result 131 (IsFaulty (verdict_on nodes (request (map string_bytes words.now))))) }
     ensures unfit { IfSome (T.told tree.old) (λ nodes. IsExactly result 134 (IsUnfit (verdict_on nodes (request (map string_bytes words.now))))) }
+    ensures bad_script { IfSome (T.told tree.old) (λ nodes. IsExactly result 132 (IsBadScript (verdict_on nodes (request (map string_bytes words.now))))) }
+    ensures bad_commands { IfSome (T.told tree.old) (λ nodes. IsExactly result 133 (IsBadCommands (verdict_on nodes (request (map string_bytes words.now))))) }
     ensures blocked { IfSome (T.told tree.old) (λ nodes. IsExactly result 135 (IsBlocked (verdict_on nodes (request (map string_bytes words.now))))) }
-    ensures accepted { IfSome (T.told tree.old) (λ nodes. IsExactly result 0 (IsAccepted (verdict_on nodes (request (map string_bytes words.now))))) }
+    ensures accepted { IfSome (T.told tree.old) (λ nodes. (code : ℕ) → code ≤ 127
+        → IsExactly result code (EndsWith code (verdict_on nodes (request (map string_bytes words.now))))) }
 
     // A refusal changes nothing in the tree, and puts its one line on the error output and nothing on the standard output.
     ensures untouched { 128 ≤ result → result ≤ 135 → T.told tree.new ≡ T.told tree.old }
@@ -163,9 +178,9 @@ pub fn uxn<T: Tree, O: Sink, E: Sink>(
     ensures sink_fault { result ≡ 137 → Rose (O.faults out.old) (O.faults out.new) ⊎ Rose (E.faults err.old) (E.faults err.new) }
 
     // What is accepted ends with its exit code, unless a count rose or memory was wanting.
-    ensures complete { IfSome (T.told tree.old) (λ nodes. IsAccepted (verdict_on nodes (request (map string_bytes words.now)))
+    ensures complete { IfSome (T.told tree.old) (λ nodes. (work : Work) → verdict_on nodes (request (map string_bytes words.now)) ≡ Ok work
         → (Rose (T.faults tree.old) (T.faults tree.new) → ⊥) → (Rose (O.faults out.old) (O.faults out.new) → ⊥)
-        → (Rose (E.faults err.old) (E.faults err.new) → ⊥) → (result ≡ 0) ⊎ (result ≡ 138)) }
+        → (Rose (E.faults err.old) (E.faults err.new) → ⊥) → (result ≡ (outcome_of (Ok work)).status) ⊎ (result ≡ 138)) }
 
     // Where the tree and the sinks surely take what the verdict asks of them, none of them fails. Of the
     // bytes that a run puts nothing is said.

@@ -3,15 +3,21 @@
 
 mod assembling;
 mod commands;
-mod console;
+mod debugging;
 mod entry;
 mod laws;
+mod machine;
+mod making;
 mod outputs;
+mod playing;
+mod program;
 mod refusal;
+mod report;
+mod running;
+mod scripts;
 mod task;
 #[cfg(test)]
 mod tests;
-mod vector;
 mod words;
 
 pub use entry::uxn;

@@ -79,7 +79,7 @@ pub fn first_blocked<T: Tree>(tree: &mut T, outputs: &[Output]) -> Result<Option
 
 /// Makes the files, empty and in order, or gives the first one that the tree does not make. On a tree
 /// that tells its contents each is made.
-fn make_all<T: Tree>(tree: &mut T, outputs: &[Output]) -> Result<Option<Path>, Failed>
+pub fn make_all<T: Tree>(tree: &mut T, outputs: &[Output]) -> Result<Option<Path>, Failed>
     requires { IfSome (T.told tree.old) (CanMake (seen_texts outputs.now)) }
     ensures ok { IfOk result (λ refused. MatchOption refused
         (T.told tree.new ≡ option_map (with_empty (seen_texts outputs.now)) (T.told tree.old)) (λ path. (T.told tree.old ≡ None) × (T.told tree.new ≡ None))) }

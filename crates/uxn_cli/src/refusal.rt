@@ -5,9 +5,11 @@ ghost use Rattle.uxn_io.specs.Told.{extended};
 ghost use Rattle.uxn_cli.specs.Lines.{line, fault_text, line_of, status_of};
 ghost use Rattle.uxn_cli.specs.Blame.{blame_by, Stops};
 
+use play_script::ScriptKind;
 use std::alloc::{AllocError, Global};
 use tal_symbols::SymbolKind;
 use tal_words::Fault;
+use uxn_debugger::CommandKind;
 use uxn_io::{Bytes, Failed, Path, ReadStop, Sink, decimal, put_all};
 use uxn_opcodes::Stop;
 
@@ -28,6 +30,10 @@ pub enum Refusal {
     LongRom(u64),
     /// The first faulty entry of a symbol file, counted from 0, and what is wrong with it.
     BadSymbols(u32, SymbolKind),
+    /// The first faulty line of a script, counted from 1, and what is wrong with it.
+    BadScript(u32, ScriptKind),
+    /// The first faulty line of a debugger's commands, counted from 1, and what is wrong with it.
+    BadCommands(u32, CommandKind),
 }
 
 /// Why a call ended before its work was done.
@@ -89,6 +95,8 @@ impl Refusal {
             Refusal::Missing(_) => 130,
             Refusal::Faulty(..) => 131,
             Refusal::LongRom(_) | Refusal::BadSymbols(..) => 134,
+            Refusal::BadScript(..) => 132,
+            Refusal::BadCommands(..) => 133,
         }
     }
 
@@ -104,6 +112,8 @@ impl Refusal {
             Refusal::Faulty(fault, word) => fault_line(alloc, fault, word.as_slice()),
             Refusal::LongRom(length) => rom_line(alloc, *length),
             Refusal::BadSymbols(entry, kind) => symbols_line(alloc, *entry, *kind),
+            Refusal::BadScript(line, kind) => script_line(alloc, *line, *kind),
+            Refusal::BadCommands(line, kind) => commands_line(alloc, *line, *kind),
         }
     }
 
@@ -167,6 +177,30 @@ fn symbols_line(alloc: Global, entry: u32, kind: SymbolKind) -> Result<Vec<u8>, 
 {
     let mut line = Vec::from_slice(alloc, b"symbols ")?;
     line.extend_from_slice(&decimal(u64::from(entry)))?;
+    line.extend_from_slice(b": ")?;
+    line.extend_from_slice(kind.name().as_bytes())?;
+    line.push(b'\n')?;
+    Ok(line)
+}
+
+/// Names the first faulty line of a script, and what is wrong with it.
+fn script_line(alloc: Global, number: u32, kind: ScriptKind) -> Result<Vec<u8>, AllocError>
+    ensures { IfOk result (λ made. made.items ≡ line_of (Refusal.BadScript number kind)) }
+{
+    let mut line = Vec::from_slice(alloc, b"script ")?;
+    line.extend_from_slice(&decimal(u64::from(number)))?;
+    line.extend_from_slice(b": ")?;
+    line.extend_from_slice(kind.name().as_bytes())?;
+    line.push(b'\n')?;
+    Ok(line)
+}
+
+/// Names the first faulty line of a debugger's commands, and what is wrong with it.
+fn commands_line(alloc: Global, number: u32, kind: CommandKind) -> Result<Vec<u8>, AllocError>
+    ensures { IfOk result (λ made. made.items ≡ line_of (Refusal.BadCommands number kind)) }
+{
+    let mut line = Vec::from_slice(alloc, b"commands ")?;
+    line.extend_from_slice(&decimal(u64::from(number)))?;
     line.extend_from_slice(b": ")?;
     line.extend_from_slice(kind.name().as_bytes())?;
     line.push(b'\n')?;

@@ -4,7 +4,7 @@ ghost use Rattle.std.specs.List.{list_any};
 ghost use Rattle.std.specs.Str.{bytes_eq};
 ghost use Rattle.uxn_cli.specs.Asked.{asked};
 ghost use Rattle.std.specs.Option.{option_map};
-ghost use Rattle.uxn_cli.specs.Verdict.{path_in, optional_path_in, paths_in, inputs_by, outputs_of, meets, clashes, apart, HasApartOutputs};
+ghost use Rattle.uxn_cli.specs.Request.{path_in, optional_path_in, paths_in, inputs_by, run_outputs, outputs_of, root_by, places_of, meets, clashes, apart, HasApartOutputs};
 ghost use Rattle.uxn_cli.specs.Follows.{Follows};
 
 use super::refusal::{Halt, Refusal};
@@ -21,12 +21,28 @@ pub struct Task {
     pub file: Path,
     /// Whether the file is a ROM.
     pub rom: bool,
+    /// The greatest number of instructions of a vector.
+    pub budget: u32,
     /// The file for a ROM.
     pub out: Option<Path>,
+    /// The file of a debugger's commands.
+    pub commands: Option<Path>,
+    /// The file for a debugger's log.
+    pub log: Option<Path>,
     /// The file of symbols.
     pub symbols: Option<Path>,
     /// The file for a listing.
     pub listing: Option<Path>,
+    /// The file of a script.
+    pub script: Option<Path>,
+    /// The folder of the program's own files.
+    pub root: Option<Path>,
+    /// The file for the pictures of a run.
+    pub frames: Option<Path>,
+    /// The file for the samples of a run.
+    pub samples: Option<Path>,
+    /// The file for the report of a run.
+    pub report: Option<Path>,
 }
 
 /// The path that a word is.
@@ -51,33 +67,87 @@ fn optional_path_in(alloc: Global, word: Option<&[u8]>) -> Result<Option<Path>, 
 
 /// What the words ask for, unless a word that names a file is no path: then the first one is named.
 pub fn paths_in(alloc: Global, settings: &Settings<'_>) -> Result<Task, Halt>
-    ensures { Follows (λ found. found) result (paths_in (asked settings.now)) }
+    ensures follows { Follows (λ found. found) result (paths_in (asked settings.now)) }
+    ensures budget { IfOk result (λ task. task.budget ≡ settings.now.budget) }
 {
     let file = path_in(alloc, settings.file)?;
     let out = optional_path_in(alloc, settings.out)?;
+    let commands = optional_path_in(alloc, settings.commands)?;
+    let log = optional_path_in(alloc, settings.log)?;
     let symbols = optional_path_in(alloc, settings.symbols)?;
     let listing = optional_path_in(alloc, settings.listing)?;
+    let script = optional_path_in(alloc, settings.script)?;
+    let root = optional_path_in(alloc, settings.root)?;
+    let frames = optional_path_in(alloc, settings.frames)?;
+    let samples = optional_path_in(alloc, settings.samples)?;
+    let report = optional_path_in(alloc, settings.report)?;
     Ok(Task {
         command: settings.command,
         file,
         rom: settings.rom,
+        budget: settings.budget,
         out,
+        commands,
+        log,
         symbols,
         listing,
+        script,
+        root,
+        frames,
+        samples,
+        report,
     })
 }
 
 impl Task {
+    /// Puts the files that a run writes behind others.
+    fn push_run_outputs(&self, paths: &mut Vec<Path>) -> Result<(), AllocError>
+        ensures { OnOk result (paths.new.items ≡ paths.old.items ++ run_outputs self.now) }
+    {
+        push_some(paths, self.frames)?;
+        push_some(paths, self.samples)?;
+        push_some(paths, self.report)
+    }
+
     /// The files that it writes, in the order of its usage line. Errors with want of memory.
     pub fn outputs(&self, alloc: Global) -> Result<Vec<Path>, AllocError>
         ensures { IfOk result (λ paths. paths.items ≡ outputs_of self.now) }
     {
         let mut paths = Vec::new(alloc);
-        if let Command::Assemble = self.command {
-            push_some(&mut paths, self.out)?;
-            push_some(&mut paths, self.symbols)?;
-            push_some(&mut paths, self.listing)?;
+        match self.command {
+            Command::Play => self.push_run_outputs(&mut paths)?,
+            Command::Debug => {
+                push_some(&mut paths, self.log)?;
+                self.push_run_outputs(&mut paths)?;
+            }
+            Command::Assemble => {
+                push_some(&mut paths, self.out)?;
+                push_some(&mut paths, self.symbols)?;
+                push_some(&mut paths, self.listing)?;
+            }
+            Command::Disassemble => {}
         }
+        Ok(paths)
+    }
+
+    /// The folder of the program's own files, in a run.
+    pub fn run_root(&self) -> Option<Path>
+        ensures { result ≡ root_by self.now.command self.now }
+    {
+        match self.command {
+            Command::Play | Command::Debug => self.root,
+            Command::Assemble | Command::Disassemble => None,
+        }
+    }
+
+    /// The root and the outputs. Errors with want of memory.
+    fn places(&self, alloc: Global, outputs: &[Path]) -> Result<Vec<Path>, AllocError>
+        requires { outputs.now ≡ outputs_of self.now }
+        ensures { IfOk result (λ paths. paths.items ≡ places_of self.now) }
+    {
+        let mut paths = Vec::new(alloc);
+        push_some(&mut paths, self.run_root())?;
+        paths.extend_from_slice(outputs)?;
         Ok(paths)
     }
 
@@ -85,29 +155,32 @@ impl Task {
     fn has_input(&self, path: &Path) -> bool
         ensures { result ≡ list_any (bytes_eq path.now) (inputs_by self.now.command self.now) }
     {
-        let is_file = is_same(path, &self.file);
-        match self.command {
-            Command::Play | Command::Assemble => is_file,
-            Command::Disassemble => match &self.symbols {
-                Some(symbols) => is_file || is_same(path, symbols),
-                None => is_file,
-            },
-        }
+        is_same(path, &self.file)
+            || match self.command {
+                Command::Play => is_some(path, &self.script),
+                Command::Debug => {
+                    is_some(path, &self.symbols)
+                        || is_some(path, &self.script)
+                        || is_some(path, &self.commands)
+                }
+                Command::Assemble => false,
+                Command::Disassemble => is_some(path, &self.symbols),
+            }
     }
 
-    /// Whether an output clashes with another one, or is an input.
-    #[tactic(auto, unfolding(crate::specs::Verdict::clashes))]
-    fn clashes(&self, outputs: &[Path], path: &Path) -> bool
-        ensures { result ≡ clashes (inputs_by self.now.command self.now) outputs.now path.now }
+    /// Whether an output clashes with another one or the root, or is an input.
+    #[tactic(auto, unfolding(crate::specs::Request::clashes))]
+    fn clashes(&self, places: &[Path], path: &Path) -> bool
+        ensures { result ≡ clashes (inputs_by self.now.command self.now) places.now path.now }
     {
-        outputs.iter().filter(|other| meets(path, other)).count() > 1 || self.has_input(path)
+        places.iter().filter(|other| meets(path, other)).count() > 1 || self.has_input(path)
     }
 
     /// The first output that clashes.
-    fn first_clash<'a>(&self, outputs: &'a [Path]) -> Option<&'a Path>
-        ensures { option_copied result ≡ find (clashes (inputs_by self.now.command self.now) outputs.now) outputs.now }
+    fn first_clash<'a>(&self, places: &[Path], outputs: &'a [Path]) -> Option<&'a Path>
+        ensures { option_copied result ≡ find (clashes (inputs_by self.now.command self.now) places.now) outputs.now }
     {
-        outputs.iter().find(|path| self.clashes(outputs, path))
+        outputs.iter().find(|path| self.clashes(places, path))
     }
 }
 
@@ -119,6 +192,16 @@ fn push_some(paths: &mut Vec<Path>, path: Option<Path>) -> Result<(), AllocError
         paths.push(path)?;
     }
     Ok(())
+}
+
+/// Whether a path is this one, where there is one.
+fn is_some(path: &Path, other: &Option<Path>) -> bool
+    ensures { result ≡ list_any (bytes_eq path.now) (option_to_list other.now) }
+{
+    match other {
+        Some(other) => is_same(path, other),
+        None => false,
+    }
 }
 
 /// Whether two paths are the same.
@@ -139,9 +222,11 @@ fn meets(path: &Path, other: &Path) -> bool
 pub fn apart(alloc: Global, task: Task) -> Result<Task, Halt>
     ensures follows { Follows (λ found. found) result (apart task) }
     ensures apart { IfOk result HasApartOutputs }
+    ensures same { IfOk result (λ found. found ≡ task) }
 {
     let outputs = task.outputs(alloc)?;
-    match task.first_clash(&outputs) {
+    let places = task.places(alloc, &outputs)?;
+    match task.first_clash(&places, &outputs) {
         Some(path) => Err(Halt::Refused(Refusal::NoOutput(*path))),
         None => Ok(task),
     }

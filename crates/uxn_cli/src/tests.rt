@@ -113,7 +113,12 @@ fn refuses_with_one_line(rt: HostRuntime) -> Result<(), Fail> {
             b"words: not understood\n".as_slice(),
         ),
         (
-            ["play", "../x.tal"].as_slice(),
+            ["play", "../x.tal", "--budget", "0"].as_slice(),
+            128,
+            b"words: not understood\n".as_slice(),
+        ),
+        (
+            ["play", "../x.tal", "--report", "/"].as_slice(),
             129,
             b"path: ../x.tal\n".as_slice(),
         ),
@@ -131,6 +136,11 @@ fn refuses_with_one_line(rt: HostRuntime) -> Result<(), Fail> {
             ["asm", "a.tal", "--out", "o", "--symbols", "o"].as_slice(),
             135,
             b"output: o\n".as_slice(),
+        ),
+        (
+            ["play", "a.tal", "--report=s", "--script=s"].as_slice(),
+            135,
+            b"output: s\n".as_slice(),
         ),
     ] {
         let given = call(&rt, words, b"#41 ,x", NONE)?;

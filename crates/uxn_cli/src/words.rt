@@ -1,20 +1,24 @@
 //! The words of the command line.
-ghost use Rattle.std.specs.Prelude.{◌≡◌, ◌+◌, ◌==◌, ◌∷◌, [], drop, position, IfOk, Some, true, false, codes, map, string_bytes};
+ghost use Rattle.std.specs.Prelude.{◌≡◌, ◌≤◌, IfSome, ◌+◌, ◌==◌, ◌∷◌, [], drop, position, IfOk, Some, true, false, codes, map, string_bytes};
 ghost use Rattle.std.specs.Option.{option_map, option_map_or};
-ghost use Rattle.std.specs.List.{list_all};
+ghost use Rattle.std.specs.List.{list_all, fold};
 ghost use Rattle.clap.specs.Words.{app_of, found_of, first_value, rule_of, with_rule};
-ghost use Rattle.uxn_cli.specs.Words.{command_of, is_plain, is_legal, option_text, value_in, optional, required, switch, choices_of, task_in, asked_with, settings};
+ghost use Rattle.uxn_cli.specs.Words.{command_of, is_plain, is_legal, option_text, value_in, run_choices, choices_of, budget_in, task_in, asked_with, settings};
 ghost use Rattle.uxn_cli.specs.Asked.{asked, argument, choice_argument, file_argument, parser_of, parser_for};
 
 use clap::error::ErrorKind;
 use clap::{Arg, ArgAction, ArgMatches};
+use play_script::number_within;
 use std::alloc::{AllocError, Global};
 
 /// What the program is asked to do.
 #[derive(Clone, Copy, Debug, PartialEq, Eq)]
 pub enum Command {
-    /// `play SRC [--rom]`: runs a source, or a ROM file.
+    /// `play SRC` and the options of a run: runs a source, or a ROM file.
     Play,
+    /// `debug SRC --commands P --log P [--symbols P]` and the options of a run: the same run under a
+    /// debugger.
+    Debug,
     /// `asm SRC --out P [--symbols P] [--listing P]`: writes the ROM of a source, its symbols and its
     /// listing.
     Assemble,
@@ -22,21 +26,37 @@ pub enum Command {
     Disassemble,
 }
 
-/// What legal words ask for.
+/// What legal words ask for: the words that name files, and what else they say.
 #[derive(Clone, Copy)]
 pub struct Settings<'a> {
     /// The command.
     pub command: Command,
-    /// The word that names the file.
+    /// The file that it is about.
     pub file: &'a [u8],
     /// Whether the file is a ROM.
     pub rom: bool,
-    /// The word that names the file for a ROM.
+    /// The greatest number of instructions of a vector.
+    pub budget: u32,
+    /// The file for a ROM.
     pub out: Option<&'a [u8]>,
-    /// The word that names the file of symbols.
+    /// The file of a debugger's commands.
+    pub commands: Option<&'a [u8]>,
+    /// The file for a debugger's log.
+    pub log: Option<&'a [u8]>,
+    /// The file of symbols.
     pub symbols: Option<&'a [u8]>,
-    /// The word that names the file for a listing.
+    /// The file for a listing.
     pub listing: Option<&'a [u8]>,
+    /// The file of a script.
+    pub script: Option<&'a [u8]>,
+    /// The folder of the program's own files.
+    pub root: Option<&'a [u8]>,
+    /// The file for the pictures of a run.
+    pub frames: Option<&'a [u8]>,
+    /// The file for the samples of a run.
+    pub samples: Option<&'a [u8]>,
+    /// The file for the report of a run.
+    pub report: Option<&'a [u8]>,
 }
 
 /// The command of a name.
@@ -45,6 +65,8 @@ fn command_named(name: &[u8]) -> Option<Command>
 {
     if name == b"play".as_slice() {
         Some(Command::Play)
+    } else if name == b"debug".as_slice() {
+        Some(Command::Debug)
     } else if name == b"asm".as_slice() {
         Some(Command::Assemble)
     } else if name == b"dis".as_slice() {
@@ -149,6 +171,42 @@ fn with_switch<'a>(
     parser.arg(Arg::new(alloc, name).long(name).action(ArgAction::SetTrue))
 }
 
+/// The parser with the options of a run more.
+fn with_run_options<'a>(
+    alloc: Global,
+    parser: clap::Command<'a>,
+) -> Result<clap::Command<'a>, AllocError>
+    ensures { IfOk result (λ more. app_of more ≡ fold with_rule (app_of parser.entry) (map choice_argument run_choices)) }
+{
+    let parser = with_switch(alloc, parser, "rom")?;
+    let parser = with_option(alloc, parser, "script", false)?;
+    let parser = with_option(alloc, parser, "frames", false)?;
+    let parser = with_option(alloc, parser, "samples", false)?;
+    let parser = with_option(alloc, parser, "report", false)?;
+    with_option(alloc, parser, "budget", false)
+}
+
+/// The budget that a word says; without a word it is 4,000,000.
+fn budget_in(word: Option<&[u8]>) -> Option<u32>
+    ensures number { result ≡ budget_in (option_map (λ text. text.now) word.entry) }
+    ensures some { IfSome result (λ budget. 1 ≤ budget) }
+{
+    match word {
+        Some(word) => {
+            let budget = number_within(1, 4_294_967_295, word)?;
+            Some(budget as u32)
+        }
+        None => Some(4_000_000),
+    }
+}
+
+/// The value of an option.
+fn value_of<'a>(matches: &ArgMatches<'a>, name: &str) -> Option<&'a [u8]>
+    ensures { option_map (λ text. text.now) result ≡ first_value (found_of matches.now) name.now }
+{
+    matches.get_str(name).map(|word| word.as_bytes())
+}
+
 impl Command {
     /// The parser of the words after the command's name.
     fn parser<'a>(self, alloc: Global) -> Result<clap::Command<'a>, AllocError>
@@ -156,7 +214,13 @@ impl Command {
     {
         let parser = file_parser(alloc)?;
         match self {
-            Command::Play => with_switch(alloc, parser, "rom"),
+            Command::Play => with_run_options(alloc, parser),
+            Command::Debug => {
+                let parser = with_option(alloc, parser, "commands", true)?;
+                let parser = with_option(alloc, parser, "log", true)?;
+                let parser = with_option(alloc, parser, "symbols", false)?;
+                with_run_options(alloc, parser)
+            }
             Command::Assemble => {
                 let parser = with_option(alloc, parser, "out", true)?;
                 let parser = with_option(alloc, parser, "symbols", false)?;
@@ -166,17 +230,26 @@ impl Command {
         }
     }
 
-    /// What the parsed words ask for.
+    /// What the parsed words ask for, where the budget is a number.
     fn settings<'a>(self, matches: &ArgMatches<'a>) -> Option<Settings<'a>>
-        ensures { option_map asked result ≡ task_in self (λ name. first_value (found_of matches.now) name) }
+        ensures asked { option_map asked result ≡ task_in self (λ name. first_value (found_of matches.now) name) }
+        ensures budget { IfSome result (λ settings. 1 ≤ settings.budget) }
     {
         Some(Settings {
             command: self,
-            file: matches.get_str("file")?.as_bytes(),
+            file: value_of(matches, "file")?,
             rom: matches.get_str("rom") == Some("true"),
-            out: matches.get_str("out").map(|word| word.as_bytes()),
-            symbols: matches.get_str("symbols").map(|word| word.as_bytes()),
-            listing: matches.get_str("listing").map(|word| word.as_bytes()),
+            budget: budget_in(value_of(matches, "budget"))?,
+            out: value_of(matches, "out"),
+            commands: value_of(matches, "commands"),
+            log: value_of(matches, "log"),
+            symbols: value_of(matches, "symbols"),
+            listing: value_of(matches, "listing"),
+            script: value_of(matches, "script"),
+            root: value_of(matches, "root"),
+            frames: value_of(matches, "frames"),
+            samples: value_of(matches, "samples"),
+            report: value_of(matches, "report"),
         })
     }
 
@@ -187,7 +260,8 @@ impl Command {
         alloc: Global,
         words: &'a [String],
     ) -> Result<Option<Settings<'a>>, AllocError>
-        ensures { IfOk result (λ read. option_map asked read ≡ asked_with (map string_bytes words.now) (Some self)) }
+        ensures asked { IfOk result (λ read. option_map asked read ≡ asked_with (map string_bytes words.now) (Some self)) }
+        ensures budget { IfOk result (λ read. IfSome read (λ settings. 1 ≤ settings.budget)) }
     {
         if !are_legal(words) {
             return Ok(None);
@@ -207,7 +281,8 @@ pub fn read_words<'a>(
     alloc: Global,
     words: &'a [String],
 ) -> Result<Option<Settings<'a>>, AllocError>
-    ensures { IfOk result (λ read. option_map asked read ≡ settings (map string_bytes words.now)) }
+    ensures asked { IfOk result (λ read. option_map asked read ≡ settings (map string_bytes words.now)) }
+    ensures budget { IfOk result (λ read. IfSome read (λ settings. 1 ≤ settings.budget)) }
 {
     let [name, rest @ ..] = words else {
         return Ok(None);

@@ -7,3 +7,4 @@ pub mod Bus
 pub mod Laws
 pub mod Model
 pub mod InstructionLaws
+pub mod Touching

@@ -8,3 +8,4 @@ pub mod Making
 pub mod Outputs
 pub mod Event
 pub mod Run
+pub mod Touching

@@ -10,3 +10,18 @@ returns-in_err-task-clause-performs g c =
 
 pub returns-in-Assemble-clause-performs : goal.returns-in-Assemble-clause-performs
 returns-in-Assemble-clause-performs g c = rw c.in_ok-task.ensures.follows (c.assemble_files.ensures.performs _ _)
+
+pub returns-in-Debug-clause-sure_tree : goal.returns-in-Debug-clause-sure_tree
+returns-in-Debug-clause-sure_tree g c = rw c.in_ok-task.ensures.follows c.debug.ensures.sure_tree
+
+pub returns-in-Debug-clause-sure_sinks : goal.returns-in-Debug-clause-sure_sinks
+returns-in-Debug-clause-sure_sinks g c = rw c.in_ok-task.ensures.follows c.debug.ensures.sure_sinks
+
+pub returns-in-Play-clause-sure_tree : goal.returns-in-Play-clause-sure_tree
+returns-in-Play-clause-sure_tree g c = rw c.in_ok-task.ensures.follows c.play.ensures.sure_tree
+
+pub returns-in-Play-clause-sure_sinks : goal.returns-in-Play-clause-sure_sinks
+returns-in-Play-clause-sure_sinks g c = rw c.in_ok-task.ensures.follows c.play.ensures.sure_sinks
+
+pub returns-in-Disassemble-clause-sure_sinks : goal.returns-in-Disassemble-clause-sure_sinks
+returns-in-Disassemble-clause-sure_sinks g c = rw c.in_ok-task.ensures.follows c.disassemble_rom.ensures.sure_out

@@ -1,4 +1,5 @@
-use Rattle.uxn_cli.proofs.CauseLemmas.{exactly_illegal, exactly_pathless, exactly_missing, exactly_faulty, exactly_unfit, exactly_blocked, exactly_accepted, is_untouched, is_quiet, puts_line}
+use Rattle.uxn_cli.proofs.CauseLemmas.{exactly_illegal, exactly_pathless, exactly_missing, exactly_faulty, exactly_unfit, exactly_script, exactly_commands, exactly_blocked, exactly_accepted, is_untouched, is_quiet, puts_line, completes, tree-rose, sink-rose}
+use Rattle.uxn_io.specs.Faults.{Rose}
 use Rattle.uxn_cli.proofs.OthersLemmas.{keeps_others}
 use Rattle.uxn_cli.proofs.entry.uxn.Goals as goal
 
@@ -34,3 +35,14 @@ returns-clause-one_line g c = puts_line _ _ _ _ c.status_of.ensures.outcome
 
 pub returns-clause-others : goal.returns-clause-others
 returns-clause-others g c = keeps_others _ _ _ _ c.status_of.ensures.outcome
+
+pub returns-clause-bad_script : goal.returns-clause-bad_script
+returns-clause-bad_script g c = exactly_script _ _ _ _ c.status_of.ensures.outcome
+
+pub returns-clause-bad_commands : goal.returns-clause-bad_commands
+returns-clause-bad_commands g c = exactly_commands _ _ _ _ c.status_of.ensures.outcome
+
+pub returns-clause-complete : goal.returns-clause-complete
+returns-clause-complete g c =
+    completes _ _ _ _ (Rose (g.T.Tree.faults c.args.tree.now) (g.T.Tree.faults c.status_of.new.tree)) (Rose (g.O.Sink.faults c.args.out.now) (g.O.Sink.faults c.status_of.new.out))
+    (Rose (g.E.Sink.faults c.args.err.now) (g.E.Sink.faults c.status_of.new.err)) c.status_of.ensures.outcome (tree-rose _ _ _ c.status_of.ensures.ledger) (sink-rose _ _ _ c.status_of.ensures.ledger)

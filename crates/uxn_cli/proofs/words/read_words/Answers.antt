@@ -5,17 +5,17 @@ use Rattle.uxn_cli.specs.Words.{asked_with, command_of}
 use Rattle.uxn_cli.proofs.WordLemmas.{settings_at, settings_empty}
 use Rattle.uxn_cli.proofs.words.read_words.Goals as goal
 
-pub returns-in_default : goal.returns-in_default
-returns-in_default c = sym (settings_empty string_bytes c.args.words.now c.in_default.len_below)
+pub returns-in_default-clause-asked : goal.returns-in_default-clause-asked
+returns-in_default-clause-asked c = sym (settings_empty string_bytes c.args.words.now c.in_default.len_below)
 
-pub returns-in-Some : goal.returns-in-Some
-returns-in-Some c =
+pub returns-in-Some-clause-asked : goal.returns-in-Some-clause-asked
+returns-in-Some-clause-asked c =
     let words = map string_bytes (take (length c.args.words.now - 1) (drop 1 c.args.words.now)) in
     let command : Some c.in-Some.command ≡ command_of (string_bytes c.name-item.result) = sym c.in-Some.is ∙ c.command_named.ensures ∙ ap command_of c.as_bytes.ensures.value in
     IfOk-weaker c.read.result _ _
-    (λ read is. is ∙ ap (asked_with words) command ∙ sym (settings_at string_bytes c.args.words.now c.name-item.result (omega arith) c.name-item.is)) c.read.ensures
+    (λ read is. is ∙ ap (asked_with words) command ∙ sym (settings_at string_bytes c.args.words.now c.name-item.result (omega arith) c.name-item.is)) c.read.ensures.asked
 
-pub returns-in-None : goal.returns-in-None
-returns-in-None c =
+pub returns-in-None-clause-asked : goal.returns-in-None-clause-asked
+returns-in-None-clause-asked c =
     ap (asked_with (map string_bytes (take (length c.args.words.now - 1) (drop 1 c.args.words.now)))) (sym c.in-None.is ∙ c.command_named.ensures ∙ ap command_of c.as_bytes.ensures.value)
     ∙ sym (settings_at string_bytes c.args.words.now c.name-item.result (omega arith) c.name-item.is)

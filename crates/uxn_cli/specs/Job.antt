@@ -1,0 +1,104 @@
+-- What is run: a ROM with a script, each vector of at most so many instructions; its pictures, its samples and its report; and
+-- the commands of a debugger that watches it.
+use Rattle.std.specs.Prelude.{ℕ, List, map, [], ◌∷◌, ◌++◌, codes, decimal, Option, Some, None, option_to_list}
+use Rattle.uxn_opcodes.specs.declared.Core.{Core}
+use Rattle.uxn_opcodes.specs.Rule.{new_core}
+use Rattle.system_port.specs.DebugText.{exit_code_of}
+use Rattle.play_script.specs.declared.script.Clock.{Clock as ScriptClock}
+use Rattle.play_script.specs.Scripts.{ScriptView}
+use Rattle.varvara_bus.specs.declared.time.Clock.{Clock}
+use Rattle.varvara_bus.specs.History.{stored}
+use Rattle.varvara_bus.specs.State.{new_state}
+use Rattle.vector_loop.specs.declared.tally.Tally.{Tally}
+use Rattle.vector_loop.specs.State.{State, new_tally}
+use Rattle.vector_loop.specs.Trail.{Trail}
+use Rattle.vector_loop.specs.declared.output.Outputs.{Outputs}
+use Rattle.vector_loop.specs.Run.{run}
+use Rattle.vector_loop.specs.Watch.{ports_read, moment_of}
+use Rattle.tal_words.specs.declared.name.Label.{Label}
+use Rattle.uxn_debugger.specs.declared.command.DebugCommand.{DebugCommand}
+use Rattle.uxn_debugger.specs.Log.{Shown, log_of}
+use Rattle.uxn_cli.specs.World.{Text}
+
+-- what a debugger does: its commands, the labels that its log names, and the file of the log
+pub record Debugging : Type 0 where
+  pub commands : List DebugCommand
+  pub labels : List Label
+  pub log : Option (List ℕ)
+
+pub record Job : Type 0 where
+  pub rom : List ℕ
+  pub script : ScriptView
+  pub budget : ℕ
+  pub frames : Option (List ℕ)
+  pub samples : Option (List ℕ)
+  pub report : Option (List ℕ)
+  pub debug : Option Debugging
+
+-- the files that it writes, in the order of the usage line
+abbrev pub log_in : Option Debugging → List (List ℕ)
+log_in None = []
+log_in (Some debugging) = option_to_list debugging.log
+
+abbrev pub outputs_in : Job → List (List ℕ)
+outputs_in job = log_in job.debug ++ (option_to_list job.frames ++ option_to_list job.samples ++ option_to_list job.report)
+
+-- the files that it appends to while it runs
+abbrev pub outputs_by : Option (List ℕ) → Option (List ℕ) → Outputs
+outputs_by frames samples = record { frames = frames; samples = samples }
+
+-- the clock of a script is that of the machine
+abbrev pub clock_by : ScriptClock → Clock
+clock_by clock = record { seconds = clock.seconds; offset = clock.offset }
+
+-- a new machine, and the reference run from there
+abbrev pub start_with : Core → ScriptView → State
+start_with core script = record { core = core; devices = new_state (clock_by script.clock) None; tally = new_tally }
+
+unfoldable pub trail_by : ℕ → Outputs → ScriptView → Core → Trail
+trail_by budget outputs script core = run budget outputs script (start_with core script)
+
+-- that of the ROM
+abbrev pub trail_of : Job → Trail
+trail_of job = trail_by job.budget (outputs_by job.frames job.samples) job.script (new_core job.rom)
+
+-- the exit code: the low seven bits of port 0f at the end
+abbrev pub exit_in : State → ℕ
+exit_in state = exit_code_of (stored state.devices.history 0x0f)
+
+abbrev pub exit_of : Job → ℕ
+exit_of job = exit_in (trail_of job).last
+
+-- a line of a report: a word and a number
+abbrev pub report_line : List ℕ → ℕ → List ℕ
+report_line name count = name ++ codes " " ++ decimal count ++ codes "\n"
+
+-- the report of a run: its exit code and what was counted
+unfoldable pub report_text : ℕ → Tally → List ℕ
+report_text exit tally =
+    report_line (codes "exit") exit
+    ++ report_line (codes "instructions") tally.instructions
+    ++ report_line (codes "vectors") tally.vectors
+    ++ report_line (codes "cuts") tally.cuts
+    ++ report_line (codes "events") tally.events
+    ++ report_line (codes "frames") tally.frames
+    ++ report_line (codes "shots") tally.shots
+
+-- a text in a file, where the file is asked for
+abbrev pub text_at : Option (List ℕ) → List ℕ → List Text
+text_at None bytes = []
+text_at (Some path) bytes = record { path = path; bytes = bytes } ∷ []
+
+abbrev pub report_of : Option (List ℕ) → State → List Text
+report_of path end = text_at path (report_text (exit_in end) end.tally)
+
+-- what a debugger is shown of a state, and its log over a whole run
+abbrev pub shown_of : State → Shown
+shown_of state = record { core = state.core; page = ports_read 256 state; moment = moment_of state }
+
+unfoldable pub log_text : Debugging → Trail → List ℕ
+log_text debugging trail = log_of debugging.labels (map shown_of trail.moments) (shown_of trail.last) debugging.commands
+
+abbrev pub log_by : Option Debugging → Trail → List Text
+log_by None trail = []
+log_by (Some debugging) trail = text_at debugging.log (log_text debugging trail)

@@ -1,0 +1,55 @@
+//! The outputs of a run, which are made before it.
+ghost use Rattle.std.specs.Prelude.{◌≡◌, ◌<◌, ◌++◌, length, IfOk, IfSome, OnOk, option_to_list, List, ℕ, None, find, not, ◌∷◌, []};
+ghost use Rattle.uxn_io.specs.Changes.{can_create};
+ghost use Rattle.uxn_io.specs.Faults.{Ledger, TheTree, counts};
+ghost use Rattle.uxn_io.specs.Room.{Leaves};
+ghost use Rattle.uxn_cli.specs.Outputs.{paths_of};
+ghost use Rattle.uxn_cli.specs.Request.{HasApartOutputs, outputs_of};
+ghost use Rattle.uxn_cli.specs.Blame.{blame_in};
+ghost use Rattle.uxn_cli.specs.Prepared.{MakesOutputs};
+
+use super::outputs::{Output, first_blocked, make_all};
+use super::refusal::{Halt, Refusal};
+use super::task::Task;
+use std::alloc::{AllocError, Global};
+use uxn_io::{Path, Tree};
+
+/// Puts a file without bytes behind others.
+#[tactic(auto, using(crate::proofs::OutputLemmas::pushed))]
+fn push_output(alloc: Global, outputs: &mut Vec<Output>, path: &Path) -> Result<(), AllocError>
+    ensures { OnOk result (paths_of outputs.new.items ≡ paths_of outputs.old.items ++ path.now ∷ []) }
+{
+    let bytes = Vec::new(alloc);
+    outputs.push(Output { path: *path, bytes })?;
+    Ok(())
+}
+
+/// The files of a task, which have no bytes yet.
+fn empty_outputs(alloc: Global, paths: &[Path]) -> Result<Vec<Output>, AllocError>
+    ensures { IfOk result (λ outputs. paths_of outputs.items ≡ paths.now) }
+{
+    let mut outputs = Vec::new(alloc);
+    for path in paths {
+        push_output(alloc, &mut outputs, path)?;
+    }
+    Ok(outputs)
+}
+
+/// Makes the files that a run writes, unless one of them cannot be made: then it makes none.
+pub fn make_outputs<T: Tree>(alloc: Global, task: &Task, tree: &mut T) -> Result<(), Halt>
+    requires apart { HasApartOutputs task.now }
+    ensures makes { MakesOutputs (outputs_of task.now) (T.told tree.old) (T.told tree.new) result }
+    ensures ledger { Ledger (counts (T.faults tree.old) 0 0) (counts (T.faults tree.new) 0 0) (blame_in result) }
+    ensures sure { 0 < (T.sure tree.old).files → blame_in result ≡ TheTree
+        → IfSome (T.told tree.old) (λ nodes. None ≡ find (λ path. not (can_create nodes path)) (outputs_of task.now)) }
+{
+    let paths = task.outputs(alloc)?;
+    let outputs = empty_outputs(alloc, &paths)?;
+    if let Some(path) = first_blocked(tree, &outputs)? {
+        return Err(Halt::Refused(Refusal::NoOutput(path)));
+    }
+    match make_all(tree, &outputs)? {
+        Some(path) => Err(Halt::Refused(Refusal::NoOutput(path))),
+        None => Ok(()),
+    }
+}

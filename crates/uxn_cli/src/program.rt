@@ -1,0 +1,93 @@
+//! The program that is run: a ROM, or a source that is assembled.
+ghost use Rattle.std.specs.Prelude.{◌≡◌, ◌<◌, ◌≤◌, true, false, length, IfOk, OnOk};
+ghost use Rattle.uxn_io.specs.Faults.{Ledger, TheTree, counts};
+ghost use Rattle.uxn_io.specs.Room.{Leaves};
+ghost use Rattle.uxn_cli.specs.Blame.{blame_in};
+ghost use Rattle.uxn_cli.specs.Verdict.{limit_by};
+ghost use Rattle.uxn_cli.specs.Prepared.{Loads, rom_in_program, labels_in_program};
+
+use super::commands::{Accepted, ROM_LIMIT, SOURCE_LIMIT, accept_rom, accept_source};
+use super::refusal::Halt;
+use super::task::Task;
+use std::alloc::Global;
+use tal_words::Label;
+use uxn_io::{Bytes, Tree, read_file};
+
+/// A program that is accepted.
+#[derive(Drop)]
+pub enum Program {
+    /// A ROM file.
+    Rom(Bytes),
+    /// A source without a fault, and its assembly.
+    Source(Accepted),
+}
+
+impl Program {
+    /// The ROM.
+    pub fn rom(&self) -> &[u8]
+        ensures { result.now ≡ rom_in_program self.now }
+    {
+        match self {
+            Program::Rom(rom) => rom.as_slice(),
+            Program::Source(accepted) => accepted.assembly.rom(),
+        }
+    }
+
+    /// The labels of the source.
+    pub fn labels(&self) -> &[Label]
+        ensures { result.now ≡ labels_in_program self.now }
+    {
+        match self {
+            Program::Rom(_) => &[],
+            Program::Source(accepted) => accepted.assembly.labels(),
+        }
+    }
+}
+
+/// The ROM file that a task is about, where it is accepted.
+fn load_rom<T: Tree>(alloc: Global, task: &Task, tree: &mut T) -> Result<Program, Halt>
+    requires rom { task.now.rom ≡ true }
+    requires limit { limit_by task.now.command true ≡ 65280 }
+    ensures loads { Loads (T.told tree.old) task.now result }
+    ensures room { IfOk result (λ program. length (rom_in_program program) ≤ 65280) }
+    ensures same { T.told tree.new ≡ T.told tree.old }
+    ensures ledger { Ledger (counts (T.faults tree.old) 0 0) (counts (T.faults tree.new) 0 0) (blame_in result) }
+    ensures sure { 0 < (T.sure tree.old).files → blame_in result ≡ TheTree → ⊥ }
+    ensures left { OnOk result (Leaves (T.sure tree.old) (T.sure tree.new) 0 0) }
+{
+    let file = read_file(alloc, tree, &task.file, ROM_LIMIT)?;
+    Ok(Program::Rom(accept_rom(&task.file, file)?))
+}
+
+/// The source that a task is about, where it is accepted.
+fn load_source<T: Tree>(alloc: Global, task: &Task, tree: &mut T) -> Result<Program, Halt>
+    requires rom { task.now.rom ≡ false }
+    requires limit { limit_by task.now.command false ≡ 4194304 }
+    ensures loads { Loads (T.told tree.old) task.now result }
+    ensures room { IfOk result (λ program. length (rom_in_program program) ≤ 65280) }
+    ensures same { T.told tree.new ≡ T.told tree.old }
+    ensures ledger { Ledger (counts (T.faults tree.old) 0 0) (counts (T.faults tree.new) 0 0) (blame_in result) }
+    ensures sure { 0 < (T.sure tree.old).files → blame_in result ≡ TheTree → ⊥ }
+    ensures left { OnOk result (Leaves (T.sure tree.old) (T.sure tree.new) 0 0) }
+{
+    let file = read_file(alloc, tree, &task.file, SOURCE_LIMIT)?;
+    Ok(Program::Source(accept_source(alloc, &task.file, file)?))
+}
+
+/// The program that a task is about, where it is accepted.
+pub fn load<T: Tree>(alloc: Global, task: &Task, tree: &mut T) -> Result<Program, Halt>
+    requires rom { limit_by task.now.command true ≡ 65280 }
+    requires source { limit_by task.now.command false ≡ 4194304 }
+    ensures loads { Loads (T.told tree.old) task.now result }
+    ensures room { IfOk result (λ program. length (rom_in_program program) ≤ 65280) }
+    ensures same { T.told tree.new ≡ T.told tree.old }
+    ensures ledger { Ledger (counts (T.faults tree.old) 0 0) (counts (T.faults tree.new) 0 0) (blame_in result) }
+    ensures sure { 0 < (T.sure tree.old).files → blame_in result ≡ TheTree → ⊥ }
+    ensures left { OnOk result (Leaves (T.sure tree.old) (T.sure tree.new) 0 0) }
+{
+    if task.rom {
+        load_rom(alloc, task, tree)
+    } else {
+        load_source(alloc, task, tree)
+    }
+}

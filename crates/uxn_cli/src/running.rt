@@ -1,0 +1,164 @@
+//! The run of a machine, and what is written after it.
+ghost use Rattle.std.specs.Prelude.{◌≡◌, ◌≢◌, ◌≤◌, ℕ, List, Option, None, IfOk, IfErr, OnOk, OnErr, IfSome, is_err};
+ghost use Rattle.uxn_io.specs.Faults.{Counted, Ledger, counts};
+ghost use Rattle.uxn_io.specs.Outside.{changed_by, IsCutOff};
+ghost use Rattle.uxn_opcodes.specs.Ports.{blame_of};
+ghost use Rattle.varvara_bus.specs.Bus.{FilesStay, IsFileWhereTold};
+ghost use Rattle.varvara_bus.specs.State.{StandFor, new_state};
+ghost use Rattle.vector_loop.specs.Outputs.{OutputsThere};
+ghost use Rattle.uxn_cli.specs.World.{world};
+ghost use Rattle.uxn_cli.specs.Job.{clock_by, trail_by, exit_in, text_at};
+ghost use Rattle.uxn_cli.specs.Outcome.{filling_all, reporting};
+ghost use Rattle.uxn_cli.specs.Prepared.{HasRun, WasShown, RunFiles, outputs_for};
+
+use super::machine::Machine;
+use super::report::report;
+use super::task::Task;
+use play_script::Script;
+use system_port::exit_code;
+use uxn_io::{Failed, Path, Sink, Tree, append_all};
+use uxn_opcodes::{Core, Stop};
+use varvara_bus::{Bus, Devices};
+use vector_loop::{Outputs, Tally, Watcher, run_script};
+
+/// The port of the state.
+const STATE: u8 = 0x0f;
+
+/// How a run ended.
+#[derive(Clone, Copy)]
+pub struct Ended {
+    /// The exit code.
+    pub exit: u8,
+    /// What was counted.
+    pub tally: Tally,
+}
+
+/// How a machine is run.
+#[derive(Clone, Copy)]
+pub struct Settings {
+    /// The files that it appends to.
+    pub outputs: Outputs,
+    /// The greatest number of instructions of a vector.
+    pub budget: u32,
+}
+
+/// Runs a new machine with a script.
+pub fn run_machine<T: Tree, O: Sink, E: Sink, W: Watcher>(
+    core: &mut Core,
+    devices: &mut Devices,
+    script: &Script,
+    settings: &Settings,
+    tree: &mut T,
+    out: &mut O,
+    err: &mut E,
+    watcher: &mut W,
+) -> Result<Ended, Stop>
+    requires devices { StandFor devices.old (new_state (clock_by script.now.clock) None) }
+    requires budget { 1 ≤ settings.now.budget }
+    requires outputs { OutputsThere settings.now.outputs (T.told tree.old) }
+    ensures ok { IfOk result (λ ended. HasRun (world (T.told tree.old) (O.told out.old) (E.told err.old))
+        (world (T.told tree.new) (O.told out.new) (E.told err.new)) (trail_by settings.now.budget settings.now.outputs script.now core.old) ended) }
+    ensures watcher { OnOk result (WasShown W.shown W.ended (W.held watcher.old) (trail_by settings.now.budget settings.now.outputs script.now core.old) (W.held watcher.new)) }
+    ensures files { OnOk result (FilesStay (T.told tree.old) (T.told tree.new)) }
+    ensures err { OnErr result (IsCutOff (world (T.told tree.old) (O.told out.old) (E.told err.old))
+        (world (T.told tree.new) (O.told out.new) (E.told err.new)) (trail_by settings.now.budget settings.now.outputs script.now core.old).changes) }
+    ensures ledger { Ledger (counts (T.faults tree.old) (O.faults out.old) (E.faults err.old))
+        (counts (T.faults tree.new) (O.faults out.new) (E.faults err.new)) (blame_of result) }
+    ensures memory { IfErr result (λ stop. stop ≡ Stop.NoMemory → W.may_refuse) }
+{
+    let mut bus = Bus::new(devices, tree, out, err);
+    match run_script(
+        core,
+        &mut bus,
+        script,
+        &settings.outputs,
+        settings.budget,
+        watcher,
+    ) {
+        Ok(tally) => Ok(Ended {
+            exit: exit_code(bus.stored(STATE)),
+            tally,
+        }),
+        Err(stop) => Err(stop),
+    }
+}
+
+/// Writes a text to the end of a file, where one is asked for.
+pub fn write_text<T: Tree>(path: &Option<Path>, text: &[u8], tree: &mut T) -> Result<(), Failed>
+    requires { IfSome path.now (IsFileWhereTold (T.told tree.old)) }
+    ensures ok { OnOk result ((out err : Option (List ℕ)) → world (T.told tree.new) out err
+        ≡ changed_by (world (T.told tree.old) out err) (filling_all (text_at path.now text.now))) }
+    ensures err { OnErr result ((out err : Option (List ℕ)) → IsCutOff (world (T.told tree.old) out err) (world (T.told tree.new) out err)
+        (filling_all (text_at path.now text.now))) }
+    ensures files { OnOk result (FilesStay (T.told tree.old) (T.told tree.new)) }
+    ensures ledger { Counted (T.faults tree.old) (T.faults tree.new) (is_err result) }
+{
+    match path {
+        Some(path) => match append_all(tree, path, text) {
+            Ok(()) => Ok(()),
+            Err(fault) => Err(fault),
+        },
+        None => Ok(()),
+    }
+}
+
+/// How a task's machine is run.
+fn settings_of(task: &Task) -> Settings
+    ensures outputs { result.outputs ≡ outputs_for task.now }
+    ensures budget { result.budget ≡ task.now.budget }
+{
+    Settings {
+        outputs: Outputs {
+            frames: task.frames,
+            samples: task.samples,
+        },
+        budget: task.budget,
+    }
+}
+
+/// Runs a machine that is ready, and writes the report.
+pub fn run_made<T: Tree, O: Sink, E: Sink, W: Watcher>(
+    task: &Task,
+    machine: Machine,
+    tree: &mut T,
+    out: &mut O,
+    err: &mut E,
+    watcher: &mut W,
+) -> Result<u8, Stop>
+    requires devices { StandFor machine.devices (new_state (clock_by machine.script.clock) None) }
+    requires budget { 1 ≤ task.now.budget }
+    requires files { RunFiles task.now (T.told tree.old) }
+    ensures status { IfOk result (λ status. status ≡ exit_in (trail_by task.now.budget (outputs_for task.now) machine.script machine.core).last) }
+    ensures ok { OnOk result (world (T.told tree.new) (O.told out.new) (E.told err.new)
+        ≡ changed_by (world (T.told tree.old) (O.told out.old) (E.told err.old))
+        (reporting task.now.report (trail_by task.now.budget (outputs_for task.now) machine.script machine.core))) }
+    ensures watcher { OnOk result (WasShown W.shown W.ended (W.held watcher.old) (trail_by task.now.budget (outputs_for task.now) machine.script machine.core) (W.held watcher.new)) }
+    ensures stay { OnOk result (FilesStay (T.told tree.old) (T.told tree.new)) }
+    ensures err { OnErr result (IsCutOff (world (T.told tree.old) (O.told out.old) (E.told err.old))
+        (world (T.told tree.new) (O.told out.new) (E.told err.new))
+        (reporting task.now.report (trail_by task.now.budget (outputs_for task.now) machine.script machine.core))) }
+    ensures ledger { Ledger (counts (T.faults tree.old) (O.faults out.old) (E.faults err.old))
+        (counts (T.faults tree.new) (O.faults out.new) (E.faults err.new)) (blame_of result) }
+    ensures memory { IfErr result (λ stop. stop ≡ Stop.NoMemory → W.may_refuse) }
+{
+    let Machine {
+        mut core,
+        mut devices,
+        script,
+    } = machine;
+    let settings = settings_of(task);
+    let ended = run_machine(
+        &mut core,
+        &mut devices,
+        &script,
+        &settings,
+        tree,
+        out,
+        err,
+        watcher,
+    )?;
+    match write_text(&task.report, &report(ended.exit, &ended.tally), tree) {
+        Ok(()) => Ok(ended.exit),
+        Err(Failed) => Err(Stop::TreeFault),
+    }
+}

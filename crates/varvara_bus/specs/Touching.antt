@@ -1,0 +1,161 @@
+-- Which paths changes leave alone, and what stands there then.
+use Rattle.std.specs.Prelude.{◌≡◌, ℕ, Bool, true, false, List, [], ◌∷◌, ◌++◌, map, Option, Some, None, IfSome, option_map, refl}
+use Rattle.std.specs.Str.{bytes_eq}
+use Rattle.std.specs.Ordering.{nat_cmp, eq_by_cmp, is_eq}
+use Rattle.std.specs.declared.cmp.Ordering.{Ordering}
+use Rattle.std.specs.declared.cmp.Ordering.TheVariants.{Less, Equal, Greater}
+use Rattle.std.specs.Cmp.Lexicographic.{slice_cmp, nat_list_cmp_total}
+use Rattle.std.specs.FinMap as nodes_map
+use Rattle.std.proofs.Common.{cond, ap, sym, ◌∙◌, true≢false}
+use Rattle.std.proofs.lemmas.Slice.Eq.{bytes_eq-Decides}
+use Rattle.uxn_io.specs.Files.{Nodes, Node, File, bytes_at}
+use Rattle.std.specs.Prelude.{◌==◌}
+use Rattle.uxn_opcodes.specs.declared.Core.{Core}
+use Rattle.uxn_opcodes.specs.declared.rows.Access.{Access}
+use Rattle.uxn_opcodes.specs.declared.rows.Access.TheVariants.{Nothing, Read, Write}
+use Rattle.uxn_opcodes.specs.Rule.{opcode_at, past_opcode, begun}
+use Rattle.uxn_opcodes.specs.Instruction.{writes_of}
+use Rattle.uxn_opcodes.specs.Model.{Machine, after_instruction, access_done, written_by}
+use Rattle.varvara_bus.specs.declared.ports.Action.{Action}
+use Rattle.varvara_bus.specs.declared.ports.Action.TheVariants.{Stores, Expands, SetsWorkingPointer, SetsReturnPointer}
+use Rattle.varvara_bus.specs.declared.ports.Action.TheVariants.{PutsDebugText, PutsOut, PutsErr}
+use Rattle.varvara_bus.specs.declared.ports.Action.TheVariants.{AsksWidth, AsksHeight, DrawsPixel, DrawsSprite, StartsNote}
+use Rattle.varvara_bus.specs.State.{DeviceState, storing}
+use Rattle.varvara_bus.specs.Effect.{act, debug_bytes, action_of, effect}
+use Rattle.varvara_bus.specs.Model.{Devised, varvara, instruction_effect}
+use Rattle.uxn_io.specs.Changes.{with_appended}
+use Rattle.uxn_io.specs.Outside.{Change, ToOut, ToErr, Creates, ToFile, Removes, World, changed_files, changed, changed_by, IsCutOff}
+
+-- a change leaves a path alone where it is none of what stands there
+abbrev pub Spares : List ℕ → Change → Type 0
+Spares path (ToOut byte) = Unit {0}
+Spares path (ToErr byte) = Unit {0}
+Spares path (Creates other) = bytes_eq path other ≡ false
+Spares path (ToFile other byte) = bytes_eq path other ≡ false
+Spares path (Removes other) = bytes_eq path other ≡ false
+
+-- this holds of each change
+abbrev pub Each : {A : Type 0} → (A → Type 0) → List A → Type 0
+Each P [] = Unit {0}
+Each P (first ∷ rest) = P first × Each P rest
+
+pub each-append : {A : Type 0} (P : A → Type 0) (first more : List A) → Each P first → Each P more → Each P (first ++ more)
+each-append P [] more e f = f
+each-append P (x ∷ first) more e f = (e.0, each-append P first more e.1 f)
+
+pub each-front : {A : Type 0} (P : A → Type 0) (first more : List A) → Each P (first ++ more) → Each P first
+each-front P [] more e = tt
+each-front P (x ∷ first) more e = (e.0, each-front P first more e.1)
+
+pub each-map : {A B : Type 0} (P : B → Type 0) (f : A → B) (xs : List A) → ((x : A) → P (f x)) → Each P (map f xs)
+each-map P f [] all = tt
+each-map P f (x ∷ xs) all = (all x, each-map P f xs all)
+
+equal_keys : (r : Ordering) → is_eq r ≡ true → r ≡ Equal
+equal_keys Less e = absurd (true≢false (sym e))
+equal_keys Equal e = refl
+equal_keys Greater e = absurd (true≢false (sym e))
+
+pub same_path : (path other : List ℕ) → eq_by_cmp (slice_cmp nat_cmp) path other ≡ true → path ≡ other
+same_path path other e = nodes_map.slice_cmp-IsAntisymmetric nodes_map.nat_cmp-IsAntisymmetric path other (equal_keys (slice_cmp nat_cmp path other) e)
+
+pub differs : (path other : List ℕ) → bytes_eq path other ≡ false → path ≡ other → ⊥
+differs path other e same = true≢false (sym ((bytes_eq-Decides path other).1 same) ∙ e)
+
+pub differs_by : (path other : List ℕ) → bytes_eq path other ≡ false → eq_by_cmp (slice_cmp nat_cmp) path other ≡ false
+differs_by path other e = elim (eq_by_cmp (slice_cmp nat_cmp) path other) as (λ b. eq_by_cmp (slice_cmp nat_cmp) path other ≡ b → b ≡ false) [
+  | true ↦ λ t. absurd (differs path other e (same_path path other t))
+  | false ↦ λ t. refl
+] refl
+
+-- another path keeps its node
+pub inserted-other : (nodes : Nodes) (path other : List ℕ) (node : Node) → bytes_eq path other ≡ false → nodes_map.get (nodes_map.insert nodes other node) path ≡ nodes_map.get nodes path
+inserted-other nodes path other node apart =
+    nodes_map.get-insert nat_list_cmp_total nodes other node path ∙ ap (λ b. cond b (Some node) (nodes_map.get nodes path)) (differs_by path other apart)
+
+pub removed-other : (nodes : Nodes) (path other : List ℕ) → bytes_eq path other ≡ false → nodes_map.get (nodes_map.remove nodes other) path ≡ nodes_map.get nodes path
+removed-other nodes path other apart =
+    nodes_map.get-remove nat_list_cmp_total nodes other path ∙ ap (λ b. cond b None (nodes_map.get nodes path)) (differs_by path other apart)
+
+-- a path that a change leaves alone keeps its node
+pub spared-one : (nodes : Nodes) (path : List ℕ) (change : Change) → Spares path change → nodes_map.get (changed_files change nodes) path ≡ nodes_map.get nodes path
+spared-one nodes path (ToOut byte) s = refl
+spared-one nodes path (ToErr byte) s = refl
+spared-one nodes path (Creates other) s = inserted-other nodes path other (File []) s
+spared-one nodes path (ToFile other byte) s = inserted-other nodes path other (File (bytes_at nodes other ++ byte ∷ [])) s
+spared-one nodes path (Removes other) s = removed-other nodes path other s
+
+-- what is told to stand at a path
+abbrev pub told_at : List ℕ → Option Nodes → Option (Option Node)
+told_at path told = option_map (λ nodes. nodes_map.get nodes path) told
+
+told-one : (path : List ℕ) (told : Option Nodes) (change : Change) → Spares path change → told_at path (option_map (changed_files change) told) ≡ told_at path told
+told-one path None change s = refl
+told-one path (Some nodes) change s = ap (λ node. Some node) (spared-one nodes path change s)
+
+spared-changed : (path : List ℕ) (world : World) (change : Change) → Spares path change → told_at path (changed world change).files ≡ told_at path world.files
+spared-changed path world (ToOut byte) s = refl
+spared-changed path world (ToErr byte) s = refl
+spared-changed path world (Creates other) s = told-one path world.files (Creates other) s
+spared-changed path world (ToFile other byte) s = told-one path world.files (ToFile other byte) s
+spared-changed path world (Removes other) s = told-one path world.files (Removes other) s
+
+-- the same for changes in order
+pub spared : (path : List ℕ) (world : World) (changes : List Change) → Each (Spares path) changes → told_at path (changed_by world changes).files ≡ told_at path world.files
+spared path world [] s = refl
+spared path world (change ∷ changes) s = spared path (changed world change) changes s.1 ∙ spared-changed path world change s.0
+
+-- and for a front of them
+pub spared-front : (path : List ℕ) (before now : World) (changes : List Change) → Each (Spares path) changes → IsCutOff before now changes → told_at path now.files ≡ told_at path before.files
+spared-front path before now changes s cut =
+    ap (λ w. told_at path w.files) cut.left ∙ spared path before cut.made (each-front (Spares path) cut.made cut.rest (rw cut.parts at s))
+
+-- a path that is left alone keeps its node
+pub kept-node : (path : List ℕ) (before now : Option Nodes) → told_at path now ≡ told_at path before → IfSome before (λ old. IfSome now (λ new. nodes_map.get new path ≡ nodes_map.get old path))
+kept-node path None now e = tt
+kept-node path (Some old) None e = tt
+kept-node path (Some old) (Some new) e = cc
+
+-- no action of a port touches a file
+act-spares : (path : List ℕ) (action : Action) (byte : ℕ) (devices : DeviceState) (core : Core) → Each (Spares path) (act action byte devices core).changes
+act-spares path Stores byte devices core = tt
+act-spares path Expands byte devices core = tt
+act-spares path SetsWorkingPointer byte devices core = tt
+act-spares path SetsReturnPointer byte devices core = tt
+act-spares path PutsDebugText byte devices core = each-map (Spares path) (λ letter. ToErr letter) (debug_bytes byte core) (λ letter. tt)
+act-spares path PutsOut byte devices core = (tt, tt)
+act-spares path PutsErr byte devices core = (tt, tt)
+act-spares path AsksWidth byte devices core = tt
+act-spares path AsksHeight byte devices core = tt
+act-spares path DrawsPixel byte devices core = tt
+act-spares path DrawsSprite byte devices core = tt
+act-spares path (StartsNote voice) byte devices core = tt
+
+effect-spares : (path : List ℕ) (devices : DeviceState) (core : Core) (port byte : ℕ) → Each (Spares path) (effect devices core port byte).changes
+unfolding effect
+effect-spares path devices core port byte = act-spares path (action_of port) byte (storing ((port, byte) ∷ []) devices) core
+
+written-spares : (path : List ℕ) (writes : List (ℕ × ℕ)) (machine : Machine Devised) → Each (Spares path) machine.ports.changes
+    → Each (Spares path) (written_by varvara writes machine).ports.changes
+written-spares path [] machine s = s
+written-spares path (write ∷ writes) machine s =
+    written-spares path writes (varvara.write machine.ports machine.core write.0 write.1)
+    (each-append (Spares path) machine.ports.changes (effect machine.ports.devices machine.core write.0 write.1).changes s
+    (effect-spares path machine.ports.devices machine.core write.0 write.1))
+
+access-spares : (path : List ℕ) (access : Access) (core : Core) (devices : DeviceState)
+    → Each (Spares path) (access_done varvara access core (record { devices = devices; changes = [] })).ports.changes
+access-spares path Nothing core devices = tt
+access-spares path (Read port mode) core devices = tt
+access-spares path (Write port width value) core devices =
+    written-spares path (writes_of width port value) (record { core = core; ports = record { devices = devices; changes = [] } }) tt
+
+-- an instruction leaves every path alone
+pub instruction-spares : (path : List ℕ) (devices : DeviceState) (core : Core) → Each (Spares path) (instruction_effect devices core).changes
+unfolding instruction_effect after_instruction
+instruction-spares path devices core =
+    elim (opcode_at core == 0) as (λ b. Each (Spares path) (cond b (record { core = past_opcode core; ports = record { devices = devices; changes = [] } })
+    (access_done varvara (begun core).access (begun core).core (record { devices = devices; changes = [] }))).ports.changes) [
+      | true ↦ tt
+      | false ↦ access-spares path (begun core).access (begun core).core devices
+    ]
