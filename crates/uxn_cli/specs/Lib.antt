@@ -14,3 +14,4 @@ pub mod Prepared
 pub mod Answer
 pub mod Causes
 pub mod OpcodeNames
+pub mod Observation

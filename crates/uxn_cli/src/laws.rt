@@ -3,9 +3,16 @@ ghost use Rattle.std.specs.Prelude.{◌≡◌, ℕ, ◌<◌};
 ghost use Rattle.tal_words.specs.Opcodes.{name_of_op};
 ghost use Rattle.uxn_opcodes.specs.Table.{op_of};
 ghost use Rattle.uxn_cli.specs.OpcodeNames.{row_name};
+ghost use Rattle.uxn_cli.specs.Observation.{OnlyWatches};
 
 /// The name that a disassembly has for an instruction byte is that of the row by which the machine runs
 /// it, with the letters of its mode, for each of the 256 bytes.
 pub fn names_are_those_of_rows()
     ensures { (code : ℕ) → code < 256 → name_of_op code ≡ row_name (op_of code) code }
+{}
+
+/// A run under the debugger has the status of the run without it, and its changes but for the log, whose file is
+/// made first and gets its bytes last.
+pub fn the_debugger_only_watches()
+    ensures { OnlyWatches }
 {}
