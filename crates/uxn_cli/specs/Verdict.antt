@@ -34,7 +34,6 @@ use Rattle.uxn_cli.specs.declared.refusal.Refusal.{Refusal}
 use Rattle.uxn_cli.specs.declared.refusal.Refusal.TheVariants.{NoOutput, Missing, Faulty, LongRom, BadSymbols, BadScript, BadCommands}
 use Rattle.uxn_cli.specs.Job.{Debugging, Job, text_at}
 use Rattle.uxn_cli.specs.World.{Text}
-
 pub use Rattle.uxn_cli.specs.Request.{and_then, inputs_by, outputs_by, outputs_of, clashes, HasApartOutputs}
 
 -- what the tree shows a task: its file, its file of symbols, its script, its commands, and the first output that cannot be made

@@ -23,7 +23,9 @@ fn script_of(alloc: Global, text: &[u8]) -> Result<Script, Halt>
 {
     match read_script(alloc, text) {
         Ok(script) => Ok(script),
-        Err(ScriptStop::Refused { line, kind }) => Err(Halt::Refused(Refusal::BadScript(line, kind))),
+        Err(ScriptStop::Refused { line, kind }) => Err(Halt::Refused(Refusal::BadScript(
+            line, kind,
+        ))),
         Err(ScriptStop::NoMemory) => Err(Halt::Stopped(Stop::NoMemory)),
     }
 }
@@ -40,7 +42,11 @@ fn script_at(alloc: Global, path: &Path, file: FileBytes) -> Result<Script, Halt
 }
 
 /// The script that is asked for. Without one there is nothing in it.
-pub fn accept_script<T: Tree>(alloc: Global, path: &Option<Path>, tree: &mut T) -> Result<Script, Halt>
+pub fn accept_script<T: Tree>(
+    alloc: Global,
+    path: &Option<Path>,
+    tree: &mut T,
+) -> Result<Script, Halt>
     ensures script { Accepts (λ script. script) (T.told tree.old) (λ nodes. script_by nodes path.now) (script_in path.now) result }
     ensures same { T.told tree.new ≡ T.told tree.old }
     ensures ledger { Ledger (counts (T.faults tree.old) 0 0) (counts (T.faults tree.new) 0 0) (blame_in result) }

@@ -46,10 +46,10 @@ returns-clause-prepares g c =
       core = c.in_ok-machine.ensures.core ∙ ap new_core c.rom.ensures;
       devices = rw c.in_ok-machine.ensures.script c.in_ok-machine.ensures.devices;
       sees = rw c.in_ok-machine.ensures.script
-        (debug-ready c.args.task.now tree c.requires c.in_ok-program.program c.in_ok-program.ensures.loads
-        (option_map (λ labels. labels.items) c.in_ok-given.given) (seen-here c.args.task.now tree _ _ _ _ once c.in_ok-given.ensures.given)
-        c.in_ok-script.script (seen-here c.args.task.now tree _ _ _ _ twice c.in_ok-script.ensures.script) c.in_ok-commands.commands.items
-        _ _ (c.in_ok-script.ensures.same ∙ twice) c.labels_of-labels.ensures c.in_ok-commands.ensures.commands);
+          (debug-ready c.args.task.now tree c.requires c.in_ok-program.program c.in_ok-program.ensures.loads
+          (option_map (λ labels. labels.items) c.in_ok-given.given) (seen-here c.args.task.now tree _ _ _ _ once c.in_ok-given.ensures.given)
+          c.in_ok-script.script (seen-here c.args.task.now tree _ _ _ _ twice c.in_ok-script.ensures.script) c.in_ok-commands.commands.items
+          _ _ (c.in_ok-script.ensures.same ∙ twice) c.labels_of-labels.ensures c.in_ok-commands.ensures.commands);
     }
 
 pub returns-clause-left : goal.returns-clause-left

@@ -22,6 +22,6 @@ returns-clause-prepares g c = record {
   core = c.in_ok-new_machine.ensures.core ∙ ap new_core c.rom.ensures;
   devices = rw c.in_ok-new_machine.ensures.script c.in_ok-new_machine.ensures.devices;
   sees = rw c.in_ok-new_machine.ensures.script
-    (play-ready c.args.task.now (g.T.Tree.told c.args.tree.now) c.requires c.in_ok-program.program c.in_ok-program.ensures.loads c.in_ok-script.script
-    _ c.in_ok-program.ensures.same c.in_ok-script.ensures.script);
+      (play-ready c.args.task.now (g.T.Tree.told c.args.tree.now) c.requires c.in_ok-program.program c.in_ok-program.ensures.loads c.in_ok-script.script
+      _ c.in_ok-program.ensures.same c.in_ok-script.ensures.script);
 }
