@@ -14,3 +14,4 @@ pub mod SinkInMemory
 pub mod Places
 pub mod TreeInMemory
 pub mod Appending
+pub mod Taking

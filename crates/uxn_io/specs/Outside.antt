@@ -31,6 +31,11 @@ changed_files (Creates path) nodes = nodes_map.insert nodes path (File [])
 changed_files (ToFile path byte) nodes = with_appended path (byte ∷ []) nodes
 changed_files (Removes path) nodes = nodes_map.remove nodes path
 
+-- changes done to files, one after the other
+abbrev pub files_by : Nodes → List Change → Nodes
+files_by nodes [] = nodes
+files_by nodes (change ∷ changes) = files_by (changed_files change nodes) changes
+
 -- a change done to a world
 abbrev pub changed : World → Change → World
 changed world (ToOut byte) = record world { out = extended world.out (byte ∷ []) }
