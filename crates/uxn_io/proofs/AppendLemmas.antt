@@ -43,13 +43,14 @@ abbrev pub Promises : Option Nodes → Room → List ℕ → ℕ → Type 0
 Promises told room path count = IfSome told (λ nodes. 0 < room.files → length (bytes_at nodes path) + count ≤ room.bytes → false ≡ true)
 
 -- where the rest failed though promised, the whole was not promised
-pub promise_back : (first told : Option Nodes) (path piece rest : List ℕ) (at : ℕ) (before now : Room) (P : Type 0) → at ≤ length piece → rest ≡ drop at piece → told ≡ option_map (with_appended path (take at piece)) first → Leaves before now 0 0 → Promises told now path (length rest) → IfSome first (λ nodes. 0 < before.files → length (bytes_at nodes path) + length piece ≤ before.bytes → P)
-promise_back None told path piece rest at before now P within is_rest is left promise = tt
-promise_back (Some nodes) told path piece rest at before now P within is_rest is left promise =
+pub promise_back : (first told : Option Nodes) (path piece rest : List ℕ) (at : ℕ) (before now : Room) (P : Type 0) → at ≤ length piece → 0 < length piece → rest ≡ drop at piece → told ≡ option_map (with_appended path (take at piece)) first → Leaves before now 0 0 → Promises told now path (length rest)
+    → IfSome first (λ nodes. 0 < before.files → (0 < length piece → length (bytes_at nodes path) + length piece ≤ before.bytes) → P)
+promise_back None told path piece rest at before now P within any is_rest is left promise = tt
+promise_back (Some nodes) told path piece rest at before now P within any is_rest is left promise =
     let Q : Option Nodes → Type 0 = λ o. Promises o now path (length rest) in
     let there : Promises (Some (with_appended path (take at piece) nodes)) now path (length rest) = subst Q is promise in
     λ some fits.
-    let no : false ≡ true = there (omega (arith, left.files some)) (omega (arith, left.bytes some, longer nodes path (take at piece), length-take-le at piece within, ap length is_rest, length-drop at piece)) in
+    let no : false ≡ true = there (omega (arith, left.files some)) (omega (arith, left.bytes some, fits any, longer nodes path (take at piece), length-take-le at piece within, ap length is_rest, length-drop at piece)) in
     cc
 
 pub on_err : {T E : Type 0} (r : Result T E) (P : Type 0) → P → OnErr r P

@@ -167,7 +167,7 @@ pub fn append_all<T: Tree>(tree: &mut T, path: &Path, piece: &[u8]) -> Result<()
     ensures err { OnErr result (HasAppendedFront path.now (T.told tree.old) (T.told tree.new) piece.now) }
     ensures ledger { Counted (T.faults tree.old) (T.faults tree.new) (is_err result) }
     ensures sure { IfSome (T.told tree.old) (λ nodes. 0 < (T.sure tree.old).files
-        → length (bytes_at nodes path.now) + length piece.now ≤ (T.sure tree.old).bytes → IsOk result) }
+        → (0 < length piece.now → length (bytes_at nodes path.now) + length piece.now ≤ (T.sure tree.old).bytes) → IsOk result) }
     ensures left { OnOk result (Leaves (T.sure tree.old) (T.sure tree.new) 0 0) }
 {
     let mut at = 0;

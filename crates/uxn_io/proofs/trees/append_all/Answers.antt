@@ -31,4 +31,4 @@ pub returns-in_err-at-clause-sure : goal.returns-in_err-at-clause-sure
 returns-in_err-at-clause-sure g c =
     let piece = c.args.piece.now in
     let rest = between_to_end piece c.loop-at.at (length piece) (omega arith) in
-    promise_back _ _ c.args.path.now piece _ _ _ _ _ c.loop-at.invariant.within rest c.loop-at.invariant.told c.loop-at.invariant.left c.in_err-at.ensures.sure
+    promise_back _ _ c.args.path.now piece _ _ _ _ _ c.loop-at.invariant.within (omega arith) rest c.loop-at.invariant.told c.loop-at.invariant.left c.in_err-at.ensures.sure
