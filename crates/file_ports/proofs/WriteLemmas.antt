@@ -8,15 +8,15 @@ use Rattle.uxn_io.specs.Files.{Node, Nodes, File, kind_at, file_at, bytes_at, by
 use Rattle.uxn_io.specs.Room.{Room, Leaves}
 use Rattle.uxn_io.specs.Changes.{can_create, new_files, with_created, with_appended, HasAppendedFront}
 use Rattle.uxn_io.specs.Appending.{get_put, bytes_put}
-use Rattle.uxn_io.specs.Outside.{Change, Creates, ToFile}
+use Rattle.uxn_io.specs.Outside.{Change, Creates, ToFile, files_by}
 use Rattle.file_ports.specs.declared.stop.FileStop.{FileStop}
 use Rattle.file_ports.specs.declared.mode.Mode.{Mode}
 use Rattle.file_ports.specs.declared.mode.Mode.TheVariants.{Idle, Writing}
-use Rattle.file_ports.specs.RootPart.{files_by}
 use Rattle.file_ports.specs.Device.{FileState, idle_at, is_writing}
 use Rattle.file_ports.specs.Actions.{Write, seen_of, is_file, begun, adds, writes, count_from}
 use Rattle.file_ports.specs.Answers.{Does, Acted, CutOff, HasMadeFront, Adds, RoomFor, and_then}
-use Rattle.file_ports.specs.PartLaws.{files_by-append, files_by-file}
+use Rattle.uxn_io.specs.Taking.{files_by-append}
+use Rattle.file_ports.specs.PartLaws.{files_by-file}
 use Rattle.file_ports.proofs.ActLemmas.{acted-by, cut-by}
 
 -- how a write begins, by what decides it

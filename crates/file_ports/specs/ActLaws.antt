@@ -5,8 +5,8 @@ use Rattle.std.specs.FinMap as map
 use Rattle.std.proofs.Common.{refl, ap, sym, subst, ◌∙◌}
 use Rattle.uxn_io.specs.PathText.{parent_of}
 use Rattle.uxn_io.specs.Files.{Nodes, is_folder, is_folder_at}
-use Rattle.uxn_io.specs.Outside.{Change, ToOut, ToErr, Creates, ToFile, Removes, World, changed_files, changed, changed_by, IsCutOff}
-use Rattle.file_ports.specs.RootPart.{is_in, below, parent_is_folder, files_by, path_changed, is_in_part, IsIn, LieIn}
+use Rattle.uxn_io.specs.Outside.{Change, ToOut, ToErr, Creates, ToFile, Removes, World, changed_files, changed, changed_by, files_by, IsCutOff}
+use Rattle.file_ports.specs.RootPart.{is_in, below, parent_is_folder, path_changed, is_in_part, IsIn, LieIn}
 use Rattle.file_ports.specs.Device.{FileState, idle_at, suits, Suits, is_writing}
 use Rattle.file_ports.specs.Actions.{FileAction, Name, Read, Write, Stat, Delete, is_file, begun, adds, quiet, acts, act, seen_in, count_from}
 use Rattle.file_ports.specs.Answers.{HasMadeFront}

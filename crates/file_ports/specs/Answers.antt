@@ -4,11 +4,11 @@ use Rattle.uxn_io.specs.declared.trees.Kind.TheVariants.{Folder}
 use Rattle.uxn_io.specs.Files.{Nodes, kind_at, bytes_at}
 use Rattle.uxn_io.specs.Changes.{new_files}
 use Rattle.uxn_io.specs.Room.{Room}
-use Rattle.uxn_io.specs.Outside.{Change}
+use Rattle.uxn_io.specs.Outside.{Change, files_by}
 use Rattle.uxn_memory.specs.Bytes.{with_bytes}
 use Rattle.file_ports.specs.declared.stop.FileStop.{FileStop}
 use Rattle.file_ports.specs.declared.stop.FileStop.TheVariants.{TreeFault, NoMemory}
-use Rattle.file_ports.specs.RootPart.{below, parent_is_folder, files_by}
+use Rattle.file_ports.specs.RootPart.{below, parent_is_folder}
 use Rattle.file_ports.specs.Device.{FileState, Suits, is_reading}
 use Rattle.file_ports.specs.Actions.{FileAction, Outcome, acts, act}
 

@@ -17,8 +17,8 @@ use Rattle.uxn_io.specs.Files.{Node, File, Nodes, bytes_of, bytes_at, kind_of, i
 use Rattle.uxn_io.specs.Changes.{can_create, with_appended}
 use Rattle.uxn_io.specs.Appending.{appended_both}
 use Rattle.uxn_io.specs.Children.{children, entry_in}
-use Rattle.uxn_io.specs.Outside.{Change, ToOut, ToErr, Creates, ToFile, Removes, changed_files}
-use Rattle.file_ports.specs.RootPart.{is_in, below, parent_is_folder, files_by, path_changed, IsIn, LieIn}
+use Rattle.uxn_io.specs.Outside.{Change, ToOut, ToErr, Creates, ToFile, Removes, changed_files, files_by}
+use Rattle.file_ports.specs.RootPart.{is_in, below, parent_is_folder, path_changed, IsIn, LieIn}
 use Rattle.file_ports.specs.Device.{FileState, idle_at, suits, Suits}
 use Rattle.file_ports.specs.Names.{bytes_around, before_zero, named_in, path_named}
 use Rattle.file_ports.specs.Actions.{FileAction, Seen, can_make_in, seen_in, seen_of, acts}
@@ -215,11 +215,7 @@ changed_elsewhere (Creates path) q nodes other = put_elsewhere q path nodes (Fil
 changed_elsewhere (ToFile path byte) q nodes other = put_elsewhere q path nodes _ (λ e. other (ap (λ (p : List ℕ). Some p) (sym e)))
 changed_elsewhere (Removes path) q nodes other = taken_elsewhere q path nodes (λ e. other (ap (λ (p : List ℕ). Some p) (sym e)))
 
--- changes after changes, and bytes added one after the other
-pub files_by-append : (nodes : Nodes) (first more : List Change) → files_by nodes (first ++ more) ≡ files_by (files_by nodes first) more
-files_by-append nodes [] more = refl
-files_by-append nodes (change ∷ first) more = files_by-append (changed_files change nodes) first more
-
+-- bytes added one after the other
 pub files_by-file : (nodes : Nodes) (path piece : List ℕ) → files_by nodes (list_map (λ byte. ToFile path byte) piece) ≡ with_appended path piece nodes
 files_by-file nodes path [] = refl
 files_by-file nodes path (byte ∷ piece) = files_by-file (with_appended path (byte ∷ []) nodes) path piece ∙ appended_both nodes path (byte ∷ []) piece
