@@ -19,7 +19,8 @@ pub record Answers (outcome : Outcome) (result : Result ℕ FileStop) (device_no
   pub memory : memory_now ≡ outcome.memory
 
 -- and so are the changes to the files that were told
-pub record Does (outcome : Outcome) (before : Nodes) (now : Option Nodes) (result : Result ℕ FileStop) (device_now : FileState) (memory_now : List ℕ) : Type 0 where
+pub record Does (outcome : Outcome) (before : Nodes) (now : Option Nodes) (result : Result ℕ FileStop) (device_now : FileState)
+    (memory_now : List ℕ) : Type 0 where
   pub answers : Answers outcome result device_now memory_now
   pub told : now ≡ Some (files_by before outcome.changes)
 
