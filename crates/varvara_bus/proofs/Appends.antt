@@ -65,10 +65,10 @@ no_folder None there = refl
 no_folder (Some (File bytes)) there = refl
 no_folder (Some Folder) there = cc
 
-folder_or : (b : Bool) (bytes : List ℕ) (node : Option Node) → (b ≡ true → is_folder node ≡ false)
-    → is_folder (cond b (Some (File bytes)) node) ≡ is_folder node
-folder_or true bytes node no = sym (no refl)
-folder_or false bytes node no = refl
+folder_or : (b : Bool) (bytes : List ℕ) (there : Option Node) → (b ≡ true → is_folder there ≡ false)
+    → is_folder (cond b (Some (File bytes)) there) ≡ is_folder there
+folder_or true bytes there other = sym (other refl)
+folder_or false bytes there other = refl
 
 folder_still : (nodes : Nodes) (path text q : List ℕ) → IsSome (file_at nodes path)
     → is_folder (nodes_map.get (with_appended path text nodes) q) ≡ is_folder (nodes_map.get nodes q)
@@ -100,19 +100,19 @@ appended-files (Some nodes) now path text own root part parent is there outside 
 
 none-made : (nodes : Nodes) (path text : List ℕ) → files_made nodes (map (λ byte. ToFile path byte) text) ≡ 0
 none-made nodes path [] = refl
-none-made nodes path (byte ∷ text) = none-made (changed_files (ToFile path byte) nodes) path text
+none-made nodes path (byte ∷ text) = let later = none-made (changed_files (ToFile path byte) nodes) path text in omega (arith, later)
 
 none-gone : (path text : List ℕ) → files_gone (map (λ byte. ToFile path byte) text) ≡ 0
 none-gone path [] = refl
-none-gone path (byte ∷ text) = none-gone path text
+none-gone path (byte ∷ text) = let later = none-gone path text in omega (arith, later)
 
 none-out : (path text : List ℕ) → bytes_out (map (λ byte. ToFile path byte) text) ≡ 0
 none-out path [] = refl
-none-out path (byte ∷ text) = none-out path text
+none-out path (byte ∷ text) = let later = none-out path text in omega (arith, later)
 
 none-err : (path text : List ℕ) → bytes_err (map (λ byte. ToFile path byte) text) ≡ 0
 none-err path [] = refl
-none-err path (byte ∷ text) = none-err path text
+none-err path (byte ∷ text) = let later = none-err path text in omega (arith, later)
 
 -- where a text is surely taken the file has room for it
 takes-text : (room : Room) (nodes : Nodes) (path text : List ℕ) → TreeTakes room nodes (map (λ byte. ToFile path byte) text) → 0 < length text
@@ -139,12 +139,12 @@ text-left (Some nodes) before now path text left = λ takes.
     }
 
 -- a tree that failed did not surely take it
-pub text-not-sure : (told : Option Nodes) (room : Room) (path text : List ℕ) (P : Type 0)
+pub text-not-sure : (told : Option Nodes) (room : Room) (path text : List ℕ) (P : Type 0) → (P → ⊥)
     → IfSome told (λ nodes. 0 < room.files → (0 < length text → length (bytes_at nodes path) + length text ≤ room.bytes) → P)
-    → IfSome told (λ nodes. TreeTakes room nodes (map (λ byte. ToFile path byte) text) → P)
-text-not-sure None room path text P fails = tt
-text-not-sure (Some nodes) room path text P fails = λ takes.
-    fails (let first = takes.files [] (map (λ byte. ToFile path byte) text) refl in omega (arith, first)) (takes-text room nodes path text takes)
+    → IfSome told (λ nodes. TreeTakes room nodes (map (λ byte. ToFile path byte) text) → ⊥)
+text-not-sure None room path text P never fails = tt
+text-not-sure (Some nodes) room path text P never fails = λ takes. never (
+    fails (let first = takes.files [] (map (λ byte. ToFile path byte) text) refl in omega (arith, first)) (takes-text room nodes path text takes))
 
 -- no byte of it goes to an output
 pub text-out : (sure : ℕ) (path text : List ℕ) → sure ≤ sure + bytes_out (map (λ byte. ToFile path byte) text)

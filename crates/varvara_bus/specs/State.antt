@@ -58,11 +58,11 @@ abbrev pub clock_of : Devices → Clock
 clock_of devices = record { seconds = devices.time.seconds; offset = devices.time.offset }
 
 -- the file devices are those of the state, and suit its root
-pub record HoldFiles (held_first held_second first second : FileState) (root : Option (List ℕ)) : Type 0 where
-  pub first : held_first ≡ first
-  pub second : held_second ≡ second
-  pub first_suits : Suits root first
-  pub second_suits : Suits root second
+pub record HoldFiles (held_first held_second one other : FileState) (root : Option (List ℕ)) : Type 0 where
+  pub first : held_first ≡ one
+  pub second : held_second ≡ other
+  pub first_suits : Suits root one
+  pub second_suits : Suits root other
 
 -- devices hold in each port what was last stored there, the pixels of what was drawn, what the voices sound, and the file devices
 pub record StandFor (devices : Devices) (state : DeviceState) : Type 0 where
