@@ -242,7 +242,7 @@ adds_surely (Some nodes) middle path piece writing keep goes before now P makes 
     begins None makes left takes = let no : true ≡ false = sym on ∙ makes.begins in cc
     begins (Some first) makes left takes =
         let Q : Option Nodes → Type 0 = λ o.
-            IfSome o (λ nodes. 0 < now.files → (0 < length piece → length (bytes_at nodes path) + length piece ≤ now.bytes) → false ≡ true) in
+        IfSome o (λ nodes. 0 < now.files → (0 < length piece → length (bytes_at nodes path) + length piece ≤ now.bytes) → false ≡ true) in
         let L : List Change → Type 0 = λ changes. TreeLeft before now nodes changes in
         let M : List Change → Type 0 = λ changes. Q (Some (files_by nodes changes)) in
         let stays : TreeLeft before now nodes first = subst L (append-nil first) (left (takes_begun (Some first) _ before nodes takes)) in
@@ -262,7 +262,7 @@ none_gone path (byte ∷ piece) = let none = none_gone path piece in omega (arit
 pub adds_left : (told middle : Option Nodes) (path piece : List ℕ) (writing keep goes : Bool) (before between now : Room)
     → IfSome told (λ nodes. Adds (begun writing keep (seen_of nodes path)) [] goes nodes middle) → Started told path writing keep before between → Leaves between now 0 0
     → IfSome told (λ nodes. TreeTakes before nodes (and_then (begun writing keep (seen_of nodes path)) (list_map (λ byte. ToFile path byte) piece))
-        → TreeLeft before now nodes (and_then (begun writing keep (seen_of nodes path)) (list_map (λ byte. ToFile path byte) piece)))
+    → TreeLeft before now nodes (and_then (begun writing keep (seen_of nodes path)) (list_map (λ byte. ToFile path byte) piece)))
 adds_left None middle path piece writing keep goes before between now makes left more = tt
 adds_left (Some nodes) middle path piece writing keep goes before between now makes left more =
     begins (begun writing keep (seen_of nodes path)) left
@@ -310,7 +310,7 @@ surely_write at length keep writing path piece was mode device memory (Some node
 pub leaves_write : (at length : ℕ) (keep writing : Bool) (path piece : List ℕ) (was : Option (List ℕ)) (mode : Mode) (device : FileState) (memory : List ℕ) (told : Option Nodes) (before now : Room) (failed : Bool)
     → was ≡ Some path → record { path = was; mode = mode } ≡ device → writing ≡ is_writing mode → piece ≡ take (count_from at length) (drop at memory)
     → IfSome told (λ nodes. TreeTakes before nodes (and_then (begun writing keep (seen_of nodes path)) (list_map (λ byte. ToFile path byte) piece))
-        → TreeLeft before now nodes (and_then (begun writing keep (seen_of nodes path)) (list_map (λ byte. ToFile path byte) piece)))
+    → TreeLeft before now nodes (and_then (begun writing keep (seen_of nodes path)) (list_map (λ byte. ToFile path byte) piece)))
     → LeavesSurely (Write at length keep) device memory told before now failed
 leaves_write at length keep writing path piece was mode device memory None before now failed e view writes is left = λ ok. tt
 leaves_write at length keep writing path piece was mode device memory (Some nodes) before now failed e view writes is left = λ ok root suits.

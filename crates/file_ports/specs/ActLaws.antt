@@ -73,7 +73,7 @@ at_path (Write at length keep) root part parent device memory None lies = tt
 at_path (Write at length keep) root part parent device memory (Some path) lies =
     let seen = seen_in root part parent path in
     added_lie root ((is_writing device.mode || keep) && is_file seen.kind) (is_writing device.mode) seen.can_make path memory
-        (take (count_from at length) (drop at memory)) lies
+    (take (count_from at length) (drop at memory)) lies
 at_path (Stat at length) root part parent device memory None lies = tt
 at_path (Stat at length) root part parent device memory (Some path) lies = tt
 at_path Delete root part parent device memory None lies = tt
@@ -94,7 +94,7 @@ kept_at (Read at length) root part parent device memory (Some path) e lies = lie
 kept_at (Write at length keep) root part parent device memory None e lies = ap (suits root) e ∙ lies
 kept_at (Write at length keep) root part parent device memory (Some path) e lies =
     added_at root (begun (is_writing device.mode) keep (seen_in root part parent path)) path memory
-        (take (count_from at length) (drop at memory)) lies
+    (take (count_from at length) (drop at memory)) lies
 kept_at (Stat at length) root part parent device memory None e lies = ap (suits root) e ∙ lies
 kept_at (Stat at length) root part parent device memory (Some path) e lies = ap (suits root) e ∙ lies
 kept_at Delete root part parent device memory None e lies = ap (suits root) e ∙ lies
@@ -171,7 +171,7 @@ one_change root world (Removes path) lies = refl
 
 made_by : (root out err : Option (List ℕ)) (nodes : Nodes) (changes : List Change) → LieIn root changes
     → record { out = out; err = err; files = Some (files_by nodes changes) }
-        ≡ changed_by (record { out = out; err = err; files = Some nodes }) changes
+    ≡ changed_by (record { out = out; err = err; files = Some nodes }) changes
 made_by root out err nodes [] lie = refl
 made_by root out err nodes (change ∷ changes) lie =
     made_by root out err (changed_files change nodes) changes lie.1

@@ -60,7 +60,7 @@ unfolding is_under
 is_under-Decides text other =
     Decides-like _ (under_from text other) (under_to text other)
     (Decides-and _ _ (Decides-ltb _ _)
-        (slice_eq-Decides bytes_eq-Decides (components other) (take (length (components other)) (components text)) _ refl))
+    (slice_eq-Decides bytes_eq-Decides (components other) (take (length (components other)) (components text)) _ refl))
 
 pub is_in-Decides : (root path : List ℕ) → Decides (is_in root path) (LiesIn root path)
 unfolding is_in

@@ -83,7 +83,7 @@ folder_appended true path (byte ∷ text) q nodes e file =
     ∙ ap (λ (p : List ℕ). is_folder (map.get nodes p)) (sym at)
 folder_appended false path (byte ∷ text) q nodes e file =
     ap is_folder
-        (appended_elsewhere nodes path (byte ∷ text) q (λ at. let no : false ≡ true = sym e ∙ (bytes_eq-Decides q path).1 at in cc))
+    (appended_elsewhere nodes path (byte ∷ text) q (λ at. let no : false ≡ true = sym e ∙ (bytes_eq-Decides q path).1 at in cc))
 
 parent_appended : (parent : Option (List ℕ)) (path text : List ℕ) (nodes : Nodes) → IsSome (file_at nodes path)
     → is_folder_at (with_appended path text nodes) parent ≡ is_folder_at nodes parent

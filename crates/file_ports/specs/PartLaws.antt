@@ -84,7 +84,7 @@ stranger root folder path in_root out =
     no_child (parent_of path) folder _
     (λ e.
     let inside : is_in root path ≡ true =
-        (is_in-Decides root path).1 (in_deeper root folder path ((is_in-Decides root folder).0 in_root) (parent_before path folder e)) in
+    (is_in-Decides root path).1 (in_deeper root folder path ((is_in-Decides root folder).0 in_root) (parent_before path folder e)) in
     let no : true ≡ false = sym inside ∙ out in
     cc)
 
@@ -94,12 +94,12 @@ unlisted root folder [] in_root = refl
 unlisted root folder (entry ∷ listed) in_root =
     let rest = where_key (slice_cmp nat_cmp) (is_in root) listed in
     elim (is_in root entry.0) as (λ b. is_in root entry.0 ≡ b → filter_map (entry_in folder) (cond b (entry ∷ rest) rest)
-        ≡ cons_option (entry_in folder entry) (filter_map (entry_in folder) listed)) [
+    ≡ cons_option (entry_in folder entry) (filter_map (entry_in folder) listed)) [
       | true ↦ λ e. ap (cons_option (entry_in folder entry)) (unlisted root folder listed in_root)
       | false ↦ λ e.
           unlisted root folder listed in_root
           ∙ sym (ap (λ (o : Option (List ℕ)). cons_option (option_map (λ name. record { name = name; kind = kind_of (Some entry.1) }) o)
-              (filter_map (entry_in folder) listed)) (stranger root folder entry.0 in_root e))
+          (filter_map (entry_in folder) listed)) (stranger root folder entry.0 in_root e))
     ] refl
 
 pub children_in : (root folder : List ℕ) (nodes : Nodes) → is_in root folder ≡ true
@@ -170,9 +170,9 @@ below-insert root path nodes node in_root =
     get-below root (map.insert nodes path node) q
     ∙ ap (λ (o : Option Node). cond (is_in root q) o None) (map.get-insert nat_list_cmp_total nodes path node q)
     ∙ either_first (is_in root q) (eq_by_cmp (slice_cmp nat_cmp) q path) node (map.get nodes q)
-        (λ e. ap (is_in root) (same_key q path e) ∙ in_root)
+    (λ e. ap (is_in root) (same_key q path e) ∙ in_root)
     ∙ sym (map.get-insert nat_list_cmp_total (below (Some root) nodes) path node q
-        ∙ ap (λ (o : Option Node). cond (eq_by_cmp (slice_cmp nat_cmp) q path) (Some node) o) (get-below root nodes q)))
+    ∙ ap (λ (o : Option Node). cond (eq_by_cmp (slice_cmp nat_cmp) q path) (Some node) o) (get-below root nodes q)))
 
 either_none : (p q : Bool) (o : Option Node) → cond p (cond q None o) None ≡ cond q None (cond p o None)
 either_none true true o = refl
@@ -188,7 +188,7 @@ below-remove root path nodes =
     ∙ ap (λ (o : Option Node). cond (is_in root q) o None) (map.get-remove nat_list_cmp_total nodes path q)
     ∙ either_none (is_in root q) (eq_by_cmp (slice_cmp nat_cmp) q path) (map.get nodes q)
     ∙ sym (map.get-remove nat_list_cmp_total (below (Some root) nodes) path q
-        ∙ ap (λ (o : Option Node). cond (eq_by_cmp (slice_cmp nat_cmp) q path) None o) (get-below root nodes q)))
+    ∙ ap (λ (o : Option Node). cond (eq_by_cmp (slice_cmp nat_cmp) q path) None o) (get-below root nodes q)))
 
 nowhere_in : (change : Change) → IsIn None change → ⊥
 nowhere_in (ToOut byte) lies = cc
@@ -206,7 +206,7 @@ below-change root (Creates path) nodes lies = below-insert root path nodes (File
 below-change root (ToFile path byte) nodes lies =
     below-insert root path nodes (File (bytes_at nodes path ++ byte ∷ [])) lies
     ∙ ap (λ (o : Option Node). map.insert (below (Some root) nodes) path (File (unwrap_or (bytes_of o) [] ++ byte ∷ [])))
-        (sym (get_in root nodes path lies))
+    (sym (get_in root nodes path lies))
 below-change root (Removes path) nodes lies = below-remove root path nodes
 
 pub below-files_by : (root : Option (List ℕ)) (changes : List Change) (nodes : Nodes) → LieIn root changes
