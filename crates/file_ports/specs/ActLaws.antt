@@ -21,7 +21,7 @@ lie-append : (root : Option (List ℕ)) (first more : List Change) → LieIn roo
 lie-append root [] more a b = b
 lie-append root (change ∷ first) more a b = (a.0, lie-append root first more a.1 b)
 
-lie-front : (root : Option (List ℕ)) (first more : List Change) → LieIn root (first ++ more) → LieIn root first
+pub lie-front : (root : Option (List ℕ)) (first more : List Change) → LieIn root (first ++ more) → LieIn root first
 lie-front root [] more lie = tt
 lie-front root (change ∷ first) more lie = (lie.0, lie-front root first more lie.1)
 

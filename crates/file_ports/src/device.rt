@@ -109,6 +109,7 @@ impl FileDevice {
     ) -> Result<u16, FileStop>
         ensures ok { OnOk result (Acted (Write at length keep) self.old memory.now (T.told tree.old) (T.told tree.new) result self.new memory.now) }
         ensures err { OnErr result (CutOff (Write at length keep) self.old memory.now (T.told tree.old) (T.told tree.new)) }
+        ensures untold { T.told tree.old ≡ None → T.told tree.new ≡ None }
         ensures nowhere { ActedNowhere (Write at length keep) self.old memory.now result self.new memory.now }
         ensures untouched { self.old.path ≡ None → tree.new ≡ tree.old }
         ensures fault { OnErr result (result ≡ Err FileStop.TreeFault) }
@@ -164,6 +165,7 @@ impl FileDevice {
     pub fn delete<T: Tree>(&mut self, tree: &mut T) -> Result<u16, FileStop>
         ensures ok { OnOk result ((memory : List ℕ) → Acted Delete self.old memory (T.told tree.old) (T.told tree.new) result self.new memory) }
         ensures err { OnErr result ((memory : List ℕ) → CutOff Delete self.old memory (T.told tree.old) (T.told tree.new)) }
+        ensures untold { T.told tree.old ≡ None → T.told tree.new ≡ None }
         ensures nowhere { (memory : List ℕ) → ActedNowhere Delete self.old memory result self.new memory }
         ensures untouched { self.old.path ≡ None → tree.new ≡ tree.old }
         ensures fault { OnErr result (result ≡ Err FileStop.TreeFault) }

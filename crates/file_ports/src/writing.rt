@@ -1,5 +1,5 @@
 //! Writes.
-ghost use Rattle.std.specs.Prelude.{◌≡◌, ℕ, ◌<◌, ◌&&◌, ◌||◌, [], map, length, IfOk, IfSome, IsOk, OnOk, OnErr, IsTrue, IsSome, is_err};
+ghost use Rattle.std.specs.Prelude.{◌≡◌, ℕ, ◌<◌, ◌&&◌, ◌||◌, [], map, length, IfOk, IfSome, IsOk, OnOk, OnErr, IsTrue, IsSome, None, is_err};
 ghost use Rattle.uxn_io.specs.Faults.{Counted};
 ghost use Rattle.uxn_io.specs.Files.{kind_at, file_at};
 ghost use Rattle.uxn_io.specs.Outside.{ToFile};
@@ -36,6 +36,7 @@ fn begin<T: Tree>(tree: &mut T, path: &Path, is_writing: bool, keep: bool) -> Re
     ensures file { IfOk result (λ goes. IsTrue goes → IfSome (T.told tree.new) (λ nodes. IsSome (file_at nodes path.now))) }
     ensures front { OnErr result (IfSome (T.told tree.old) (λ nodes.
         HasMadeFront (and_then (begun is_writing keep (seen_of nodes path.now)) []) nodes (T.told tree.new))) }
+    ensures untold { T.told tree.old ≡ None → T.told tree.new ≡ None }
     ensures ledger { Counted (T.faults tree.old) (T.faults tree.new) (is_err result) }
     ensures sure { IfSome (T.told tree.old) (λ nodes.
         TreeTakes (T.sure tree.old) nodes (and_then (begun is_writing keep (seen_of nodes path.now)) []) → IsOk result) }
@@ -64,6 +65,7 @@ pub(crate) fn add<T: Tree>(
         Adds (begun is_writing keep (seen_of nodes path.now)) (map (λ byte. ToFile path.now byte) piece.now) goes nodes (T.told tree.new))) }
     ensures front { OnErr result (IfSome (T.told tree.old) (λ nodes.
         HasMadeFront (and_then (begun is_writing keep (seen_of nodes path.now)) (map (λ byte. ToFile path.now byte) piece.now)) nodes (T.told tree.new))) }
+    ensures untold { T.told tree.old ≡ None → T.told tree.new ≡ None }
     ensures ledger { Counted (T.faults tree.old) (T.faults tree.new) (is_err result) }
     ensures sure { IfSome (T.told tree.old) (λ nodes.
         TreeTakes (T.sure tree.old) nodes (and_then (begun is_writing keep (seen_of nodes path.now)) (map (λ byte. ToFile path.now byte) piece.now)) → IsOk result) }

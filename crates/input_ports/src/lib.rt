@@ -1,7 +1,7 @@
 //! The ports of the controller and the mouse: what an input stores at them, and what is 0 again after its vector.
 #![tactic(auto)]
 
-ghost use Rattle.std.specs.Prelude.{◌≡◌, ◌<◌, slice_index};
+ghost use Rattle.std.specs.Prelude.{◌≡◌, ◌<◌, length, slice_index};
 ghost use Rattle.input_ports.specs.Page.{stores_of, stores_after, vector_of, with_stores, short_stores};
 
 #[cfg(test)]
@@ -49,7 +49,8 @@ pub enum Input {
 /// Stores an input at its ports, as its vector finds them.
 #[tactic(auto, unfolding(crate::specs::Page::stores_of))]
 pub fn apply(page: &mut [u8; 256], input: &Input)
-    ensures { page.new ≡ with_stores page.old (stores_of (slice_index page.old) input.now) }
+    ensures page { page.new ≡ with_stores page.old (stores_of (slice_index page.old) input.now) }
+    ensures size { length page.new ≡ 256 }
 {
     match *input {
         Input::Key(byte) => page[KEY] = byte,
@@ -71,7 +72,8 @@ pub fn apply(page: &mut [u8; 256], input: &Input)
 /// Stores 0 at the ports that are 0 again after the vector: the key, or both ways of the wheel.
 #[tactic(auto, unfolding(crate::specs::Page::stores_after))]
 pub fn settle(page: &mut [u8; 256], input: &Input)
-    ensures { page.new ≡ with_stores page.old (stores_after input.now) }
+    ensures page { page.new ≡ with_stores page.old (stores_after input.now) }
+    ensures size { length page.new ≡ 256 }
 {
     match *input {
         Input::Key(_) => page[KEY] = 0,

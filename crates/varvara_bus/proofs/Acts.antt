@@ -1,4 +1,4 @@
-use Rattle.std.proofs.Common.{◌≡◌, Bool, true, false, ℕ, ◌+◌, ◌<◌, ◌≤◌, List, [], ◌∷◌, length, slice_index, map, refl, ap, sym, ◌∙◌, arith}
+use Rattle.std.proofs.Common.{◌≡◌, Bool, true, false, ℕ, ◌+◌, ◌<◌, ◌≤◌, List, [], ◌∷◌, length, slice_index, slice_set, map, refl, ap, sym, ◌∙◌, arith}
 use Rattle.std.specs.Prelude.{Option, Some, None, IfSome, Result, Ok, Err, IsOk, OnOk, OnErr, IfErr, is_err}
 use Rattle.std.specs.Borrow.{MutBor}
 use Rattle.uxn_io.specs.declared.sinks.Failed.{Failed}
@@ -7,7 +7,7 @@ use Rattle.varvara_bus.specs.declared.ports.Action.TheVariants.{PutsDebugText}
 use Rattle.varvara_bus.specs.declared.devices.Devices.{Devices}
 use Rattle.uxn_io.specs.Files.{Nodes}
 use Rattle.uxn_io.specs.Told.{extended, HasTakenFront}
-use Rattle.uxn_io.specs.Outside.{Change, ToErr, World, changed_by, changed_by-err, cut-err}
+use Rattle.uxn_io.specs.Outside.{Change, ToErr, World, changed_by, files_by, changed_by-err, cut-err}
 use Rattle.uxn_io.specs.Room.{Room}
 use Rattle.uxn_opcodes.specs.declared.Core.{Core}
 use Rattle.uxn_opcodes.specs.declared.Stop.{Stop}
@@ -17,7 +17,15 @@ use Rattle.varvara_bus.specs.State.{DeviceState, StandFor, HasFiles, clock_of, s
 use Rattle.varvara_bus.specs.Effect.{debug_bytes, action_of, no_effect, act, effect}
 use Rattle.uxn_io.specs.Taking.{files_made, files_gone, bytes_out, bytes_err, Remains, TreeTakes, TreeLeft, remains-all}
 use Rattle.varvara_bus.specs.InstructionLaws.{same-again, makes-both, stops-later}
-use Rattle.varvara_bus.specs.Bus.{Meaning, SameBus, BusStandsFor, HasRoot, held, world_of, sure_of, Makes, StopsShort, Wrote, Stopped, Acted, ActStopped}
+use Rattle.file_ports.specs.Actions.{Outcome}
+use Rattle.varvara_bus.specs.declared.ports.Action.TheVariants.{ActsOnFile}
+use Rattle.varvara_bus.specs.declared.ports.FileAct.{FileAct}
+use Rattle.varvara_bus.specs.declared.ports.FileAct.TheVariants.{Read}
+use Rattle.varvara_bus.specs.FileActs.{file_outcome, file_acted}
+use Rattle.varvara_bus.specs.FileCalls.{FileActed, FileStopped}
+use Rattle.varvara_bus.specs.declared.ports.FileNumber.{FileNumber}
+use Rattle.varvara_bus.specs.declared.ports.FileNumber.TheVariants.{First, Second}
+use Rattle.varvara_bus.specs.Bus.{Meaning, SameBus, BusStandsFor, HasRoot, WantsFolder, file_held, held, world_of, sure_of, Makes, StopsShort, Wrote, Stopped, Acted, ActStopped}
 
 -- the debug text put whole
 pub debug_made : (world : World) (byte : ℕ) (core : Core) (now : Option (List ℕ)) → now ≡ extended world.err (debug_bytes byte core)
@@ -33,11 +41,17 @@ pub out-none : (text : List ℕ) → bytes_out (map (λ letter. ToErr letter) te
 out-none [] = refl
 out-none (letter ∷ text) = let later = out-none text in omega (arith, later)
 
+-- a byte stored leaves the file devices
+pub same-file : (number : FileNumber) (devices : Devices) (port byte : ℕ) → file_held number (record devices { page = slice_set devices.page port byte }) ≡ file_held number devices
+same-file First devices port byte = refl
+same-file Second devices port byte = refl
+
 module _ {T O E : Type 0} (meaning : Meaning T O E) where
   -- a byte was stored in the port, and nothing else was done
   pub record Stored (before now : Bus T O E) (port byte : ℕ) : Type 0 where
     pub devices : (state : DeviceState) → BusStandsFor meaning.tree before state → BusStandsFor meaning.tree now (storing ((port, byte) ∷ []) state)
     pub held : held now port ≡ byte
+    pub files : (number : FileNumber) → file_held number now.devices.now ≡ file_held number before.devices.now
     pub tree : now.tree.now ≡ before.tree.now
     pub out : now.out.now ≡ before.out.now
     pub err : now.err.now ≡ before.err.now
@@ -68,6 +82,7 @@ module _ {T O E : Type 0} (meaning : Meaning T O E) where
     };
     page = refl;
     memory = λ wanted. cc;
+    names = λ wanted. cc;
     same = record {
       lent = record { devices = refl; tree = refl; out = refl; err = lent };
       files = record { stays = λ path outside there. there };
@@ -156,6 +171,69 @@ module _ {T O E : Type 0} (meaning : Meaning T O E) where
     same = devices-same before devices lent frames clock root;
   }
 
+  -- a file device that acted
+  more : (n m : ℕ) → n ≤ n + m
+  more n m = omega arith
+
+  state-files : (number : FileNumber) (outcome : Outcome) (state : DeviceState) (told : Option Nodes)
+      → HasFiles told state.root (files_by state.part outcome.changes) state.parent
+      → HasFiles told (file_acted number outcome state).root (file_acted number outcome state).part (file_acted number outcome state).parent
+  state-files First outcome state told has = has
+  state-files Second outcome state told has = has
+
+  pub file_done : (before : Bus T O E) (devices : MutBor Devices) (tree : MutBor T) (core : Core) (memory : List ℕ) (number : FileNumber) (part : FileAct)
+      (byte : ℕ) (answer : Result (Unit {0}) Stop)
+      → OnOk answer ((state : DeviceState) → StandFor before.devices.now state → HasFiles (meaning.tree before.tree.now) state.root state.part state.parent
+      → FileActed number part state core.memory (meaning.tree before.tree.now) (meaning.tree tree.now) (meaning.tree_room before.tree.now) (meaning.tree_room tree.now) devices.now memory)
+      → SameBus meaning.tree before (record { devices = devices; tree = tree; out = before.out; err = before.err })
+      → OnOk answer (Acted meaning before core (ActsOnFile number part) byte (record { devices = devices; tree = tree; out = before.out; err = before.err }) (record core { memory = memory }))
+  file_done before devices tree core memory number part byte (Err stop) acted same = tt
+  file_done before devices tree core memory number part byte (Ok done) acted same = record {
+    does = λ state stands.
+        let outcome = file_outcome number part state core.memory in
+        let done = acted state stands.devices stands.files in
+        record {
+          core = ap (λ bytes. record core { memory = bytes }) done.memory;
+          devices = record { devices = done.devices; files = state-files number outcome state (meaning.tree tree.now) done.files.files };
+          makes = record {
+            world = done.files.world (world_of meaning before) refl;
+            remains = record {
+              tree = done.files.left;
+              out = more (meaning.out_room before.out.now) (bytes_out outcome.changes);
+              err = more (meaning.err_room before.err.now) (bytes_err outcome.changes);
+            };
+          };
+        };
+    same = same;
+  }
+
+  pub file_stopped : (before : Bus T O E) (devices : MutBor Devices) (tree : MutBor T) (core : Core) (number : FileNumber) (part : FileAct)
+      (byte : ℕ) (answer : Result (Unit {0}) Stop)
+      → IfErr answer (λ stop. (state : DeviceState) → StandFor before.devices.now state → HasFiles (meaning.tree before.tree.now) state.root state.part state.parent
+      → FileStopped (file_outcome number part state core.memory).changes (meaning.tree before.tree.now) (meaning.tree tree.now) (meaning.tree_room before.tree.now) stop)
+      → OnErr answer (devices.now.page ≡ before.devices.now.page) → (answer ≡ Err NoMemory → part ≡ Read)
+      → (answer ≡ Err NoMemory → WantsFolder (file_held number before.devices.now) (meaning.tree before.tree.now))
+      → (answer ≡ Err NoMemory → HasRoot before.devices.now)
+      → SameBus meaning.tree before (record { devices = devices; tree = tree; out = before.out; err = before.err })
+      → IfErr answer (λ stop. ActStopped meaning before core (ActsOnFile number part) byte stop (record { devices = devices; tree = tree; out = before.out; err = before.err }))
+  file_stopped before devices tree core number part byte (Ok done) stopped page reads wants has_root same = tt
+  file_stopped before devices tree core number part byte (Err stop) stopped page reads wants has_root same = record {
+    cut = λ state stands.
+        let short = stopped state stands.devices stands.files in
+        record {
+          cut = short.cut (world_of meaning before) refl;
+          not_sure = short.not_sure (meaning.out_room before.out.now) (meaning.err_room before.err.now);
+        };
+    page = page;
+    memory = λ wanting. has_root (ap (λ s. Err s) wanting);
+    names = λ wanting. record {
+      number = number;
+      reads = ap (λ p. ActsOnFile number p) (reads (ap (λ s. Err s) wanting));
+      folder = wants (ap (λ s. Err s) wanting);
+    };
+    same = same;
+  }
+
   effect-of : (action : Action) (port byte : ℕ) (state : DeviceState) (core : Core) → action ≡ action_of port → act action byte (storing ((port, byte) ∷ []) state) core ≡ effect state core port byte
   unfolding effect
   effect-of action port byte state core is = ap (λ a. act a byte (storing ((port, byte) ∷ []) state) core) is
@@ -182,5 +260,12 @@ module _ {T O E : Type 0} (meaning : Meaning T O E) where
         stops-later meaning before middle now stop [] (effect state old port byte).changes (stored-makes before middle port byte stored) short;
     stored = ap (λ page. slice_index page port) acted.page ∙ stored.held;
     memory = λ wanted. rw stored.same.root at (acted.memory wanted);
+    names = λ wanted.
+        let wants = acted.names wanted in
+        record {
+          number = wants.number;
+          reads = sym is ∙ wants.reads;
+          folder = rw (stored.files wants.number) at (rw stored.tree at wants.folder);
+        };
     same = same-again meaning.tree before middle now stored.same acted.same;
   }

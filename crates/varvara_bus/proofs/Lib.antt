@@ -1,3 +1,4 @@
 pub mod Acts
 pub mod Drawn
 pub mod Appends
+pub mod FileCalls

@@ -5,7 +5,8 @@ use Rattle.uxn_io.specs.Faults.{Counts, counts}
 use Rattle.uxn_io.specs.Outside.{Change, World, changed_by, IsCutOff}
 use Rattle.uxn_io.specs.Room.{Room}
 use Rattle.uxn_io.specs.Taking.{Sure, sure, Remains, WasNotSure}
-use Rattle.file_ports.specs.Device.{suits}
+use Rattle.file_ports.specs.Device.{FileState, suits}
+use Rattle.file_ports.specs.Answers.{TakesNames}
 use Rattle.uxn_opcodes.specs.declared.Core.{Core}
 use Rattle.uxn_opcodes.specs.declared.Stop.{Stop}
 use Rattle.uxn_opcodes.specs.declared.Stop.TheVariants.{NoMemory}
@@ -16,7 +17,11 @@ use Rattle.varvara_bus.specs.declared.devices.Devices.{Devices}
 use Rattle.varvara_bus.specs.State.{DeviceState, StandFor, HasFiles, clock_of}
 use Rattle.varvara_bus.specs.Reads.{read_of}
 use Rattle.varvara_bus.specs.declared.ports.Action.{Action}
-use Rattle.varvara_bus.specs.Effect.{Effect, act, effect}
+use Rattle.varvara_bus.specs.declared.ports.Action.TheVariants.{ActsOnFile}
+use Rattle.varvara_bus.specs.declared.ports.FileNumber.{FileNumber}
+use Rattle.varvara_bus.specs.declared.ports.FileNumber.TheVariants.{First, Second}
+use Rattle.varvara_bus.specs.declared.ports.FileAct.TheVariants.{Read}
+use Rattle.varvara_bus.specs.Effect.{Effect, action_of, act, effect}
 
 -- the same four are lent
 pub record SameLent {T O E : Type 0} (before now : Bus T O E) : Type 0 where
@@ -40,6 +45,21 @@ pub record FilesStay (root : Option (List ℕ)) (before now : Option Nodes) : Ty
 -- the machine has a root
 abbrev pub HasRoot : Devices → Type 0
 HasRoot devices = IsSome devices.root
+
+-- memory is wanting for the names of the folder at the path of a file device that is not reading
+pub record WantsFolder (device : FileState) (told : Option Nodes) : Type 0 where
+  pub named : IsSome device.path
+  pub names : TakesNames device told
+
+abbrev pub file_held : FileNumber → Devices → FileState
+file_held First devices = devices.first_file
+file_held Second devices = devices.second_file
+
+-- that comes of a read by one of the two alone
+pub record WantsNames (action : Action) (devices : Devices) (told : Option Nodes) : Type 0 where
+  pub number : FileNumber
+  pub reads : action ≡ ActsOnFile number Read
+  pub folder : WantsFolder (file_held number devices) told
 
 -- what no write changes: what is lent, which files are outside the root part, the frames begun, the clock and the root
 pub record SameBus {T O E : Type 0} (told_tree : T → Option Nodes) (before now : Bus T O E) : Type 0 where
@@ -136,6 +156,7 @@ module _ {T O E : Type 0} (meaning : Meaning T O E) where
     pub cut : (state : DeviceState) → BusStandsFor meaning.tree before state → StopsShort before now stop (effect state old port byte).changes
     pub stored : held now port ≡ byte
     pub memory : stop ≡ NoMemory → HasRoot before.devices.now
+    pub names : stop ≡ NoMemory → WantsNames (action_of port) before.devices.now (meaning.tree before.tree.now)
     pub same : SameBus meaning.tree before now
 
   -- the rules of a bus's ports
@@ -152,4 +173,5 @@ module _ {T O E : Type 0} (meaning : Meaning T O E) where
     pub cut : (state : DeviceState) → BusStandsFor meaning.tree before state → StopsShort before now stop (act action byte state old).changes
     pub page : now.devices.now.page ≡ before.devices.now.page
     pub memory : stop ≡ NoMemory → HasRoot before.devices.now
+    pub names : stop ≡ NoMemory → WantsNames action before.devices.now (meaning.tree before.tree.now)
     pub same : SameBus meaning.tree before now

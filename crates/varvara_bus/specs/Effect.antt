@@ -7,9 +7,14 @@ use Rattle.system_port.specs.DebugText.{debug_text_of}
 use Rattle.varvara_bus.specs.declared.ports.Action.{Action}
 use Rattle.varvara_bus.specs.declared.ports.Action.TheVariants.{Stores, Expands, SetsWorkingPointer, SetsReturnPointer}
 use Rattle.varvara_bus.specs.declared.ports.Action.TheVariants.{PutsDebugText, PutsOut, PutsErr}
-use Rattle.varvara_bus.specs.declared.ports.Action.TheVariants.{AsksWidth, AsksHeight, DrawsPixel, DrawsSprite, StartsNote}
+use Rattle.varvara_bus.specs.declared.ports.Action.TheVariants.{AsksWidth, AsksHeight, DrawsPixel, DrawsSprite, StartsNote, ActsOnFile}
 use Rattle.varvara_bus.specs.declared.ports.Voice.{Voice}
 use Rattle.varvara_bus.specs.declared.ports.Voice.TheVariants.{First, Second, Third, Fourth}
+use Rattle.varvara_bus.specs.declared.ports.FileNumber.{FileNumber}
+use Rattle.varvara_bus.specs.declared.ports.FileNumber.TheVariants.{First as FirstFile, Second as SecondFile}
+use Rattle.varvara_bus.specs.declared.ports.FileAct.{FileAct}
+use Rattle.varvara_bus.specs.declared.ports.FileAct.TheVariants.{Stat, Delete, Name, Read, Write}
+use Rattle.file_ports.specs.Actions.{Outcome}
 use Rattle.input_ports.specs.Page.{short_stores}
 use Rattle.screen_layers.specs.declared.Moved.{Moved}
 use Rattle.screen_layers.specs.Drawings.{moved_by_pixel, moved_by_sprite}
@@ -18,6 +23,7 @@ use Rattle.audio_mixer.specs.Sounds.{started_on}
 use Rattle.varvara_bus.specs.History.{Store, History, stored, stored_short}
 use Rattle.varvara_bus.specs.State.{DeviceState, storing}
 use Rattle.varvara_bus.specs.Voices.{number_of, base_of, note_at}
+use Rattle.varvara_bus.specs.FileActs.{file_outcome, file_acted}
 
 -- the ports whose write acts
 abbrev pub actions : List (ℕ × Action)
@@ -36,6 +42,16 @@ actions =
     ∷ (0x4f, StartsNote Second)
     ∷ (0x5f, StartsNote Third)
     ∷ (0x6f, StartsNote Fourth)
+    ∷ (0xa5, ActsOnFile FirstFile Stat)
+    ∷ (0xa6, ActsOnFile FirstFile Delete)
+    ∷ (0xa9, ActsOnFile FirstFile Name)
+    ∷ (0xad, ActsOnFile FirstFile Read)
+    ∷ (0xaf, ActsOnFile FirstFile Write)
+    ∷ (0xb5, ActsOnFile SecondFile Stat)
+    ∷ (0xb6, ActsOnFile SecondFile Delete)
+    ∷ (0xb9, ActsOnFile SecondFile Name)
+    ∷ (0xbd, ActsOnFile SecondFile Read)
+    ∷ (0xbf, ActsOnFile SecondFile Write)
     ∷ []
 
 abbrev pub action_in : List (ℕ × Action) → ℕ → Action
@@ -104,6 +120,14 @@ note_started voice state = record state {
   sounds = started_on (number_of voice) (note_at state.history (base_of voice)) state.sounds;
 }
 
+-- a file device has acted
+abbrev pub file_effect : FileNumber → Outcome → DeviceState → Core → Effect
+file_effect number outcome devices core = record {
+  core = record core { memory = outcome.memory };
+  devices = file_acted number outcome devices;
+  changes = outcome.changes;
+}
+
 -- what each action does, once the byte is stored
 abbrev pub act : Action → ℕ → DeviceState → Core → Effect
 act Stores byte devices core = no_effect devices core
@@ -118,6 +142,7 @@ act AsksHeight byte devices core = no_effect (height_asked devices) core
 act DrawsPixel byte devices core = no_effect (pixel_drawn byte devices) core
 act DrawsSprite byte devices core = no_effect (sprite_drawn byte core.memory devices) core
 act (StartsNote voice) byte devices core = no_effect (note_started voice devices) core
+act (ActsOnFile number part) byte devices core = file_effect number (file_outcome number part devices core.memory) devices core
 
 -- a write stores its byte and then acts
 unfoldable pub effect : DeviceState → Core → ℕ → ℕ → Effect

@@ -13,6 +13,7 @@ use Rattle.std.specs.FinMap as nodes_map
 use Rattle.uxn_io.specs.declared.trees.Kind.TheVariants.{File as FileOf}
 use Rattle.uxn_io.specs.Files.{Node, Nodes, File, Folder, bytes_of, kind_of, kind_at}
 use Rattle.varvara_bus.specs.Bus.{IsFileWhereTold}
+use Rattle.file_ports.specs.Device.{Suits}
 use Rattle.varvara_bus.specs.declared.devices.Devices.{Devices}
 use Rattle.varvara_bus.specs.History.{Store, at_first, stored}
 use Rattle.uxn_opcodes.specs.declared.Core.{Core}
@@ -41,6 +42,19 @@ pub stand-stored : (devices : Devices) (state : DeviceState) (port byte : ℕ) �
     → StandFor (record devices { page = slice_set devices.page port byte }) (storing ((port, byte) ∷ []) state)
 stand-stored devices state port byte within stands = record {
   page = λ p. found devices.page port byte p within ∙ ap (λ held. if p == port then byte else held) (stands.page p);
+  screen = stands.screen;
+  voices = stands.voices;
+  files = stands.files;
+  frames = stands.frames;
+  clock = stands.clock;
+  root = stands.root;
+}
+
+-- it does not matter how the file devices are known to suit the root
+pub stand-suited : (devices : Devices) (state : DeviceState) (one : Suits devices.root devices.first_file) (other : Suits devices.root devices.second_file)
+    → StandFor devices state → StandFor (record devices { first_suits = one; second_suits = other }) state
+stand-suited devices state one other stands = record {
+  page = stands.page;
   screen = stands.screen;
   voices = stands.voices;
   files = stands.files;

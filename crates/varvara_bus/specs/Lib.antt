@@ -2,8 +2,10 @@ pub mod History
 pub mod State
 pub mod Voices
 pub mod Reads
+pub mod FileActs
 pub mod Effect
 pub mod Bus
+pub mod FileCalls
 pub mod Laws
 pub mod Model
 pub mod InstructionLaws

@@ -19,10 +19,17 @@ use Rattle.uxn_opcodes.specs.Model.{Machine, after_instruction, access_done, wri
 use Rattle.varvara_bus.specs.declared.ports.Action.{Action}
 use Rattle.varvara_bus.specs.declared.ports.Action.TheVariants.{Stores, Expands, SetsWorkingPointer, SetsReturnPointer}
 use Rattle.varvara_bus.specs.declared.ports.Action.TheVariants.{PutsDebugText, PutsOut, PutsErr}
-use Rattle.varvara_bus.specs.declared.ports.Action.TheVariants.{AsksWidth, AsksHeight, DrawsPixel, DrawsSprite, StartsNote}
+use Rattle.varvara_bus.specs.declared.ports.Action.TheVariants.{AsksWidth, AsksHeight, DrawsPixel, DrawsSprite, StartsNote, ActsOnFile}
+use Rattle.varvara_bus.specs.declared.ports.FileNumber.{FileNumber}
+use Rattle.varvara_bus.specs.declared.ports.FileNumber.TheVariants.{First, Second}
 use Rattle.file_ports.specs.Device.{FileState, Suits}
+use Rattle.file_ports.specs.Actions as file
+use Rattle.file_ports.specs.Actions.{FileAction, Outcome}
+use Rattle.file_ports.specs.ActLaws.{act-lies, act-suits}
+use Rattle.file_ports.specs.OutsideLaws.{AreElsewhere, elsewhere}
 use Rattle.varvara_bus.specs.Bus.{IsOutside}
 use Rattle.varvara_bus.specs.State.{DeviceState, storing}
+use Rattle.varvara_bus.specs.FileActs.{file_base, file_in, file_action, file_outcome, file_acted}
 use Rattle.varvara_bus.specs.Effect.{act, debug_bytes, action_of, effect}
 use Rattle.varvara_bus.specs.Model.{Devised, varvara, instruction_effect}
 use Rattle.uxn_io.specs.Changes.{with_appended}
@@ -127,6 +134,31 @@ pub record IsApart (path : List ℕ) (root : Option (List ℕ)) (one other : Fil
 abbrev pub StandsApart : List ℕ → DeviceState → Type 0
 StandsApart path devices = IsApart path devices.root devices.first_file devices.second_file
 
+-- so do both after one of them has acted
+in-suits : (path : List ℕ) (number : FileNumber) (devices : DeviceState) → StandsApart path devices → Suits devices.root (file_in number devices)
+in-suits path First devices apart = apart.first
+in-suits path Second devices apart = apart.second
+
+acted-apart : (path : List ℕ) (number : FileNumber) (outcome : Outcome) (devices : DeviceState) → StandsApart path devices
+    → Suits devices.root outcome.device → StandsApart path (file_acted number outcome devices)
+acted-apart path First outcome devices apart suits = record { outside = apart.outside; first = suits; second = apart.second }
+acted-apart path Second outcome devices apart suits = record { outside = apart.outside; first = apart.first; second = suits }
+
+-- changes of other paths leave a path alone
+elsewhere-spares : (path : List ℕ) (changes : List Change) → AreElsewhere path changes → Each (Spares path) changes
+elsewhere-spares path [] apart = tt
+elsewhere-spares path (ToOut byte ∷ changes) apart = (tt, elsewhere-spares path changes apart.1)
+elsewhere-spares path (ToErr byte ∷ changes) apart = (tt, elsewhere-spares path changes apart.1)
+elsewhere-spares path (Creates other ∷ changes) apart = (apart.0, elsewhere-spares path changes apart.1)
+elsewhere-spares path (ToFile other byte ∷ changes) apart = (apart.0, elsewhere-spares path changes apart.1)
+elsewhere-spares path (Removes other ∷ changes) apart = (apart.0, elsewhere-spares path changes apart.1)
+
+acted-spares : (path : List ℕ) (action : FileAction) (root : Option (List ℕ)) (part : Nodes) (parent : Bool) (device : FileState) (memory : List ℕ)
+    → IsOutside root path → Suits root device → Each (Spares path) (file.act action root part parent device memory).changes
+acted-spares path action root part parent device memory outside suits =
+    elsewhere-spares path (file.act action root part parent device memory).changes
+    (elsewhere root path (file.act action root part parent device memory).changes (act-lies action root part parent device memory suits) outside)
+
 -- an action of a port leaves such a path alone, and the file devices suit the root still
 act-spares : (path : List ℕ) (action : Action) (byte : ℕ) (devices : DeviceState) (core : Core) → StandsApart path devices
     → Each (Spares path) (act action byte devices core).changes × StandsApart path (act action byte devices core).devices
@@ -143,6 +175,10 @@ act-spares path AsksHeight byte devices core apart = (tt, apart)
 act-spares path DrawsPixel byte devices core apart = (tt, apart)
 act-spares path DrawsSprite byte devices core apart = (tt, apart)
 act-spares path (StartsNote voice) byte devices core apart = (tt, apart)
+act-spares path (ActsOnFile number part) byte devices core apart = (
+  acted-spares path (file_action part devices.history (file_base number)) devices.root devices.part devices.parent (file_in number devices) core.memory apart.outside (in-suits path number devices apart),
+  acted-apart path number (file_outcome number part devices core.memory) devices apart (act-suits (file_action part devices.history (file_base number)) devices.root devices.part devices.parent (file_in number devices) core.memory (in-suits path number devices apart)),
+)
 
 effect-spares : (path : List ℕ) (devices : DeviceState) (core : Core) (port byte : ℕ) → StandsApart path devices
     → Each (Spares path) (effect devices core port byte).changes × StandsApart path (effect devices core port byte).devices

@@ -28,9 +28,10 @@ ghost use Rattle.varvara_bus.specs.Bus.{
   ActStopped,
 };
 
-use crate::devices::{
-    Devices, apply as apply_to, give as give_to, settle as settle_to, shown, store, stored,
-    stored_short,
+use crate::devices::Devices;
+use crate::files::act_on_file;
+use crate::page::{
+    apply as apply_to, give as give_to, settle as settle_to, shown, store, stored, stored_short,
 };
 use crate::ports::{Action, Source};
 use crate::screen::{ask_height, ask_width, draw_pixel, draw_sprite, palette, size_shown};
@@ -302,6 +303,9 @@ impl<'a, T: Tree, O: Sink, E: Sink> Bus<'a, T, O, E> {
             Action::StartsNote(voice) => {
                 start_note(self.devices, voice);
                 Ok(())
+            }
+            Action::ActsOnFile(number, act) => {
+                act_on_file(self.devices, self.tree, &mut core.memory, number, act)
             }
         }
     }

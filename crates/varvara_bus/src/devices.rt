@@ -1,21 +1,10 @@
 //! The devices of one machine.
-ghost use Rattle.std.specs.Prelude.{◌≡◌, ℕ, Bool, ◌+◌, ◌*◌, ◌<◌, IfOk, [], ◌∷◌, slice_index, slice_set, pos, neg_ℤ, ◌≤ℤ◌};
-ghost use Rattle.console_port.specs.Console.{given};
-ghost use Rattle.input_ports.specs.Page.{with_stores, stores_of, stores_after};
-ghost use Rattle.input_ports.specs.Page.{short_stores};
-ghost use Rattle.varvara_bus.specs.History.{at_first, stored, stored_short};
-ghost use Rattle.varvara_bus.specs.Reads.{byte_of, shown_by};
-ghost use Rattle.uxn_io.specs.Files.{Nodes};
-ghost use Rattle.varvara_bus.specs.State.{DeviceState, StandFor, clock_of, new_state, storing};
+ghost use Rattle.file_ports.specs.Device.{Suits};
 
-use crate::ports::{TimePart, byte_of};
-use crate::time::{Clock, Time};
+use crate::time::Time;
 use audio_mixer::Mixer;
-use console_port::give as give_page;
 use file_ports::FileDevice;
-use input_ports::{Input, apply as apply_page, settle as settle_page};
 use screen_layers::Screen;
-use std::alloc::{AllocError, Global};
 use uxn_io::Path;
 
 /// What the devices hold.
@@ -28,124 +17,6 @@ pub struct Devices {
     pub(crate) second_file: FileDevice,
     pub(crate) time: Time,
     pub(crate) root: Option<Path>,
-}
-
-impl Devices {
-    /// New devices: all ports hold 0 but 22 to 25, which hold the size of the screen; nothing is drawn or heard, no file is
-    /// named, and no frame has begun. It takes the memory of the screen; no other call takes any.
-    pub fn new(alloc: Global, root: Option<Path>, clock: Clock) -> Result<Devices, AllocError>
-        requires seconds_from { pos 0 ≤ℤ clock.seconds }
-        requires seconds_to { clock.seconds ≤ℤ pos 253370000000 }
-        requires offset_from { neg_ℤ (pos 840) ≤ℤ clock.offset }
-        requires offset_to { clock.offset ≤ℤ pos 840 }
-        ensures { IfOk result (λ devices. (part : Nodes) → (parent : Bool) → StandFor devices (new_state clock root part parent)) }
-    {
-        let screen = Screen::new(alloc)?;
-        Ok(Devices {
-            page: new_page(),
-            screen,
-            mixer: Mixer::new(),
-            first_file: FileDevice::new(alloc),
-            second_file: FileDevice::new(alloc),
-            time: Time {
-                seconds: clock.seconds,
-                offset: clock.offset,
-                frames: 0,
-            },
-            root,
-        })
-    }
-}
-
-/// What ports hold at first.
-fn new_page() -> [u8; 256]
-    ensures { (port : ℕ) → slice_index result port ≡ at_first port }
-{
-    let mut page = [0; 256];
-    page[0x25] = 0x40;
-    page[0x24] = 0x01;
-    page[0x22] = 0x02;
-    page
-}
-
-/// The byte last stored in a port.
-#[inline(always)]
-pub(crate) fn stored(devices: &Devices, port: u8) -> u8
-    ensures held { result ≡ slice_index devices.now.page port }
-    ensures stored { (state : DeviceState) → StandFor devices.now state → result ≡ stored state.history port }
-{
-    devices.page[usize::from(port)]
-}
-
-/// Stores a byte in a port, without acting.
-#[inline(always)]
-pub(crate) fn store(devices: &mut Devices, port: u8, value: u8)
-    ensures devices { devices.new ≡ record devices.old { page = slice_set devices.old.page port value } }
-    ensures stands { (state : DeviceState) → StandFor devices.old state → StandFor devices.new (storing ((port, value) ∷ []) state) }
-    ensures held { slice_index devices.new.page port ≡ value }
-    ensures frames { devices.new.time.frames ≡ devices.old.time.frames }
-    ensures clock { clock_of devices.new ≡ clock_of devices.old }
-    ensures root { devices.new.root ≡ devices.old.root }
-{
-    devices.page[usize::from(port)] = value;
-}
-
-/// Stores an event of the console.
-pub(crate) fn give(devices: &mut Devices, value: u8, kind: u8)
-    ensures devices { devices.new ≡ record devices.old { page = given devices.old.page value kind } }
-    ensures stands { (state : DeviceState) → StandFor devices.old state
-        → StandFor devices.new (storing ((0x12, value) ∷ (0x17, kind) ∷ []) state) }
-{
-    give_page(&mut devices.page, value, kind);
-}
-
-/// Stores an input at its ports.
-pub(crate) fn apply(devices: &mut Devices, input: &Input)
-    ensures devices { devices.new ≡ record devices.old {
-      page = with_stores devices.old.page (stores_of (slice_index devices.old.page) input.now);
-    } }
-    ensures stands { (state : DeviceState) → StandFor devices.old state
-        → StandFor devices.new (storing (stores_of (stored state.history) input.now) state) }
-{
-    apply_page(&mut devices.page, input);
-}
-
-/// Stores 0 at the ports of an input that are 0 again after its vector.
-pub(crate) fn settle(devices: &mut Devices, input: &Input)
-    ensures devices { devices.new ≡ record devices.old { page = with_stores devices.old.page (stores_after input.now) } }
-    ensures stands { (state : DeviceState) → StandFor devices.old state
-        → StandFor devices.new (storing (stores_after input.now) state) }
-{
-    settle_page(&mut devices.page, input);
-}
-
-/// The short in a port and the next one.
-#[inline(always)]
-pub(crate) fn stored_short(devices: &Devices, port: u8) -> u16
-    requires { port < 255 }
-    ensures { (state : DeviceState) → StandFor devices.now state → result ≡ stored_short state.history port }
-{
-    let high = devices.page[usize::from(port)];
-    let low = devices.page[usize::from(port) + 1];
-    u16::from(high) * 256 + u16::from(low)
-}
-
-/// Stores a short in a port and the next one, its high byte first.
-pub(crate) fn store_short(devices: &mut Devices, port: u8, value: u16)
-    requires { port < 255 }
-    ensures stands { (state : DeviceState) → StandFor devices.old state → StandFor devices.new (storing (short_stores port value) state) }
-    ensures frames { devices.new.time.frames ≡ devices.old.time.frames }
-    ensures clock { clock_of devices.new ≡ clock_of devices.old }
-    ensures root { devices.new.root ≡ devices.old.root }
-{
-    store(devices, port, (value / 256) as u8);
-    store(devices, port + 1, (value % 256) as u8);
-}
-
-/// A byte of what the clock shows.
-#[inline(never)]
-pub(crate) fn shown(devices: &Devices, part: TimePart) -> u8
-    ensures { result ≡ byte_of part (shown_by (clock_of devices.now) devices.now.time.frames) }
-{
-    byte_of(part, &devices.time.shown())
+    ghost first_suits: { Suits root first_file },
+    ghost second_suits: { Suits root second_file },
 }

@@ -3,6 +3,8 @@
 
 mod bus;
 mod devices;
+mod files;
+mod page;
 mod ports;
 mod screen;
 #[cfg(test)]

@@ -2,6 +2,7 @@
 ghost use Rattle.std.specs.Prelude.{◌≡◌, ◌<◌, ◌≤◌};
 ghost use Rattle.varvara_bus.specs.Voices.{number_of, base_of};
 ghost use Rattle.varvara_bus.specs.Reads.{source_of, byte_of};
+ghost use Rattle.varvara_bus.specs.FileActs.{file_base};
 ghost use Rattle.varvara_bus.specs.Effect.{action_of};
 
 use clock_port::CivilFields;
@@ -179,6 +180,38 @@ pub(crate) enum Action {
     DrawsSprite,
     /// A note is started on a voice.
     StartsNote(Voice),
+    /// A file device acts.
+    ActsOnFile(FileNumber, FileAct),
+}
+
+/// One of the two file devices.
+#[derive(Clone, Copy)]
+pub(crate) enum FileNumber {
+    First,
+    Second,
+}
+
+/// What a file device does.
+#[derive(Clone, Copy)]
+pub(crate) enum FileAct {
+    Stat,
+    Delete,
+    Name,
+    Read,
+    Write,
+}
+
+impl FileNumber {
+    /// The first of its ports.
+    pub(crate) fn base(self) -> u8
+        ensures base { result ≡ file_base self }
+        ensures most { result ≤ 0xb0 }
+    {
+        match self {
+            FileNumber::First => 0xa0,
+            FileNumber::Second => 0xb0,
+        }
+    }
 }
 
 impl Action {
@@ -201,6 +234,16 @@ impl Action {
             0x4f => Action::StartsNote(Voice::Second),
             0x5f => Action::StartsNote(Voice::Third),
             0x6f => Action::StartsNote(Voice::Fourth),
+            0xa5 => Action::ActsOnFile(FileNumber::First, FileAct::Stat),
+            0xa6 => Action::ActsOnFile(FileNumber::First, FileAct::Delete),
+            0xa9 => Action::ActsOnFile(FileNumber::First, FileAct::Name),
+            0xad => Action::ActsOnFile(FileNumber::First, FileAct::Read),
+            0xaf => Action::ActsOnFile(FileNumber::First, FileAct::Write),
+            0xb5 => Action::ActsOnFile(FileNumber::Second, FileAct::Stat),
+            0xb6 => Action::ActsOnFile(FileNumber::Second, FileAct::Delete),
+            0xb9 => Action::ActsOnFile(FileNumber::Second, FileAct::Name),
+            0xbd => Action::ActsOnFile(FileNumber::Second, FileAct::Read),
+            0xbf => Action::ActsOnFile(FileNumber::Second, FileAct::Write),
             _ => Action::Stores,
         }
     }

@@ -6,7 +6,8 @@ ghost use Rattle.screen_frame.specs.Colours.{colours_of};
 ghost use Rattle.varvara_bus.specs.History.{colour_bytes};
 ghost use Rattle.varvara_bus.specs.Effect.{width_asked, height_asked, pixel_drawn, sprite_drawn};
 
-use crate::devices::{Devices, store_short, stored, stored_short};
+use crate::devices::Devices;
+use crate::page::{store_short, stored, stored_short};
 use crate::ports::SizePart;
 use screen_frame::Palette;
 use uxn_memory::Memory;

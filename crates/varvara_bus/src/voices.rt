@@ -5,7 +5,8 @@ ghost use Rattle.varvara_bus.specs.State.{DeviceState, StandFor, clock_of, rende
 ghost use Rattle.varvara_bus.specs.Voices.{number_of, note_at, voice_byte};
 ghost use Rattle.varvara_bus.specs.Effect.{note_started};
 
-use crate::devices::{Devices, stored, stored_short};
+use crate::devices::Devices;
+use crate::page::{stored, stored_short};
 use crate::ports::{Voice, VoicePart};
 use audio_mixer::Start;
 use uxn_memory::Memory;

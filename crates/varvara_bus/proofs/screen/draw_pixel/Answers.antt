@@ -6,4 +6,4 @@ returns-clause-stands c state stands =
     rw (pixel-read state c.args.control _ _ _ _ (c.stored_short-x.ensures state stands) (c.stored_short-y.ensures state stands) (c.stored-auto.ensures.stored state stands)
     c.pixel-next_x.ensures.moved)
     (c.store_short-2.ensures.stands _ (c.store_short.ensures.stands _
-    (drawn_on c.args.devices.now _ state _ stands (c.pixel-next_x.ensures.drawn state.picture stands.screen))))
+    (drawn_on c.args.devices.now _ state _ _ _ stands (c.pixel-next_x.ensures.drawn state.picture stands.screen))))

@@ -1,6 +1,6 @@
 use Rattle.std.proofs.Common.{refl}
 use Rattle.varvara_bus.specs.Effect.{width_asked, height_asked, pixel_drawn, sprite_drawn, note_started}
-use Rattle.varvara_bus.proofs.Acts.{debug_done, debug_stopped, devices_done}
+use Rattle.varvara_bus.proofs.Acts.{debug_done, debug_stopped, devices_done, file_done, file_stopped}
 use Rattle.varvara_bus.proofs.bus.Bus.act.Goals as goal
 
 pub returns-in-PutsDebugText-clause-ok : goal.returns-in-PutsDebugText-clause-ok
@@ -36,3 +36,17 @@ pub returns-in-StartsNote-clause-ok : goal.returns-in-StartsNote-clause-ok
 returns-in-StartsNote-clause-ok g c =
     rw c.in-StartsNote.is (devices_done _ c.args.self.now _ c.args.core.now _ c.args.value (note_started c.in-StartsNote.voice) (λ state. refl) c.start_note.ensures.stands (λ state has. has) refl
     c.start_note.ensures.frames c.start_note.ensures.clock c.start_note.ensures.root)
+
+pub returns-in-ActsOnFile-clause-ok : goal.returns-in-ActsOnFile-clause-ok
+returns-in-ActsOnFile-clause-ok g c =
+    rw c.in-ActsOnFile.is (file_done _ c.args.self.now _ _ c.args.core.now _ c.in-ActsOnFile.number c.in-ActsOnFile.act c.args.value c.act_on_file.result c.act_on_file.ensures.ok
+    (record { lent = record { devices = refl; tree = refl; out = refl; err = refl }; files = c.act_on_file.ensures.stay; frames = c.act_on_file.ensures.frames; clock = c.act_on_file.ensures.clock; root = c.act_on_file.ensures.root }))
+
+pub returns-in-ActsOnFile-clause-err : goal.returns-in-ActsOnFile-clause-err
+returns-in-ActsOnFile-clause-err g c =
+    rw c.in-ActsOnFile.is (file_stopped _ c.args.self.now _ _ c.args.core.now c.in-ActsOnFile.number c.in-ActsOnFile.act c.args.value c.act_on_file.result c.act_on_file.ensures.err
+    c.act_on_file.ensures.page c.act_on_file.ensures.reads c.act_on_file.ensures.names c.act_on_file.ensures.has_root
+    (record { lent = record { devices = refl; tree = refl; out = refl; err = refl }; files = c.act_on_file.ensures.stay; frames = c.act_on_file.ensures.frames; clock = c.act_on_file.ensures.clock; root = c.act_on_file.ensures.root }))
+
+pub returns-in-ActsOnFile-clause-ledger : goal.returns-in-ActsOnFile-clause-ledger
+returns-in-ActsOnFile-clause-ledger g c = c.act_on_file.ensures.ledger _ _

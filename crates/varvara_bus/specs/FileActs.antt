@@ -1,0 +1,54 @@
+-- What the file devices do by their ports (Varvara device reference: File).
+use Rattle.std.specs.Prelude.{◌≡◌, ℕ, ◌+◌, ◌%◌, ◌==◌, Bool, List, Option, IsSome}
+use Rattle.uxn_io.specs.Files.{Nodes}
+use Rattle.uxn_io.specs.Outside.{files_by}
+use Rattle.file_ports.specs.Device.{FileState}
+use Rattle.file_ports.specs.Actions as file
+use Rattle.file_ports.specs.Actions.{FileAction, Outcome}
+use Rattle.file_ports.specs.Answers.{TakesNames}
+use Rattle.input_ports.specs.Page.{short_stores}
+use Rattle.varvara_bus.specs.declared.ports.FileNumber.{FileNumber}
+use Rattle.varvara_bus.specs.declared.ports.FileNumber.TheVariants.{First, Second}
+use Rattle.varvara_bus.specs.declared.ports.FileAct.{FileAct}
+use Rattle.varvara_bus.specs.declared.ports.FileAct.TheVariants.{Stat, Delete, Name, Read, Write}
+use Rattle.varvara_bus.specs.History.{History, stored, stored_short}
+use Rattle.varvara_bus.specs.State.{DeviceState, storing}
+
+-- the first of a device's ports, and the device
+abbrev pub file_base : FileNumber → ℕ
+file_base First = 0xa0
+file_base Second = 0xb0
+
+abbrev pub file_in : FileNumber → DeviceState → FileState
+file_in First state = state.first_file
+file_in Second state = state.second_file
+
+abbrev pub with_file : FileNumber → FileState → DeviceState → DeviceState
+with_file First device state = record state { first_file = device }
+with_file Second device state = record state { second_file = device }
+
+-- the length, and bit 01 of the append byte, by the first of the ports
+abbrev pub length_in : History → ℕ → ℕ
+length_in history base = stored_short history (base + 0x0a)
+
+abbrev pub keeps_in : History → ℕ → Bool
+keeps_in history base = stored history (base + 0x07) % 2 == 1
+
+-- the action that is meant, with its address, its length and whether a file is kept, by the first of the ports
+abbrev pub file_action : FileAct → History → ℕ → FileAction
+file_action Stat history base = file.Stat (stored_short history (base + 0x04)) (length_in history base)
+file_action Delete history base = file.Delete
+file_action Name history base = file.Name (stored_short history (base + 0x08))
+file_action Read history base = file.Read (stored_short history (base + 0x0c)) (length_in history base)
+file_action Write history base = file.Write (stored_short history (base + 0x0e)) (length_in history base) (keeps_in history base)
+
+-- what it does
+abbrev pub file_outcome : FileNumber → FileAct → DeviceState → List ℕ → Outcome
+file_outcome number act state memory =
+    file.act (file_action act state.history (file_base number)) state.root state.part state.parent (file_in number state) memory
+
+-- then the device goes on as it says, the files beneath the root are those that its changes leave, and its success is stored
+abbrev pub file_acted : FileNumber → Outcome → DeviceState → DeviceState
+file_acted number outcome state =
+    storing (short_stores (file_base number + 0x02) outcome.success)
+    (with_file number outcome.device (record state { part = files_by state.part outcome.changes }))

@@ -1,0 +1,158 @@
+//! The ports of the file devices.
+ghost use Rattle.std.specs.Prelude.{◌≡◌, ℕ, Bool, ◌≤◌, OnOk, OnErr, IfErr, Err};
+ghost use Rattle.uxn_io.specs.Files.{Nodes};
+ghost use Rattle.uxn_io.specs.Faults.{Counted, Ledger, counts};
+ghost use Rattle.uxn_opcodes.specs.Ports.{blame_of};
+ghost use Rattle.file_ports.specs.Device.{Suits};
+ghost use Rattle.file_ports.specs.Actions as file;
+ghost use Rattle.file_ports.specs.Answers.{has_failed};
+ghost use Rattle.varvara_bus.specs.State.{DeviceState, StandFor, HasFiles, clock_of};
+ghost use Rattle.varvara_bus.specs.FileActs.{with_file, file_action, file_outcome};
+ghost use Rattle.varvara_bus.specs.FileCalls.{
+  action_asked,
+  act_asked,
+  Performed,
+  FilesCut,
+  FileActed,
+  FileStopped,
+};
+ghost use Rattle.varvara_bus.specs.Bus.{FilesStay, HasRoot, WantsFolder, file_held};
+
+use crate::devices::Devices;
+use crate::page::{store_short, stored, stored_short};
+use crate::ports::{FileAct, FileNumber};
+use file_ports::{FileDevice, FileStop};
+use uxn_io::{Path, Tree};
+use uxn_memory::Memory;
+use uxn_opcodes::Stop;
+
+/// What is asked of a file device, with its address, its length, and whether a file is kept.
+#[derive(Clone, Copy)]
+pub(crate) enum Request {
+    Stat(u16, u16),
+    Delete,
+    Name(u16),
+    Read(u16, u16),
+    Write(u16, u16, bool),
+}
+
+/// What the ports of a file device ask of it, the first of which is given.
+fn asked(devices: &Devices, act: FileAct, base: u8) -> Request
+    requires { base ≤ 0xb0 }
+    ensures action { (state : DeviceState) → StandFor devices.now state → action_asked result ≡ file_action act state.history base }
+    ensures act { act_asked result ≡ act }
+{
+    let length = stored_short(devices, base + 0x0a);
+    match act {
+        FileAct::Stat => Request::Stat(stored_short(devices, base + 0x04), length),
+        FileAct::Delete => Request::Delete,
+        FileAct::Name => Request::Name(stored_short(devices, base + 0x08)),
+        FileAct::Read => Request::Read(stored_short(devices, base + 0x0c), length),
+        FileAct::Write => {
+            let keep = stored(devices, base + 0x07) % 2 == 1;
+            Request::Write(stored_short(devices, base + 0x0e), length, keep)
+        }
+    }
+}
+
+/// Does what is asked of a file device.
+fn perform<T: Tree>(
+    device: &mut FileDevice,
+    tree: &mut T,
+    memory: &mut Memory,
+    root: Option<Path>,
+    request: Request,
+) -> Result<u16, FileStop>
+    requires { Suits root device.old }
+    ensures ok { OnOk result ((part : Nodes) → (parent : Bool) → HasFiles (T.told tree.old) root part parent
+        → Performed (file.act (action_asked request) root part parent device.old memory.old) root part parent
+        (T.told tree.old) (T.told tree.new) (T.sure tree.old) (T.sure tree.new) result device.new memory.new) }
+    ensures err { OnErr result ((part : Nodes) → (parent : Bool) → HasFiles (T.told tree.old) root part parent
+        → FilesCut (file.act (action_asked request) root part parent device.old memory.old).changes
+        (T.told tree.old) (T.told tree.new) (T.sure tree.old) (has_failed result)) }
+    ensures suits { Suits root device.new }
+    ensures stay { FilesStay root (T.told tree.old) (T.told tree.new) }
+    ensures reads { result ≡ Err FileStop.NoMemory → act_asked request ≡ FileAct.Read }
+    ensures names { result ≡ Err FileStop.NoMemory → WantsFolder device.old (T.told tree.old) }
+    ensures ledger { Counted (T.faults tree.old) (T.faults tree.new) (has_failed result) }
+{
+    match request {
+        Request::Stat(at, length) => device.stat(tree, memory, at, length),
+        Request::Delete => device.delete(tree),
+        Request::Name(at) => {
+            device.name(memory, at, root.as_ref());
+            Ok(0)
+        }
+        Request::Read(at, length) => device.read(tree, memory, at, length),
+        Request::Write(at, length, keep) => device.write(tree, memory, at, length, keep),
+    }
+}
+
+/// Does what is asked of one of the two file devices.
+fn perform_on<T: Tree>(
+    devices: &mut Devices,
+    tree: &mut T,
+    memory: &mut Memory,
+    number: FileNumber,
+    request: Request,
+) -> Result<u16, FileStop>
+    ensures ok { OnOk result ((part : Nodes) → (parent : Bool) → HasFiles (T.told tree.old) devices.old.root part parent
+        → Performed (file.act (action_asked request) devices.old.root part parent (file_held number devices.old) memory.old)
+        devices.old.root part parent
+        (T.told tree.old) (T.told tree.new) (T.sure tree.old) (T.sure tree.new) result (file_held number devices.new) memory.new) }
+    ensures err { OnErr result ((part : Nodes) → (parent : Bool) → HasFiles (T.told tree.old) devices.old.root part parent
+        → FilesCut (file.act (action_asked request) devices.old.root part parent (file_held number devices.old) memory.old).changes
+        (T.told tree.old) (T.told tree.new) (T.sure tree.old) (has_failed result)) }
+    ensures stands { (state : DeviceState) → StandFor devices.old state
+        → StandFor devices.new (with_file number (file_held number devices.new) state) }
+    ensures stay { FilesStay devices.old.root (T.told tree.old) (T.told tree.new) }
+    ensures reads { result ≡ Err FileStop.NoMemory → act_asked request ≡ FileAct.Read }
+    ensures names { result ≡ Err FileStop.NoMemory → WantsFolder (file_held number devices.old) (T.told tree.old) }
+    ensures has_root { result ≡ Err FileStop.NoMemory → HasRoot devices.old }
+    ensures ledger { Counted (T.faults tree.old) (T.faults tree.new) (has_failed result) }
+    ensures page { devices.new.page ≡ devices.old.page }
+    ensures frames { devices.new.time.frames ≡ devices.old.time.frames }
+    ensures clock { clock_of devices.new ≡ clock_of devices.old }
+    ensures root { devices.new.root ≡ devices.old.root }
+{
+    let root = devices.root;
+    match number {
+        FileNumber::First => perform(&mut devices.first_file, tree, memory, root, request),
+        FileNumber::Second => perform(&mut devices.second_file, tree, memory, root, request),
+    }
+}
+
+/// Makes a file device act by its ports, and stores its success.
+#[inline(never)]
+pub(crate) fn act_on_file<T: Tree>(
+    devices: &mut Devices,
+    tree: &mut T,
+    memory: &mut Memory,
+    number: FileNumber,
+    act: FileAct,
+) -> Result<(), Stop>
+    ensures ok { OnOk result ((state : DeviceState) → StandFor devices.old state → HasFiles (T.told tree.old) state.root state.part state.parent
+        → FileActed number act state memory.old (T.told tree.old) (T.told tree.new) (T.sure tree.old) (T.sure tree.new) devices.new memory.new) }
+    ensures err { IfErr result (λ stop. (state : DeviceState) → StandFor devices.old state → HasFiles (T.told tree.old) state.root state.part state.parent
+        → FileStopped (file_outcome number act state memory.old).changes (T.told tree.old) (T.told tree.new) (T.sure tree.old) stop) }
+    ensures page { OnErr result (devices.new.page ≡ devices.old.page) }
+    ensures stay { FilesStay devices.old.root (T.told tree.old) (T.told tree.new) }
+    ensures reads { result ≡ Err Stop.NoMemory → act ≡ FileAct.Read }
+    ensures names { result ≡ Err Stop.NoMemory → WantsFolder (file_held number devices.old) (T.told tree.old) }
+    ensures has_root { result ≡ Err Stop.NoMemory → HasRoot devices.old }
+    ensures ledger { (out : ℕ) → (err : ℕ)
+        → Ledger (counts (T.faults tree.old) out err) (counts (T.faults tree.new) out err) (blame_of result) }
+    ensures frames { devices.new.time.frames ≡ devices.old.time.frames }
+    ensures clock { clock_of devices.new ≡ clock_of devices.old }
+    ensures root { devices.new.root ≡ devices.old.root }
+{
+    let request = asked(devices, act, number.base());
+    match perform_on(devices, tree, memory, number, request) {
+        Ok(success) => {
+            store_short(devices, number.base() + 0x02, success);
+            Ok(())
+        }
+        Err(FileStop::TreeFault) => Err(Stop::TreeFault),
+        Err(FileStop::NoMemory) => Err(Stop::NoMemory),
+    }
+}
