@@ -1,7 +1,8 @@
 -- The names of what can be wrong with a line of commands, as they are printed (profile).
 use Rattle.std.specs.Prelude.{ℕ, List, codes}
 use Rattle.uxn_debugger.specs.declared.command.CommandKind.{CommandKind}
-use Rattle.uxn_debugger.specs.declared.command.CommandKind.TheVariants.{Unknown, BadValue, NoSuchLabel, Missing, Extra, ManyCommands, LongCommands}
+use Rattle.uxn_debugger.specs.declared.command.CommandKind.TheVariants.{Unknown, BadValue, NoSuchLabel, Missing, Extra}
+use Rattle.uxn_debugger.specs.declared.command.CommandKind.TheVariants.{ManyCommands, LongCommands}
 
 abbrev pub kind_name : CommandKind → List ℕ
 kind_name Unknown = codes "Unknown"

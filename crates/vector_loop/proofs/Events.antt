@@ -11,7 +11,7 @@ use Rattle.input_ports.specs.Page.{stores_of, stores_after, vector_of}
 use Rattle.varvara_bus.specs.declared.bus.Bus.{Bus}
 use Rattle.varvara_bus.specs.History.{stored, stored_short}
 use Rattle.varvara_bus.specs.State.{DeviceState}
-use Rattle.varvara_bus.specs.Bus.{ChangesDevices, FilesStay, BusStandsFor, Meaning, Makes, world_of, sure_of}
+use Rattle.varvara_bus.specs.Bus.{ChangesDevices, FilesStay, BusStandsFor, Meaning, Makes, sure_of}
 use Rattle.varvara_bus.specs.InstructionLaws.{makes-none, makes-both, stops-later}
 use Rattle.vector_loop.specs.declared.output.Outputs.{Outputs}
 use Rattle.vector_loop.specs.declared.tally.Tally.{Tally}

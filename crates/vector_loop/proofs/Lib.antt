@@ -5,3 +5,4 @@ pub mod Events
 pub mod Runs
 pub mod Makings
 pub mod Frames
+pub mod Rootless

@@ -51,7 +51,8 @@ module _ {T O E W : Type 0} (meaning : Meaning T O E) where
 
   -- the same from each state that the bus stood for
   pub record FallsShortFrom (before now : Running T O E W) (stop : Stop) (part : State → Trail) : Type 0 where
-    pub from : (devices : DeviceState) → BusStandsFor meaning.tree before.bus devices → FallsShort before now stop (part (state_of before devices))
+    pub from : (devices : DeviceState) → BusStandsFor meaning.tree before.bus devices
+        → FallsShort before now stop (part (state_of before devices))
 
 module _ {T O E W H : Type 0} (meaning : Meaning T O E) (held : W → H) (shown : H → Core → List ℕ → Moment → H) where
   -- all of a trail was done: the last state is reached, the changes are made, and the watcher was shown all moments
@@ -76,4 +77,5 @@ module _ {T O E W H : Type 0} (meaning : Meaning T O E) (held : W → H) (shown 
         (ports_read 256 trail.last) (moment_of trail.last)
 
   pub record EndsFrom (ended : H → Core → List ℕ → Moment → H) (before now : Running T O E W) (part : State → Trail) : Type 0 where
-    pub from : (devices : DeviceState) → BusStandsFor meaning.tree before.bus devices → Ends ended before now (part (state_of before devices))
+    pub from : (devices : DeviceState) → BusStandsFor meaning.tree before.bus devices
+        → Ends ended before now (part (state_of before devices))

@@ -21,7 +21,8 @@ module _ {T O E : Type 0} (meaning : Meaning T O E) (of_tree : T → ℕ) (of_ou
   -- a front of them was made, since the tree failed
   pub record CutShort (before now : Bus T O E) (changes : DeviceState → List Change) (stop : Stop) : Type 0 where
     pub cut : (state : DeviceState) → BusStandsFor meaning.tree before state → StopsShort meaning before now stop (changes state)
-    pub ledger : Ledger (bus_faults of_tree of_out of_err before) (bus_faults of_tree of_out of_err now) (blame_of {T = Unit {0}} (Err stop))
+    pub ledger : Ledger (bus_faults of_tree of_out of_err before) (bus_faults of_tree of_out of_err now)
+        (blame_of {T = Unit {0}} (Err stop))
     pub fault : stop ≡ TreeFault
     pub same : SameBus meaning.tree before now
 

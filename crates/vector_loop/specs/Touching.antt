@@ -1,5 +1,5 @@
 -- Which paths a run leaves alone.
-use Rattle.std.specs.Prelude.{◌≡◌, ℕ, zero, suc, ◌==◌, Bool, not, List, [], ◌∷◌, ◌++◌, Option, Some, None, IfSome, slice_index_or}
+use Rattle.std.specs.Prelude.{◌≡◌, ℕ, zero, suc, ◌==◌, Bool, List, [], ◌∷◌, Option, Some, None, IfSome, slice_index_or}
 use Rattle.std.specs.Str.{bytes_eq}
 use Rattle.std.specs.Prelude.{◌+◌, ◌*◌}
 use Rattle.std.proofs.Common.{cond, true, false}
@@ -8,9 +8,9 @@ use Rattle.input_ports.specs.Page.{stores_of, stores_after, vector_of}
 use Rattle.play_script.specs.declared.script.Event.{Event}
 use Rattle.play_script.specs.declared.script.Event.TheVariants.{Input, EndInput, Frame, Device, Shot}
 use Rattle.play_script.specs.Scripts.{ScriptView}
-use Rattle.varvara_bus.specs.History.{Store, stored, stored_short}
+use Rattle.varvara_bus.specs.History.{stored, stored_short}
 use Rattle.varvara_bus.specs.Touching.{Spares, Each, each-append, each-map, StandsApart, instruction-spares}
-use Rattle.vector_loop.specs.State.{State, with_stored, with_next_frame, with_counted, is_over, counting_cut}
+use Rattle.vector_loop.specs.State.{State, with_stored, with_next_frame, with_counted, is_over}
 use Rattle.vector_loop.specs.Trail.{Trail, stays, followed_by}
 use Rattle.vector_loop.specs.Vector.{at_break, instruction, instructions, begun_at, vector}
 use Rattle.audio_mixer.specs.Sounds.{endings}
@@ -43,7 +43,8 @@ module _ (path : List ℕ) where
         elim (at_break state) as (λ b. IsSpared path (cond b (instruction state) (followed_by (instruction state) (instructions left)))) [
           | true ↦ instruction-spares path state.devices state.core apart
           | false ↦
-              followed (instruction state) (instructions left) (instruction-spares path state.devices state.core apart) (instructions-leave left)
+              followed (instruction state) (instructions left) (instruction-spares path state.devices state.core apart)
+              (instructions-leave left)
         ];
   }
 
@@ -83,7 +84,8 @@ module _ (path : List ℕ) where
     alone = λ state apart.
         let begins = with_stored (stores_of (stored state.devices.history) input) state in
         let settles : State → Trail = λ after. stays (with_stored (stores_after input) after) in
-        followed (vector_in budget (vector_of input) begins) (unless_over settles) ((vector_in-leaves budget (vector_of input)).alone begins apart)
+        followed (vector_in budget (vector_of input) begins) (unless_over settles)
+        ((vector_in-leaves budget (vector_of input)).alone begins apart)
         (unless_over-leaves settles (record { alone = λ after still. (tt, still) }));
   }
 
@@ -162,7 +164,8 @@ module _ (path : List ℕ) where
               (record {
                 alone = λ reset still.
                     followed (arguments reset) events
-                    ((each-leaves (console_byte budget) (arguments_given script.arguments) (λ g. console-leaves budget g.0 g.1)).alone reset still)
+                    ((each-leaves (console_byte budget) (arguments_given script.arguments)
+                    (λ g. console-leaves budget g.0 g.1)).alone reset still)
                     (each-leaves (give budget outputs) script.events (give-leaves budget));
               });
         }

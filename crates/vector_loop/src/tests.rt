@@ -1,11 +1,11 @@
 //! Vectors and whole runs: what they put, and what they count.
 
-ghost use Rattle.std.specs.Prelude.{◌≡◌, true, IfSome};
-ghost use Rattle.varvara_bus.specs.Bus.{IsFileWhereTold};
+ghost use Rattle.std.specs.Prelude.{◌≡◌, true, None, IfOk, IfSome};
+ghost use Rattle.vector_loop.specs.Outputs.{IsOutput};
 
 use super::*;
 use play_script::read_script;
-use std::alloc::Global;
+use std::alloc::{AllocError, Global};
 use std::process::Abort;
 use std::test::Fail;
 use uxn_io::{Failed, Kind, MemSink, MemTree, Path, Tree};
@@ -183,10 +183,19 @@ fn a_fault_ends_the_run(rt: HostRuntime) -> Result<(), Fail> {
     Ok(())
 }
 
-/// Whether an output is a file, or is not asked for.
+/// Devices without a root.
+#[tactic(auto, using(crate::proofs::Rootless::has_no_root))]
+fn rootless(alloc: Global) -> Result<Devices, AllocError>
+    ensures { IfOk result (λ devices. devices.root ≡ None) }
+{
+    let devices = Devices::new(alloc, None, CLOCK)?;
+    Ok(devices)
+}
+
+/// Whether an output is a file, or is not asked for. Without a root it is outside its part.
 #[tactic(auto, using(varvara_bus::specs::Laws::told_file))]
 fn is_there<T: Tree>(tree: &mut T, output: &Option<Path>) -> bool
-    ensures there { result ≡ true → IfSome output.now (IsFileWhereTold (T.told tree.new)) }
+    ensures there { result ≡ true → IfSome output.now (IsOutput None (T.told tree.new)) }
     ensures same { T.told tree.new ≡ T.told tree.old }
 {
     match output {
@@ -270,7 +279,7 @@ fn play<T: Tree>(
     outputs: &Outputs,
 ) -> Result<Tally, Fail> {
     let script = read_script(alloc, text)?;
-    let mut devices = Devices::new(alloc, None, CLOCK)?;
+    let mut devices = rootless(alloc)?;
     let mut err = MemSink::new(alloc, 0, &[])?;
     assert!(rt; rom.len() < 100);
     let mut core = Core::new(alloc, rom)?;
