@@ -1,4 +1,4 @@
-use Rattle.std.proofs.Common.{◌≡◌, Bool, true, false, ℕ, ◌+◌, ◌<◌, ◌≤◌, List, [], ◌∷◌, length, slice_index, slice_set, map, refl, ap, sym, ◌∙◌, arith}
+use Rattle.std.proofs.Common.{◌≡◌, true, false, ℕ, ◌+◌, ◌<◌, ◌≤◌, List, [], ◌∷◌, length, slice_index, slice_set, map, refl, ap, sym, ◌∙◌, arith}
 use Rattle.std.specs.Prelude.{Option, Some, None, IfSome, Result, Ok, Err, IsOk, OnOk, OnErr, IfErr, is_err}
 use Rattle.std.specs.Borrow.{MutBor}
 use Rattle.uxn_io.specs.declared.sinks.Failed.{Failed}
@@ -15,7 +15,7 @@ use Rattle.varvara_bus.specs.declared.ports.Action.{Action}
 use Rattle.varvara_bus.specs.declared.bus.Bus.{Bus}
 use Rattle.varvara_bus.specs.State.{DeviceState, StandFor, HasFiles, clock_of, storing}
 use Rattle.varvara_bus.specs.Effect.{debug_bytes, action_of, no_effect, act, effect}
-use Rattle.uxn_io.specs.Taking.{files_made, files_gone, bytes_out, bytes_err, Remains, TreeTakes, TreeLeft, remains-all}
+use Rattle.uxn_io.specs.Taking.{files_made, files_gone, bytes_out, bytes_err, TreeTakes, TreeLeft, remains-all}
 use Rattle.varvara_bus.specs.InstructionLaws.{same-again, makes-both, stops-later}
 use Rattle.file_ports.specs.Actions.{Outcome}
 use Rattle.varvara_bus.specs.declared.ports.Action.TheVariants.{ActsOnFile}
@@ -25,7 +25,7 @@ use Rattle.varvara_bus.specs.FileActs.{file_outcome, file_acted}
 use Rattle.varvara_bus.specs.FileCalls.{FileActed, FileStopped}
 use Rattle.varvara_bus.specs.declared.ports.FileNumber.{FileNumber}
 use Rattle.varvara_bus.specs.declared.ports.FileNumber.TheVariants.{First, Second}
-use Rattle.varvara_bus.specs.Bus.{Meaning, SameBus, BusStandsFor, HasRoot, WantsFolder, file_held, held, world_of, sure_of, Makes, StopsShort, Wrote, Stopped, Acted, ActStopped}
+use Rattle.varvara_bus.specs.Bus.{Meaning, SameBus, BusStandsFor, HasRoot, WantsFolder, file_held, held, world_of, sure_of, Makes, Wrote, Stopped, Acted, ActStopped}
 
 -- the debug text put whole
 pub debug_made : (world : World) (byte : ℕ) (core : Core) (now : Option (List ℕ)) → now ≡ extended world.err (debug_bytes byte core)

@@ -1,11 +1,10 @@
 use Rattle.std.proofs.Common.{◌≡◌, ℕ, ◌+◌, ◌<◌, ◌≤◌, Bool, true, false, cond, List, [], ◌∷◌, ◌++◌, length, take, map, refl, ap, sym, ◌∙◌, arith}
-use Rattle.std.specs.Prelude.{Option, Some, None, IfSome, IsSome, Result, Ok, Err, IsOk}
+use Rattle.std.specs.Prelude.{Option, Some, None, IfSome, IsSome}
 use Rattle.std.specs.Option.{option_map}
 use Rattle.std.specs.Ordering.{nat_cmp, eq_by_cmp}
 use Rattle.std.specs.Cmp.Lexicographic.{slice_cmp, nat_list_cmp_total}
 use Rattle.std.specs.FinMap as nodes_map
 use Rattle.std.proofs.lemmas.List.{length-append}
-use Rattle.uxn_io.specs.declared.sinks.Failed.{Failed}
 use Rattle.uxn_io.specs.PathText.{parent_of}
 use Rattle.uxn_io.specs.Files.{Node, File, Folder, Nodes, bytes_of, bytes_at, file_at, is_folder, is_folder_at}
 use Rattle.uxn_io.specs.Changes.{with_appended, HasAppendedFront}

@@ -1,15 +1,14 @@
-use Rattle.std.proofs.Common.{◌≡◌, ℕ, ◌+◌, Bool, true, false, List, [], ◌∷◌, ◌++◌, refl, ap, sym, subst, ◌∙◌, arith}
-use Rattle.std.specs.Prelude.{Option, Some, None, IfSome, IsSome, IsTrue, Result, Ok, Err, OnOk, OnErr}
-use Rattle.std.specs.FinMap as nodes_map
+use Rattle.std.proofs.Common.{◌≡◌, ℕ, ◌+◌, Bool, true, false, List, [], refl, ap, sym, subst, ◌∙◌, arith}
+use Rattle.std.specs.Prelude.{Option, Some, None, IfSome, Result, Ok, Err, OnOk, OnErr}
 use Rattle.uxn_io.specs.Files.{Nodes}
 use Rattle.uxn_io.specs.Room.{Room}
-use Rattle.uxn_io.specs.Outside.{Change, World, changed_by, files_by, IsCutOff}
+use Rattle.uxn_io.specs.Outside.{Change, files_by}
 use Rattle.uxn_io.specs.Taking.{TreeTakes, TreeLeft}
 use Rattle.file_ports.specs.declared.stop.FileStop.{FileStop}
 use Rattle.file_ports.specs.Device.{FileState, idle_at, Suits}
 use Rattle.file_ports.specs.Names.{path_named}
 use Rattle.file_ports.specs.RootPart.{below, parent_is_folder, LieIn}
-use Rattle.file_ports.specs.Actions.{FileAction, Outcome, Name, Read, Write, Stat, Delete, acts, act}
+use Rattle.file_ports.specs.Actions.{FileAction, Name, Read, Write, Stat, Delete, acts, act}
 use Rattle.file_ports.specs.Answers.{Answers, Does, Acted, CutOff, ActedNowhere, HasMadeFront, TakesSurely, LeavesSurely, has_failed, outcome_of}
 use Rattle.file_ports.specs.PartLaws.{below-files_by}
 use Rattle.file_ports.specs.ActLaws.{act-lies, lie-front, parent-kept, made-files, cut-files, rootless, act-nowhere}
@@ -25,7 +24,7 @@ use Rattle.varvara_bus.specs.declared.ports.FileNumber.{FileNumber}
 use Rattle.varvara_bus.specs.declared.ports.FileNumber.TheVariants.{First, Second}
 use Rattle.varvara_bus.specs.State.{DeviceState, StandFor, HasFiles, storing}
 use Rattle.varvara_bus.specs.FileActs.{file_base, file_in, with_file, file_action, file_outcome}
-use Rattle.varvara_bus.specs.Bus.{IsFileWhereTold, IsOutside, FilesStay, file_held}
+use Rattle.varvara_bus.specs.Bus.{FilesStay, file_held}
 use Rattle.varvara_bus.specs.FileCalls.{action_asked, Performed, FilesDone, FilesCut, FileActed, FileStopped}
 
 -- what a call did to a file device, memory and a tree, by its action beneath a root

@@ -111,8 +111,8 @@ pub record Meaning (T O E : Type 0) : Type 0 where
   pub out_room : O → ℕ
   pub err_room : E → ℕ
 
-abbrev pub meaning_of : {T O E : Type 0} → (T → Option Nodes) → (O → Option (List ℕ)) → (E → Option (List ℕ)) → (T → Room) → (O → ℕ) → (E → ℕ)
-    → Meaning T O E
+abbrev pub meaning_of : {T O E : Type 0} → (T → Option Nodes) → (O → Option (List ℕ)) → (E → Option (List ℕ))
+    → (T → Room) → (O → ℕ) → (E → ℕ) → Meaning T O E
 meaning_of tree out err tree_room out_room err_room = record {
   tree = tree;
   out = out;
@@ -153,7 +153,8 @@ module _ {T O E : Type 0} (meaning : Meaning T O E) where
 
   -- a write that stops has stored its byte, and made a front of its changes; memory is wanting only where there is a root
   pub record Stopped (before : Bus T O E) (old : Core) (port byte : ℕ) (stop : Stop) (now : Bus T O E) (new : Core) : Type 0 where
-    pub cut : (state : DeviceState) → BusStandsFor meaning.tree before state → StopsShort before now stop (effect state old port byte).changes
+    pub cut : (state : DeviceState) → BusStandsFor meaning.tree before state
+        → StopsShort before now stop (effect state old port byte).changes
     pub stored : held now port ≡ byte
     pub memory : stop ≡ NoMemory → HasRoot before.devices.now
     pub names : stop ≡ NoMemory → WantsNames (action_of port) before.devices.now (meaning.tree before.tree.now)
@@ -170,7 +171,8 @@ module _ {T O E : Type 0} (meaning : Meaning T O E) where
 
   -- what an action leaves that stops
   pub record ActStopped (before : Bus T O E) (old : Core) (action : Action) (byte : ℕ) (stop : Stop) (now : Bus T O E) : Type 0 where
-    pub cut : (state : DeviceState) → BusStandsFor meaning.tree before state → StopsShort before now stop (act action byte state old).changes
+    pub cut : (state : DeviceState) → BusStandsFor meaning.tree before state
+        → StopsShort before now stop (act action byte state old).changes
     pub page : now.devices.now.page ≡ before.devices.now.page
     pub memory : stop ≡ NoMemory → HasRoot before.devices.now
     pub names : stop ≡ NoMemory → WantsNames action before.devices.now (meaning.tree before.tree.now)

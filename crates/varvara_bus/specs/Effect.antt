@@ -12,7 +12,6 @@ use Rattle.varvara_bus.specs.declared.ports.Voice.{Voice}
 use Rattle.varvara_bus.specs.declared.ports.Voice.TheVariants.{First, Second, Third, Fourth}
 use Rattle.varvara_bus.specs.declared.ports.FileNumber.{FileNumber}
 use Rattle.varvara_bus.specs.declared.ports.FileNumber.TheVariants.{First as FirstFile, Second as SecondFile}
-use Rattle.varvara_bus.specs.declared.ports.FileAct.{FileAct}
 use Rattle.varvara_bus.specs.declared.ports.FileAct.TheVariants.{Stat, Delete, Name, Read, Write}
 use Rattle.file_ports.specs.Actions.{Outcome}
 use Rattle.input_ports.specs.Page.{short_stores}
@@ -110,8 +109,10 @@ moved_stored next = short_stores 0x28 next.x ++ short_stores 0x2a next.y ++ shor
 
 abbrev pub sprite_drawn : ℕ → List ℕ → DeviceState → DeviceState
 sprite_drawn control memory state =
-    storing (moved_stored (moved_by_sprite (x_in state.history) (y_in state.history) (addr_in state.history) (auto_in state.history) control)) (record state {
-      picture = after_sprite state.picture memory (x_in state.history) (y_in state.history) (addr_in state.history) (auto_in state.history) control;
+    storing (moved_stored
+    (moved_by_sprite (x_in state.history) (y_in state.history) (addr_in state.history) (auto_in state.history) control)) (record state {
+      picture = after_sprite state.picture memory
+          (x_in state.history) (y_in state.history) (addr_in state.history) (auto_in state.history) control;
     })
 
 -- a voice starts the note that its ports hold

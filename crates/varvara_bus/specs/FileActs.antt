@@ -1,11 +1,9 @@
 -- What the file devices do by their ports (Varvara device reference: File).
-use Rattle.std.specs.Prelude.{◌≡◌, ℕ, ◌+◌, ◌%◌, ◌==◌, Bool, List, Option, IsSome}
-use Rattle.uxn_io.specs.Files.{Nodes}
+use Rattle.std.specs.Prelude.{ℕ, ◌+◌, ◌%◌, ◌==◌, Bool, List}
 use Rattle.uxn_io.specs.Outside.{files_by}
 use Rattle.file_ports.specs.Device.{FileState}
 use Rattle.file_ports.specs.Actions as file
 use Rattle.file_ports.specs.Actions.{FileAction, Outcome}
-use Rattle.file_ports.specs.Answers.{TakesNames}
 use Rattle.input_ports.specs.Page.{short_stores}
 use Rattle.varvara_bus.specs.declared.ports.FileNumber.{FileNumber}
 use Rattle.varvara_bus.specs.declared.ports.FileNumber.TheVariants.{First, Second}

@@ -36,8 +36,8 @@ act_asked (asked.Read at length) = Read
 act_asked (asked.Write at length keep) = Write
 
 -- changes were made to files that are told, and to the part beneath the root
-pub record FilesDone (changes : List Change) (root : Option (List ℕ)) (part : Nodes) (parent : Bool) (before now : Option Nodes) (room room_now : Room)
-    : Type 0 where
+pub record FilesDone (changes : List Change) (root : Option (List ℕ)) (part : Nodes) (parent : Bool) (before now : Option Nodes)
+    (room room_now : Room) : Type 0 where
   pub files : HasFiles now root (files_by part changes) parent
   pub world : (world : World) → world.files ≡ before → record world { files = now } ≡ changed_by world changes
   pub left : IfSome before (λ nodes. TreeTakes room nodes changes → TreeLeft room room_now nodes changes)
@@ -48,14 +48,14 @@ pub record FilesCut (changes : List Change) (before now : Option Nodes) (room : 
   pub not_sure : failed ≡ true → IfSome before (λ nodes. TreeTakes room nodes changes → ⊥)
 
 -- a device did what an outcome says
-pub record Performed (outcome : Outcome) (root : Option (List ℕ)) (part : Nodes) (parent : Bool) (before now : Option Nodes) (room room_now : Room)
-    (result : Result ℕ FileStop) (device_now : FileState) (memory_now : List ℕ) : Type 0 where
+pub record Performed (outcome : Outcome) (root : Option (List ℕ)) (part : Nodes) (parent : Bool) (before now : Option Nodes)
+    (room room_now : Room) (result : Result ℕ FileStop) (device_now : FileState) (memory_now : List ℕ) : Type 0 where
   pub answers : Answers outcome result device_now memory_now
   pub files : FilesDone outcome.changes root part parent before now room room_now
 
 -- the devices, memory and the files are as an action of a file device leaves them
-pub record FileActed (number : FileNumber) (act : FileAct) (state : DeviceState) (bytes : List ℕ) (before now : Option Nodes) (room room_now : Room)
-    (held : Devices) (memory_now : List ℕ) : Type 0 where
+pub record FileActed (number : FileNumber) (act : FileAct) (state : DeviceState) (bytes : List ℕ) (before now : Option Nodes)
+    (room room_now : Room) (held : Devices) (memory_now : List ℕ) : Type 0 where
   pub memory : memory_now ≡ (file_outcome number act state bytes).memory
   pub devices : StandFor held (file_acted number (file_outcome number act state bytes) state)
   pub files : FilesDone (file_outcome number act state bytes).changes state.root state.part state.parent before now room room_now

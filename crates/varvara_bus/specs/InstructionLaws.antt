@@ -1,5 +1,5 @@
 -- The laws that tie an instruction over a bus to what it does to the devices and outside.
-use Rattle.std.specs.Prelude.{◌≡◌, ◌≢◌, ℕ, ◌==◌, false, List, [], ◌∷◌, ◌++◌, Option, IsSome, Result, Ok}
+use Rattle.std.specs.Prelude.{◌≡◌, ◌≢◌, ℕ, ◌==◌, false, List, [], ◌∷◌, ◌++◌, Option, Result, Ok}
 use Rattle.std.specs.Prelude.{Err, refl}
 use Rattle.std.proofs.Common.{ap, sym, ◌∙◌, append_assoc, inl, inr, arith}
 use Rattle.std.proofs.lemmas.Bool.Decides.{nat_tests}
@@ -7,7 +7,7 @@ use Rattle.std.proofs.lemmas.List.{append-nil}
 use Rattle.uxn_io.specs.Files.{Nodes}
 use Rattle.std.specs.Option.{option_map}
 use Rattle.uxn_io.specs.Outside.{Change, World, changed_by, files_by, changed_by-append, cut-first, cut-later}
-use Rattle.uxn_io.specs.Taking.{Remains, WasNotSure, files-told, remains-all, remains-both, not-sure-first, not-sure-later}
+use Rattle.uxn_io.specs.Taking.{files-told, remains-all, remains-both, not-sure-first, not-sure-later}
 use Rattle.uxn_opcodes.specs.declared.Core.{Core}
 use Rattle.uxn_opcodes.specs.declared.Stop.{Stop}
 use Rattle.uxn_opcodes.specs.declared.Stop.TheVariants.{NoMemory}
@@ -104,12 +104,12 @@ module _ {T O E : Type 0} (meaning : Meaning T O E) where
   told-now before now changes makes = ap (λ (w : World). w.files) makes.world ∙ files-told (world_of meaning before) changes
 
   -- some, and then more
-  pub makes-both : (before middle now : Bus T O E) (first more : List Change) → Makes meaning before middle first → Makes meaning middle now more
-      → Makes meaning before now (first ++ more)
+  pub makes-both : (before middle now : Bus T O E) (first more : List Change) → Makes meaning before middle first
+      → Makes meaning middle now more → Makes meaning before now (first ++ more)
   makes-both before middle now first more p q = record {
     world = q.world ∙ ap (λ w. changed_by w more) p.world ∙ sym (changed_by-append (world_of meaning before) first more);
-    remains = remains-both (sure_of meaning before) (sure_of meaning middle) (sure_of meaning now) (meaning.tree before.tree.now) first more p.remains
-        (rw (told-now before middle first p) at q.remains);
+    remains = remains-both (sure_of meaning before) (sure_of meaning middle) (sure_of meaning now) (meaning.tree before.tree.now)
+        first more p.remains (rw (told-now before middle first p) at q.remains);
   }
 
   -- a front of them, or all of them and then a front of more
@@ -117,15 +117,16 @@ module _ {T O E : Type 0} (meaning : Meaning T O E) where
       → StopsShort meaning before now stop (first ++ more)
   stops-first before now stop first more short = record {
     cut = cut-first (world_of meaning before) (world_of meaning now) first more short.cut;
-    not_sure = not-sure-first (blame_of {T = Unit {0}} (Err stop)) (sure_of meaning before) (meaning.tree before.tree.now) first more short.not_sure;
+    not_sure = not-sure-first (blame_of {T = Unit {0}} (Err stop)) (sure_of meaning before) (meaning.tree before.tree.now)
+        first more short.not_sure;
   }
 
   pub stops-later : (before middle now : Bus T O E) (stop : Stop) (first more : List Change) → Makes meaning before middle first
       → StopsShort meaning middle now stop more → StopsShort meaning before now stop (first ++ more)
   stops-later before middle now stop first more p short = record {
     cut = cut-later (world_of meaning before) (world_of meaning middle) (world_of meaning now) first more p.world short.cut;
-    not_sure = not-sure-later (blame_of {T = Unit {0}} (Err stop)) (sure_of meaning before) (sure_of meaning middle) (meaning.tree before.tree.now)
-        first more p.remains (rw (told-now before middle first p) at short.not_sure);
+    not_sure = not-sure-later (blame_of {T = Unit {0}} (Err stop)) (sure_of meaning before) (sure_of meaning middle)
+        (meaning.tree before.tree.now) first more p.remains (rw (told-now before middle first p) at short.not_sure);
   }
 
   -- since a bus stood so, its devices became these, and these changes were made
@@ -164,8 +165,8 @@ module _ {T O E : Type 0} (meaning : Meaning T O E) where
       (record { devices = devices; changes = [] }) core_new now (starts before devices stands) ran
 
   -- an instruction that ran over a bus has its effect, from each state that the bus stood for
-  pub instruction-done : (core core_new : Core) (before now : Bus T O E) (turn : Turn) (devices : DeviceState) → BusStandsFor meaning.tree before devices
-      → Instruction (bus_rules meaning) core before (Ok turn) core_new now
+  pub instruction-done : (core core_new : Core) (before now : Bus T O E) (turn : Turn) (devices : DeviceState)
+      → BusStandsFor meaning.tree before devices → Instruction (bus_rules meaning) core before (Ok turn) core_new now
       → HasEffect meaning before now core_new (instruction_effect devices core)
   unfolding instruction_effect
   instruction-done core core_new before now turn devices stands ran =
@@ -178,8 +179,8 @@ module _ {T O E : Type 0} (meaning : Meaning T O E) where
   goes-on core core_new before now stop stopped = stopped.0
 
   -- one that stopped has made a front of its changes
-  pub instruction-cut : (core core_new : Core) (before now : Bus T O E) (stop : Stop) (devices : DeviceState) → BusStandsFor meaning.tree before devices
-      → Instruction (bus_rules meaning) core before (Err stop) core_new now
+  pub instruction-cut : (core core_new : Core) (before now : Bus T O E) (stop : Stop) (devices : DeviceState)
+      → BusStandsFor meaning.tree before devices → Instruction (bus_rules meaning) core before (Err stop) core_new now
       → StopsShort meaning before now stop (instruction_effect devices core).changes
   instruction-cut core core_new before now stop devices stands stopped =
       let begins : Machine Devised = record { core = (begun core).core; ports = record { devices = devices; changes = [] } } in
@@ -213,13 +214,16 @@ module _ {T O E : Type 0} (meaning : Meaning T O E) where
       same-again meaning.tree before written.0 now written.1.1.0.same (written-same writes written.0 written.1.0 now core_new written.1.1.1)
 
   stopped-same : (writes : List (ℕ × ℕ)) (before : Bus T O E) (core : Core) (stop : Stop) (now : Bus T O E) (core_new : Core)
-      → WriteStops (bus_rules meaning) writes before core stop now core_new → SameBus meaning.tree before now × (stop ≡ NoMemory → HasRoot before.devices.now)
+      → WriteStops (bus_rules meaning) writes before core stop now core_new
+      → SameBus meaning.tree before now × (stop ≡ NoMemory → HasRoot before.devices.now)
   stopped-same [] before core stop now core_new stopped = absurd stopped
   stopped-same (write ∷ writes) before core stop now core_new stopped = elim stopped [
     | inl here ↦ (here.same, here.memory)
     | inr later ↦
-        let rest = stopped-same writes later.0 later.1.0 stop now core_new later.1.1.1 in
-        (same-again meaning.tree before later.0 now later.1.1.0.same rest.0, λ wanting. same-root before later.0 later.1.1.0.same (rest.1 wanting))
+        let rest = stopped-same writes later.0 later.1.0 stop now core_new later.1.1.1 in (
+          same-again meaning.tree before later.0 now later.1.1.0.same rest.0,
+          λ wanting. same-root before later.0 later.1.1.0.same (rest.1 wanting),
+        )
   ]
 
   finishes-same : (access : Access) (core core_new : Core) (before now : Bus T O E)
@@ -231,7 +235,8 @@ module _ {T O E : Type 0} (meaning : Meaning T O E) where
       (writes_of width port value) before core now core_new done
 
   stops-same : (access : Access) (core : Core) (stop : Stop) (core_new : Core) (before now : Bus T O E)
-      → Stops (bus_rules meaning) access core before stop core_new now → SameBus meaning.tree before now × (stop ≡ NoMemory → HasRoot before.devices.now)
+      → Stops (bus_rules meaning) access core before stop core_new now
+      → SameBus meaning.tree before now × (stop ≡ NoMemory → HasRoot before.devices.now)
   unfolding Stops
   stops-same Nothing core stop core_new before now stopped = absurd stopped
   stops-same (Read port mode) core stop core_new before now stopped = absurd stopped

@@ -51,7 +51,8 @@ stand-stored devices state port byte within stands = record {
 }
 
 -- it does not matter how the file devices are known to suit the root
-pub stand-suited : (devices : Devices) (state : DeviceState) (one : Suits devices.root devices.first_file) (other : Suits devices.root devices.second_file)
+pub stand-suited : (devices : Devices) (state : DeviceState)
+    (one : Suits devices.root devices.first_file) (other : Suits devices.root devices.second_file)
     → StandFor devices state → StandFor (record devices { first_suits = one; second_suits = other }) state
 stand-suited devices state one other stands = record {
   page = stands.page;
@@ -199,6 +200,7 @@ file_there None size is = cc
 file_there (Some (File bytes)) size is = refl
 file_there (Some Folder) size is = cc
 
-pub told_file : (told : Option Nodes) (path : List ℕ) (size : ℕ) → IfSome told (λ nodes. FileOf size ≡ kind_at nodes path) → IsFileWhereTold told path
+pub told_file : (told : Option Nodes) (path : List ℕ) (size : ℕ) → IfSome told (λ nodes. FileOf size ≡ kind_at nodes path)
+    → IsFileWhereTold told path
 told_file None path size is = tt
 told_file (Some nodes) path size is = file_there (nodes_map.get nodes path) size is

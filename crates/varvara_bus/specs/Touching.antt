@@ -32,7 +32,6 @@ use Rattle.varvara_bus.specs.State.{DeviceState, storing}
 use Rattle.varvara_bus.specs.FileActs.{file_base, file_in, file_action, file_outcome, file_acted}
 use Rattle.varvara_bus.specs.Effect.{act, debug_bytes, action_of, effect}
 use Rattle.varvara_bus.specs.Model.{Devised, varvara, instruction_effect}
-use Rattle.uxn_io.specs.Changes.{with_appended}
 use Rattle.uxn_io.specs.Outside.{Change, ToOut, ToErr, Creates, ToFile, Removes, World, changed_files, changed, changed_by, IsCutOff}
 
 -- a change leaves a path alone where it is none of what stands there
@@ -66,28 +65,35 @@ equal_keys Equal e = refl
 equal_keys Greater e = absurd (true≢false (sym e))
 
 pub same_path : (path other : List ℕ) → eq_by_cmp (slice_cmp nat_cmp) path other ≡ true → path ≡ other
-same_path path other e = nodes_map.slice_cmp-IsAntisymmetric nodes_map.nat_cmp-IsAntisymmetric path other (equal_keys (slice_cmp nat_cmp path other) e)
+same_path path other e =
+    nodes_map.slice_cmp-IsAntisymmetric nodes_map.nat_cmp-IsAntisymmetric path other (equal_keys (slice_cmp nat_cmp path other) e)
 
 pub differs : (path other : List ℕ) → bytes_eq path other ≡ false → path ≡ other → ⊥
 differs path other e same = true≢false (sym ((bytes_eq-Decides path other).1 same) ∙ e)
 
 pub differs_by : (path other : List ℕ) → bytes_eq path other ≡ false → eq_by_cmp (slice_cmp nat_cmp) path other ≡ false
-differs_by path other e = elim (eq_by_cmp (slice_cmp nat_cmp) path other) as (λ b. eq_by_cmp (slice_cmp nat_cmp) path other ≡ b → b ≡ false) [
-  | true ↦ λ t. absurd (differs path other e (same_path path other t))
-  | false ↦ λ t. refl
-] refl
+differs_by path other e = elim (eq_by_cmp (slice_cmp nat_cmp) path other)
+    as (λ b. eq_by_cmp (slice_cmp nat_cmp) path other ≡ b → b ≡ false) [
+      | true ↦ λ t. absurd (differs path other e (same_path path other t))
+      | false ↦ λ t. refl
+    ] refl
 
 -- another path keeps its node
-pub inserted-other : (nodes : Nodes) (path other : List ℕ) (node : Node) → bytes_eq path other ≡ false → nodes_map.get (nodes_map.insert nodes other node) path ≡ nodes_map.get nodes path
+pub inserted-other : (nodes : Nodes) (path other : List ℕ) (node : Node) → bytes_eq path other ≡ false
+    → nodes_map.get (nodes_map.insert nodes other node) path ≡ nodes_map.get nodes path
 inserted-other nodes path other node apart =
-    nodes_map.get-insert nat_list_cmp_total nodes other node path ∙ ap (λ b. cond b (Some node) (nodes_map.get nodes path)) (differs_by path other apart)
+    nodes_map.get-insert nat_list_cmp_total nodes other node path
+    ∙ ap (λ b. cond b (Some node) (nodes_map.get nodes path)) (differs_by path other apart)
 
-pub removed-other : (nodes : Nodes) (path other : List ℕ) → bytes_eq path other ≡ false → nodes_map.get (nodes_map.remove nodes other) path ≡ nodes_map.get nodes path
+pub removed-other : (nodes : Nodes) (path other : List ℕ) → bytes_eq path other ≡ false
+    → nodes_map.get (nodes_map.remove nodes other) path ≡ nodes_map.get nodes path
 removed-other nodes path other apart =
-    nodes_map.get-remove nat_list_cmp_total nodes other path ∙ ap (λ b. cond b None (nodes_map.get nodes path)) (differs_by path other apart)
+    nodes_map.get-remove nat_list_cmp_total nodes other path
+    ∙ ap (λ b. cond b None (nodes_map.get nodes path)) (differs_by path other apart)
 
 -- a path that a change leaves alone keeps its node
-pub spared-one : (nodes : Nodes) (path : List ℕ) (change : Change) → Spares path change → nodes_map.get (changed_files change nodes) path ≡ nodes_map.get nodes path
+pub spared-one : (nodes : Nodes) (path : List ℕ) (change : Change) → Spares path change
+    → nodes_map.get (changed_files change nodes) path ≡ nodes_map.get nodes path
 spared-one nodes path (ToOut byte) s = refl
 spared-one nodes path (ToErr byte) s = refl
 spared-one nodes path (Creates other) s = inserted-other nodes path other (File []) s
@@ -98,11 +104,13 @@ spared-one nodes path (Removes other) s = removed-other nodes path other s
 abbrev pub told_at : List ℕ → Option Nodes → Option (Option Node)
 told_at path told = option_map (λ nodes. nodes_map.get nodes path) told
 
-told-one : (path : List ℕ) (told : Option Nodes) (change : Change) → Spares path change → told_at path (option_map (changed_files change) told) ≡ told_at path told
+told-one : (path : List ℕ) (told : Option Nodes) (change : Change) → Spares path change
+    → told_at path (option_map (changed_files change) told) ≡ told_at path told
 told-one path None change s = refl
 told-one path (Some nodes) change s = ap (λ node. Some node) (spared-one nodes path change s)
 
-spared-changed : (path : List ℕ) (world : World) (change : Change) → Spares path change → told_at path (changed world change).files ≡ told_at path world.files
+spared-changed : (path : List ℕ) (world : World) (change : Change) → Spares path change
+    → told_at path (changed world change).files ≡ told_at path world.files
 spared-changed path world (ToOut byte) s = refl
 spared-changed path world (ToErr byte) s = refl
 spared-changed path world (Creates other) s = told-one path world.files (Creates other) s
@@ -110,17 +118,20 @@ spared-changed path world (ToFile other byte) s = told-one path world.files (ToF
 spared-changed path world (Removes other) s = told-one path world.files (Removes other) s
 
 -- the same for changes in order
-pub spared : (path : List ℕ) (world : World) (changes : List Change) → Each (Spares path) changes → told_at path (changed_by world changes).files ≡ told_at path world.files
+pub spared : (path : List ℕ) (world : World) (changes : List Change) → Each (Spares path) changes
+    → told_at path (changed_by world changes).files ≡ told_at path world.files
 spared path world [] s = refl
 spared path world (change ∷ changes) s = spared path (changed world change) changes s.1 ∙ spared-changed path world change s.0
 
 -- and for a front of them
-pub spared-front : (path : List ℕ) (before now : World) (changes : List Change) → Each (Spares path) changes → IsCutOff before now changes → told_at path now.files ≡ told_at path before.files
+pub spared-front : (path : List ℕ) (before now : World) (changes : List Change) → Each (Spares path) changes
+    → IsCutOff before now changes → told_at path now.files ≡ told_at path before.files
 spared-front path before now changes s cut =
     ap (λ w. told_at path w.files) cut.left ∙ spared path before cut.made (each-front (Spares path) cut.made cut.rest (rw cut.parts at s))
 
 -- a path that is left alone keeps its node
-pub kept-node : (path : List ℕ) (before now : Option Nodes) → told_at path now ≡ told_at path before → IfSome before (λ old. IfSome now (λ new. nodes_map.get new path ≡ nodes_map.get old path))
+pub kept-node : (path : List ℕ) (before now : Option Nodes) → told_at path now ≡ told_at path before
+    → IfSome before (λ old. IfSome now (λ new. nodes_map.get new path ≡ nodes_map.get old path))
 kept-node path None now e = tt
 kept-node path (Some old) None e = tt
 kept-node path (Some old) (Some new) e = cc
@@ -135,7 +146,8 @@ abbrev pub StandsApart : List ℕ → DeviceState → Type 0
 StandsApart path devices = IsApart path devices.root devices.first_file devices.second_file
 
 -- so do both after one of them has acted
-in-suits : (path : List ℕ) (number : FileNumber) (devices : DeviceState) → StandsApart path devices → Suits devices.root (file_in number devices)
+in-suits : (path : List ℕ) (number : FileNumber) (devices : DeviceState) → StandsApart path devices
+    → Suits devices.root (file_in number devices)
 in-suits path First devices apart = apart.first
 in-suits path Second devices apart = apart.second
 
@@ -153,11 +165,13 @@ elsewhere-spares path (Creates other ∷ changes) apart = (apart.0, elsewhere-sp
 elsewhere-spares path (ToFile other byte ∷ changes) apart = (apart.0, elsewhere-spares path changes apart.1)
 elsewhere-spares path (Removes other ∷ changes) apart = (apart.0, elsewhere-spares path changes apart.1)
 
-acted-spares : (path : List ℕ) (action : FileAction) (root : Option (List ℕ)) (part : Nodes) (parent : Bool) (device : FileState) (memory : List ℕ)
-    → IsOutside root path → Suits root device → Each (Spares path) (file.act action root part parent device memory).changes
+acted-spares : (path : List ℕ) (action : FileAction) (root : Option (List ℕ)) (part : Nodes) (parent : Bool) (device : FileState)
+    (memory : List ℕ) → IsOutside root path → Suits root device
+    → Each (Spares path) (file.act action root part parent device memory).changes
 acted-spares path action root part parent device memory outside suits =
     elsewhere-spares path (file.act action root part parent device memory).changes
-    (elsewhere root path (file.act action root part parent device memory).changes (act-lies action root part parent device memory suits) outside)
+    (elsewhere root path (file.act action root part parent device memory).changes
+    (act-lies action root part parent device memory suits) outside)
 
 -- an action of a port leaves such a path alone, and the file devices suit the root still
 act-spares : (path : List ℕ) (action : Action) (byte : ℕ) (devices : DeviceState) (core : Core) → StandsApart path devices
@@ -176,8 +190,11 @@ act-spares path DrawsPixel byte devices core apart = (tt, apart)
 act-spares path DrawsSprite byte devices core apart = (tt, apart)
 act-spares path (StartsNote voice) byte devices core apart = (tt, apart)
 act-spares path (ActsOnFile number part) byte devices core apart = (
-  acted-spares path (file_action part devices.history (file_base number)) devices.root devices.part devices.parent (file_in number devices) core.memory apart.outside (in-suits path number devices apart),
-  acted-apart path number (file_outcome number part devices core.memory) devices apart (act-suits (file_action part devices.history (file_base number)) devices.root devices.part devices.parent (file_in number devices) core.memory (in-suits path number devices apart)),
+  acted-spares path (file_action part devices.history (file_base number)) devices.root devices.part devices.parent
+      (file_in number devices) core.memory apart.outside (in-suits path number devices apart),
+  acted-apart path number (file_outcome number part devices core.memory) devices apart
+      (act-suits (file_action part devices.history (file_base number)) devices.root devices.part devices.parent
+      (file_in number devices) core.memory (in-suits path number devices apart)),
 )
 
 effect-spares : (path : List ℕ) (devices : DeviceState) (core : Core) (port byte : ℕ) → StandsApart path devices
@@ -187,7 +204,8 @@ effect-spares path devices core port byte apart = act-spares path (action_of por
 
 written-spares : (path : List ℕ) (writes : List (ℕ × ℕ)) (machine : Machine Devised) → Each (Spares path) machine.ports.changes
     → StandsApart path machine.ports.devices
-    → Each (Spares path) (written_by varvara writes machine).ports.changes × StandsApart path (written_by varvara writes machine).ports.devices
+    → Each (Spares path) (written_by varvara writes machine).ports.changes
+    × StandsApart path (written_by varvara writes machine).ports.devices
 written-spares path [] machine s apart = (s, apart)
 written-spares path (write ∷ writes) machine s apart =
     let done = effect-spares path machine.ports.devices machine.core write.0 write.1 apart in

@@ -2,7 +2,7 @@
 
 use super::*;
 use std::test::Fail;
-use uxn_io::{Kind, MemSink, MemTree, Path, Sink, Tree, TreeCall};
+use uxn_io::{Bytes, Failed, Kind, MemSink, MemTree, Node, Path, Sink, Tree, TreeCall};
 use uxn_opcodes::{Core, Ports, Stop, step};
 
 /// The start of 1970 in UTC, at ten in the morning of 31 December 1969 far in the west.
@@ -188,15 +188,16 @@ fn the_screen_and_the_voices_have_ports(rt: HostRuntime) -> Result<(), Fail> {
     Ok(())
 }
 
-/// Appends to a file, where one is there.
+/// Appends to a file, where one is there and the machine has no root.
 #[tactic(auto, using(crate::specs::Laws::told_file))]
 fn append<'a, T: Tree, O: Sink, E: Sink>(
     bus: &mut Bus<'a, T, O, E>,
     path: &Path,
     piece: &[u8],
 ) -> Result<(), Stop> {
-    match Tree::kind(bus.tree, path) {
-        Ok(Kind::File(_)) => bus.append(path, piece),
+    let kind = Tree::kind(bus.tree, path);
+    match (bus.devices.root, kind) {
+        (None, Ok(Kind::File(_))) => bus.append(path, piece),
         _ => Err(Stop::NoMemory),
     }
 }
@@ -238,6 +239,86 @@ fn pieces_are_appended_and_frames_rendered(rt: HostRuntime) -> Result<(), Fail> 
     assert_eq!(rt;
         tree.node(&path).map(|node| node.bytes.as_slice()),
         Some(b"abcd".as_slice())
+    );
+    Ok(())
+}
+
+/// A folder `save` alone, with room for a file of two bytes.
+fn folder(rt: &HostRuntime, fails: &[(TreeCall, u32)]) -> Result<MemTree, Fail> {
+    let bytes = Bytes::new(rt.alloc(), b"")?;
+    let node = Node {
+        folder: true,
+        bytes,
+    };
+    let nodes = [(Path::read(b"save")?, node)];
+    if !MemTree::can_hold(&nodes, 2) {
+        return Err(Fail::from(Failed));
+    }
+    Ok(MemTree::new(rt.alloc(), &nodes, 1, 2, fails)?)
+}
+
+/// A program of a name and two bytes.
+const NAME_AND_BYTES: &[u8] = b"a\0hi";
+
+/// Bytes stored at the ports of a file device, that name the file, write it and read a byte of it to 0200; and the
+/// success then stored where there is a root.
+const FILE_WRITES: [(u8, u8, u8); 8] = [
+    (0x8, 0x01, 0),
+    (0x9, 0x00, 0),
+    (0xb, 0x02, 0),
+    (0xe, 0x01, 0),
+    (0xf, 0x02, 2),
+    (0xb, 0x01, 2),
+    (0xc, 0x02, 2),
+    (0xd, 0x00, 1),
+];
+
+#[test]
+fn files_are_written_and_read_beneath_a_root_alone(rt: HostRuntime) -> Result<(), Fail> {
+    let path = Path::read(b"save/a")?;
+    for (base, rooted, there, read) in [
+        (0xa0, true, Some(b"hi".as_slice()), b"h\0".as_slice()),
+        (0xb0, true, Some(b"hi".as_slice()), b"h\0".as_slice()),
+        (0xa0, false, None, b"\0\0".as_slice()),
+    ] {
+        let root = if rooted {
+            Some(Path::read(b"save")?)
+        } else {
+            None
+        };
+        let mut devices = Devices::new(rt.alloc(), root, CLOCK)?;
+        let mut tree = folder(&rt, &[])?;
+        let mut out = MemSink::new(rt.alloc(), 0, &[])?;
+        let mut err = MemSink::new(rt.alloc(), 0, &[])?;
+        let mut bus = Bus::new(&mut devices, &mut tree, &mut out, &mut err);
+        let mut core = Core::new(rt.alloc(), NAME_AND_BYTES)?;
+        for (port, value, success) in &FILE_WRITES {
+            let want = if rooted { *success } else { 0 };
+            assert_eq!(rt; bus.deo(&mut core, base + *port, *value), Ok(()));
+            assert_eq!(rt; (bus.stored(base + 2), bus.stored(base + 3)), (0, want));
+        }
+        assert_eq!(rt; core.memory.slice(0x0200, 2), read);
+        assert_eq!(rt; tree.node(&path).map(|node| node.bytes.as_slice()), there);
+    }
+    Ok(())
+}
+
+#[test]
+fn a_fault_of_the_tree_stores_no_success(rt: HostRuntime) -> Result<(), Fail> {
+    let root = Some(Path::read(b"save")?);
+    let mut devices = Devices::new(rt.alloc(), root, CLOCK)?;
+    let mut tree = folder(&rt, &[(TreeCall::Create, 0)])?;
+    let mut out = MemSink::new(rt.alloc(), 0, &[])?;
+    let mut err = MemSink::new(rt.alloc(), 0, &[])?;
+    let mut bus = Bus::new(&mut devices, &mut tree, &mut out, &mut err);
+    let mut core = Core::new(rt.alloc(), NAME_AND_BYTES)?;
+    for (port, value) in [(0xb8, 1), (0xb9, 0), (0xbb, 2), (0xbe, 1), (0xb3, 7)] {
+        assert_eq!(rt; bus.deo(&mut core, port, value), Ok(()));
+    }
+    assert_eq!(rt; bus.deo(&mut core, 0xbf, 2), Err(Stop::TreeFault));
+    assert_eq!(rt;
+        (bus.stored(0xbf), bus.stored(0xb2), bus.stored(0xb3)),
+        (2, 0, 7)
     );
     Ok(())
 }

@@ -1,6 +1,4 @@
-use Rattle.std.proofs.Common.{refl, ap}
-use Rattle.file_ports.specs.Actions.{Name, Read, Write, Stat, Delete}
-use Rattle.varvara_bus.specs.FileCalls.{action_asked}
+use Rattle.file_ports.specs.Actions.{Read, Write, Stat}
 use Rattle.varvara_bus.proofs.FileCalls.{acting, deleting, naming, untold_same, cut_same, performs, performed, cuts, stays_acting}
 use Rattle.varvara_bus.proofs.files.perform.Goals as goal
 
