@@ -211,7 +211,7 @@ pathless_asked (Err r) view e = let word = only_pathless r e in (word.0, ap Err 
 pathless_asked (Ok task) view e = absurd (later-status (judged task view) 129 (judged-later task view) e (omega arith) (omega arith))
 
 module _ (asked : Result Task Refusal) (before now : World) (answer : ℕ) where
-  early_is : EndsEarly asked before now answer → IsEarly answer
+  pub early_is : EndsEarly asked before now answer → IsEarly answer
   early_is e = elim e.stop as (λ stop. answer ≡ early_status stop → IsEarly answer) [
     | TreeFault ↦ λ s. inl s
     | SinkFault ↦ λ s. inr (inl s)

@@ -84,7 +84,7 @@ text-spares : (path : List ℕ) (file : Option (List ℕ)) (text : List ℕ) →
 text-spares path None text none = tt
 text-spares path (Some file) text none = filling-spares path (record { path = file; bytes = text } ∷ []) none
 
-log-spares : (path : List ℕ) (debug : Option Debugging) (trail : Trail) → list_any (bytes_eq path) (log_in debug) ≡ false → Each (Spares path) (filling_all (log_by debug trail))
+pub log-spares : (path : List ℕ) (debug : Option Debugging) (trail : Trail) → list_any (bytes_eq path) (log_in debug) ≡ false → Each (Spares path) (filling_all (log_by debug trail))
 log-spares path None trail none = tt
 log-spares path (Some debugging) trail none = text-spares path debugging.log _ none
 

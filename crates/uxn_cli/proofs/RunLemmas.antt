@@ -140,15 +140,15 @@ refused-surely (Some nodes) asked refusal out err P j f = λ s.
 
 -- ---- outputs that are made
 
-any-here : (path : List ℕ) (last : List (List ℕ)) → list_any (bytes_eq path) (path ∷ last) ≡ true
+pub any-here : (path : List ℕ) (last : List (List ℕ)) → list_any (bytes_eq path) (path ∷ last) ≡ true
 any-here path last = ap (λ b. b || list_any (bytes_eq path) last) ((bytes_eq-Decides path path).1 refl)
 
-any-left : (path : List ℕ) (first last : List (List ℕ)) → list_any (bytes_eq path) first ≡ true → list_any (bytes_eq path) (first ++ last) ≡ true
+pub any-left : (path : List ℕ) (first last : List (List ℕ)) → list_any (bytes_eq path) first ≡ true → list_any (bytes_eq path) (first ++ last) ≡ true
 any-left path [] last e = absurd cc
 any-left path (other ∷ first) last e =
     elim (bytes_eq path other) as (λ b. (b || list_any (bytes_eq path) first) ≡ true → (b || list_any (bytes_eq path) (first ++ last)) ≡ true) [ true ↦ λ h. refl | false ↦ λ h. any-left path first last h ] e
 
-any-right : (path : List ℕ) (first last : List (List ℕ)) → list_any (bytes_eq path) last ≡ true → list_any (bytes_eq path) (first ++ last) ≡ true
+pub any-right : (path : List ℕ) (first last : List (List ℕ)) → list_any (bytes_eq path) last ≡ true → list_any (bytes_eq path) (first ++ last) ≡ true
 any-right path [] last e = e
 any-right path (other ∷ first) last e =
     elim (bytes_eq path other) as (λ b. (b || list_any (bytes_eq path) (first ++ last)) ≡ true) [ true ↦ refl | false ↦ any-right path first last e ]

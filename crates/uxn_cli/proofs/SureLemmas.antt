@@ -63,7 +63,7 @@ leaves_same start here new a b = record {
 -- the next file surely gets its bytes
 pub sure_filled : (outputs : List Output) (at : ℕ) (output : Output) → at < length outputs → output ≡ get_or outputs at output → (start here : Room) (before now : Option Nodes) (piece : List ℕ) (P : Type 0)
     → now ≡ option_map (with_bytes (take at (seen_texts outputs))) before → piece ≡ output.bytes.items → Leaves start here 0 0
-    → IfSome now (λ nodes. 0 < here.files → length (bytes_at nodes output.path) + length piece ≤ here.bytes → P)
+    → IfSome now (λ nodes. 0 < here.files → (0 < length piece → length (bytes_at nodes output.path) + length piece ≤ here.bytes) → P)
     → IfSome before (λ nodes. 0 < start.files → CanFill start.bytes (seen_texts outputs) nodes → P)
 sure_filled outputs at output lt is start here None now piece P e bytes left sure = tt
 sure_filled outputs at output lt is start here (Some nodes) None piece P e bytes left sure = absurd cc
@@ -74,7 +74,7 @@ sure_filled outputs at output lt is start here (Some nodes) (Some there) piece P
     let same : there ≡ done = cc in
     let room = left.files some in
     let size = left.bytes some in
-    sure (omega arith) (rw (same, bytes) (omega (arith, one, size)))
+    sure (omega arith) (λ more. rw (same, bytes) (omega (arith, one, size)))
 
 -- the files are surely written
 pub sure_written : (texts : List Text) (count : ℕ) (start here : Room) (before now : Option Nodes) (P : Type 0) → now ≡ option_map (with_empty texts) before

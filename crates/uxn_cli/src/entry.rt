@@ -1,5 +1,5 @@
 //! The top call, from the words to the status.
-ghost use Rattle.std.specs.Prelude.{◌≡◌, ◌≤◌, ◌⊎◌, ℕ, Ok, map, string_bytes, IfOk, IfSome};
+ghost use Rattle.std.specs.Prelude.{◌≡◌, ◌≤◌, ◌⊎◌, ℕ, List, Ok, map, string_bytes, IfOk, IfSome};
 ghost use Rattle.uxn_io.specs.Faults.{Rose, Ledger, TheTree, ASink, counts};
 ghost use Rattle.uxn_cli.specs.World.{world};
 ghost use Rattle.uxn_cli.specs.Request.{request, HasApartOutputs};
@@ -8,8 +8,9 @@ ghost use Rattle.uxn_cli.specs.Follows.{Follows};
 ghost use Rattle.uxn_cli.specs.Answer.{Performs, Ends, Answers};
 ghost use Rattle.uxn_cli.specs.Blame.{blame_in, blame_by, blame_at, early_status, OnRefused};
 ghost use Rattle.uxn_cli.specs.Room.{TreeSuffices, SinksSuffice};
-ghost use Rattle.uxn_cli.specs.Causes.{IsExactly, verdict_on, IsIllegal, IsPathless, IsMissing, IsFaulty, IsUnfit, IsBadScript, IsBadCommands, IsBlocked, EndsWith, KeepsOthers, PutsLine};
+ghost use Rattle.uxn_cli.specs.Causes.{IsEarly, IsExactly, verdict_on, IsIllegal, IsPathless, IsMissing, IsFaulty, IsUnfit, IsBadScript, IsBadCommands, IsBlocked, EndsWith, KeepsOthers, PutsLine};
 ghost use Rattle.uxn_cli.specs.Outcome.{outcome_of};
+ghost use Rattle.uxn_cli.specs.Observation.{HaveSameItems, IsOutcomeButLog};
 
 use super::assembling::assemble_files;
 use super::commands::disassemble_rom;
@@ -181,6 +182,12 @@ pub fn uxn<T: Tree, O: Sink, E: Sink>(
     ensures complete { IfSome (T.told tree.old) (λ nodes. (work : Work) → verdict_on nodes (request (map string_bytes words.now)) ≡ Ok work
         → (Rose (T.faults tree.old) (T.faults tree.new) → ⊥) → (Rose (O.faults out.old) (O.faults out.new) → ⊥)
         → (Rose (E.faults err.old) (E.faults err.new) → ⊥) → (result ≡ (outcome_of (Ok work)).status) ⊎ (result ≡ 138)) }
+
+    // Where `debug` comes to its run it gives, but for its log, what `play` gives with the same items.
+    ensures watched { IfSome (T.told tree.old) (λ nodes. (others : List (List ℕ)) (work : Work) → HaveSameItems (map string_bytes words.now) others
+        → verdict_on nodes (request (map string_bytes words.now)) ≡ Ok work → IsEarly result ⊎ IsOutcomeButLog (request (map string_bytes words.now))
+        (outcome_of (verdict_on nodes (request others))) (world (T.told tree.old) (O.told out.old) (E.told err.old))
+        (world (T.told tree.new) (O.told out.new) (E.told err.new)) result) }
 
     // Where the tree and the sinks surely take what the verdict asks of them, none of them fails. Of the
     // bytes that a run puts nothing is said.
