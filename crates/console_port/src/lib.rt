@@ -1,7 +1,7 @@
 //! The console: bytes that a program writes, and the events that it is given. No call takes memory.
 #![tactic(auto)]
 
-ghost use Rattle.std.specs.Prelude.{◌≡◌, ◌⊎◌, [], ◌∷◌, OnOk, OnErr, is_err};
+ghost use Rattle.std.specs.Prelude.{◌≡◌, ◌+◌, ◌<◌, ◌≤◌, ◌⊎◌, [], ◌∷◌, IsOk, OnOk, OnErr, is_err};
 ghost use Rattle.uxn_io.specs.Faults.{Counted};
 ghost use Rattle.uxn_io.specs.Told.{extended};
 ghost use Rattle.console_port.specs.Console.{to_out, to_err, given};
@@ -37,6 +37,10 @@ pub fn console_write<O: Sink, E: Sink>(
     ensures err_alone { port ≡ 0x19 → out.new ≡ out.old }
     ensures out_ledger { port ≡ 0x18 → Counted (O.faults out.old) (O.faults out.new) (is_err result) }
     ensures err_ledger { port ≡ 0x19 → Counted (E.faults err.old) (E.faults err.new) (is_err result) }
+    ensures out_sure { port ≡ 0x18 → 1 < O.sure out.old → IsOk result }
+    ensures err_sure { port ≡ 0x19 → 1 < E.sure err.old → IsOk result }
+    ensures out_left { port ≡ 0x18 → OnOk result (O.sure out.old ≤ O.sure out.new + 1) }
+    ensures err_left { port ≡ 0x19 → OnOk result (E.sure err.old ≤ E.sure err.new + 1) }
 {
     if port == WRITE {
         put_byte(out, value)
@@ -50,6 +54,8 @@ fn put_byte<S: Sink>(sink: &mut S, value: u8) -> Result<(), Failed>
     ensures ok { OnOk result (S.told sink.new ≡ extended (S.told sink.old) (value ∷ [])) }
     ensures err { OnErr result (S.told sink.new ≡ S.told sink.old) }
     ensures ledger { Counted (S.faults sink.old) (S.faults sink.new) (is_err result) }
+    ensures sure { 1 < S.sure sink.old → IsOk result }
+    ensures left { OnOk result (S.sure sink.old ≤ S.sure sink.new + 1) }
 {
     sink.put(&[value])?;
     Ok(())

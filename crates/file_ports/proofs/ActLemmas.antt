@@ -92,7 +92,7 @@ stat-done at length count path was mode device device_now kind memory memory_now
     }))
 
 -- a delete
-file_seen : (node : Option Node) → is_some (bytes_of node) ≡ is_file (kind_of node)
+pub file_seen : (node : Option Node) → is_some (bytes_of node) ≡ is_file (kind_of node)
 file_seen None = refl
 file_seen (Some (File bytes)) = refl
 file_seen (Some Folder) = refl

@@ -4,3 +4,4 @@ pub mod SignLemmas
 pub mod ReadLemmas
 pub mod ActLemmas
 pub mod WriteLemmas
+pub mod RoomLemmas

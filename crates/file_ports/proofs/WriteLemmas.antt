@@ -1,26 +1,25 @@
 -- How a write begins and goes on.
-use Rattle.std.proofs.Common.{◌≡◌, ℕ, ◌+◌, ◌<◌, ◌≤◌, arith, ◌⊎◌, inl, inr, Bool, true, false, not, ◌&&◌, ◌||◌, List, [], ◌∷◌, ◌++◌, length, take, drop, map as list_map, Option, Some, None, IfSome, Result, Ok, Err, IfOk, OnOk, OnErr, IsTrue, IsSome, is_some, refl, ap, sym, subst, ◌∙◌, append_assoc, if◌then◌else◌}
+use Rattle.std.proofs.Common.{◌≡◌, ℕ, ◌⊎◌, inl, inr, Bool, true, false, not, ◌&&◌, ◌||◌, List, [], ◌∷◌, ◌++◌, length, take, drop, map as list_map, Option, Some, None, IfSome, Result, Ok, Err, IfOk, OnOk, OnErr, IsTrue, IsSome, is_some, refl, ap, sym, subst, ◌∙◌, append_assoc, if◌then◌else◌}
 use Rattle.std.specs.Option.{option_map}
 use Rattle.std.specs.FinMap as map
 use Rattle.std.proofs.lemmas.List.{append-nil, take-append-drop, map-append}
 use Rattle.uxn_io.specs.declared.sinks.Failed.{Failed}
-use Rattle.uxn_io.specs.Files.{Node, Nodes, File, kind_at, file_at, bytes_at, bytes_of}
-use Rattle.uxn_io.specs.Room.{Room, Leaves}
-use Rattle.uxn_io.specs.Changes.{can_create, new_files, with_created, with_appended, HasAppendedFront}
-use Rattle.uxn_io.specs.Appending.{get_put, bytes_put}
-use Rattle.uxn_io.specs.Outside.{Change, Creates, ToFile}
+use Rattle.uxn_io.specs.Files.{Node, Nodes, File, kind_at, file_at, bytes_of}
+use Rattle.uxn_io.specs.Changes.{can_create, with_created, with_appended, HasAppendedFront}
+use Rattle.uxn_io.specs.Appending.{get_put}
+use Rattle.uxn_io.specs.Outside.{Change, Creates, ToFile, files_by}
 use Rattle.file_ports.specs.declared.stop.FileStop.{FileStop}
 use Rattle.file_ports.specs.declared.mode.Mode.{Mode}
 use Rattle.file_ports.specs.declared.mode.Mode.TheVariants.{Idle, Writing}
-use Rattle.file_ports.specs.RootPart.{files_by}
 use Rattle.file_ports.specs.Device.{FileState, idle_at, is_writing}
 use Rattle.file_ports.specs.Actions.{Write, seen_of, is_file, begun, adds, writes, count_from}
-use Rattle.file_ports.specs.Answers.{Does, Acted, CutOff, HasMadeFront, Adds, RoomFor, and_then}
-use Rattle.file_ports.specs.PartLaws.{files_by-append, files_by-file}
+use Rattle.file_ports.specs.Answers.{Does, Acted, CutOff, HasMadeFront, Adds, and_then}
+use Rattle.uxn_io.specs.Taking.{files_by-append}
+use Rattle.file_ports.specs.PartLaws.{files_by-file}
 use Rattle.file_ports.proofs.ActLemmas.{acted-by, cut-by}
 
 -- how a write begins, by what decides it
-abbrev chosen : Bool → Bool → Bool → List ℕ → Option (List Change)
+abbrev pub chosen : Bool → Bool → Bool → List ℕ → Option (List Change)
 chosen on writes can path = if on then Some [] else if not writes && can then Some (Creates path ∷ []) else None
 
 made_file : (can : Bool) (path : List ℕ) (nodes : Nodes) → can ≡ true → IsSome (file_at (if can then map.insert nodes path (File []) else nodes) path)
@@ -188,33 +187,3 @@ write-cut at length keep writing path piece was mode device memory (Some nodes) 
     let Q : Bool → Type 0 = λ b. P b (take (count_from at length) (drop at memory)) in
     let R : List ℕ → Type 0 = λ z. P writing z in
     subst D view (subst W (sym e) (subst Q writes_is (subst R piece_is (added_cut (begun writing keep (seen_of nodes path)) nodes now path memory piece front)))))
-
--- what is left for bytes behind what was begun
-shorter : (on writes can : Bool) (path : List ℕ) (nodes : Nodes) → length (bytes_at (files_by nodes (and_then (chosen on writes can path) [])) path) ≤ length (bytes_at nodes path)
-shorter true writes can path nodes = omega arith
-shorter false true can path nodes = omega arith
-shorter false false true path nodes = omega (arith, ap length (bytes_put nodes path []))
-shorter false false false path nodes = omega arith
-
-different : false ≡ true → ⊥
-different e = cc
-
-pub room-then : (told middle : Option Nodes) (path : List ℕ) (writing keep goes : Bool) (count : ℕ) (before now : Room) (P : Type 0) → IfSome told (λ nodes. Adds (begun writing keep (seen_of nodes path)) [] goes nodes middle)
-    → IfSome told (λ nodes. Leaves before now (new_files nodes path) 0)
-    → IfSome middle (λ nodes. 0 < now.files → length (bytes_at nodes path) + count ≤ now.bytes → false ≡ true)
-    → IfSome told (λ nodes. RoomFor nodes path count before → P)
-room-then None middle path writing keep goes count before now P makes left promise = tt
-room-then (Some nodes) middle path writing keep goes count before now P makes left promise = λ room.
-    let Q : Option Nodes → Type 0 = λ o. IfSome o (λ m. 0 < now.files → length (bytes_at m path) + count ≤ now.bytes → false ≡ true) in
-    let there = shorter ((writing || keep) && is_file (kind_at nodes path)) writing (can_create nodes path) path nodes in
-    let some : 0 < before.files = omega (arith, room.files) in
-    let at_once : Q (Some (files_by nodes (and_then (begun writing keep (seen_of nodes path)) []))) = subst Q makes.told promise in
-    absurd (different (at_once (omega (arith, room.files, left.files some)) (omega (arith, there, room.bytes, left.bytes some))))
-
-pub left-then : (told : Option Nodes) (before middle now : Room) (path : List ℕ) (count : ℕ) → IfSome told (λ nodes. Leaves before middle (new_files nodes path) 0) → Leaves middle now 0 0
-    → IfSome told (λ nodes. RoomFor nodes path count before → Leaves before now (new_files nodes path) 0)
-left-then None before middle now path count first more = tt
-left-then (Some nodes) before middle now path count first more = λ room.
-    let some : 0 < before.files = omega (arith, room.files) in
-    let still : 0 < middle.files = omega (arith, room.files, first.files some) in
-    record { files = λ _. omega (arith, first.files some, more.files still); bytes = λ _. omega (arith, first.bytes some, more.bytes still) }

@@ -1,14 +1,14 @@
 -- What a call of a file device answers, and what it leaves.
-use Rattle.std.specs.Prelude.{◌≡◌, ℕ, ◌+◌, ◌<◌, ◌≤◌, ◌++◌, Bool, true, false, List, [], Option, Some, None, IfSome, Result, Ok, Err, length, is_some}
+use Rattle.std.specs.Prelude.{◌≡◌, ℕ, ◌++◌, Bool, true, false, List, [], Option, Some, None, IfSome, Result, Ok, Err, length, is_some}
 use Rattle.uxn_io.specs.declared.trees.Kind.TheVariants.{Folder}
-use Rattle.uxn_io.specs.Files.{Nodes, kind_at, bytes_at}
-use Rattle.uxn_io.specs.Changes.{new_files}
+use Rattle.uxn_io.specs.Files.{Nodes, kind_at}
 use Rattle.uxn_io.specs.Room.{Room}
-use Rattle.uxn_io.specs.Outside.{Change}
+use Rattle.uxn_io.specs.Outside.{Change, files_by}
+use Rattle.uxn_io.specs.Taking.{TreeTakes, TreeLeft}
 use Rattle.uxn_memory.specs.Bytes.{with_bytes}
 use Rattle.file_ports.specs.declared.stop.FileStop.{FileStop}
 use Rattle.file_ports.specs.declared.stop.FileStop.TheVariants.{TreeFault, NoMemory}
-use Rattle.file_ports.specs.RootPart.{below, parent_is_folder, files_by}
+use Rattle.file_ports.specs.RootPart.{below, parent_is_folder}
 use Rattle.file_ports.specs.Device.{FileState, Suits, is_reading}
 use Rattle.file_ports.specs.Actions.{FileAction, Outcome, acts, act}
 
@@ -19,7 +19,8 @@ pub record Answers (outcome : Outcome) (result : Result ℕ FileStop) (device_no
   pub memory : memory_now ≡ outcome.memory
 
 -- and so are the changes to the files that were told
-pub record Does (outcome : Outcome) (before : Nodes) (now : Option Nodes) (result : Result ℕ FileStop) (device_now : FileState) (memory_now : List ℕ) : Type 0 where
+pub record Does (outcome : Outcome) (before : Nodes) (now : Option Nodes) (result : Result ℕ FileStop) (device_now : FileState)
+    (memory_now : List ℕ) : Type 0 where
   pub answers : Answers outcome result device_now memory_now
   pub told : now ≡ Some (files_by before outcome.changes)
 
@@ -60,10 +61,16 @@ pub record TakesNames (device : FileState) (before : Option Nodes) : Type 0 wher
   pub looks : is_reading device.mode ≡ false
   pub folder : IfSome before (λ nodes. IfSome device.path (λ path. kind_at nodes path ≡ Folder))
 
--- a tree surely takes so many bytes more at a path: in a new file, or behind those that are there (profile)
-pub record RoomFor (nodes : Nodes) (path : List ℕ) (count : ℕ) (room : Room) : Type 0 where
-  pub files : new_files nodes path < room.files
-  pub bytes : length (bytes_at nodes path) + count ≤ room.bytes
+-- a tree that surely takes the changes of an action does not fail, for every root that the device suits (profile)
+abbrev pub TakesSurely : FileAction → FileState → List ℕ → Option Nodes → Room → Bool → Type 0
+TakesSurely action device memory before room failed = IfSome before (λ nodes. (root : Option (List ℕ)) → Suits root device
+    → TreeTakes room nodes (outcome_of action root nodes device memory).changes → failed ≡ false)
+
+-- and where it did not fail, so much room is left
+abbrev pub LeavesSurely : FileAction → FileState → List ℕ → Option Nodes → Room → Room → Bool → Type 0
+LeavesSurely action device memory before room now failed = failed ≡ false → IfSome before (λ nodes. (root : Option (List ℕ))
+    → Suits root device → TreeTakes room nodes (outcome_of action root nodes device memory).changes
+    → TreeLeft room now nodes (outcome_of action root nodes device memory).changes)
 
 -- a piece was put in memory, and its length is told
 pub record GivesPiece (piece before : List ℕ) (at taken : ℕ) (now : List ℕ) : Type 0 where

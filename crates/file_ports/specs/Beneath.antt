@@ -1,5 +1,6 @@
 -- Which texts lie beneath a root: the root's text, a slash and more.
-use Rattle.std.specs.Prelude.{◌≡◌, ℕ, suc, ◌+◌, ◌-◌, ◌<◌, ◌⊎◌, Bool, true, false, nat_lt, List, [], ◌∷◌, ◌++◌, length, take, drop, Option, Some, None, if◌then◌else◌}
+use Rattle.std.specs.Prelude.{◌≡◌, ℕ, suc, ◌+◌, ◌-◌, ◌<◌, ◌⊎◌, Bool, true, false, nat_lt, List, [], ◌∷◌, ◌++◌, length, take}
+use Rattle.std.specs.Prelude.{drop, Option, Some, None, if◌then◌else◌}
 use Rattle.std.specs.Bool.{Decides}
 use Rattle.std.specs.List.{join_with_byte}
 use Rattle.std.specs.Option.{unwrap_or}
@@ -19,7 +20,8 @@ use Rattle.file_ports.specs.RootPart.{is_in}
 abbrev pub LiesIn : List ℕ → List ℕ → Type 0
 LiesIn root path = (path ≡ root) ⊎ ContinuesAfter path root
 
-join-append : (xs ys : List (List ℕ)) → 0 < length xs → 0 < length ys → join_with_byte 47 (xs ++ ys) ≡ join_with_byte 47 xs ++ 47 ∷ join_with_byte 47 ys
+join-append : (xs ys : List (List ℕ)) → 0 < length xs → 0 < length ys
+    → join_with_byte 47 (xs ++ ys) ≡ join_with_byte 47 xs ++ 47 ∷ join_with_byte 47 ys
 join-append [] ys some more = absurd (omega (arith, some))
 join-append (x ∷ []) [] some more = absurd (omega (arith, more))
 join-append (x ∷ []) (y ∷ ys) some more = refl
@@ -31,7 +33,9 @@ join-append (x ∷ w ∷ xs) ys some more =
 whole : (text : List ℕ) → join_with_byte 47 (components text) ≡ text
 whole text = join_with_byte-slice_split 47 text
 
-under_from : (text other : List ℕ) → (length (components other) < length (components text)) × (components other ≡ take (length (components other)) (components text)) → ContinuesAfter text other
+under_from : (text other : List ℕ)
+    → (length (components other) < length (components text)) × (components other ≡ take (length (components other)) (components text))
+    → ContinuesAfter text other
 under_from text other h =
     let n = length (components other) in
     let rest = drop n (components text) in
@@ -43,7 +47,8 @@ under_from text other h =
           ∙ ap (λ (z : List ℕ). z ++ 47 ∷ join_with_byte 47 rest) (whole other),
     )
 
-under_to : (text other : List ℕ) → ContinuesAfter text other → (length (components other) < length (components text)) × (components other ≡ take (length (components other)) (components text))
+under_to : (text other : List ℕ) → ContinuesAfter text other
+    → (length (components other) < length (components text)) × (components other ≡ take (length (components other)) (components text))
 under_to text other h =
     let names : components text ≡ components other ++ components h.0 = ap components h.1 ∙ components-append other h.0 in (
       omega (arith, ap length names, length-append (components other) (components h.0), length-components h.0),
@@ -54,7 +59,8 @@ is_under-Decides : (text other : List ℕ) → Decides (is_under text other) (Co
 unfolding is_under
 is_under-Decides text other =
     Decides-like _ (under_from text other) (under_to text other)
-    (Decides-and _ _ (Decides-ltb _ _) (slice_eq-Decides bytes_eq-Decides (components other) (take (length (components other)) (components text)) _ refl))
+    (Decides-and _ _ (Decides-ltb _ _)
+    (slice_eq-Decides bytes_eq-Decides (components other) (take (length (components other)) (components text)) _ refl))
 
 pub is_in-Decides : (root path : List ℕ) → Decides (is_in root path) (LiesIn root path)
 unfolding is_in
@@ -70,7 +76,8 @@ joined_some false text path e = cc
 
 pub joined_in : (root tail path : List ℕ) → joined root tail ≡ Some path → is_in root path ≡ true
 unfolding joined
-joined_in root tail path e = (is_in-Decides root path).1 (inr (tail, joined_some (is_too_long (root ++ 47 ∷ tail)) (root ++ 47 ∷ tail) path e))
+joined_in root tail path e =
+    (is_in-Decides root path).1 (inr (tail, joined_some (is_too_long (root ++ 47 ∷ tail)) (root ++ 47 ∷ tail) path e))
 
 -- what lies beneath what lies in a root lies in it
 pub in_deeper : (root folder path : List ℕ) → LiesIn root folder → ContinuesAfter path folder → LiesIn root path
@@ -83,7 +90,8 @@ parent_is : (long : Bool) (text folder : List ℕ) → (if long then Some text e
 parent_is true text folder e = (refl, sym (ap (λ (o : Option (List ℕ)). unwrap_or o []) e))
 parent_is false text folder e = cc
 
-names_parent : (names : List (List ℕ)) (folder : List ℕ) → parent_from names ≡ Some folder → join_with_byte 47 names ≡ folder ++ 47 ∷ join_with_byte 47 (drop (length names - 1) names)
+names_parent : (names : List (List ℕ)) (folder : List ℕ) → parent_from names ≡ Some folder
+    → join_with_byte 47 names ≡ folder ++ 47 ∷ join_with_byte 47 (drop (length names - 1) names)
 names_parent names folder e =
     let is = parent_is (nat_lt 1 (length names)) (join_with_byte 47 (take (length names - 1) names)) folder e in
     let long : 1 < length names = (Decides-ltb 1 (length names)).0 is.0 in
@@ -95,10 +103,12 @@ names_parent names folder e =
 
 pub parent_before : (text folder : List ℕ) → parent_of text ≡ Some folder → ContinuesAfter text folder
 unfolding parent_of
-parent_before text folder e = (join_with_byte 47 (drop (length (components text) - 1) (components text)), sym (whole text) ∙ names_parent (components text) folder e)
+parent_before text folder e =
+    (join_with_byte 47 (drop (length (components text) - 1) (components text)), sym (whole text) ∙ names_parent (components text) folder e)
 
 -- the parent of a path beneath the root lies in it
-front_in : (xs ys : List (List ℕ)) → 0 < length xs → 0 < length ys → LiesIn (join_with_byte 47 xs) (join_with_byte 47 (xs ++ take (length ys - 1) ys))
+front_in : (xs ys : List (List ℕ)) → 0 < length xs → 0 < length ys
+    → LiesIn (join_with_byte 47 xs) (join_with_byte 47 (xs ++ take (length ys - 1) ys))
 front_in xs [] some more = absurd (omega (arith, more))
 front_in xs (y ∷ []) some more = inl (ap (join_with_byte 47) (append-nil xs))
 front_in xs (y ∷ z ∷ ys) some more =
@@ -106,7 +116,8 @@ front_in xs (y ∷ z ∷ ys) some more =
     let front : List (List ℕ) = y ∷ take (length ys) (z ∷ ys) in
     inr (join_with_byte 47 front, ap (λ (n : ℕ). join_with_byte 47 (xs ++ take n (y ∷ z ∷ ys))) k ∙ join-append xs front some (omega arith))
 
-names_in : (xs ys : List (List ℕ)) → 0 < length xs → 0 < length ys → parent_from (xs ++ ys) ≡ Some (join_with_byte 47 (xs ++ take (length ys - 1) ys))
+names_in : (xs ys : List (List ℕ)) → 0 < length xs → 0 < length ys
+    → parent_from (xs ++ ys) ≡ Some (join_with_byte 47 (xs ++ take (length ys - 1) ys))
 names_in xs ys some more =
     let size = length-append xs ys in
     let long : nat_lt 1 (length (xs ++ ys)) ≡ true = lt-ltb 1 (length (xs ++ ys)) (omega arith) in
@@ -129,7 +140,9 @@ parent_in root path more =
 
 -- the root's own parent does not
 pub parent_outside : (root parent : List ℕ) → parent_of root ≡ Some parent → LiesIn root parent → ⊥
-parent_outside root parent e (inl same) = let more = parent_before root parent e in omega (arith, ap length more.1, length-append parent (47 ∷ more.0), ap length same)
+parent_outside root parent e (inl same) =
+    let more = parent_before root parent e in
+    omega (arith, ap length more.1, length-append parent (47 ∷ more.0), ap length same)
 parent_outside root parent e (inr deep) =
     let more = parent_before root parent e in
     omega (arith, ap length more.1, length-append parent (47 ∷ more.0), ap length deep.1, length-append root (47 ∷ deep.0))

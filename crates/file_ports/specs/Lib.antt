@@ -8,3 +8,4 @@ pub mod Answers
 pub mod Beneath
 pub mod PartLaws
 pub mod ActLaws
+pub mod OutsideLaws

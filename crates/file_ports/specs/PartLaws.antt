@@ -1,5 +1,6 @@
 -- Laws of the root part: what is seen in it is what is seen in the whole tree, and changes in it are changes of it.
-use Rattle.std.specs.Prelude.{◌≡◌, ℕ, Bool, true, false, not, ◌&&◌, List, [], ◌∷◌, ◌++◌, Option, Some, None, IsTrue, codes, map as list_map, if◌then◌else◌}
+use Rattle.std.specs.Prelude.{◌≡◌, ℕ, Bool, true, false, not, ◌&&◌, List, [], ◌∷◌, ◌++◌, Option, Some, None, IsTrue, codes}
+use Rattle.std.specs.Prelude.{map as list_map, if◌then◌else◌}
 use Rattle.std.specs.List.{filter_map, cons_option}
 use Rattle.std.specs.Option.{unwrap_or, option_map, option_and_then, option_eq}
 use Rattle.std.specs.Result.{result_ok}
@@ -17,8 +18,8 @@ use Rattle.uxn_io.specs.Files.{Node, File, Nodes, bytes_of, bytes_at, kind_of, i
 use Rattle.uxn_io.specs.Changes.{can_create, with_appended}
 use Rattle.uxn_io.specs.Appending.{appended_both}
 use Rattle.uxn_io.specs.Children.{children, entry_in}
-use Rattle.uxn_io.specs.Outside.{Change, ToOut, ToErr, Creates, ToFile, Removes, changed_files}
-use Rattle.file_ports.specs.RootPart.{is_in, below, parent_is_folder, files_by, path_changed, IsIn, LieIn}
+use Rattle.uxn_io.specs.Outside.{Change, ToOut, ToErr, Creates, ToFile, Removes, changed_files, files_by}
+use Rattle.file_ports.specs.RootPart.{is_in, below, parent_is_folder, path_changed, IsIn, LieIn}
 use Rattle.file_ports.specs.Device.{FileState, idle_at, suits, Suits}
 use Rattle.file_ports.specs.Names.{bytes_around, before_zero, named_in, path_named}
 use Rattle.file_ports.specs.Actions.{FileAction, Seen, can_make_in, seen_in, seen_of, acts}
@@ -45,13 +46,15 @@ kept : (b : Bool) (x y : Option Node) → (b ≡ true → x ≡ y) → cond b x 
 kept true x y is = is refl
 kept false x y is = refl
 
-pub below-same : (root : List ℕ) (m n : Nodes) → ((q : List ℕ) → is_in root q ≡ true → map.get m q ≡ map.get n q) → below (Some root) m ≡ below (Some root) n
+pub below-same : (root : List ℕ) (m n : Nodes) → ((q : List ℕ) → is_in root q ≡ true → map.get m q ≡ map.get n q)
+    → below (Some root) m ≡ below (Some root) n
 below-same root m n is =
     same_nodes (below (Some root) m) (below (Some root) n)
     (λ q. get-below root m q ∙ kept (is_in root q) (map.get m q) (map.get n q) (is q) ∙ sym (get-below root n q))
 
 -- a folder's children in the root part
-entries-below : (root : List ℕ) (nodes : Nodes) → map.entries (below (Some root) nodes) ≡ where_key (slice_cmp nat_cmp) (is_in root) (map.entries nodes)
+entries-below : (root : List ℕ) (nodes : Nodes)
+    → map.entries (below (Some root) nodes) ≡ where_key (slice_cmp nat_cmp) (is_in root) (map.entries nodes)
 entries-below root nodes =
     let listed = where_key (slice_cmp nat_cmp) (is_in root) (map.entries nodes) in
     let sorted = is_sorted-where_key (slice_cmp nat_cmp) (is_in root) (map.entries nodes) (map.entries_sorted nodes) in
@@ -64,36 +67,45 @@ entries-below root nodes =
     ∙ sym (map.get-from_sorted (slice_cmp nat_cmp) listed q sorted)) in
     ap (λ (m : Nodes). map.entries m) one ∙ map.entries-from_sorted (slice_cmp nat_cmp) listed sorted
 
-no_name : (same : Bool) (parent folder name : List ℕ) → bytes_eq parent folder ≡ same → (parent ≡ folder → ⊥) → (if same then Some name else None) ≡ None
+no_name : (same : Bool) (parent folder name : List ℕ) → bytes_eq parent folder ≡ same → (parent ≡ folder → ⊥)
+    → (if same then Some name else None) ≡ None
 no_name true parent folder name e other = absurd (other ((bytes_eq-Decides parent folder).0 e))
 no_name false parent folder name e other = refl
 
-no_child : (parent : Option (List ℕ)) (folder name : List ℕ) → (parent ≡ Some folder → ⊥) → (if option_eq bytes_eq parent (Some folder) then Some name else None) ≡ None
+no_child : (parent : Option (List ℕ)) (folder name : List ℕ) → (parent ≡ Some folder → ⊥)
+    → (if option_eq bytes_eq parent (Some folder) then Some name else None) ≡ None
 no_child None folder name other = refl
-no_child (Some parent) folder name other = no_name (bytes_eq parent folder) parent folder name refl (λ e. other (ap (λ (p : List ℕ). Some p) e))
+no_child (Some parent) folder name other =
+    no_name (bytes_eq parent folder) parent folder name refl (λ e. other (ap (λ (p : List ℕ). Some p) e))
 
 -- what lies outside the root is no child of a folder in it
 stranger : (root folder path : List ℕ) → is_in root folder ≡ true → is_in root path ≡ false → child_name folder path ≡ None
 stranger root folder path in_root out =
     no_child (parent_of path) folder _
     (λ e.
-    let inside : is_in root path ≡ true = (is_in-Decides root path).1 (in_deeper root folder path ((is_in-Decides root folder).0 in_root) (parent_before path folder e)) in
+    let inside : is_in root path ≡ true =
+    (is_in-Decides root path).1 (in_deeper root folder path ((is_in-Decides root folder).0 in_root) (parent_before path folder e)) in
     let no : true ≡ false = sym inside ∙ out in
     cc)
 
-unlisted : (root folder : List ℕ) (listed : List (List ℕ × Node)) → is_in root folder ≡ true → filter_map (entry_in folder) (where_key (slice_cmp nat_cmp) (is_in root) listed) ≡ filter_map (entry_in folder) listed
+unlisted : (root folder : List ℕ) (listed : List (List ℕ × Node)) → is_in root folder ≡ true
+    → filter_map (entry_in folder) (where_key (slice_cmp nat_cmp) (is_in root) listed) ≡ filter_map (entry_in folder) listed
 unlisted root folder [] in_root = refl
 unlisted root folder (entry ∷ listed) in_root =
     let rest = where_key (slice_cmp nat_cmp) (is_in root) listed in
-    elim (is_in root entry.0) as (λ b. is_in root entry.0 ≡ b → filter_map (entry_in folder) (cond b (entry ∷ rest) rest) ≡ cons_option (entry_in folder entry) (filter_map (entry_in folder) listed)) [
+    elim (is_in root entry.0) as (λ b. is_in root entry.0 ≡ b → filter_map (entry_in folder) (cond b (entry ∷ rest) rest)
+    ≡ cons_option (entry_in folder entry) (filter_map (entry_in folder) listed)) [
       | true ↦ λ e. ap (cons_option (entry_in folder entry)) (unlisted root folder listed in_root)
       | false ↦ λ e.
           unlisted root folder listed in_root
-          ∙ sym (ap (λ (o : Option (List ℕ)). cons_option (option_map (λ name. record { name = name; kind = kind_of (Some entry.1) }) o) (filter_map (entry_in folder) listed)) (stranger root folder entry.0 in_root e))
+          ∙ sym (ap (λ (o : Option (List ℕ)). cons_option (option_map (λ name. record { name = name; kind = kind_of (Some entry.1) }) o)
+          (filter_map (entry_in folder) listed)) (stranger root folder entry.0 in_root e))
     ] refl
 
-pub children_in : (root folder : List ℕ) (nodes : Nodes) → is_in root folder ≡ true → children (below (Some root) nodes) folder ≡ children nodes folder
-children_in root folder nodes in_root = ap (filter_map (entry_in folder)) (entries-below root nodes) ∙ unlisted root folder (map.entries nodes) in_root
+pub children_in : (root folder : List ℕ) (nodes : Nodes) → is_in root folder ≡ true
+    → children (below (Some root) nodes) folder ≡ children nodes folder
+children_in root folder nodes in_root =
+    ap (filter_map (entry_in folder)) (entries-below root nodes) ∙ unlisted root folder (map.entries nodes) in_root
 
 -- whether a file can be made at a path of the root part
 parent_seen : (same : Bool) (root path : List ℕ) (nodes : Nodes) → bytes_eq root path ≡ same → LiesIn root path
@@ -106,12 +118,15 @@ parent_seen false root path nodes e (inr deep) =
     ∙ ap is_folder (get_in root nodes up.0 ((is_in-Decides root up.0).1 up.2))
     ∙ sym (ap (is_folder_at nodes) up.1)
 
-can_make_same : (root path : List ℕ) (nodes : Nodes) → is_in root path ≡ true → can_make_in (Some root) (below (Some root) nodes) (has_parent nodes root) path ≡ can_create nodes path
+can_make_same : (root path : List ℕ) (nodes : Nodes) → is_in root path ≡ true
+    → can_make_in (Some root) (below (Some root) nodes) (has_parent nodes root) path ≡ can_create nodes path
 can_make_same root path nodes in_root = λ i.
-    parent_seen (bytes_eq root path) root path nodes refl ((is_in-Decides root path).0 in_root) i && not (is_folder (get_in root nodes path in_root i))
+    parent_seen (bytes_eq root path) root path nodes refl ((is_in-Decides root path).0 in_root) i
+    && not (is_folder (get_in root nodes path in_root i))
 
 -- what a device sees in the root part
-pub seen-same : (root path : List ℕ) (nodes : Nodes) → is_in root path ≡ true → seen_in (Some root) (below (Some root) nodes) (has_parent nodes root) path ≡ seen_of nodes path
+pub seen-same : (root path : List ℕ) (nodes : Nodes) → is_in root path ≡ true
+    → seen_in (Some root) (below (Some root) nodes) (has_parent nodes root) path ≡ seen_of nodes path
 seen-same root path nodes in_root = λ i. record {
   path = path;
   kind = kind_of (get_in root nodes path in_root i);
@@ -121,7 +136,8 @@ seen-same root path nodes in_root = λ i. record {
 }
 
 -- an action sees nothing of a tree but its root part, and whether the root's parent is a folder
-seen_by : (root path : Option (List ℕ)) (nodes : Nodes) → IsTrue (suits root path) → option_map (seen_in root (below root nodes) (parent_is_folder root nodes)) path ≡ option_map (seen_of nodes) path
+seen_by : (root path : Option (List ℕ)) (nodes : Nodes) → IsTrue (suits root path)
+    → option_map (seen_in root (below root nodes) (parent_is_folder root nodes)) path ≡ option_map (seen_of nodes) path
 seen_by root None nodes suits = refl
 seen_by None (Some path) nodes suits = cc
 seen_by (Some root) (Some path) nodes suits = ap (λ (s : Seen). Some s) (seen-same root path nodes suits)
@@ -131,7 +147,8 @@ pub outcome-same : (action : FileAction) (root : Option (List ℕ)) (nodes : Nod
 outcome-same action root nodes device memory suits = ap (acts action root device memory) (seen_by root device.path nodes suits)
 
 -- a node put in the root part is put in the tree
-either_first : (p q : Bool) (x : Node) (o : Option Node) → (q ≡ true → p ≡ true) → cond p (cond q (Some x) o) None ≡ cond q (Some x) (cond p o None)
+either_first : (p q : Bool) (x : Node) (o : Option Node) → (q ≡ true → p ≡ true)
+    → cond p (cond q (Some x) o) None ≡ cond q (Some x) (cond p o None)
 either_first true true x o is = refl
 either_first true false x o is = refl
 either_first false true x o is = let no = is refl in cc
@@ -145,14 +162,17 @@ is_equal Greater e = cc
 same_key : (q path : List ℕ) → eq_by_cmp (slice_cmp nat_cmp) q path ≡ true → q ≡ path
 same_key q path e = same_path q path (is_equal (slice_cmp nat_cmp q path) e)
 
-below-insert : (root path : List ℕ) (nodes : Nodes) (node : Node) → is_in root path ≡ true → below (Some root) (map.insert nodes path node) ≡ map.insert (below (Some root) nodes) path node
+below-insert : (root path : List ℕ) (nodes : Nodes) (node : Node) → is_in root path ≡ true
+    → below (Some root) (map.insert nodes path node) ≡ map.insert (below (Some root) nodes) path node
 below-insert root path nodes node in_root =
     same_nodes (below (Some root) (map.insert nodes path node)) (map.insert (below (Some root) nodes) path node)
     (λ q.
     get-below root (map.insert nodes path node) q
     ∙ ap (λ (o : Option Node). cond (is_in root q) o None) (map.get-insert nat_list_cmp_total nodes path node q)
-    ∙ either_first (is_in root q) (eq_by_cmp (slice_cmp nat_cmp) q path) node (map.get nodes q) (λ e. ap (is_in root) (same_key q path e) ∙ in_root)
-    ∙ sym (map.get-insert nat_list_cmp_total (below (Some root) nodes) path node q ∙ ap (λ (o : Option Node). cond (eq_by_cmp (slice_cmp nat_cmp) q path) (Some node) o) (get-below root nodes q)))
+    ∙ either_first (is_in root q) (eq_by_cmp (slice_cmp nat_cmp) q path) node (map.get nodes q)
+    (λ e. ap (is_in root) (same_key q path e) ∙ in_root)
+    ∙ sym (map.get-insert nat_list_cmp_total (below (Some root) nodes) path node q
+    ∙ ap (λ (o : Option Node). cond (eq_by_cmp (slice_cmp nat_cmp) q path) (Some node) o) (get-below root nodes q)))
 
 either_none : (p q : Bool) (o : Option Node) → cond p (cond q None o) None ≡ cond q None (cond p o None)
 either_none true true o = refl
@@ -167,7 +187,8 @@ below-remove root path nodes =
     get-below root (map.remove nodes path) q
     ∙ ap (λ (o : Option Node). cond (is_in root q) o None) (map.get-remove nat_list_cmp_total nodes path q)
     ∙ either_none (is_in root q) (eq_by_cmp (slice_cmp nat_cmp) q path) (map.get nodes q)
-    ∙ sym (map.get-remove nat_list_cmp_total (below (Some root) nodes) path q ∙ ap (λ (o : Option Node). cond (eq_by_cmp (slice_cmp nat_cmp) q path) None o) (get-below root nodes q)))
+    ∙ sym (map.get-remove nat_list_cmp_total (below (Some root) nodes) path q
+    ∙ ap (λ (o : Option Node). cond (eq_by_cmp (slice_cmp nat_cmp) q path) None o) (get-below root nodes q)))
 
 nowhere_in : (change : Change) → IsIn None change → ⊥
 nowhere_in (ToOut byte) lies = cc
@@ -177,16 +198,19 @@ nowhere_in (ToFile path byte) lies = cc
 nowhere_in (Removes path) lies = cc
 
 -- a change in the root part is one of the root part
-pub below-change : (root : List ℕ) (change : Change) (nodes : Nodes) → IsIn (Some root) change → below (Some root) (changed_files change nodes) ≡ changed_files change (below (Some root) nodes)
+pub below-change : (root : List ℕ) (change : Change) (nodes : Nodes) → IsIn (Some root) change
+    → below (Some root) (changed_files change nodes) ≡ changed_files change (below (Some root) nodes)
 below-change root (ToOut byte) nodes lies = refl
 below-change root (ToErr byte) nodes lies = refl
 below-change root (Creates path) nodes lies = below-insert root path nodes (File []) lies
 below-change root (ToFile path byte) nodes lies =
     below-insert root path nodes (File (bytes_at nodes path ++ byte ∷ [])) lies
-    ∙ ap (λ (o : Option Node). map.insert (below (Some root) nodes) path (File (unwrap_or (bytes_of o) [] ++ byte ∷ []))) (sym (get_in root nodes path lies))
+    ∙ ap (λ (o : Option Node). map.insert (below (Some root) nodes) path (File (unwrap_or (bytes_of o) [] ++ byte ∷ [])))
+    (sym (get_in root nodes path lies))
 below-change root (Removes path) nodes lies = below-remove root path nodes
 
-pub below-files_by : (root : Option (List ℕ)) (changes : List Change) (nodes : Nodes) → LieIn root changes → below root (files_by nodes changes) ≡ files_by (below root nodes) changes
+pub below-files_by : (root : Option (List ℕ)) (changes : List Change) (nodes : Nodes) → LieIn root changes
+    → below root (files_by nodes changes) ≡ files_by (below root nodes) changes
 below-files_by root [] nodes lie = refl
 below-files_by None (change ∷ changes) nodes lie = absurd (nowhere_in change lie.0)
 below-files_by (Some root) (change ∷ changes) nodes lie =
@@ -202,34 +226,39 @@ apart : (root q path : List ℕ) (b : Bool) → eq_by_cmp (slice_cmp nat_cmp) q 
 apart root q path true e other = absurd (other (same_key q path e))
 apart root q path false e other = refl
 
-put_elsewhere : (q path : List ℕ) (nodes : Nodes) (node : Node) → (q ≡ path → ⊥) → map.get (map.insert nodes path node) q ≡ map.get nodes q
-put_elsewhere q path nodes node other = map.get-insert nat_list_cmp_total nodes path node q ∙ other_key (eq_by_cmp (slice_cmp nat_cmp) q path) (Some node) (map.get nodes q) (apart q q path _ refl other)
+pub put_elsewhere : (q path : List ℕ) (nodes : Nodes) (node : Node) → (q ≡ path → ⊥)
+    → map.get (map.insert nodes path node) q ≡ map.get nodes q
+put_elsewhere q path nodes node other =
+    map.get-insert nat_list_cmp_total nodes path node q
+    ∙ other_key (eq_by_cmp (slice_cmp nat_cmp) q path) (Some node) (map.get nodes q) (apart q q path _ refl other)
 
 taken_elsewhere : (q path : List ℕ) (nodes : Nodes) → (q ≡ path → ⊥) → map.get (map.remove nodes path) q ≡ map.get nodes q
-taken_elsewhere q path nodes other = map.get-remove nat_list_cmp_total nodes path q ∙ other_key (eq_by_cmp (slice_cmp nat_cmp) q path) None (map.get nodes q) (apart q q path _ refl other)
+taken_elsewhere q path nodes other =
+    map.get-remove nat_list_cmp_total nodes path q
+    ∙ other_key (eq_by_cmp (slice_cmp nat_cmp) q path) None (map.get nodes q) (apart q q path _ refl other)
 
-pub changed_elsewhere : (change : Change) (q : List ℕ) (nodes : Nodes) → (path_changed change ≡ Some q → ⊥) → map.get (changed_files change nodes) q ≡ map.get nodes q
+pub changed_elsewhere : (change : Change) (q : List ℕ) (nodes : Nodes) → (path_changed change ≡ Some q → ⊥)
+    → map.get (changed_files change nodes) q ≡ map.get nodes q
 changed_elsewhere (ToOut byte) q nodes other = refl
 changed_elsewhere (ToErr byte) q nodes other = refl
 changed_elsewhere (Creates path) q nodes other = put_elsewhere q path nodes (File []) (λ e. other (ap (λ (p : List ℕ). Some p) (sym e)))
 changed_elsewhere (ToFile path byte) q nodes other = put_elsewhere q path nodes _ (λ e. other (ap (λ (p : List ℕ). Some p) (sym e)))
 changed_elsewhere (Removes path) q nodes other = taken_elsewhere q path nodes (λ e. other (ap (λ (p : List ℕ). Some p) (sym e)))
 
--- changes after changes, and bytes added one after the other
-pub files_by-append : (nodes : Nodes) (first more : List Change) → files_by nodes (first ++ more) ≡ files_by (files_by nodes first) more
-files_by-append nodes [] more = refl
-files_by-append nodes (change ∷ first) more = files_by-append (changed_files change nodes) first more
-
-pub files_by-file : (nodes : Nodes) (path piece : List ℕ) → files_by nodes (list_map (λ byte. ToFile path byte) piece) ≡ with_appended path piece nodes
+-- bytes added one after the other
+pub files_by-file : (nodes : Nodes) (path piece : List ℕ)
+    → files_by nodes (list_map (λ byte. ToFile path byte) piece) ≡ with_appended path piece nodes
 files_by-file nodes path [] = refl
-files_by-file nodes path (byte ∷ piece) = files_by-file (with_appended path (byte ∷ []) nodes) path piece ∙ appended_both nodes path (byte ∷ []) piece
+files_by-file nodes path (byte ∷ piece) =
+    files_by-file (with_appended path (byte ∷ []) nodes) path piece ∙ appended_both nodes path (byte ∷ []) piece
 
 -- a name names a path of the root part
 suited : (root : List ℕ) (path : Option (List ℕ)) → ((p : List ℕ) → path ≡ Some p → is_in root p ≡ true) → IsTrue (suits (Some root) path)
 suited root None is = refl
 suited root (Some p) is = is p refl
 
-chosen_path : (dot : Bool) (root name : List ℕ) (path : Option (List ℕ)) → IsTrue (suits (Some root) (if dot then Some root else option_and_then (joined root) path))
+chosen_path : (dot : Bool) (root name : List ℕ) (path : Option (List ℕ))
+    → IsTrue (suits (Some root) (if dot then Some root else option_and_then (joined root) path))
 chosen_path true root name path = root_in root
 chosen_path false root name None = refl
 chosen_path false root name (Some path) = suited root (joined root path) (λ p e. joined_in root path p e)

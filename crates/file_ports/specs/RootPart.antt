@@ -4,7 +4,7 @@ use Rattle.std.specs.Str.{bytes_eq}
 use Rattle.std.specs.FinMap as map
 use Rattle.uxn_io.specs.PathText.{is_under}
 use Rattle.uxn_io.specs.Files.{Nodes, has_parent}
-use Rattle.uxn_io.specs.Outside.{Change, ToOut, ToErr, Creates, ToFile, Removes, changed_files}
+use Rattle.uxn_io.specs.Outside.{Change, ToOut, ToErr, Creates, ToFile, Removes}
 
 -- the root's own path, or one beneath it
 unfoldable pub is_in : List ℕ → List ℕ → Bool
@@ -19,11 +19,6 @@ below (Some root) nodes = map.retain_keys nodes (is_in root)
 abbrev pub parent_is_folder : Option (List ℕ) → Nodes → Bool
 parent_is_folder None nodes = false
 parent_is_folder (Some root) nodes = has_parent nodes root
-
--- changes done to files, one after the other
-abbrev pub files_by : Nodes → List Change → Nodes
-files_by nodes [] = nodes
-files_by nodes (change ∷ changes) = files_by (changed_files change nodes) changes
 
 -- the path whose file a change changes
 abbrev pub path_changed : Change → Option (List ℕ)

@@ -1,13 +1,11 @@
 //! A file device.
-ghost use Rattle.std.specs.Prelude.{◌≡◌, ℕ, ◌+◌, ◌<◌, ◌≤◌, List, None, Err, false, IfOk, IfSome, IsOk, OnOk, OnErr, is_err};
+ghost use Rattle.std.specs.Prelude.{◌≡◌, ℕ, ◌+◌, ◌≤◌, List, None, Err, OnOk, OnErr};
 ghost use Rattle.std.specs.Option.{option_copied};
 ghost use Rattle.uxn_io.specs.Faults.{Counted};
-ghost use Rattle.uxn_io.specs.Changes.{new_files};
-ghost use Rattle.uxn_io.specs.Room.{Leaves};
 ghost use Rattle.file_ports.specs.Device.{idle_at, Suits};
 ghost use Rattle.file_ports.specs.Names.{path_named};
 ghost use Rattle.file_ports.specs.Actions.{Read, Write, Stat, Delete, count_from};
-ghost use Rattle.file_ports.specs.Answers.{Acted, ActedNowhere, CutOff, RoomFor, TakesNames, has_failed};
+ghost use Rattle.file_ports.specs.Answers.{Acted, ActedNowhere, CutOff, TakesNames, TakesSurely, LeavesSurely, has_failed};
 
 use crate::mode::Mode;
 use crate::names::path_named;
@@ -84,8 +82,8 @@ impl FileDevice {
         ensures stopped { OnErr result (self.new ≡ idle_at self.old.path) }
         ensures path { self.new.path ≡ self.old.path }
         ensures ledger { Counted (T.faults tree.old) (T.faults tree.new) (has_failed result) }
-        ensures sure { 0 < (T.sure tree.old).files → has_failed result ≡ false }
-        ensures left { has_failed result ≡ false → Leaves (T.sure tree.old) (T.sure tree.new) 0 0 }
+        ensures sure { TakesSurely (Read at length) self.old memory.old (T.told tree.old) (T.sure tree.old) (has_failed result) }
+        ensures left { LeavesSurely (Read at length) self.old memory.old (T.told tree.old) (T.sure tree.old) (T.sure tree.new) (has_failed result) }
     {
         match self.path {
             Some(path) => {
@@ -117,10 +115,8 @@ impl FileDevice {
         ensures stopped { OnErr result (self.new ≡ idle_at self.old.path) }
         ensures path { self.new.path ≡ self.old.path }
         ensures ledger { Counted (T.faults tree.old) (T.faults tree.new) (has_failed result) }
-        ensures sure { IfSome (T.told tree.old) (λ nodes. IfSome self.old.path (λ path.
-            RoomFor nodes path (count_from at length) (T.sure tree.old) → IsOk result)) }
-        ensures left { OnOk result (IfSome (T.told tree.old) (λ nodes. IfSome self.old.path (λ path.
-            RoomFor nodes path (count_from at length) (T.sure tree.old) → Leaves (T.sure tree.old) (T.sure tree.new) (new_files nodes path) 0))) }
+        ensures sure { TakesSurely (Write at length keep) self.old memory.now (T.told tree.old) (T.sure tree.old) (has_failed result) }
+        ensures left { LeavesSurely (Write at length keep) self.old memory.now (T.told tree.old) (T.sure tree.old) (T.sure tree.new) (has_failed result) }
     {
         match self.path {
             Some(path) => {
@@ -153,8 +149,8 @@ impl FileDevice {
         ensures stopped { OnErr result (memory.new ≡ memory.old) }
         ensures device { self.new ≡ self.old }
         ensures ledger { Counted (T.faults tree.old) (T.faults tree.new) (has_failed result) }
-        ensures sure { 0 < (T.sure tree.old).files → IsOk result }
-        ensures left { OnOk result (Leaves (T.sure tree.old) (T.sure tree.new) 0 0) }
+        ensures sure { TakesSurely (Stat at length) self.old memory.old (T.told tree.old) (T.sure tree.old) (has_failed result) }
+        ensures left { LeavesSurely (Stat at length) self.old memory.old (T.told tree.old) (T.sure tree.old) (T.sure tree.new) (has_failed result) }
     {
         let count = count_from(at, length);
         if let Some(path) = self.path {
@@ -174,8 +170,8 @@ impl FileDevice {
         ensures stopped { OnErr result (self.new ≡ idle_at self.old.path) }
         ensures path { self.new.path ≡ self.old.path }
         ensures ledger { Counted (T.faults tree.old) (T.faults tree.new) (has_failed result) }
-        ensures sure { 0 < (T.sure tree.old).files → IsOk result }
-        ensures left { IfOk result (λ gone. Leaves (T.sure tree.old) (T.sure tree.new) 0 gone) }
+        ensures sure { (memory : List ℕ) → TakesSurely Delete self.old memory (T.told tree.old) (T.sure tree.old) (has_failed result) }
+        ensures left { (memory : List ℕ) → LeavesSurely Delete self.old memory (T.told tree.old) (T.sure tree.old) (T.sure tree.new) (has_failed result) }
     {
         match self.path {
             Some(path) => {

@@ -2,11 +2,11 @@
 ghost use Rattle.std.specs.Prelude.{◌≡◌, ℕ, ◌<◌, ◌&&◌, ◌||◌, [], map, length, IfOk, IfSome, IsOk, OnOk, OnErr, IsTrue, IsSome, is_err};
 ghost use Rattle.uxn_io.specs.Faults.{Counted};
 ghost use Rattle.uxn_io.specs.Files.{kind_at, file_at};
-ghost use Rattle.uxn_io.specs.Changes.{new_files};
 ghost use Rattle.uxn_io.specs.Outside.{ToFile};
 ghost use Rattle.uxn_io.specs.Room.{Leaves};
+ghost use Rattle.uxn_io.specs.Taking.{TreeTakes, TreeLeft};
 ghost use Rattle.file_ports.specs.Actions.{seen_of, is_file, begun};
-ghost use Rattle.file_ports.specs.Answers.{Adds, HasMadeFront, RoomFor, and_then};
+ghost use Rattle.file_ports.specs.Answers.{Adds, HasMadeFront, and_then};
 
 use uxn_io::{Failed, Kind, Path, Tree, append_all};
 
@@ -37,8 +37,11 @@ fn begin<T: Tree>(tree: &mut T, path: &Path, is_writing: bool, keep: bool) -> Re
     ensures front { OnErr result (IfSome (T.told tree.old) (λ nodes.
         HasMadeFront (and_then (begun is_writing keep (seen_of nodes path.now)) []) nodes (T.told tree.new))) }
     ensures ledger { Counted (T.faults tree.old) (T.faults tree.new) (is_err result) }
-    ensures sure { IfSome (T.told tree.old) (λ nodes. new_files nodes path.now < (T.sure tree.old).files → IsOk result) }
-    ensures left { OnOk result (IfSome (T.told tree.old) (λ nodes. Leaves (T.sure tree.old) (T.sure tree.new) (new_files nodes path.now) 0)) }
+    ensures sure { IfSome (T.told tree.old) (λ nodes.
+        TreeTakes (T.sure tree.old) nodes (and_then (begun is_writing keep (seen_of nodes path.now)) []) → IsOk result) }
+    ensures left { OnOk result (IfSome (T.told tree.old) (λ nodes.
+        TreeTakes (T.sure tree.old) nodes (and_then (begun is_writing keep (seen_of nodes path.now)) [])
+        → TreeLeft (T.sure tree.old) (T.sure tree.new) nodes (and_then (begun is_writing keep (seen_of nodes path.now)) []))) }
 {
     if goes_on(tree, path, is_writing, keep)? {
         return Ok(true);
@@ -62,9 +65,11 @@ pub(crate) fn add<T: Tree>(
     ensures front { OnErr result (IfSome (T.told tree.old) (λ nodes.
         HasMadeFront (and_then (begun is_writing keep (seen_of nodes path.now)) (map (λ byte. ToFile path.now byte) piece.now)) nodes (T.told tree.new))) }
     ensures ledger { Counted (T.faults tree.old) (T.faults tree.new) (is_err result) }
-    ensures sure { IfSome (T.told tree.old) (λ nodes. RoomFor nodes path.now (length piece.now) (T.sure tree.old) → IsOk result) }
-    ensures left { OnOk result (IfSome (T.told tree.old) (λ nodes. RoomFor nodes path.now (length piece.now) (T.sure tree.old)
-        → Leaves (T.sure tree.old) (T.sure tree.new) (new_files nodes path.now) 0)) }
+    ensures sure { IfSome (T.told tree.old) (λ nodes.
+        TreeTakes (T.sure tree.old) nodes (and_then (begun is_writing keep (seen_of nodes path.now)) (map (λ byte. ToFile path.now byte) piece.now)) → IsOk result) }
+    ensures left { OnOk result (IfSome (T.told tree.old) (λ nodes.
+        TreeTakes (T.sure tree.old) nodes (and_then (begun is_writing keep (seen_of nodes path.now)) (map (λ byte. ToFile path.now byte) piece.now))
+        → TreeLeft (T.sure tree.old) (T.sure tree.new) nodes (and_then (begun is_writing keep (seen_of nodes path.now)) (map (λ byte. ToFile path.now byte) piece.now)))) }
 {
     if !begin(tree, path, is_writing, keep)? {
         return Ok(false);

@@ -1,46 +1,159 @@
-use Rattle.std.proofs.Common.{◌≡◌, ℕ, List, [], ◌∷◌, slice_index, map, refl, ap, sym, ◌∙◌}
-use Rattle.std.specs.Prelude.{Option, Result, Ok, Err, OnErr, IfErr, is_err}
+use Rattle.std.proofs.Common.{◌≡◌, Bool, true, false, ℕ, ◌+◌, ◌<◌, ◌≤◌, List, [], ◌∷◌, length, slice_index, map, refl, ap, sym, ◌∙◌, arith}
+use Rattle.std.specs.Prelude.{Option, Some, None, IfSome, Result, Ok, Err, IsOk, OnOk, OnErr, IfErr, is_err}
 use Rattle.std.specs.Borrow.{MutBor}
 use Rattle.uxn_io.specs.declared.sinks.Failed.{Failed}
-use Rattle.uxn_opcodes.specs.declared.Stop.TheVariants.{SinkFault}
+use Rattle.uxn_opcodes.specs.declared.Stop.TheVariants.{TreeFault, SinkFault, NoMemory}
 use Rattle.varvara_bus.specs.declared.ports.Action.TheVariants.{PutsDebugText}
+use Rattle.varvara_bus.specs.declared.devices.Devices.{Devices}
 use Rattle.uxn_io.specs.Files.{Nodes}
 use Rattle.uxn_io.specs.Told.{extended, HasTakenFront}
-use Rattle.uxn_io.specs.Outside.{ToErr, World, changed_by, changed_by-err, cut-err}
+use Rattle.uxn_io.specs.Outside.{Change, ToErr, World, changed_by, changed_by-err, cut-err}
+use Rattle.uxn_io.specs.Room.{Room}
 use Rattle.uxn_opcodes.specs.declared.Core.{Core}
 use Rattle.uxn_opcodes.specs.declared.Stop.{Stop}
 use Rattle.varvara_bus.specs.declared.ports.Action.{Action}
 use Rattle.varvara_bus.specs.declared.bus.Bus.{Bus}
-use Rattle.varvara_bus.specs.State.{DeviceState, storing}
-use Rattle.varvara_bus.specs.Effect.{debug_bytes, action_of, act, effect}
-use Rattle.varvara_bus.specs.InstructionLaws.{same-again}
-use Rattle.varvara_bus.specs.Bus.{SameBus, BusStandsFor, held, world_of, Wrote, Stopped, Acted, ActStopped}
+use Rattle.varvara_bus.specs.State.{DeviceState, StandFor, HasFiles, clock_of, storing}
+use Rattle.varvara_bus.specs.Effect.{debug_bytes, action_of, no_effect, act, effect}
+use Rattle.uxn_io.specs.Taking.{files_made, files_gone, bytes_out, bytes_err, Remains, TreeTakes, TreeLeft, remains-all}
+use Rattle.varvara_bus.specs.InstructionLaws.{same-again, makes-both, stops-later}
+use Rattle.varvara_bus.specs.Bus.{Meaning, SameBus, BusStandsFor, HasRoot, held, world_of, sure_of, Makes, StopsShort, Wrote, Stopped, Acted, ActStopped}
 
 -- the debug text put whole
 pub debug_made : (world : World) (byte : ℕ) (core : Core) (now : Option (List ℕ)) → now ≡ extended world.err (debug_bytes byte core)
     → record world { err = now } ≡ changed_by world (map (λ letter. ToErr letter) (debug_bytes byte core))
 debug_made world byte core now is = ap (λ told. record world { err = told }) is ∙ sym (changed_by-err world (debug_bytes byte core))
 
-module _ {T O E : Type 0} (told_tree : T → Option Nodes) (told_out : O → Option (List ℕ)) (told_err : E → Option (List ℕ)) where
+-- the bytes of a text that is put on the error output
+pub err-bytes : (text : List ℕ) → bytes_err (map (λ letter. ToErr letter) text) ≡ length text
+err-bytes [] = refl
+err-bytes (letter ∷ text) = let later = err-bytes text in omega (arith, later)
+
+pub out-none : (text : List ℕ) → bytes_out (map (λ letter. ToErr letter) text) ≡ 0
+out-none [] = refl
+out-none (letter ∷ text) = let later = out-none text in omega (arith, later)
+
+module _ {T O E : Type 0} (meaning : Meaning T O E) where
   -- a byte was stored in the port, and nothing else was done
   pub record Stored (before now : Bus T O E) (port byte : ℕ) : Type 0 where
-    pub devices : (state : DeviceState) → BusStandsFor told_tree before state → BusStandsFor told_tree now (storing ((port, byte) ∷ []) state)
+    pub devices : (state : DeviceState) → BusStandsFor meaning.tree before state → BusStandsFor meaning.tree now (storing ((port, byte) ∷ []) state)
     pub held : held now port ≡ byte
-    pub world : world_of told_tree told_out told_err now ≡ world_of told_tree told_out told_err before
-    pub same : SameBus told_tree before now
+    pub tree : now.tree.now ≡ before.tree.now
+    pub out : now.out.now ≡ before.out.now
+    pub err : now.err.now ≡ before.err.now
+    pub same : SameBus meaning.tree before now
+
+  -- that made no change outside
+  stored-makes : (before now : Bus T O E) (port byte : ℕ) → Stored before now port byte → Makes meaning before now []
+  stored-makes before now port byte stored = record {
+    world = rw (stored.tree, stored.out, stored.err) refl;
+    remains = rw (stored.tree, stored.out, stored.err) (remains-all (sure_of meaning before) (meaning.tree before.tree.now));
+  }
 
   -- a front of the debug text put
   pub debug_stopped : (before : Bus T O E) (err : MutBor E) (core : Core) (byte : ℕ) (answer : Result (Unit {0}) Stop) (put : Result (Unit {0}) Failed)
-      → is_err answer ≡ is_err put → OnErr answer (answer ≡ Err SinkFault) → OnErr put (HasTakenFront (told_err before.err.now) (told_err err.now) (debug_bytes byte core))
-      → err.ghost_name ≡ before.err.ghost_name
-      → IfErr answer (λ stop. ActStopped told_tree told_out told_err before core PutsDebugText byte stop (record { devices = before.devices; tree = before.tree; out = before.out; err = err }))
-  debug_stopped before err core byte (Ok done) put same sink front lent = tt
-  debug_stopped before err core byte (Err stop) (Ok done) same sink front lent = cc
-  debug_stopped before err core byte (Err stop) (Err failed) same sink front lent = record {
-    cut = λ state stands. cut-err (world_of told_tree told_out told_err before) (told_err err.now) (debug_bytes byte core) front;
+      → is_err answer ≡ is_err put → OnErr answer (answer ≡ Err SinkFault) → OnErr put (HasTakenFront (meaning.err before.err.now) (meaning.err err.now) (debug_bytes byte core))
+      → (length (debug_bytes byte core) < meaning.err_room before.err.now → IsOk put) → err.ghost_name ≡ before.err.ghost_name
+      → IfErr answer (λ stop. ActStopped meaning before core PutsDebugText byte stop (record { devices = before.devices; tree = before.tree; out = before.out; err = err }))
+  debug_stopped before err core byte (Ok done) put same sink front sure lent = tt
+  debug_stopped before err core byte (Err TreeFault) (Err failed) same sink front sure lent = cc
+  debug_stopped before err core byte (Err NoMemory) (Err failed) same sink front sure lent = cc
+  debug_stopped before err core byte (Err stop) (Ok done) same sink front sure lent = cc
+  debug_stopped before err core byte (Err SinkFault) (Err failed) same sink front sure lent = record {
+    cut = λ state stands. record {
+      cut = cut-err (world_of meaning before) (meaning.err err.now) (debug_bytes byte core) front;
+      not_sure = λ takes_out takes_err.
+          let no : false ≡ true = sure (let whole = takes_err (omega (arith, front.within, err-bytes (debug_bytes byte core))) in omega (arith, whole, err-bytes (debug_bytes byte core))) in
+          cc;
+    };
     page = refl;
-    fault = λ wanted. cc;
-    same = record { lent = record { devices = refl; tree = refl; out = refl; err = lent }; files = record { stays = λ path there. there }; frames = refl; clock = refl; root = refl };
+    memory = λ wanted. cc;
+    same = record {
+      lent = record { devices = refl; tree = refl; out = refl; err = lent };
+      files = record { stays = λ path outside there. there };
+      frames = refl;
+      clock = refl;
+      root = refl;
+    };
+  }
+
+  -- the same four are lent where one of the sinks took something
+  sinks-same : (before : Bus T O E) (out : MutBor O) (err : MutBor E) → out.ghost_name ≡ before.out.ghost_name → err.ghost_name ≡ before.err.ghost_name
+      → SameBus meaning.tree before (record { devices = before.devices; tree = before.tree; out = out; err = err })
+  sinks-same before out err lent_out lent_err = record {
+    lent = record { devices = refl; tree = refl; out = lent_out; err = lent_err };
+    files = record { stays = λ path outside there. there };
+    frames = refl;
+    clock = refl;
+    root = refl;
+  }
+
+  left-alone : (told : Option Nodes) (room : Room) (changes : List Change) → ((nodes : Nodes) → files_made nodes changes ≡ 0) → files_gone changes ≡ 0
+      → IfSome told (λ nodes. TreeTakes room nodes changes → TreeLeft room room nodes changes)
+  left-alone None room changes made gone = tt
+  left-alone (Some nodes) room changes made gone = λ takes. record { files = omega (arith, made nodes, gone); bytes = omega arith }
+
+  err-made-none : (nodes : Nodes) (text : List ℕ) → files_made nodes (map (λ letter. ToErr letter) text) ≡ 0
+  err-made-none nodes [] = refl
+  err-made-none nodes (letter ∷ text) = let later = err-made-none nodes text in omega (arith, later)
+
+  err-gone-none : (text : List ℕ) → files_gone (map (λ letter. ToErr letter) text) ≡ 0
+  err-gone-none [] = refl
+  err-gone-none (letter ∷ text) = let later = err-gone-none text in omega (arith, later)
+
+  -- the debug text put whole
+  pub debug_done : (before : Bus T O E) (err : MutBor E) (core : Core) (byte : ℕ) (answer : Result (Unit {0}) Stop) (put : Result (Unit {0}) Failed)
+      → is_err answer ≡ is_err put → OnOk put (meaning.err err.now ≡ extended (meaning.err before.err.now) (debug_bytes byte core))
+      → OnOk put (meaning.err_room before.err.now ≤ meaning.err_room err.now + length (debug_bytes byte core)) → err.ghost_name ≡ before.err.ghost_name
+      → OnOk answer (Acted meaning before core PutsDebugText byte (record { devices = before.devices; tree = before.tree; out = before.out; err = err }) core)
+  debug_done before err core byte (Err stop) put same told left lent = tt
+  debug_done before err core byte (Ok done) (Err failed) same told left lent = cc
+  debug_done before err core byte (Ok done) (Ok put) same told left lent = record {
+    does = λ state stands. record {
+      core = refl;
+      devices = record { devices = stands.devices; files = stands.files };
+      makes = record {
+        world = debug_made (world_of meaning before) byte core (meaning.err err.now) told;
+        remains = record {
+          tree = left-alone (meaning.tree before.tree.now) (meaning.tree_room before.tree.now) (map (λ letter. ToErr letter) (debug_bytes byte core))
+              (λ nodes. err-made-none nodes (debug_bytes byte core)) (err-gone-none (debug_bytes byte core));
+          out = omega (arith, out-none (debug_bytes byte core));
+          err = omega (arith, left, err-bytes (debug_bytes byte core));
+        };
+      };
+    };
+    same = sinks-same before before.out err refl lent;
+  }
+
+  -- nothing but what the devices stand for changed
+  devices-same : (before : Bus T O E) (devices : MutBor Devices) → devices.ghost_name ≡ before.devices.ghost_name
+      → devices.now.time.frames ≡ before.devices.now.time.frames → clock_of devices.now ≡ clock_of before.devices.now
+      → devices.now.root ≡ before.devices.now.root
+      → SameBus meaning.tree before (record { devices = devices; tree = before.tree; out = before.out; err = before.err })
+  devices-same before devices lent frames clock root = record {
+    lent = record { devices = lent; tree = refl; out = refl; err = refl };
+    files = record { stays = λ path outside there. there };
+    frames = frames;
+    clock = clock;
+    root = root;
+  }
+
+  pub devices_done : (before : Bus T O E) (devices : MutBor Devices) (core : Core) (action : Action) (byte : ℕ) (done : DeviceState → DeviceState)
+      → ((state : DeviceState) → act action byte state core ≡ no_effect (done state) core)
+      → ((state : DeviceState) → StandFor before.devices.now state → StandFor devices.now (done state))
+      → ((state : DeviceState) → HasFiles (meaning.tree before.tree.now) state.root state.part state.parent
+      → HasFiles (meaning.tree before.tree.now) (done state).root (done state).part (done state).parent)
+      → devices.ghost_name ≡ before.devices.ghost_name
+      → devices.now.time.frames ≡ before.devices.now.time.frames → clock_of devices.now ≡ clock_of before.devices.now
+      → devices.now.root ≡ before.devices.now.root
+      → Acted meaning before core action byte (record { devices = devices; tree = before.tree; out = before.out; err = before.err }) core
+  devices_done before devices core action byte done is stands files lent frames clock root = record {
+    does = λ state stood. rw (is state) (record {
+      core = refl;
+      devices = record { devices = stands state stood.devices; files = files state stood.files };
+      makes = record { world = refl; remains = remains-all (sure_of meaning before) (meaning.tree before.tree.now) };
+    });
+    same = devices-same before devices lent frames clock root;
   }
 
   effect-of : (action : Action) (port byte : ℕ) (state : DeviceState) (core : Core) → action ≡ action_of port → act action byte (storing ((port, byte) ∷ []) state) core ≡ effect state core port byte
@@ -49,30 +162,25 @@ module _ {T O E : Type 0} (told_tree : T → Option Nodes) (told_out : O → Opt
 
   -- a write is a byte stored, and then the action of its port
   pub wrote_by_act : (before middle now : Bus T O E) (old new : Core) (port byte : ℕ) (action : Action) → action ≡ action_of port → Stored before middle port byte
-      → Acted told_tree told_out told_err middle old action byte now new → Wrote told_tree told_out told_err before old port byte now new
+      → Acted meaning middle old action byte now new → Wrote meaning before old port byte now new
   wrote_by_act before middle now old new port byte action is stored acted = record {
     does = λ state stands.
         let done = rw (effect-of action port byte state old is) at (acted.does (storing ((port, byte) ∷ []) state) (stored.devices state stands)) in
         record {
           core = done.core;
           devices = done.devices;
-          world = done.world ∙ ap (λ world. changed_by world (effect state old port byte).changes) stored.world;
+          makes = makes-both meaning before middle now [] (effect state old port byte).changes (stored-makes before middle port byte stored) done.makes;
         };
-    same = same-again told_tree before middle now stored.same acted.same;
+    same = same-again meaning.tree before middle now stored.same acted.same;
   }
 
   pub stopped_by_act : (before middle now : Bus T O E) (old new : Core) (port byte : ℕ) (action : Action) (stop : Stop) → action ≡ action_of port → Stored before middle port byte
-      → ActStopped told_tree told_out told_err middle old action byte stop now → Stopped told_tree told_out told_err before old port byte stop now new
+      → ActStopped meaning middle old action byte stop now → Stopped meaning before old port byte stop now new
   stopped_by_act before middle now old new port byte action stop is stored acted = record {
     cut = λ state stands.
-        let cut = rw (effect-of action port byte state old is) at (acted.cut (storing ((port, byte) ∷ []) state) (stored.devices state stands)) in
-        record {
-          made = cut.made;
-          rest = cut.rest;
-          parts = cut.parts;
-          left = cut.left ∙ ap (λ world. changed_by world cut.made) stored.world;
-        };
+        let short = rw (effect-of action port byte state old is) at (acted.cut (storing ((port, byte) ∷ []) state) (stored.devices state stands)) in
+        stops-later meaning before middle now stop [] (effect state old port byte).changes (stored-makes before middle port byte stored) short;
     stored = ap (λ page. slice_index page port) acted.page ∙ stored.held;
-    fault = acted.fault;
-    same = same-again told_tree before middle now stored.same acted.same;
+    memory = λ wanted. rw stored.same.root at (acted.memory wanted);
+    same = same-again meaning.tree before middle now stored.same acted.same;
   }

@@ -1,14 +1,24 @@
-use Rattle.std.proofs.Common.{◌≡◌, ℕ, Bool, true, false, cond, List, [], ◌∷◌, ◌++◌, take, map, refl, ap, sym, ◌∙◌}
-use Rattle.std.specs.Prelude.{Option, Some, None, IsSome}
+use Rattle.std.proofs.Common.{◌≡◌, ℕ, ◌+◌, ◌<◌, ◌≤◌, Bool, true, false, cond, List, [], ◌∷◌, ◌++◌, length, take, map, refl, ap, sym, ◌∙◌, arith}
+use Rattle.std.specs.Prelude.{Option, Some, None, IfSome, IsSome, Result, Ok, Err, IsOk}
 use Rattle.std.specs.Option.{option_map}
 use Rattle.std.specs.Ordering.{nat_cmp, eq_by_cmp}
 use Rattle.std.specs.Cmp.Lexicographic.{slice_cmp, nat_list_cmp_total}
 use Rattle.std.specs.FinMap as nodes_map
-use Rattle.uxn_io.specs.Files.{Node, File, Nodes, bytes_of, bytes_at}
+use Rattle.std.proofs.lemmas.List.{length-append}
+use Rattle.uxn_io.specs.declared.sinks.Failed.{Failed}
+use Rattle.uxn_io.specs.PathText.{parent_of}
+use Rattle.uxn_io.specs.Files.{Node, File, Folder, Nodes, bytes_of, bytes_at, file_at, is_folder, is_folder_at}
 use Rattle.uxn_io.specs.Changes.{with_appended, HasAppendedFront}
-use Rattle.uxn_io.specs.Outside.{ToFile, World, changed_by}
-use Rattle.uxn_io.specs.Appending.{changed_by-file}
-use Rattle.varvara_bus.specs.Bus.{FilesStay}
+use Rattle.uxn_io.specs.Outside.{ToFile, World, changed_by, changed_files, files_by}
+use Rattle.uxn_io.specs.Appending.{changed_by-file, bytes_put}
+use Rattle.uxn_io.specs.Room.{Room, Leaves}
+use Rattle.uxn_io.specs.Taking.{TreeTakes, TreeLeft, takes-later, files_made, files_gone, bytes_out, bytes_err}
+use Rattle.file_ports.specs.RootPart.{below, parent_is_folder, is_in_part}
+use Rattle.file_ports.specs.PartLaws.{files_by-file}
+use Rattle.file_ports.specs.ActLaws.{below-outside}
+use Rattle.varvara_bus.specs.State.{HasFiles}
+use Rattle.varvara_bus.specs.Bus.{IsFileWhereTold, IsOutside, FilesStay}
+use Rattle.varvara_bus.specs.Touching.{same_path}
 
 -- a text appended to a file
 pub file_made : (world : World) (path text : List ℕ) (now : Option Nodes) → now ≡ option_map (with_appended path text) world.files
@@ -21,14 +31,124 @@ put-there true bytes before there = refl
 put-there false bytes before there = there
 
 -- files stay where bytes are appended to one
-pub appended-stays : (told : Option Nodes) (path text : List ℕ) → FilesStay told (option_map (with_appended path text) told)
-appended-stays None path text = record { stays = λ other there. tt }
-appended-stays (Some nodes) path [] = record { stays = λ other there. there }
-appended-stays (Some nodes) path (byte ∷ text) = record {
-  stays = λ other there.
+pub appended-stays : (root : Option (List ℕ)) (told : Option Nodes) (path text : List ℕ) → FilesStay root told (option_map (with_appended path text) told)
+appended-stays root None path text = record { stays = λ other outside there. tt }
+appended-stays root (Some nodes) path [] = record { stays = λ other outside there. there }
+appended-stays root (Some nodes) path (byte ∷ text) = record {
+  stays = λ other outside there.
       rw (nodes_map.get-insert nat_list_cmp_total nodes path (File (bytes_at nodes path ++ byte ∷ text)) other)
       (put-there (eq_by_cmp (slice_cmp nat_cmp) other path) (bytes_at nodes path ++ byte ∷ text) (nodes_map.get nodes other) there);
 }
 
-pub front-stays : (before now : Option Nodes) (path piece : List ℕ) → HasAppendedFront path before now piece → FilesStay before now
-front-stays before now path piece front = rw front.told (appended-stays before path (take front.count piece))
+pub front-stays : (root : Option (List ℕ)) (before now : Option Nodes) (path piece : List ℕ) → HasAppendedFront path before now piece
+    → FilesStay root before now
+front-stays root before now path piece front = rw front.told (appended-stays root before path (take front.count piece))
+
+-- bytes appended to a file outside the root part leave that as it was
+not_in : (root : Option (List ℕ)) (path : List ℕ) → IsOutside root path → is_in_part root (Some path) ≡ false
+not_in None path outside = outside
+not_in (Some root) path outside = outside
+
+bytes-below : (root : Option (List ℕ)) (path text : List ℕ) (nodes : Nodes) → IsOutside root path
+    → below root (files_by nodes (map (λ byte. ToFile path byte) text)) ≡ below root nodes
+bytes-below root path [] nodes outside = refl
+bytes-below root path (byte ∷ text) nodes outside =
+    bytes-below root path text (changed_files (ToFile path byte) nodes) outside ∙ below-outside root (ToFile path byte) nodes (not_in root path outside)
+
+appended-below : (root : Option (List ℕ)) (path text : List ℕ) (nodes : Nodes) → IsOutside root path
+    → below root (with_appended path text nodes) ≡ below root nodes
+appended-below root path text nodes outside = ap (below root) (sym (files_by-file nodes path text)) ∙ bytes-below root path text nodes outside
+
+-- a file that gets bytes is no folder before or after
+no_folder : (node : Option Node) → IsSome (bytes_of node) → is_folder node ≡ false
+no_folder None there = refl
+no_folder (Some (File bytes)) there = refl
+no_folder (Some Folder) there = cc
+
+folder_or : (b : Bool) (bytes : List ℕ) (there : Option Node) → (b ≡ true → is_folder there ≡ false)
+    → is_folder (cond b (Some (File bytes)) there) ≡ is_folder there
+folder_or true bytes there other = sym (other refl)
+folder_or false bytes there other = refl
+
+folder_still : (nodes : Nodes) (path text q : List ℕ) → IsSome (file_at nodes path)
+    → is_folder (nodes_map.get (with_appended path text nodes) q) ≡ is_folder (nodes_map.get nodes q)
+folder_still nodes path [] q there = refl
+folder_still nodes path (byte ∷ text) q there =
+    ap is_folder (nodes_map.get-insert nat_list_cmp_total nodes path (File (bytes_at nodes path ++ byte ∷ text)) q)
+    ∙ folder_or (eq_by_cmp (slice_cmp nat_cmp) q path) (bytes_at nodes path ++ byte ∷ text) (nodes_map.get nodes q)
+    (λ same. ap (λ p. is_folder (nodes_map.get nodes p)) (same_path q path same) ∙ no_folder (nodes_map.get nodes path) there)
+
+parent_still : (nodes : Nodes) (path text : List ℕ) (parent : Option (List ℕ)) → IsSome (file_at nodes path)
+    → is_folder_at (with_appended path text nodes) parent ≡ is_folder_at nodes parent
+parent_still nodes path text None there = refl
+parent_still nodes path text (Some q) there = folder_still nodes path text q there
+
+appended-parent : (root : Option (List ℕ)) (path text : List ℕ) (nodes : Nodes) → IsSome (file_at nodes path)
+    → parent_is_folder root (with_appended path text nodes) ≡ parent_is_folder root nodes
+appended-parent None path text nodes there = refl
+appended-parent (Some root) path text nodes there = parent_still nodes path text (parent_of root) there
+
+-- so a state has the same files then
+pub appended-files : (told now : Option Nodes) (path text : List ℕ) (own root : Option (List ℕ)) (part : Nodes) (parent : Bool)
+    → now ≡ option_map (with_appended path text) told → IsFileWhereTold told path → IsOutside own path → own ≡ root
+    → HasFiles told root part parent → HasFiles now root part parent
+appended-files None now path text own root part parent is there outside same has = rw is has
+appended-files (Some nodes) now path text own root part parent is there outside same has =
+    rw is (has.0 ∙ sym (appended-below root path text nodes (rw same at outside)), has.1 ∙ sym (appended-parent root path text nodes there))
+
+-- ---- what is sure
+
+none-made : (nodes : Nodes) (path text : List ℕ) → files_made nodes (map (λ byte. ToFile path byte) text) ≡ 0
+none-made nodes path [] = refl
+none-made nodes path (byte ∷ text) = let later = none-made (changed_files (ToFile path byte) nodes) path text in omega (arith, later)
+
+none-gone : (path text : List ℕ) → files_gone (map (λ byte. ToFile path byte) text) ≡ 0
+none-gone path [] = refl
+none-gone path (byte ∷ text) = let later = none-gone path text in omega (arith, later)
+
+none-out : (path text : List ℕ) → bytes_out (map (λ byte. ToFile path byte) text) ≡ 0
+none-out path [] = refl
+none-out path (byte ∷ text) = let later = none-out path text in omega (arith, later)
+
+none-err : (path text : List ℕ) → bytes_err (map (λ byte. ToFile path byte) text) ≡ 0
+none-err path [] = refl
+none-err path (byte ∷ text) = let later = none-err path text in omega (arith, later)
+
+-- where a text is surely taken the file has room for it
+takes-text : (room : Room) (nodes : Nodes) (path text : List ℕ) → TreeTakes room nodes (map (λ byte. ToFile path byte) text) → 0 < length text
+    → length (bytes_at nodes path) + length text ≤ room.bytes
+takes-text room nodes path [] takes some = absurd (omega (arith, some))
+takes-text room nodes path (byte ∷ []) takes some = let one = takes.bytes [] [] path byte refl in omega (arith, one)
+takes-text room nodes path (byte ∷ next ∷ text) takes some =
+    let later = takes-later room room nodes (ToFile path byte ∷ []) (map (λ b. ToFile path b) (next ∷ text)) takes
+    (record { files = omega arith; bytes = omega arith }) in
+    let rest = takes-text room (changed_files (ToFile path byte) nodes) path (next ∷ text) later (omega arith) in
+    let size : length (bytes_at (changed_files (ToFile path byte) nodes) path) ≡ length (bytes_at nodes path) + 1 =
+    ap length (bytes_put nodes path (bytes_at nodes path ++ byte ∷ [])) ∙ length-append (bytes_at nodes path) (byte ∷ []) in
+    omega (arith, rest, size)
+
+-- what is left of a tree that took a text
+pub text-left : (told : Option Nodes) (before now : Room) (path text : List ℕ) → Leaves before now 0 0
+    → IfSome told (λ nodes. TreeTakes before nodes (map (λ byte. ToFile path byte) text) → TreeLeft before now nodes (map (λ byte. ToFile path byte) text))
+text-left None before now path text left = tt
+text-left (Some nodes) before now path text left = λ takes.
+    let some : 0 < before.files = (let first = takes.files [] (map (λ byte. ToFile path byte) text) refl in omega (arith, first)) in
+    record {
+      files = omega (arith, left.files some, none-made nodes path text, none-gone path text);
+      bytes = left.bytes some;
+    }
+
+-- a tree that failed did not surely take it
+pub text-not-sure : (told : Option Nodes) (room : Room) (path text : List ℕ) (P : Type 0) → (P → ⊥)
+    → IfSome told (λ nodes. 0 < room.files → (0 < length text → length (bytes_at nodes path) + length text ≤ room.bytes) → P)
+    → IfSome told (λ nodes. TreeTakes room nodes (map (λ byte. ToFile path byte) text) → ⊥)
+text-not-sure None room path text P never fails = tt
+text-not-sure (Some nodes) room path text P never fails = λ takes. never (
+    fails (let first = takes.files [] (map (λ byte. ToFile path byte) text) refl in omega (arith, first)) (takes-text room nodes path text takes))
+
+-- no byte of it goes to an output
+pub text-out : (sure : ℕ) (path text : List ℕ) → sure ≤ sure + bytes_out (map (λ byte. ToFile path byte) text)
+text-out sure path text = omega arith
+
+pub text-err : (sure : ℕ) (path text : List ℕ) → sure ≤ sure + bytes_err (map (λ byte. ToFile path byte) text)
+text-err sure path text = omega arith

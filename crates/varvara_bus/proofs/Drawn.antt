@@ -14,6 +14,7 @@ drawn_on devices screen state picture stands drawn = record {
   page = stands.page;
   screen = drawn;
   voices = stands.voices;
+  files = stands.files;
   frames = stands.frames;
   clock = stands.clock;
   root = stands.root;

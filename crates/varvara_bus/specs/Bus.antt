@@ -1,15 +1,19 @@
 -- A bus: devices, a tree and two sinks that are lent to it, and its ports.
-use Rattle.std.specs.Prelude.{◌≡◌, ◌≢◌, ℕ, List, Option, IfSome, IsSome, slice_index}
+use Rattle.std.specs.Prelude.{◌≡◌, ℕ, false, List, Option, Some, IfSome, IsSome, Err, slice_index}
 use Rattle.uxn_io.specs.Files.{Nodes, file_at}
 use Rattle.uxn_io.specs.Faults.{Counts, counts}
-use Rattle.uxn_io.specs.Outside.{World, changed_by, IsCutOff}
+use Rattle.uxn_io.specs.Outside.{Change, World, changed_by, IsCutOff}
+use Rattle.uxn_io.specs.Room.{Room}
+use Rattle.uxn_io.specs.Taking.{Sure, sure, Remains, WasNotSure}
+use Rattle.file_ports.specs.Device.{suits}
 use Rattle.uxn_opcodes.specs.declared.Core.{Core}
 use Rattle.uxn_opcodes.specs.declared.Stop.{Stop}
 use Rattle.uxn_opcodes.specs.declared.Stop.TheVariants.{NoMemory}
-use Rattle.uxn_opcodes.specs.Ports.{Rules}
+use Rattle.uxn_opcodes.specs.Ports.{Rules, blame_of}
 use Rattle.screen_layers.specs.Layers.{Layers}
 use Rattle.varvara_bus.specs.declared.bus.Bus.{Bus}
-use Rattle.varvara_bus.specs.State.{DeviceState, StandFor, clock_of}
+use Rattle.varvara_bus.specs.declared.devices.Devices.{Devices}
+use Rattle.varvara_bus.specs.State.{DeviceState, StandFor, HasFiles, clock_of}
 use Rattle.varvara_bus.specs.Reads.{read_of}
 use Rattle.varvara_bus.specs.declared.ports.Action.{Action}
 use Rattle.varvara_bus.specs.Effect.{Effect, act, effect}
@@ -25,21 +29,30 @@ pub record SameLent {T O E : Type 0} (before now : Bus T O E) : Type 0 where
 abbrev pub IsFileWhereTold : Option Nodes → List ℕ → Type 0
 IsFileWhereTold told path = IfSome told (λ nodes. IsSome (file_at nodes path))
 
--- each file that was there is there still
-pub record FilesStay (before now : Option Nodes) : Type 0 where
-  pub stays : (path : List ℕ) → IsFileWhereTold before path → IsFileWhereTold now path
+-- a path lies outside the part of the tree that the program sees: it is neither the root nor beneath it
+abbrev pub IsOutside : Option (List ℕ) → List ℕ → Type 0
+IsOutside root path = suits root (Some path) ≡ false
 
--- what no write changes: what is lent, which files are there, the frames begun, the clock and the folder of the machine's files
+-- each file outside the root part that was there is there still
+pub record FilesStay (root : Option (List ℕ)) (before now : Option Nodes) : Type 0 where
+  pub stays : (path : List ℕ) → IsOutside root path → IsFileWhereTold before path → IsFileWhereTold now path
+
+-- the machine has a root
+abbrev pub HasRoot : Devices → Type 0
+HasRoot devices = IsSome devices.root
+
+-- what no write changes: what is lent, which files are outside the root part, the frames begun, the clock and the root
 pub record SameBus {T O E : Type 0} (told_tree : T → Option Nodes) (before now : Bus T O E) : Type 0 where
   pub lent : SameLent before now
-  pub files : FilesStay (told_tree before.tree.now) (told_tree now.tree.now)
+  pub files : FilesStay before.devices.now.root (told_tree before.tree.now) (told_tree now.tree.now)
   pub frames : now.devices.now.time.frames ≡ before.devices.now.time.frames
   pub clock : clock_of now.devices.now ≡ clock_of before.devices.now
   pub root : now.devices.now.root ≡ before.devices.now.root
 
--- a bus stands for what its devices stand for
+-- a bus stands for what its devices stand for, with the root part of its tree
 pub record BusStandsFor {T O E : Type 0} (told_tree : T → Option Nodes) (bus : Bus T O E) (state : DeviceState) : Type 0 where
   pub devices : StandFor bus.devices.now state
+  pub files : HasFiles (told_tree bus.tree.now) state.root state.part state.parent
 
 -- the byte that was last stored in a port, and the number of frames begun, as the bus holds them
 abbrev pub held : {T O E : Type 0} → Bus T O E → ℕ → ℕ
@@ -69,43 +82,74 @@ Reads told_tree bus core port value = (state : DeviceState) → BusStandsFor tol
 abbrev pub bus_faults : {T O E : Type 0} → (T → ℕ) → (O → ℕ) → (E → ℕ) → Bus T O E → Counts
 bus_faults of_tree of_out of_err bus = counts (of_tree bus.tree.now) (of_out bus.out.now) (of_err bus.err.now)
 
-module _ {T O E : Type 0} (told_tree : T → Option Nodes) (told_out : O → Option (List ℕ)) (told_err : E → Option (List ℕ)) where
-  -- what the outputs and the tree of a bus tell
+-- what a tree and two sinks tell, and what they surely take
+pub record Meaning (T O E : Type 0) : Type 0 where
+  pub tree : T → Option Nodes
+  pub out : O → Option (List ℕ)
+  pub err : E → Option (List ℕ)
+  pub tree_room : T → Room
+  pub out_room : O → ℕ
+  pub err_room : E → ℕ
+
+abbrev pub meaning_of : {T O E : Type 0} → (T → Option Nodes) → (O → Option (List ℕ)) → (E → Option (List ℕ)) → (T → Room) → (O → ℕ) → (E → ℕ)
+    → Meaning T O E
+meaning_of tree out err tree_room out_room err_room = record {
+  tree = tree;
+  out = out;
+  err = err;
+  tree_room = tree_room;
+  out_room = out_room;
+  err_room = err_room;
+}
+
+module _ {T O E : Type 0} (meaning : Meaning T O E) where
+  -- what the outputs and the tree of a bus tell, and what is sure of them
   abbrev pub world_of : Bus T O E → World
-  world_of bus = record { out = told_out bus.out.now; err = told_err bus.err.now; files = told_tree bus.tree.now }
+  world_of bus = record { out = meaning.out bus.out.now; err = meaning.err bus.err.now; files = meaning.tree bus.tree.now }
+
+  abbrev pub sure_of : Bus T O E → Sure
+  sure_of bus = sure (meaning.tree_room bus.tree.now) (meaning.out_room bus.out.now) (meaning.err_room bus.err.now)
+
+  -- all of these changes were made
+  pub record Makes (before now : Bus T O E) (changes : List Change) : Type 0 where
+    pub world : world_of now ≡ changed_by (world_of before) changes
+    pub remains : Remains (sure_of before) (sure_of now) (meaning.tree before.tree.now) changes
+
+  -- a front of them was made, and whoever is to blame for the stop did not surely take all of them
+  pub record StopsShort (before now : Bus T O E) (stop : Stop) (changes : List Change) : Type 0 where
+    pub cut : IsCutOff (world_of before) (world_of now) changes
+    pub not_sure : WasNotSure (blame_of {T = Unit {0}} (Err stop)) (sure_of before) (meaning.tree before.tree.now) changes
 
   -- the bus and the core are as an effect says
   pub record HasEffect (before now : Bus T O E) (new : Core) (done : Effect) : Type 0 where
     pub core : new ≡ done.core
-    pub devices : BusStandsFor told_tree now done.devices
-    pub world : world_of now ≡ changed_by (world_of before) done.changes
+    pub devices : BusStandsFor meaning.tree now done.devices
+    pub makes : Makes before now done.changes
 
   -- a write has its effect, from each state that the bus stood for
   pub record Wrote (before : Bus T O E) (old : Core) (port byte : ℕ) (now : Bus T O E) (new : Core) : Type 0 where
-    pub does : (state : DeviceState) → BusStandsFor told_tree before state → HasEffect before now new (effect state old port byte)
-    pub same : SameBus told_tree before now
+    pub does : (state : DeviceState) → BusStandsFor meaning.tree before state → HasEffect before now new (effect state old port byte)
+    pub same : SameBus meaning.tree before now
 
-  -- a write that stops has stored its byte, and made a front of its changes; want of memory does not stop it
+  -- a write that stops has stored its byte, and made a front of its changes; memory is wanting only where there is a root
   pub record Stopped (before : Bus T O E) (old : Core) (port byte : ℕ) (stop : Stop) (now : Bus T O E) (new : Core) : Type 0 where
-    pub cut : (state : DeviceState) → BusStandsFor told_tree before state → IsCutOff (world_of before) (world_of now)
-        (effect state old port byte).changes
+    pub cut : (state : DeviceState) → BusStandsFor meaning.tree before state → StopsShort before now stop (effect state old port byte).changes
     pub stored : held now port ≡ byte
-    pub fault : stop ≢ NoMemory
-    pub same : SameBus told_tree before now
+    pub memory : stop ≡ NoMemory → HasRoot before.devices.now
+    pub same : SameBus meaning.tree before now
 
   -- the rules of a bus's ports
   abbrev pub bus_rules : Rules (Bus T O E)
-  bus_rules = record { reads = Reads told_tree; wrote = Wrote; stopped = Stopped }
+  bus_rules = record { reads = Reads meaning.tree; wrote = Wrote; stopped = Stopped }
 
   -- what an action does once the byte is stored
   pub record Acted (before : Bus T O E) (old : Core) (action : Action) (byte : ℕ) (now : Bus T O E) (new : Core) : Type 0 where
-    pub does : (state : DeviceState) → BusStandsFor told_tree before state → HasEffect before now new (act action byte state old)
-    pub same : SameBus told_tree before now
+    pub does : (state : DeviceState) → BusStandsFor meaning.tree before state → HasEffect before now new (act action byte state old)
+    pub same : SameBus meaning.tree before now
 
   -- what an action leaves that stops
   pub record ActStopped (before : Bus T O E) (old : Core) (action : Action) (byte : ℕ) (stop : Stop) (now : Bus T O E) : Type 0 where
-    pub cut : (state : DeviceState) → BusStandsFor told_tree before state → IsCutOff (world_of before) (world_of now)
-        (act action byte state old).changes
+    pub cut : (state : DeviceState) → BusStandsFor meaning.tree before state → StopsShort before now stop (act action byte state old).changes
     pub page : now.devices.now.page ≡ before.devices.now.page
-    pub fault : stop ≢ NoMemory
-    pub same : SameBus told_tree before now
+    pub memory : stop ≡ NoMemory → HasRoot before.devices.now
+    pub same : SameBus meaning.tree before now

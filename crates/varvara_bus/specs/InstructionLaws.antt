@@ -1,11 +1,13 @@
 -- The laws that tie an instruction over a bus to what it does to the devices and outside.
-use Rattle.std.specs.Prelude.{◌≡◌, ◌≢◌, ℕ, ◌==◌, false, List, [], ◌∷◌, ◌++◌, Option, Result, Ok}
+use Rattle.std.specs.Prelude.{◌≡◌, ◌≢◌, ℕ, ◌==◌, false, List, [], ◌∷◌, ◌++◌, Option, IsSome, Result, Ok}
 use Rattle.std.specs.Prelude.{Err, refl}
 use Rattle.std.proofs.Common.{ap, sym, ◌∙◌, append_assoc, inl, inr, arith}
 use Rattle.std.proofs.lemmas.Bool.Decides.{nat_tests}
 use Rattle.std.proofs.lemmas.List.{append-nil}
 use Rattle.uxn_io.specs.Files.{Nodes}
-use Rattle.uxn_io.specs.Outside.{Change, changed_by, changed_by-append, IsCutOff, cut-first, cut-later}
+use Rattle.std.specs.Option.{option_map}
+use Rattle.uxn_io.specs.Outside.{Change, World, changed_by, files_by, changed_by-append, cut-first, cut-later}
+use Rattle.uxn_io.specs.Taking.{Remains, WasNotSure, files-told, remains-all, remains-both, not-sure-first, not-sure-later}
 use Rattle.uxn_opcodes.specs.declared.Core.{Core}
 use Rattle.uxn_opcodes.specs.declared.Stop.{Stop}
 use Rattle.uxn_opcodes.specs.declared.Stop.TheVariants.{NoMemory}
@@ -13,6 +15,7 @@ use Rattle.uxn_opcodes.specs.declared.Turn.{Turn}
 use Rattle.uxn_opcodes.specs.declared.Turn.TheVariants.{Ran, Broke}
 use Rattle.uxn_opcodes.specs.declared.rows.Access.{Access}
 use Rattle.uxn_opcodes.specs.declared.rows.Access.TheVariants.{Nothing, Read, Write}
+use Rattle.uxn_opcodes.specs.Ports.{blame_of}
 use Rattle.uxn_opcodes.specs.Rule.{opcode_at, begun}
 use Rattle.uxn_opcodes.specs.Instruction.{Written, WriteStops, writes_of, Finishes, Stops, Instruction}
 use Rattle.uxn_opcodes.specs.Model.{Machine, Carries, StandsAt, after_instruction, access_done, written_by}
@@ -20,7 +23,7 @@ use Rattle.uxn_opcodes.specs.Model.{writes_in, carried-ran, carried-broke, carri
 use Rattle.varvara_bus.specs.declared.bus.Bus.{Bus}
 use Rattle.varvara_bus.specs.State.{DeviceState}
 use Rattle.varvara_bus.specs.Effect.{effect}
-use Rattle.varvara_bus.specs.Bus.{SameBus, BusStandsFor, world_of, HasEffect, bus_rules}
+use Rattle.varvara_bus.specs.Bus.{SameBus, BusStandsFor, HasRoot, Meaning, world_of, sure_of, Makes, StopsShort, HasEffect, bus_rules}
 use Rattle.varvara_bus.specs.Model.{Devised, varvara, instruction_effect}
 
 -- writes only add to the changes made so far
@@ -68,7 +71,7 @@ instruction-writes devices core goes_on =
 pub same-itself : {T O E : Type 0} (told_tree : T → Option Nodes) (bus : Bus T O E) → SameBus told_tree bus bus
 same-itself told_tree bus = record {
   lent = record { devices = refl; tree = refl; out = refl; err = refl };
-  files = record { stays = λ path there. there };
+  files = record { stays = λ path outside there. there };
   frames = refl;
   clock = refl;
   root = refl;
@@ -84,19 +87,53 @@ same-again told_tree a b c p q = record {
         ∙ p.lent.out;
     err = q.lent.err ∙ p.lent.err;
   };
-  files = record { stays = λ path there. q.files.stays path (p.files.stays path there) };
+  files = record { stays = λ path outside there. (rw p.root at q.files).stays path outside (p.files.stays path outside there) };
   frames = q.frames ∙ p.frames;
   clock = q.clock ∙ p.clock;
   root = q.root ∙ p.root;
 }
 
-module _ {T O E : Type 0} (told_tree : T → Option Nodes) (told_out : O → Option (List ℕ)) (told_err : E → Option (List ℕ)) where
+module _ {T O E : Type 0} (meaning : Meaning T O E) where
+  -- no changes were made
+  pub makes-none : (bus : Bus T O E) → Makes meaning bus bus []
+  makes-none bus = record { world = refl; remains = remains-all (sure_of meaning bus) (meaning.tree bus.tree.now) }
+
+  -- what the tree tells once changes were made
+  told-now : (before now : Bus T O E) (changes : List Change) → Makes meaning before now changes
+      → meaning.tree now.tree.now ≡ option_map (λ nodes. files_by nodes changes) (meaning.tree before.tree.now)
+  told-now before now changes makes = ap (λ (w : World). w.files) makes.world ∙ files-told (world_of meaning before) changes
+
+  -- some, and then more
+  pub makes-both : (before middle now : Bus T O E) (first more : List Change) → Makes meaning before middle first → Makes meaning middle now more
+      → Makes meaning before now (first ++ more)
+  makes-both before middle now first more p q = record {
+    world = q.world ∙ ap (λ w. changed_by w more) p.world ∙ sym (changed_by-append (world_of meaning before) first more);
+    remains = remains-both (sure_of meaning before) (sure_of meaning middle) (sure_of meaning now) (meaning.tree before.tree.now) first more p.remains
+        (rw (told-now before middle first p) at q.remains);
+  }
+
+  -- a front of them, or all of them and then a front of more
+  pub stops-first : (before now : Bus T O E) (stop : Stop) (first more : List Change) → StopsShort meaning before now stop first
+      → StopsShort meaning before now stop (first ++ more)
+  stops-first before now stop first more short = record {
+    cut = cut-first (world_of meaning before) (world_of meaning now) first more short.cut;
+    not_sure = not-sure-first (blame_of {T = Unit {0}} (Err stop)) (sure_of meaning before) (meaning.tree before.tree.now) first more short.not_sure;
+  }
+
+  pub stops-later : (before middle now : Bus T O E) (stop : Stop) (first more : List Change) → Makes meaning before middle first
+      → StopsShort meaning middle now stop more → StopsShort meaning before now stop (first ++ more)
+  stops-later before middle now stop first more p short = record {
+    cut = cut-later (world_of meaning before) (world_of meaning middle) (world_of meaning now) first more p.world short.cut;
+    not_sure = not-sure-later (blame_of {T = Unit {0}} (Err stop)) (sure_of meaning before) (sure_of meaning middle) (meaning.tree before.tree.now)
+        first more p.remains (rw (told-now before middle first p) at short.not_sure);
+  }
+
   -- since a bus stood so, its devices became these, and these changes were made
   record StandsSince (start now : Bus T O E) (so_far : Devised) : Type 0 where
-    devices : BusStandsFor told_tree now so_far.devices
-    made : world_of told_tree told_out told_err now ≡ changed_by (world_of told_tree told_out told_err start) so_far.changes
+    devices : BusStandsFor meaning.tree now so_far.devices
+    makes : Makes meaning start now so_far.changes
 
-  carries : (start : Bus T O E) → Carries (bus_rules told_tree told_out told_err) (StandsSince start) varvara
+  carries : (start : Bus T O E) → Carries (bus_rules meaning) (StandsSince start) varvara
   carries start = record {
     reading = λ now so_far core port value stands reads. reads so_far.devices stands.devices;
     writing = λ now so_far core port byte after core_after stands wrote.
@@ -105,91 +142,88 @@ module _ {T O E : Type 0} (told_tree : T → Option Nodes) (told_out : O → Opt
           same_core = done.core;
           same_ports = record {
             devices = done.devices;
-            made = done.world
-                ∙ ap (λ w. changed_by w (effect so_far.devices core port byte).changes) stands.made
-                ∙ sym (changed_by-append (world_of told_tree told_out told_err start) so_far.changes
-                (effect so_far.devices core port byte).changes);
+            makes = makes-both start now after so_far.changes (effect so_far.devices core port byte).changes stands.makes done.makes;
           };
         };
   }
 
-  starts : (start : Bus T O E) (devices : DeviceState) → BusStandsFor told_tree start devices
+  starts : (start : Bus T O E) (devices : DeviceState) → BusStandsFor meaning.tree start devices
       → StandsSince start start (record { devices = devices; changes = [] })
-  starts start devices stands = record { devices = stands; made = refl }
+  starts start devices stands = record { devices = stands; makes = makes-none start }
 
   carried : (before : Bus T O E) (core core_new : Core) (now : Bus T O E) (turn : Turn) (devices : DeviceState)
-      → BusStandsFor told_tree before devices
-      → Instruction (bus_rules told_tree told_out told_err) core before (Ok turn) core_new now
-      → StandsAt (bus_rules told_tree told_out told_err) (StandsSince before) varvara core_new now (after_instruction varvara core
+      → BusStandsFor meaning.tree before devices
+      → Instruction (bus_rules meaning) core before (Ok turn) core_new now
+      → StandsAt (bus_rules meaning) (StandsSince before) varvara core_new now (after_instruction varvara core
       (record { devices = devices; changes = [] }))
   carried before core core_new now Ran devices stands ran =
-      carried-ran (bus_rules told_tree told_out told_err) (StandsSince before) varvara (carries before) core before
+      carried-ran (bus_rules meaning) (StandsSince before) varvara (carries before) core before
       (record { devices = devices; changes = [] }) core_new now (starts before devices stands) ran
   carried before core core_new now Broke devices stands ran =
-      carried-broke (bus_rules told_tree told_out told_err) (StandsSince before) varvara core before
+      carried-broke (bus_rules meaning) (StandsSince before) varvara core before
       (record { devices = devices; changes = [] }) core_new now (starts before devices stands) ran
 
   -- an instruction that ran over a bus has its effect, from each state that the bus stood for
-  pub instruction-done : (core core_new : Core) (before now : Bus T O E) (turn : Turn) (devices : DeviceState) → BusStandsFor told_tree before devices
-      → Instruction (bus_rules told_tree told_out told_err) core before (Ok turn) core_new now
-      → HasEffect told_tree told_out told_err before now core_new (instruction_effect devices core)
+  pub instruction-done : (core core_new : Core) (before now : Bus T O E) (turn : Turn) (devices : DeviceState) → BusStandsFor meaning.tree before devices
+      → Instruction (bus_rules meaning) core before (Ok turn) core_new now
+      → HasEffect meaning before now core_new (instruction_effect devices core)
   unfolding instruction_effect
   instruction-done core core_new before now turn devices stands ran =
       let at = carried before core core_new now turn devices stands ran in
-      record { core = at.same_core; devices = at.same_ports.devices; world = at.same_ports.made }
+      record { core = at.same_core; devices = at.same_ports.devices; makes = at.same_ports.makes }
 
   goes-on : (core core_new : Core) (before now : Bus T O E) (stop : Stop)
-      → Instruction (bus_rules told_tree told_out told_err) core before (Err stop) core_new now → opcode_at core ≢ 0
+      → Instruction (bus_rules meaning) core before (Err stop) core_new now → opcode_at core ≢ 0
   unfolding Instruction
   goes-on core core_new before now stop stopped = stopped.0
 
   -- one that stopped has made a front of its changes
-  pub instruction-cut : (core core_new : Core) (before now : Bus T O E) (stop : Stop) (devices : DeviceState) → BusStandsFor told_tree before devices
-      → Instruction (bus_rules told_tree told_out told_err) core before (Err stop) core_new now
-      → IsCutOff (world_of told_tree told_out told_err before) (world_of told_tree told_out told_err now)
-      (instruction_effect devices core).changes
+  pub instruction-cut : (core core_new : Core) (before now : Bus T O E) (stop : Stop) (devices : DeviceState) → BusStandsFor meaning.tree before devices
+      → Instruction (bus_rules meaning) core before (Err stop) core_new now
+      → StopsShort meaning before now stop (instruction_effect devices core).changes
   instruction-cut core core_new before now stop devices stands stopped =
       let begins : Machine Devised = record { core = (begun core).core; ports = record { devices = devices; changes = [] } } in
-      let at = carried-stopped (bus_rules told_tree told_out told_err) (StandsSince before) varvara (carries before) core before
+      let at = carried-stopped (bus_rules meaning) (StandsSince before) varvara (carries before) core before
       (record { devices = devices; changes = [] }) stop core_new now
       (starts before devices stands) stopped in
       let reached : Machine Devised = written_by varvara at.before begins in
       let last : Machine Devised = varvara.write reached.ports reached.core at.port at.byte in
       let grown = writes-grow at.after last in
-      let cut = cut-later (world_of told_tree told_out told_err before) (world_of told_tree told_out told_err at.ports)
-      (world_of told_tree told_out told_err now)
-      reached.ports.changes (effect reached.ports.devices reached.core at.port at.byte).changes at.same_ports.made
+      let short = stops-later before at.ports now stop
+      reached.ports.changes (effect reached.ports.devices reached.core at.port at.byte).changes at.same_ports.makes
       (at.stops.cut reached.ports.devices at.same_ports.devices) in
       let whole : (instruction_effect devices core).changes ≡ last.ports.changes ++ grown.more =
       instruction-writes devices core (goes-on core core_new before now stop stopped)
       ∙ ap (λ writes. (written_by varvara writes begins).ports.changes) at.in_order
       ∙ ap (λ (m : Machine Devised). m.ports.changes) (written-append at.before ((at.port, at.byte) ∷ at.after) begins)
       ∙ grown.parts in
-      rw whole (cut-first (world_of told_tree told_out told_err before)
-      (world_of told_tree told_out told_err now) last.ports.changes grown.more cut)
+      rw whole (stops-first before now stop last.ports.changes grown.more short)
 
-  -- whatever became of an instruction, the same four are lent, and memory was not wanting
-  unchanged : (before now : Bus T O E) → now ≡ before → SameBus told_tree before now
-  unchanged before now is = rw is (same-itself told_tree before)
+  -- whatever became of an instruction, the same four are lent, and memory was wanting only where there is a root
+  same-root : (before now : Bus T O E) → SameBus meaning.tree before now → HasRoot now.devices.now → HasRoot before.devices.now
+  same-root before now same has = rw same.root at has
+
+  unchanged : (before now : Bus T O E) → now ≡ before → SameBus meaning.tree before now
+  unchanged before now is = rw is (same-itself meaning.tree before)
 
   written-same : (writes : List (ℕ × ℕ)) (before : Bus T O E) (core : Core) (now : Bus T O E) (core_new : Core)
-      → Written (bus_rules told_tree told_out told_err) writes before core now core_new → SameBus told_tree before now
+      → Written (bus_rules meaning) writes before core now core_new → SameBus meaning.tree before now
   written-same [] before core now core_new written = unchanged before now written.0
   written-same (write ∷ writes) before core now core_new written =
-      same-again told_tree before written.0 now written.1.1.0.same (written-same writes written.0 written.1.0 now core_new written.1.1.1)
+      same-again meaning.tree before written.0 now written.1.1.0.same (written-same writes written.0 written.1.0 now core_new written.1.1.1)
 
   stopped-same : (writes : List (ℕ × ℕ)) (before : Bus T O E) (core : Core) (stop : Stop) (now : Bus T O E) (core_new : Core)
-      → WriteStops (bus_rules told_tree told_out told_err) writes before core stop now core_new → SameBus told_tree before now × (stop ≢ NoMemory)
+      → WriteStops (bus_rules meaning) writes before core stop now core_new → SameBus meaning.tree before now × (stop ≡ NoMemory → HasRoot before.devices.now)
   stopped-same [] before core stop now core_new stopped = absurd stopped
   stopped-same (write ∷ writes) before core stop now core_new stopped = elim stopped [
-    | inl here ↦ (here.same, here.fault)
+    | inl here ↦ (here.same, here.memory)
     | inr later ↦
         let rest = stopped-same writes later.0 later.1.0 stop now core_new later.1.1.1 in
-        (same-again told_tree before later.0 now later.1.1.0.same rest.0, rest.1)
+        (same-again meaning.tree before later.0 now later.1.1.0.same rest.0, λ wanting. same-root before later.0 later.1.1.0.same (rest.1 wanting))
   ]
 
   finishes-same : (access : Access) (core core_new : Core) (before now : Bus T O E)
-      → Finishes (bus_rules told_tree told_out told_err) access core before core_new now → SameBus told_tree before now
+      → Finishes (bus_rules meaning) access core before core_new now → SameBus meaning.tree before now
   unfolding Finishes
   finishes-same Nothing core core_new before now done = unchanged before now done.1
   finishes-same (Read port mode) core core_new before now done = unchanged before now done.0
@@ -197,7 +231,7 @@ module _ {T O E : Type 0} (told_tree : T → Option Nodes) (told_out : O → Opt
       (writes_of width port value) before core now core_new done
 
   stops-same : (access : Access) (core : Core) (stop : Stop) (core_new : Core) (before now : Bus T O E)
-      → Stops (bus_rules told_tree told_out told_err) access core before stop core_new now → SameBus told_tree before now × (stop ≢ NoMemory)
+      → Stops (bus_rules meaning) access core before stop core_new now → SameBus meaning.tree before now × (stop ≡ NoMemory → HasRoot before.devices.now)
   unfolding Stops
   stops-same Nothing core stop core_new before now stopped = absurd stopped
   stops-same (Read port mode) core stop core_new before now stopped = absurd stopped
@@ -205,7 +239,7 @@ module _ {T O E : Type 0} (told_tree : T → Option Nodes) (told_out : O → Opt
       (writes_of width port value) before core stop now core_new stopped
 
   pub instruction-lent : (core core_new : Core) (before now : Bus T O E) (result : Result Turn Stop)
-      → Instruction (bus_rules told_tree told_out told_err) core before result core_new now → SameBus told_tree before now
+      → Instruction (bus_rules meaning) core before result core_new now → SameBus meaning.tree before now
   unfolding Instruction
   instruction-lent core core_new before now (Ok Broke) done = unchanged before now done.2
   instruction-lent core core_new before now (Ok Ran) done = finishes-same (begun core).access (begun core).core core_new before now done.1
@@ -213,7 +247,8 @@ module _ {T O E : Type 0} (told_tree : T → Option Nodes) (told_out : O → Opt
       (begun core).core stop core_new before now done.1).0
 
   pub instruction-fault : (core core_new : Core) (before now : Bus T O E) (stop : Stop)
-      → Instruction (bus_rules told_tree told_out told_err) core before (Err stop) core_new now → stop ≢ NoMemory
+      → Instruction (bus_rules meaning) core before (Err stop) core_new now
+      → stop ≡ NoMemory → HasRoot before.devices.now
   unfolding Instruction
   instruction-fault core core_new before now stop done = (stops-same (begun core).access
       (begun core).core stop core_new before now done.1).1

@@ -43,6 +43,7 @@ stand-stored devices state port byte within stands = record {
   page = λ p. found devices.page port byte p within ∙ ap (λ held. if p == port then byte else held) (stands.page p);
   screen = stands.screen;
   voices = stands.voices;
+  files = stands.files;
   frames = stands.frames;
   clock = stands.clock;
   root = stands.root;

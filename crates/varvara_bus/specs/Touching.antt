@@ -20,6 +20,8 @@ use Rattle.varvara_bus.specs.declared.ports.Action.{Action}
 use Rattle.varvara_bus.specs.declared.ports.Action.TheVariants.{Stores, Expands, SetsWorkingPointer, SetsReturnPointer}
 use Rattle.varvara_bus.specs.declared.ports.Action.TheVariants.{PutsDebugText, PutsOut, PutsErr}
 use Rattle.varvara_bus.specs.declared.ports.Action.TheVariants.{AsksWidth, AsksHeight, DrawsPixel, DrawsSprite, StartsNote}
+use Rattle.file_ports.specs.Device.{FileState, Suits}
+use Rattle.varvara_bus.specs.Bus.{IsOutside}
 use Rattle.varvara_bus.specs.State.{DeviceState, storing}
 use Rattle.varvara_bus.specs.Effect.{act, debug_bytes, action_of, effect}
 use Rattle.varvara_bus.specs.Model.{Devised, varvara, instruction_effect}
@@ -116,46 +118,62 @@ kept-node path None now e = tt
 kept-node path (Some old) None e = tt
 kept-node path (Some old) (Some new) e = cc
 
--- no action of a port touches a file
-act-spares : (path : List ℕ) (action : Action) (byte : ℕ) (devices : DeviceState) (core : Core) → Each (Spares path) (act action byte devices core).changes
-act-spares path Stores byte devices core = tt
-act-spares path Expands byte devices core = tt
-act-spares path SetsWorkingPointer byte devices core = tt
-act-spares path SetsReturnPointer byte devices core = tt
-act-spares path PutsDebugText byte devices core = each-map (Spares path) (λ letter. ToErr letter) (debug_bytes byte core) (λ letter. tt)
-act-spares path PutsOut byte devices core = (tt, tt)
-act-spares path PutsErr byte devices core = (tt, tt)
-act-spares path AsksWidth byte devices core = tt
-act-spares path AsksHeight byte devices core = tt
-act-spares path DrawsPixel byte devices core = tt
-act-spares path DrawsSprite byte devices core = tt
-act-spares path (StartsNote voice) byte devices core = tt
+-- a path lies outside the root part, and the file devices suit the root
+pub record IsApart (path : List ℕ) (root : Option (List ℕ)) (one other : FileState) : Type 0 where
+  pub outside : IsOutside root path
+  pub first : Suits root one
+  pub second : Suits root other
 
-effect-spares : (path : List ℕ) (devices : DeviceState) (core : Core) (port byte : ℕ) → Each (Spares path) (effect devices core port byte).changes
+abbrev pub StandsApart : List ℕ → DeviceState → Type 0
+StandsApart path devices = IsApart path devices.root devices.first_file devices.second_file
+
+-- an action of a port leaves such a path alone, and the file devices suit the root still
+act-spares : (path : List ℕ) (action : Action) (byte : ℕ) (devices : DeviceState) (core : Core) → StandsApart path devices
+    → Each (Spares path) (act action byte devices core).changes × StandsApart path (act action byte devices core).devices
+act-spares path Stores byte devices core apart = (tt, apart)
+act-spares path Expands byte devices core apart = (tt, apart)
+act-spares path SetsWorkingPointer byte devices core apart = (tt, apart)
+act-spares path SetsReturnPointer byte devices core apart = (tt, apart)
+act-spares path PutsDebugText byte devices core apart =
+    (each-map (Spares path) (λ letter. ToErr letter) (debug_bytes byte core) (λ letter. tt), apart)
+act-spares path PutsOut byte devices core apart = ((tt, tt), apart)
+act-spares path PutsErr byte devices core apart = ((tt, tt), apart)
+act-spares path AsksWidth byte devices core apart = (tt, apart)
+act-spares path AsksHeight byte devices core apart = (tt, apart)
+act-spares path DrawsPixel byte devices core apart = (tt, apart)
+act-spares path DrawsSprite byte devices core apart = (tt, apart)
+act-spares path (StartsNote voice) byte devices core apart = (tt, apart)
+
+effect-spares : (path : List ℕ) (devices : DeviceState) (core : Core) (port byte : ℕ) → StandsApart path devices
+    → Each (Spares path) (effect devices core port byte).changes × StandsApart path (effect devices core port byte).devices
 unfolding effect
-effect-spares path devices core port byte = act-spares path (action_of port) byte (storing ((port, byte) ∷ []) devices) core
+effect-spares path devices core port byte apart = act-spares path (action_of port) byte (storing ((port, byte) ∷ []) devices) core apart
 
 written-spares : (path : List ℕ) (writes : List (ℕ × ℕ)) (machine : Machine Devised) → Each (Spares path) machine.ports.changes
-    → Each (Spares path) (written_by varvara writes machine).ports.changes
-written-spares path [] machine s = s
-written-spares path (write ∷ writes) machine s =
+    → StandsApart path machine.ports.devices
+    → Each (Spares path) (written_by varvara writes machine).ports.changes × StandsApart path (written_by varvara writes machine).ports.devices
+written-spares path [] machine s apart = (s, apart)
+written-spares path (write ∷ writes) machine s apart =
+    let done = effect-spares path machine.ports.devices machine.core write.0 write.1 apart in
     written-spares path writes (varvara.write machine.ports machine.core write.0 write.1)
-    (each-append (Spares path) machine.ports.changes (effect machine.ports.devices machine.core write.0 write.1).changes s
-    (effect-spares path machine.ports.devices machine.core write.0 write.1))
+    (each-append (Spares path) machine.ports.changes (effect machine.ports.devices machine.core write.0 write.1).changes s done.0) done.1
 
-access-spares : (path : List ℕ) (access : Access) (core : Core) (devices : DeviceState)
+access-spares : (path : List ℕ) (access : Access) (core : Core) (devices : DeviceState) → StandsApart path devices
     → Each (Spares path) (access_done varvara access core (record { devices = devices; changes = [] })).ports.changes
-access-spares path Nothing core devices = tt
-access-spares path (Read port mode) core devices = tt
-access-spares path (Write port width value) core devices =
-    written-spares path (writes_of width port value) (record { core = core; ports = record { devices = devices; changes = [] } }) tt
+    × StandsApart path (access_done varvara access core (record { devices = devices; changes = [] })).ports.devices
+access-spares path Nothing core devices apart = (tt, apart)
+access-spares path (Read port mode) core devices apart = (tt, apart)
+access-spares path (Write port width value) core devices apart =
+    written-spares path (writes_of width port value) (record { core = core; ports = record { devices = devices; changes = [] } }) tt apart
 
--- an instruction leaves every path alone
-pub instruction-spares : (path : List ℕ) (devices : DeviceState) (core : Core) → Each (Spares path) (instruction_effect devices core).changes
+-- an instruction leaves such a path alone
+pub instruction-spares : (path : List ℕ) (devices : DeviceState) (core : Core) → StandsApart path devices
+    → Each (Spares path) (instruction_effect devices core).changes × StandsApart path (instruction_effect devices core).devices
 unfolding instruction_effect after_instruction
-instruction-spares path devices core =
-    elim (opcode_at core == 0) as (λ b. Each (Spares path) (cond b (record { core = past_opcode core; ports = record { devices = devices; changes = [] } })
-    (access_done varvara (begun core).access (begun core).core (record { devices = devices; changes = [] }))).ports.changes) [
-      | true ↦ tt
-      | false ↦ access-spares path (begun core).access (begun core).core devices
+instruction-spares path devices core apart =
+    let last : Bool → Machine Devised = λ b. cond b (record { core = past_opcode core; ports = record { devices = devices; changes = [] } })
+    (access_done varvara (begun core).access (begun core).core (record { devices = devices; changes = [] })) in
+    elim (opcode_at core == 0) as (λ b. Each (Spares path) (last b).ports.changes × StandsApart path (last b).ports.devices) [
+      | true ↦ (tt, apart)
+      | false ↦ access-spares path (begun core).access (begun core).core devices apart
     ]

@@ -1,5 +1,5 @@
 //! The bus: what the machine's ports are.
-ghost use Rattle.std.specs.Prelude.{◌≡◌, ◌+◌, ◌<◌, [], ◌∷◌, map, Err, OnOk, OnErr, IfErr, is_err};
+ghost use Rattle.std.specs.Prelude.{◌≡◌, ◌+◌, ◌<◌, ◌≤◌, [], ◌∷◌, map, length, Err, IsOk, OnOk, OnErr, IfErr, is_err};
 ghost use Rattle.varvara_bus.specs.State.{DeviceState, storing, next_frame, rendered};
 ghost use Rattle.screen_frame.specs.Colours.{colours_of};
 ghost use Rattle.screen_layers.specs.Layers as layers;
@@ -9,18 +9,21 @@ ghost use Rattle.varvara_bus.specs.History.{stored, stored_short, colour_bytes};
 ghost use Rattle.uxn_io.specs.Faults.{Counted, Ledger};
 ghost use Rattle.uxn_opcodes.specs.Ports.{blame_of};
 ghost use Rattle.uxn_io.specs.Told.{extended, HasTakenFront};
-ghost use Rattle.uxn_io.specs.Outside.{ToFile, changed_by, IsCutOff};
+ghost use Rattle.uxn_io.specs.Outside.{ToFile};
 ghost use Rattle.varvara_bus.specs.Effect.{debug_bytes};
 ghost use Rattle.varvara_bus.specs.Bus.{
   BusStandsFor,
   SameBus,
   ChangesDevices,
   IsFileWhereTold,
+  IsOutside,
   held,
   frames_begun,
   screen_of,
   bus_faults,
-  world_of,
+  meaning_of,
+  Makes,
+  StopsShort,
   Acted,
   ActStopped,
 };
@@ -67,6 +70,8 @@ fn put_debug_text<E: Sink>(core: &Core, err: &mut E, value: u8) -> Result<(), Fa
     ensures ok { OnOk result (E.told err.new ≡ extended (E.told err.old) (debug_bytes value core.now)) }
     ensures err { OnErr result (HasTakenFront (E.told err.old) (E.told err.new) (debug_bytes value core.now)) }
     ensures ledger { Counted (E.faults err.old) (E.faults err.new) (is_err result) }
+    ensures sure { length (debug_bytes value core.now) < E.sure err.old → IsOk result }
+    ensures left { OnOk result (E.sure err.old ≤ E.sure err.new + length (debug_bytes value core.now)) }
 {
     if value == 0 {
         return Ok(());
@@ -202,17 +207,18 @@ impl<'a, T: Tree, O: Sink, E: Sink> Bus<'a, T, O, E> {
 
     /// Appends the whole piece to the file at the path. After `TreeFault` a front of it was appended.
     pub fn append(&mut self, path: &Path, piece: &[u8]) -> Result<(), Stop>
-        requires { IsFileWhereTold (T.told self.old.tree.now) path.now }
-        ensures ok { OnOk result (world_of T.told O.told E.told self.new
-            ≡ changed_by (world_of T.told O.told E.told self.old) (map (λ byte. ToFile path.now byte) piece.now)) }
+        requires file { IsFileWhereTold (T.told self.old.tree.now) path.now }
+        requires outside { IsOutside self.old.devices.now.root path.now }
+        ensures ok { OnOk result (Makes (meaning_of T.told O.told E.told T.sure O.sure E.sure) self.old self.new
+            (map (λ byte. ToFile path.now byte) piece.now)) }
         ensures err { OnErr result (result ≡ Err Stop.TreeFault) }
-        ensures cut { OnErr result (IsCutOff (world_of T.told O.told E.told self.old) (world_of T.told O.told E.told self.new)
+        ensures cut { OnErr result (StopsShort (meaning_of T.told O.told E.told T.sure O.sure E.sure) self.old self.new Stop.TreeFault
             (map (λ byte. ToFile path.now byte) piece.now)) }
         ensures ledger { Ledger (bus_faults T.faults O.faults E.faults self.old) (bus_faults T.faults O.faults E.faults self.new) (blame_of result) }
 
         // The devices stay as they are, and each file that was there is there still.
         ensures devices { self.new.devices.now ≡ self.old.devices.now }
-        ensures stands { (state : DeviceState) → BusStandsFor T.told self.old state → BusStandsFor T.told self.new state }
+        ensures stands { OnOk result ((state : DeviceState) → BusStandsFor T.told self.old state → BusStandsFor T.told self.new state) }
         ensures same { SameBus T.told self.old self.new }
     {
         match append_all(self.tree, path, piece) {
@@ -223,9 +229,9 @@ impl<'a, T: Tree, O: Sink, E: Sink> Bus<'a, T, O, E> {
 }
 
 impl<'a, T: Tree, O: Sink, E: Sink> Ports for Bus<'a, T, O, E> {
-    ghost use Rattle.varvara_bus.specs.Bus.{bus_rules, bus_faults};
+    ghost use Rattle.varvara_bus.specs.Bus.{meaning_of, bus_rules, bus_faults};
 
-    ghost rules = { bus_rules T.told O.told E.told };
+    ghost rules = { bus_rules (meaning_of T.told O.told E.told T.sure O.sure E.sure) };
 
     ghost faults = { bus_faults T.faults O.faults E.faults };
 
@@ -256,8 +262,8 @@ impl<'a, T: Tree, O: Sink, E: Sink> Bus<'a, T, O, E> {
     #[inline(always)]
     #[tactic(auto, using(crate::proofs::Acts::debug_made))]
     fn act(&mut self, core: &mut Core, action: Action, value: u8) -> Result<(), Stop>
-        ensures ok { OnOk result (Acted T.told O.told E.told self.old core.old action value self.new core.new) }
-        ensures err { IfErr result (λ stop. ActStopped T.told O.told E.told self.old core.old action value stop self.new) }
+        ensures ok { OnOk result (Acted (meaning_of T.told O.told E.told T.sure O.sure E.sure) self.old core.old action value self.new core.new) }
+        ensures err { IfErr result (λ stop. ActStopped (meaning_of T.told O.told E.told T.sure O.sure E.sure) self.old core.old action value stop self.new) }
         ensures ledger { Ledger (bus_faults T.faults O.faults E.faults self.old) (bus_faults T.faults O.faults E.faults self.new) (blame_of result) }
     {
         match action {

@@ -1,16 +1,18 @@
 //! The devices of one machine.
-ghost use Rattle.std.specs.Prelude.{◌≡◌, ℕ, ◌+◌, ◌*◌, ◌<◌, IfOk, [], ◌∷◌, slice_index, slice_set, pos, neg_ℤ, ◌≤ℤ◌};
+ghost use Rattle.std.specs.Prelude.{◌≡◌, ℕ, Bool, ◌+◌, ◌*◌, ◌<◌, IfOk, [], ◌∷◌, slice_index, slice_set, pos, neg_ℤ, ◌≤ℤ◌};
 ghost use Rattle.console_port.specs.Console.{given};
 ghost use Rattle.input_ports.specs.Page.{with_stores, stores_of, stores_after};
 ghost use Rattle.input_ports.specs.Page.{short_stores};
 ghost use Rattle.varvara_bus.specs.History.{at_first, stored, stored_short};
 ghost use Rattle.varvara_bus.specs.Reads.{byte_of, shown_by};
+ghost use Rattle.uxn_io.specs.Files.{Nodes};
 ghost use Rattle.varvara_bus.specs.State.{DeviceState, StandFor, clock_of, new_state, storing};
 
 use crate::ports::{TimePart, byte_of};
 use crate::time::{Clock, Time};
 use audio_mixer::Mixer;
 use console_port::give as give_page;
+use file_ports::FileDevice;
 use input_ports::{Input, apply as apply_page, settle as settle_page};
 use screen_layers::Screen;
 use std::alloc::{AllocError, Global};
@@ -22,25 +24,29 @@ pub struct Devices {
     pub(crate) page: [u8; 256],
     pub(crate) screen: Screen,
     pub(crate) mixer: Mixer,
+    pub(crate) first_file: FileDevice,
+    pub(crate) second_file: FileDevice,
     pub(crate) time: Time,
     pub(crate) root: Option<Path>,
 }
 
 impl Devices {
-    /// New devices: all ports hold 0 but 22 to 25, which hold the size of the screen; nothing is drawn or heard, and no
-    /// frame has begun. It takes the memory of the screen; no other call takes any.
+    /// New devices: all ports hold 0 but 22 to 25, which hold the size of the screen; nothing is drawn or heard, no file is
+    /// named, and no frame has begun. It takes the memory of the screen; no other call takes any.
     pub fn new(alloc: Global, root: Option<Path>, clock: Clock) -> Result<Devices, AllocError>
         requires seconds_from { pos 0 ≤ℤ clock.seconds }
         requires seconds_to { clock.seconds ≤ℤ pos 253370000000 }
         requires offset_from { neg_ℤ (pos 840) ≤ℤ clock.offset }
         requires offset_to { clock.offset ≤ℤ pos 840 }
-        ensures { IfOk result (λ devices. StandFor devices (new_state clock root)) }
+        ensures { IfOk result (λ devices. (part : Nodes) → (parent : Bool) → StandFor devices (new_state clock root part parent)) }
     {
         let screen = Screen::new(alloc)?;
         Ok(Devices {
             page: new_page(),
             screen,
             mixer: Mixer::new(),
+            first_file: FileDevice::new(alloc),
+            second_file: FileDevice::new(alloc),
             time: Time {
                 seconds: clock.seconds,
                 offset: clock.offset,

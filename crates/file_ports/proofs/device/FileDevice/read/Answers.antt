@@ -1,9 +1,10 @@
-use Rattle.std.proofs.Common.{◌≡◌, ◌∙◌, rules, IfSome, subst}
+use Rattle.std.proofs.Common.{◌≡◌, ◌∙◌, refl, rules, false, IfSome, subst}
 use Rattle.file_ports.specs.declared.mode.Mode.{Mode}
-use Rattle.file_ports.specs.Actions.{reading, given, seen_of}
+use Rattle.file_ports.specs.Actions.{Read, reading, given, seen_of}
 use Rattle.file_ports.specs.Answers.{GivesPiece}
 use Rattle.uxn_io.specs.Files.{Nodes}
 use Rattle.file_ports.proofs.ActLemmas.{read-done, told_back}
+use Rattle.file_ports.proofs.RoomLemmas.{surely_quiet, leaves_read, leaves_both}
 use Rattle.file_ports.proofs.device.FileDevice.read.Goals as goal
 
 pub returns-in_ok-count-in-Some-clause-ok : goal.returns-in_ok-count-in-Some-clause-ok
@@ -14,3 +15,17 @@ returns-in_ok-count-in-Some-clause-ok g c =
     c.in_ok-count-in-Some.count (search rules) c.self.view_is c.count_from.ensures.count (c.in_ok-count-in-Some.ensures.same ∙ c.in_ok-mode-in-Some.ensures.same)
     (subst Reads c.replace-mode.ensures.value c.in_ok-mode-in-Some.ensures.mode)
     (told_back (g.T.Tree.told c.args.tree.now) (g.T.Tree.told c.reading.new.tree) Gives c.in_ok-mode-in-Some.ensures.same c.in_ok-count-in-Some.ensures.piece) c.in_ok-count-in-Some.ensures.mode
+
+pub returns-in_err-mode-in-Some-clause-sure : goal.returns-in_err-mode-in-Some-clause-sure
+returns-in_err-mode-in-Some-clause-sure g c = surely_quiet (Read c.args.at c.args.length) c.args.self.now c.args.memory.now _ _ _ (search rules)
+
+pub returns-in_err-mode-in-Some-clause-left : goal.returns-in_err-mode-in-Some-clause-left
+returns-in_err-mode-in-Some-clause-left g c = leaves_read c.args.at c.args.length c.args.self.now c.args.memory.now _ _ _ _ (search rules)
+
+pub returns-in_err-count-in-Some-clause-sure : goal.returns-in_err-count-in-Some-clause-sure
+returns-in_err-count-in-Some-clause-sure g c = surely_quiet (Read c.args.at c.args.length) c.args.self.now c.args.memory.now _ _ _ (search rules)
+
+pub returns-in_ok-count-in-Some-clause-left : goal.returns-in_ok-count-in-Some-clause-left
+returns-in_ok-count-in-Some-clause-left g c =
+    leaves_read c.args.at c.args.length c.args.self.now c.args.memory.now _ _ _ false
+    (λ ok. leaves_both _ _ _ (c.in_ok-mode-in-Some.ensures.left refl) c.in_ok-count-in-Some.ensures.left)

@@ -1,17 +1,31 @@
 use Rattle.std.proofs.Common.{refl}
 use Rattle.uxn_io.specs.Appending.{cut-file}
-use Rattle.varvara_bus.specs.Bus.{world_of}
-use Rattle.varvara_bus.proofs.Appends.{file_made, appended-stays, front-stays}
+use Rattle.varvara_bus.specs.Bus.{meaning_of, world_of}
+use Rattle.varvara_bus.proofs.Appends.{file_made, appended-stays, front-stays, appended-files, text-left, text-not-sure, text-out, text-err}
 use Rattle.varvara_bus.proofs.bus.Bus.append.Goals as goal
 
 pub returns-in-Ok-clause-ok : goal.returns-in-Ok-clause-ok
 returns-in-Ok-clause-ok g c =
-    file_made (world_of g.T.Tree.told g.O.Sink.told g.E.Sink.told c.args.self.now) c.args.path.now c.args.piece.now _ c.in-Ok.ensures.ok
+    let meaning = meaning_of g.T.Tree.told g.O.Sink.told g.E.Sink.told g.T.Tree.sure g.O.Sink.sure g.E.Sink.sure in
+    record {
+      world = file_made (world_of meaning c.args.self.now) c.args.path.now c.args.piece.now _ c.in-Ok.ensures.ok;
+      remains = record {
+        tree = text-left _ _ _ c.args.path.now c.args.piece.now c.in-Ok.ensures.left;
+        out = text-out _ c.args.path.now c.args.piece.now;
+        err = text-err _ c.args.path.now c.args.piece.now;
+      };
+    }
+
+pub returns-in-Ok-clause-stands : goal.returns-in-Ok-clause-stands
+returns-in-Ok-clause-stands g c = λ state stands. record {
+  devices = stands.devices;
+  files = appended-files _ _ c.args.path.now c.args.piece.now _ _ _ _ c.in-Ok.ensures.ok c.requires.file c.requires.outside stands.devices.root stands.files;
+}
 
 pub returns-in-Ok-clause-same : goal.returns-in-Ok-clause-same
 returns-in-Ok-clause-same g c = record {
   lent = record { devices = refl; tree = refl; out = refl; err = refl };
-  files = rw c.in-Ok.ensures.ok (appended-stays _ c.args.path.now c.args.piece.now);
+  files = rw c.in-Ok.ensures.ok (appended-stays _ _ c.args.path.now c.args.piece.now);
   frames = refl;
   clock = refl;
   root = refl;
@@ -19,12 +33,16 @@ returns-in-Ok-clause-same g c = record {
 
 pub returns-in-Err-clause-cut : goal.returns-in-Err-clause-cut
 returns-in-Err-clause-cut g c =
-    cut-file (world_of g.T.Tree.told g.O.Sink.told g.E.Sink.told c.args.self.now) _ c.args.path.now c.args.piece.now c.in-Err.ensures.err
+    let meaning = meaning_of g.T.Tree.told g.O.Sink.told g.E.Sink.told g.T.Tree.sure g.O.Sink.sure g.E.Sink.sure in
+    record {
+      cut = cut-file (world_of meaning c.args.self.now) _ c.args.path.now c.args.piece.now c.in-Err.ensures.err;
+      not_sure = text-not-sure _ _ c.args.path.now c.args.piece.now _ (λ no. cc) c.in-Err.ensures.sure;
+    }
 
 pub returns-in-Err-clause-same : goal.returns-in-Err-clause-same
 returns-in-Err-clause-same g c = record {
   lent = record { devices = refl; tree = refl; out = refl; err = refl };
-  files = front-stays _ _ c.args.path.now c.args.piece.now c.in-Err.ensures.err;
+  files = front-stays _ _ _ c.args.path.now c.args.piece.now c.in-Err.ensures.err;
   frames = refl;
   clock = refl;
   root = refl;
