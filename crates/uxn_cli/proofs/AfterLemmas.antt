@@ -2,6 +2,7 @@
 use Rattle.std.proofs.Common.{◌≡◌, ℕ, Bool, true, false, cond, List, [], ◌∷◌, ◌++◌, map, refl, ap, sym, ◌∙◌}
 use Rattle.std.specs.Prelude.{Option, Some, None, option_map, IfSome}
 use Rattle.std.specs.Ordering.{nat_cmp, eq_by_cmp}
+use Rattle.std.specs.Cmp.{eq_by_cmp_equiv}
 use Rattle.std.specs.Cmp.Lexicographic.{slice_cmp, nat_list_cmp_total}
 use Rattle.std.specs.FinMap as fin
 use Rattle.uxn_io.specs.Files.{Nodes, Node, File, bytes_of, bytes_at}
@@ -17,13 +18,22 @@ use Rattle.uxn_cli.specs.Outcome.{creating, filling, filling_all}
 -- ---- files
 
 -- a node put at a path, and what stands elsewhere
-put-same : (path other : List ℕ) (m n : Nodes) (x y : Node) → (path ≡ other → x ≡ y) → fin.get m path ≡ fin.get n path → fin.get (fin.insert m other x) path ≡ fin.get (fin.insert n other y) path
+pub put-same : (path other : List ℕ) (m n : Nodes) (x y : Node) → (path ≡ other → x ≡ y) → fin.get m path ≡ fin.get n path → fin.get (fin.insert m other x) path ≡ fin.get (fin.insert n other y) path
 put-same path other m n x y here e =
     fin.get-insert nat_list_cmp_total m other x path ∙ go (eq_by_cmp (slice_cmp nat_cmp) path other) refl ∙ sym (fin.get-insert nat_list_cmp_total n other y path)
   where
     go : (b : Bool) → eq_by_cmp (slice_cmp nat_cmp) path other ≡ b → cond b (Some x) (fin.get m path) ≡ cond b (Some y) (fin.get n path)
     go true is = ap Some (here (same_path path other is))
     go false is = e
+
+-- a file that is made there
+pub made-here : (path other : List ℕ) (m n : Nodes) → path ≡ other → fin.get (changed_files (Creates other) m) path ≡ fin.get (changed_files (Creates other) n) path
+made-here path other m n same = here m ∙ sym (here n)
+  where
+    here : (nodes : Nodes) → fin.get (fin.insert nodes other (File [])) path ≡ Some (File [])
+    here nodes =
+        ap (λ p. fin.get (fin.insert nodes other (File [])) p) same ∙ fin.get-insert nat_list_cmp_total nodes other (File []) other
+        ∙ ap (λ b. cond b (Some (File [])) (fin.get nodes other)) ((eq_by_cmp_equiv nat_list_cmp_total).refl other)
 
 taken-same : (path other : List ℕ) (m n : Nodes) → fin.get m path ≡ fin.get n path → fin.get (fin.remove m other) path ≡ fin.get (fin.remove n other) path
 taken-same path other m n e =

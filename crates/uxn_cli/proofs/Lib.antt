@@ -16,3 +16,5 @@ pub mod OthersLemmas
 pub mod AfterLemmas
 pub mod RootLemmas
 pub mod ObservationLemmas
+pub mod DoneLemmas
+pub mod IsolationLemmas

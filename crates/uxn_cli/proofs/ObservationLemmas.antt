@@ -8,7 +8,7 @@ use Rattle.std.proofs.lemmas.List.{map-append}
 use Rattle.std.proofs.lemmas.List.Sums.{sum_by-append}
 use Rattle.std.proofs.lemmas.List.Folds.{find-append, list_any-append}
 use Rattle.std.proofs.lemmas.Slice.Eq.{bytes_eq-Decides}
-use Rattle.file_ports.specs.RootPart.{is_in, below}
+use Rattle.file_ports.specs.RootPart.{is_in, below, parent_is_folder}
 use Rattle.uxn_io.specs.Changes.{can_create}
 use Rattle.uxn_io.specs.Files.{Nodes}
 use Rattle.uxn_io.specs.Outside.{Change, Creates, World, changed_by, changed_by-append}
@@ -20,10 +20,10 @@ use Rattle.uxn_cli.specs.declared.task.Task.{Task}
 use Rattle.uxn_cli.specs.declared.refusal.Refusal.{Refusal}
 use Rattle.uxn_cli.specs.Words.{settings}
 use Rattle.uxn_cli.specs.Request.{and_then, path_in, optional_path_in, paths_in, inputs_by, run_outputs, outputs_of, root_by, places_of, meets, clashes, first_clash, apart, apart_by, legal, request}
-use Rattle.uxn_cli.specs.Verdict.{Work, Run, View, view_of, judged, work_of, made_by, blocked_seen, program_in, given_in, script_in, commands_in, debug_labels, debugging, job_of}
+use Rattle.uxn_cli.specs.Verdict.{Work, Run, View, view_of, judged, work_of, made_by, blocked_seen, program_in, given_in, script_in, commands_in, debug_labels, debugging, home_by, job_of}
 use Rattle.uxn_cli.specs.Job.{Job, Debugging, outputs_in, trail_of, log_by}
 use Rattle.uxn_cli.specs.Outcome.{outcome_of, creating, filling_all, reporting, running}
-use Rattle.uxn_cli.specs.Answer.{HasOutcome, Judges, Answers}
+use Rattle.uxn_cli.specs.Answer.{HasOutcome, Judges, IsUntold, Answers}
 use Rattle.uxn_cli.specs.Causes.{IsEarly, verdict_on}
 use Rattle.uxn_cli.specs.Observation.{unwatched, watched, with_log, played, HaveSameItems, ComeToOneRun, IsNoLog, HaveSamePart, IsOutcomeButLog, ShowsWhatPlayDoes}
 use Rattle.uxn_cli.proofs.AfterLemmas.{IsOfAFile, quiet, creating-quiet, filling-quiet, out-after, err-after, files-after, if-some, parts-same}
@@ -177,21 +177,22 @@ asks-both words others asked items e =
 
 -- the same work, but that nobody watches
 work-played : (task : Task) (view : View) (rom : List ℕ) (script : ScriptView) → program_in task.rom task.file view.file ≡ Ok rom → script_in task.script view.script ≡ Ok script
-    → work_of Play (played task) view ≡ Ok (Run (job_of task rom script None))
+    → work_of Play (played task) view ≡ Ok (Run (job_of task (home_by task.root view.part view.parent) rom script None))
 work-played task view rom script a b = rw (a, b) refl
 
-plays-work : (task : Task) (view other : View) (work : Work) → other.file ≡ view.file → other.script ≡ view.script → work_of Debug task view ≡ Ok work
+plays-work : (task : Task) (view other : View) (work : Work) → other.file ≡ view.file → other.script ≡ view.script → other.part ≡ view.part → other.parent ≡ view.parent → work_of Debug task view ≡ Ok work
     → (one : ComeToOneRun (Ok work) (work_of Play (played task) other)) × (one.debugging.log ≡ task.log)
-plays-work task view other work file script e =
+plays-work task view other work file script part parent e =
     let rom = both_ok (program_in task.rom task.file view.file) _ work e in
     let given = both_ok (given_in task.symbols view.symbols) _ work rom.2 in
     let scripted = both_ok (script_in task.script view.script) _ work given.2 in
     let commands = both_ok (commands_in (debug_labels given.0 task.rom view.file) task.commands view.commands) _ work scripted.2 in (
       record {
-        job = job_of task rom.0 scripted.0 None;
+        job = job_of task (home_by task.root view.part view.parent) rom.0 scripted.0 None;
         debugging = debugging task commands.0 (debug_labels given.0 task.rom view.file);
         debugs = sym commands.2;
-        plays = work-played task other rom.0 scripted.0 (ap (program_in task.rom task.file) file ∙ rom.1) (ap (script_in task.script) script ∙ scripted.1);
+        plays = work-played task other rom.0 scripted.0 (ap (program_in task.rom task.file) file ∙ rom.1) (ap (script_in task.script) script ∙ scripted.1)
+            ∙ ap (λ home. Ok (Run (job_of task home rom.0 scripted.0 None))) (ap (λ p. home_by task.root p other.parent) part ∙ ap (home_by task.root view.part) parent);
       },
       refl,
     )
@@ -210,7 +211,7 @@ plays-too nodes task work debug e =
     let other = view_of nodes (played task) in
     let said = both_ok (work_of task.command task view) (made_by view.blocked) work e in
     let made = made-all view.blocked said.0 work said.2 in
-    let one = plays-work task view other work (rw debug refl) refl (ap (λ c. work_of c task view) (sym debug) ∙ said.1 ∙ ap Ok made.1) in
+    let one = plays-work task view other work (rw debug refl) refl (ap (λ c. below (root_by c task) nodes) (sym debug)) (ap (λ c. parent_is_folder (root_by c task) nodes) (sym debug)) (ap (λ c. work_of c task view) (sym debug) ∙ said.1 ∙ ap Ok made.1) in
     let none : find (λ path. not (can_create nodes path)) (option_to_list task.log ++ run_outputs task) ≡ None = rw debug at made.0 in
     let free : blocked_seen nodes (played task) ≡ None = none_last (λ path. not (can_create nodes path)) (option_to_list task.log) (run_outputs task) none in
     (record { job = one.0.job; debugging = one.0.debugging; debugs = one.0.debugs; plays = accepted-all (blocked_seen nodes (played task)) _ _ free one.0.plays }, one.1)
@@ -344,7 +345,10 @@ module _ (words : List (List ℕ)) (before now : World) (answer : ℕ) where
   told-shows None same a = tt
   told-shows (Some nodes) same (inl ended) = λ others work items e.
       let found = told_verdict nodes (request words) ended.found (subst (λ t. Judges (request words) t ended.found) same ended.judges) in
-      inr (ended-shows nodes others work items e (subst (λ v. HasOutcome (outcome_of v) before now answer) (found ∙ e) ended.has))
+      elim ended.has [
+        | inl has ↦ inr (ended-shows nodes others work items e (subst (λ v. HasOutcome (outcome_of v) before now answer) (found ∙ e) has))
+        | inr untold ↦ absurd (subst (λ t. IsUntold t ended.found) same untold.0)
+      ]
   told-shows (Some nodes) same (inr early) = λ others work items e. inl (early_is (request words) before now answer early)
 
   pub call-shows : Answers (request words) before now answer

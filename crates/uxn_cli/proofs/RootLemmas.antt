@@ -6,9 +6,17 @@ use Rattle.std.specs.Str.{bytes_eq}
 use Rattle.std.proofs.lemmas.Bool.Decides.{nat_tests}
 use Rattle.std.proofs.lemmas.List.Sums.{sum_by-cons}
 use Rattle.std.proofs.lemmas.Slice.Eq.{bytes_eq-Decides}
-use Rattle.file_ports.specs.RootPart.{is_in}
+use Rattle.std.specs.FinMap as fin
+use Rattle.file_ports.specs.RootPart.{is_in, below, parent_is_folder}
+use Rattle.file_ports.specs.PartLaws.{below-same}
 use Rattle.file_ports.specs.Device.{suits}
-use Rattle.uxn_io.specs.PathText.{is_under}
+use Rattle.uxn_io.specs.Files.{Nodes, File, is_folder, is_folder_at}
+use Rattle.uxn_io.specs.Outside.{Creates, changed_files, files_by}
+use Rattle.uxn_io.specs.PathText.{is_under, parent_of}
+use Rattle.varvara_bus.specs.Touching.{inserted-other}
+use Rattle.uxn_cli.specs.Job.{home_in}
+use Rattle.uxn_cli.specs.Outcome.{creating}
+use Rattle.uxn_cli.proofs.ApartLemmas.{parent_under}
 use Rattle.uxn_cli.specs.declared.task.Task.{Task}
 use Rattle.uxn_cli.specs.Request.{inputs_by, outputs_of, root_by, meets, clashes, HasApartOutputs}
 
@@ -91,3 +99,47 @@ outputs-outside task path apart among = go (root_by task.command task) (outputs-
     go : (root : Option (List ℕ)) → IfSome root (λ root. IsApartFrom root path) → suits root (Some path) ≡ false
     go None apart = refl
     go (Some root) apart = apart-outside root path apart
+
+-- ---- making the outputs changes nothing beneath the root, and its parent stays what it is
+
+spared-node : (path : List ℕ) (nodes : Nodes) (paths : List (List ℕ)) → list_any (bytes_eq path) paths ≡ false → fin.get (files_by nodes (creating paths)) path ≡ fin.get nodes path
+spared-node path nodes [] none = refl
+spared-node path nodes (other ∷ paths) none =
+    let apart = halves (bytes_eq path other) (list_any (bytes_eq path) paths) none in
+    spared-node path (changed_files (Creates other) nodes) paths apart.1 ∙ inserted-other nodes path other (File []) apart.0
+
+-- a path that none of the others may be
+free : (paths : List (List ℕ)) (path : List ℕ) → (list_any (bytes_eq path) paths ≡ true → ⊥) → list_any (bytes_eq path) paths ≡ false
+free paths path not = elim (list_any (bytes_eq path) paths) as (λ b. list_any (bytes_eq path) paths ≡ b → b ≡ false) [
+  | true ↦ λ e. absurd (not e)
+  | false ↦ λ e. refl
+] refl
+
+below-made : (root : List ℕ) (paths : List (List ℕ)) (nodes : Nodes) → ((path : List ℕ) → list_any (bytes_eq path) paths ≡ true → IsApartFrom root path)
+    → below (Some root) (files_by nodes (creating paths)) ≡ below (Some root) nodes
+below-made root paths nodes apart =
+    below-same root (files_by nodes (creating paths)) nodes
+    (λ path inside. spared-node path nodes paths (free paths path (λ among. true≢false (sym inside ∙ apart-outside root path (apart path among)))))
+
+parent-made : (root : List ℕ) (paths : List (List ℕ)) (nodes : Nodes) → ((path : List ℕ) → list_any (bytes_eq path) paths ≡ true → IsApartFrom root path)
+    → parent_is_folder (Some root) (files_by nodes (creating paths)) ≡ parent_is_folder (Some root) nodes
+parent-made root paths nodes apart = go (parent_of root) refl
+  where
+    go : (parent : Option (List ℕ)) → parent_of root ≡ parent → is_folder_at (files_by nodes (creating paths)) parent ≡ is_folder_at nodes parent
+    go None is = refl
+    go (Some parent) is =
+        ap is_folder (spared-node parent nodes paths (free paths parent (λ among. true≢false (sym (parent_under root parent is) ∙ (apart parent among).over))))
+
+pub home-made : (root : Option (List ℕ)) (paths : List (List ℕ)) (nodes : Nodes) → IfSome root (λ r. (path : List ℕ) → list_any (bytes_eq path) paths ≡ true → IsApartFrom r path)
+    → home_in root (files_by nodes (creating paths)) ≡ home_in root nodes
+home-made None paths nodes apart = refl
+home-made (Some root) paths nodes apart = λ i. record { root = Some root; part = below-made root paths nodes apart i; parent = parent-made root paths nodes apart i }
+
+-- the outputs of a task lie apart from its root
+pub all-apart : (task : Task) → HasApartOutputs task → IfSome (root_by task.command task) (λ r. (path : List ℕ) → list_any (bytes_eq path) (outputs_of task) ≡ true → IsApartFrom r path)
+all-apart task apart = go (root_by task.command task) (λ path among. outputs-apart task path apart among)
+  where
+    go : (root : Option (List ℕ)) → ((path : List ℕ) → list_any (bytes_eq path) (outputs_of task) ≡ true → IfSome root (λ r. IsApartFrom r path))
+        → IfSome root (λ r. (path : List ℕ) → list_any (bytes_eq path) (outputs_of task) ≡ true → IsApartFrom r path)
+    go None all = tt
+    go (Some root) all = all

@@ -1,8 +1,11 @@
-use Rattle.std.proofs.Common.{◌≡◌, ◌∙◌, ap, rules}
+use Rattle.std.proofs.Common.{◌≡◌, ◌∙◌, ◌+◌, ◌∷◌, ap, drop, rules, drop_of_length-le}
 use Rattle.std.specs.Prelude.{Err, option_map}
 use Rattle.uxn_io.specs.Changes.{with_created}
-use Rattle.uxn_cli.proofs.OutputLemmas.{made_more, can_rest, untold, made_front}
-use Rattle.uxn_cli.proofs.SureLemmas.{leaves_made}
+use Rattle.uxn_io.specs.Outside.{Creates}
+use Rattle.uxn_cli.specs.Outcome.{creating}
+use Rattle.uxn_cli.specs.Outputs.{paths_of}
+use Rattle.uxn_cli.proofs.OutputLemmas.{map_at, made_more, can_next, can_rest, untold, made_front}
+use Rattle.uxn_cli.proofs.SureLemmas.{continues-start, continues-more, continues-sure, continues-all}
 use Rattle.uxn_cli.proofs.outputs.make_all.Goals as goal
 
 pub returns-in_err-create-clause-err : goal.returns-in_err-create-clause-err
@@ -21,5 +24,7 @@ loop-output-preserved g c = record {
   made = made_more c.args.outputs.now c.loop-output.output-index c.output-item.result c.loop-output-test.true c.output-item.is _ _ _ c.loop-output.invariant.made c.in_ok-create.ensures.ok;
   can = can_rest c.args.outputs.now c.loop-output.output-index c.output-item.result c.loop-output-test.true c.output-item.is _ _ c.in_ok-create.ensures.ok c.loop-output.invariant.can;
   faults = c.in_ok-create.ensures.ledger ∙ c.loop-output.invariant.faults;
-  left = leaves_made c.output-item.result.path _ _ c.loop-output.output-index c.loop-output-test.true _ _ _ _ _ c.loop-output.invariant.made c.loop-output.invariant.left c.in_ok-create.ensures.left;
+  goes_on = continues-more c.output-item.result.path _ _ _ _ _ _ _ _ c.in_ok-create.ensures.ok
+      (can_next c.args.outputs.now c.loop-output.output-index c.output-item.result c.loop-output-test.true c.output-item.is _ c.loop-output.invariant.can) c.in_ok-create.ensures.left
+      (rw (ap creating (map_at (λ o. o.path) c.args.outputs.now c.loop-output.output-index c.output-item.result c.loop-output-test.true c.output-item.is)) at c.loop-output.invariant.goes_on);
 }
