@@ -16,7 +16,7 @@ use Rattle.uxn_cli.specs.Request.{outputs_of, root_by}
 use Rattle.uxn_cli.specs.Verdict.{Work, Run, Write, Print, View, view_of, judged, work_of}
 use Rattle.uxn_cli.specs.Outcome.{outcome_of, creating, writing, running}
 use Rattle.uxn_cli.specs.Causes.{verdict_on, IsAside}
-use Rattle.uxn_cli.specs.Isolation.{LookSame, files_after, IsOutput, LooksAtItsView}
+use Rattle.uxn_cli.specs.Isolation.{LookSame, files_after, IsWritten, LooksAtItsView}
 use Rattle.uxn_cli.proofs.AfterLemmas.{made-here, same-node, same-part}
 use Rattle.uxn_cli.proofs.OthersLemmas.{paths_by, work-writes, made_ok, found-spares}
 
@@ -60,7 +60,7 @@ same-parts (Ok task) nodes other same =
     same-part (root_by task.command task) nodes other (outcome_of (judged task (view_of nodes task))).changes (ap (λ view. view.part) same)
     ∙ ap (λ view. below (root_by task.command task) (files_by other (outcome_of (judged task view)).changes)) same
 
-same-outputs : (asked : Result Task Refusal) (nodes other : Nodes) → LookSame asked nodes other → (work : Work) → verdict_on nodes asked ≡ Ok work → (path : List ℕ) → IsOutput asked path
+same-outputs : (asked : Result Task Refusal) (nodes other : Nodes) → LookSame asked nodes other → (work : Work) → verdict_on nodes asked ≡ Ok work → (path : List ℕ) → IsWritten asked path
     → fin.get (files_after asked nodes) path ≡ fin.get (files_after asked other) path
 same-outputs (Err refusal) nodes other same work e path among = absurd cc
 same-outputs (Ok task) nodes other same work e path among =

@@ -13,7 +13,7 @@ use Rattle.uxn_opcodes.specs.declared.Stop.{Stop}
 use Rattle.uxn_opcodes.specs.declared.Stop.TheVariants.{TreeFault, SinkFault, NoMemory}
 use Rattle.play_script.specs.Scripts.{ScriptView}
 use Rattle.varvara_bus.specs.Bus.{IsOutside}
-use Rattle.varvara_bus.specs.Touching.{Spares, Each, each-append, each-map, told_at, spared, spared-front, kept-node}
+use Rattle.varvara_bus.specs.Touching.{Spares, Each, StandsApart, each-append, each-map, told_at, spared, spared-front, kept-node}
 use Rattle.uxn_opcodes.specs.Rule.{new_core}
 use Rattle.uxn_cli.specs.declared.words.Command.{Command}
 use Rattle.uxn_cli.specs.declared.words.Command.TheVariants.{Play, Debug, Assemble, Disassemble}
@@ -24,7 +24,7 @@ use Rattle.uxn_opcodes.specs.declared.Core.{Core}
 use Rattle.vector_loop.specs.declared.output.Outputs.{Outputs}
 use Rattle.vector_loop.specs.Trail.{Trail}
 use Rattle.vector_loop.specs.Touching.{IsOther, run-leaves}
-use Rattle.uxn_cli.specs.Job.{Debugging, Job, Home, log_in, outputs_in, outputs_by as run_outputs_by, trail_of, trail_by, start_with, text_at, log_by}
+use Rattle.uxn_cli.specs.Job.{Debugging, Job, Home, log_in, outputs_in, outputs_by as run_outputs_by, trail_of, trail_by, devices_with, start_with, text_at, log_by}
 use Rattle.uxn_cli.specs.Verdict.{and_then, View, Work, Run, Write, Print, source_in, rom_in, labels_in, program_in, script_in, given_in, debug_labels, commands_in, debugging, home_by, job_of, texts_of, outputs_by, outputs_of, root_by, work_of, made_by, judged, verdict}
 use Rattle.uxn_cli.specs.Outcome.{outcome_of, creating, filling_all, reporting, running, writing}
 use Rattle.uxn_cli.specs.Answer.{IsUntold, Judges, HasCut, IsCut, Answers}
@@ -112,10 +112,13 @@ other-output : (path : List ℕ) (output : Option (List ℕ)) → list_any (byte
 other-output path None none = tt
 other-output path (Some file) none = elim (bytes_eq path file) as (λ b. (b || false) ≡ false → b ≡ false) [ true ↦ λ e. absurd cc | false ↦ λ e. refl ] none
 
+new-apart : (path : List ℕ) (script : ScriptView) (home : Home) → IsOutside home.root path → StandsApart path (devices_with script home)
+new-apart path script home outside = record { outside = outside; first = refl; second = refl }
+
 trail-spares : (path : List ℕ) (budget : ℕ) (outputs : Outputs) (script : ScriptView) (home : Home) (core : Core) → IsOther path outputs.frames → IsOther path outputs.samples
     → IsOutside home.root path → Each (Spares path) (trail_by budget outputs script home core).changes
 unfolding trail_by
-trail-spares path budget outputs script home core frames samples outside = (run-leaves path outputs frames samples budget script).alone (start_with core script home) ?
+trail-spares path budget outputs script home core frames samples outside = ((run-leaves path outputs frames samples budget script).alone (start_with core script home) (new-apart path script home outside)).0
 
 job-spares : (path : List ℕ) (job : Job) → list_any (bytes_eq path) (outputs_in job) ≡ false → IsOutside job.home.root path → Each (Spares path) (running job)
 unfolding running

@@ -24,6 +24,7 @@ use Rattle.uxn_opcodes.specs.Rule.{new_core}
 use Rattle.varvara_bus.specs.Bus.{FilesStay, IsFileWhereTold}
 use Rattle.varvara_bus.specs.State.{HasFiles}
 use Rattle.varvara_bus.proofs.Appends.{appended-stays}
+use Rattle.vector_loop.specs.Outputs.{IsOutput}
 use Rattle.vector_loop.specs.State.{State}
 use Rattle.vector_loop.specs.Trail.{Trail}
 use Rattle.vector_loop.specs.Watch.{ports_read, moment_of, shown_all}
@@ -50,7 +51,7 @@ use Rattle.uxn_cli.specs.Causes.{verdict_on}
 use Rattle.uxn_cli.specs.Room.{TakesFor, TreeSuffices, SinksSuffice}
 use Rattle.uxn_cli.specs.Verdict.{and_then, View, Work, Run, file_seen, symbols_seen, script_seen, commands_seen, blocked_seen, job_of, inputs_by, outputs_of, clashes, made_by, work_of, judged}
 use Rattle.uxn_cli.specs.Answer.{IsViewOf, Judges, HasEnded, IsRefused, HasFront, HasCut, IsCut, IsUntold, MayStop, Performs}
-use Rattle.uxn_cli.specs.Prepared.{Around, around, WasDone, FellShort, TreeWasDone, AtHome, HasFinished, IsHomeOf, IsOutputAt, trail_for, SeesWork, IsReady, Unready, Made, HalfMade, Blocked, MakesOutputs, HasRun, WasShown, RunFiles, outputs_for}
+use Rattle.uxn_cli.specs.Prepared.{Around, around, WasDone, FellShort, TreeWasDone, AtHome, HasFinished, IsHomeOf, trail_for, SeesWork, IsReady, Unready, Made, HalfMade, Blocked, MakesOutputs, HasRun, WasShown, RunFiles, outputs_for}
 use Rattle.uxn_cli.proofs.ApartLemmas.{no_clash-fewer, makes_all, made_files}
 use Rattle.uxn_cli.proofs.AssemblingLemmas.{seen_paths}
 use Rattle.uxn_cli.proofs.CauseLemmas.{told_verdict}
@@ -83,11 +84,11 @@ same-stays tree root = record { stays = λ other outside there. there }
 pub stays-both : (root : Option (List ℕ)) (a b c : Option Nodes) → FilesStay root a b → FilesStay root b c → FilesStay root a c
 stays-both root a b c f g = record { stays = λ path outside there. g.stays path outside (f.stays path outside there) }
 
-pub stays-if : (root file : Option (List ℕ)) (before now : Option Nodes) → FilesStay root before now → IfSome file (IsOutputAt root before) → IfSome file (IsFileWhereTold now)
+pub stays-if : (root file : Option (List ℕ)) (before now : Option Nodes) → FilesStay root before now → IfSome file (IsOutput root before) → IfSome file (IsFileWhereTold now)
 stays-if root None before now f there = tt
 stays-if root (Some path) before now f there = f.stays path there.outside there.file
 
-pub files-if : (root file : Option (List ℕ)) (tree : Option Nodes) → IfSome file (IsOutputAt root tree) → IfSome file (IsFileWhereTold tree)
+pub files-if : (root file : Option (List ℕ)) (tree : Option Nodes) → IfSome file (IsOutput root tree) → IfSome file (IsFileWhereTold tree)
 files-if root None tree there = tt
 files-if root (Some path) tree there = there.file
 
@@ -176,14 +177,14 @@ file_among path (text ∷ texts) nodes e files =
 
 -- the outputs of a run among the outputs of a task
 pub run-files : (first : List (List ℕ)) (task : Task) (told : Option Nodes)
-    → ((path : List ℕ) → list_any (bytes_eq path) (first ++ run_outputs task) ≡ true → IsOutputAt task.root told path) → RunFiles task told
+    → ((path : List ℕ) → list_any (bytes_eq path) (first ++ run_outputs task) ≡ true → IsOutput task.root told path) → RunFiles task told
 run-files first task told all = record {
   frames = go task.frames (λ path e. all path (any-right path first (run_outputs task) (any-left path _ (option_to_list task.report) (any-left path (option_to_list task.frames) (option_to_list task.samples) e))));
   samples = go task.samples (λ path e. all path (any-right path first (run_outputs task) (any-left path _ (option_to_list task.report) (any-right path (option_to_list task.frames) (option_to_list task.samples) e))));
   report = go task.report (λ path e. all path (any-right path first (run_outputs task) (any-right path _ (option_to_list task.report) e)));
 }
   where
-    go : (file : Option (List ℕ)) → ((path : List ℕ) → list_any (bytes_eq path) (option_to_list file) ≡ true → IsOutputAt task.root told path) → IfSome file (IsOutputAt task.root told)
+    go : (file : Option (List ℕ)) → ((path : List ℕ) → list_any (bytes_eq path) (option_to_list file) ≡ true → IsOutput task.root told path) → IfSome file (IsOutput task.root told)
     go None all = tt
     go (Some path) all = all path (any-here path [])
 
@@ -532,7 +533,7 @@ pub debug-root : (task : Task) → task.command ≡ Debug → root_by task.comma
 debug-root task debug = ap (λ c. root_by c task) debug
 
 module _ (task : Task) (told new : Option Nodes) (makes : Made (outputs_of task) told new) (apart : HasApartOutputs task) where
-  output-at : root_by task.command task ≡ task.root → (path : List ℕ) → list_any (bytes_eq path) (outputs_of task) ≡ true → IsOutputAt task.root new path
+  output-at : root_by task.command task ≡ task.root → (path : List ℕ) → list_any (bytes_eq path) (outputs_of task) ≡ true → IsOutput task.root new path
   output-at root path among = record { file = makes.files path among; outside = rw root at outputs-outside task path apart among }
 
   pub play-files : task.command ≡ Play → RunFiles task new
@@ -541,5 +542,5 @@ module _ (task : Task) (told new : Option Nodes) (makes : Made (outputs_of task)
   pub debug-files : task.command ≡ Debug → RunFiles task new
   debug-files debug = run-files (option_to_list task.log) task new (λ path among. output-at (debug-root task debug) path (rw (debug-outputs task debug) among))
 
-  pub debug-log : task.command ≡ Debug → IfSome task.log (IsOutputAt task.root new)
-  debug-log debug = log-file task.log (run_outputs task) (IsOutputAt task.root new) (λ path among. output-at (debug-root task debug) path (rw (debug-outputs task debug) among))
+  pub debug-log : task.command ≡ Debug → IfSome task.log (IsOutput task.root new)
+  debug-log debug = log-file task.log (run_outputs task) (IsOutput task.root new) (λ path among. output-at (debug-root task debug) path (rw (debug-outputs task debug) among))

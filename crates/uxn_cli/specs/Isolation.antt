@@ -21,15 +21,15 @@ abbrev pub files_after : Result Task Refusal → Nodes → Nodes
 files_after asked nodes = files_by nodes (outcome_of (verdict_on nodes asked)).changes
 
 -- the path is that of an output
-abbrev pub IsOutput : Result Task Refusal → List ℕ → Type 0
-IsOutput asked path = IfOk asked (λ task. list_any (bytes_eq path) (outputs_of task) ≡ true)
+abbrev pub IsWritten : Result Task Refusal → List ℕ → Type 0
+IsWritten asked path = IfOk asked (λ task. list_any (bytes_eq path) (outputs_of task) ≡ true)
 
 -- over two trees that look the same the verdict is the same, and so are then what lies beneath the root and the outputs; after a
 -- refusal the tree is as it was, and every other path has its old node
 pub record LooksAtItsView (asked : Result Task Refusal) (nodes other : Nodes) : Type 0 where
   pub verdict : verdict_on nodes asked ≡ verdict_on other asked
   pub part : IfOk asked (λ task. below (root_by task.command task) (files_after asked nodes) ≡ below (root_by task.command task) (files_after asked other))
-  pub outputs : (work : Work) → verdict_on nodes asked ≡ Ok work → (path : List ℕ) → IsOutput asked path
+  pub outputs : (work : Work) → verdict_on nodes asked ≡ Ok work → (path : List ℕ) → IsWritten asked path
       → map.get (files_after asked nodes) path ≡ map.get (files_after asked other) path
   pub refused : (refusal : Refusal) → verdict_on nodes asked ≡ Err refusal → files_after asked nodes ≡ nodes
   pub others : (path : List ℕ) → IfOk asked (λ task. IsAside task path) → map.get (files_after asked nodes) path ≡ map.get nodes path

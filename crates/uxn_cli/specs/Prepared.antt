@@ -15,10 +15,11 @@ use Rattle.uxn_opcodes.specs.Rule.{new_core}
 use Rattle.tal_words.specs.declared.name.Label.{Label}
 use Rattle.play_script.specs.Scripts.{ScriptView}
 use Rattle.varvara_bus.specs.State.{StandFor, HasFiles, new_state}
-use Rattle.varvara_bus.specs.Bus.{IsFileWhereTold, IsOutside}
+use Rattle.varvara_bus.specs.Bus.{IsFileWhereTold}
 use Rattle.varvara_bus.specs.declared.devices.Devices.{Devices}
 use Rattle.vector_loop.specs.declared.watch.Moment.{Moment}
 use Rattle.vector_loop.specs.declared.output.Outputs.{Outputs}
+use Rattle.vector_loop.specs.Outputs.{IsOutput}
 use Rattle.vector_loop.specs.Watch.{ports_read, moment_of, shown_all}
 use Rattle.vector_loop.specs.Trail.{Trail}
 use Rattle.uxn_debugger.specs.declared.command.DebugCommand.{DebugCommand}
@@ -184,16 +185,11 @@ abbrev pub WasShown : {H : Type 0} → (H → Core → List ℕ → Moment → H
 WasShown shown ended before trail now =
     now ≡ ended (shown_all shown before trail.moments) trail.last.core (ports_read 256 trail.last) (moment_of trail.last)
 
--- a file is at the path, and the path lies outside the root
-pub record IsOutputAt (root : Option (List ℕ)) (tree : Option Nodes) (path : List ℕ) : Type 0 where
-  pub file : IsFileWhereTold tree path
-  pub outside : IsOutside root path
-
 -- the outputs of a run are files outside its root
 pub record RunFiles (task : Task) (tree : Option Nodes) : Type 0 where
-  pub frames : IfSome task.frames (IsOutputAt task.root tree)
-  pub samples : IfSome task.samples (IsOutputAt task.root tree)
-  pub report : IfSome task.report (IsOutputAt task.root tree)
+  pub frames : IfSome task.frames (IsOutput task.root tree)
+  pub samples : IfSome task.samples (IsOutput task.root tree)
+  pub report : IfSome task.report (IsOutput task.root tree)
 
 -- this holds of the folder of a program's own files, as a tree tells it
 abbrev pub AtHome : Option (List ℕ) → Option Nodes → (Home → Type 0) → Type 0

@@ -12,7 +12,8 @@ ghost use Rattle.uxn_opcodes.specs.Ports.{blame_of};
 ghost use Rattle.uxn_debugger.specs.Reading.{commands_of_text};
 ghost use Rattle.uxn_cli.specs.Follows.{Follows};
 ghost use Rattle.uxn_cli.specs.Verdict.{script_by, symbols_by, commands_from, commands_at, commands_in, given_in};
-ghost use Rattle.uxn_cli.specs.Prepared.{around, Accepts, PreparesDebug, AreNew, AtHome, FellShort, HasFinished, RunFiles, IsOutputAt, trail_for, debugging_for, labels_in_session, labels_in_program};
+ghost use Rattle.vector_loop.specs.Outputs.{IsOutput};
+ghost use Rattle.uxn_cli.specs.Prepared.{around, Accepts, PreparesDebug, AreNew, AtHome, FellShort, HasFinished, RunFiles, trail_for, debugging_for, labels_in_session, labels_in_program};
 
 use super::commands::{SYMBOLS_LIMIT, labels_at};
 use super::machine::{Machine, new_machine};
@@ -176,7 +177,7 @@ fn debug_made<T: Tree, O: Sink, E: Sink>(
     requires devices { AreNew session.machine.devices session.machine.script task.now.root }
     requires budget { 1 ≤ task.now.budget }
     requires files { RunFiles task.now (T.told tree.old) }
-    requires log { IfSome task.now.log (IsOutputAt task.now.root (T.told tree.old)) }
+    requires log { IfSome task.now.log (IsOutput task.now.root (T.told tree.old)) }
     ensures code { IfOk result (λ status. status ≤ 127) }
     ensures ok { AtHome task.now.root (T.told tree.old) (λ home. IfOk result (λ status. HasFinished
         (around (T.told tree.old) (T.sure tree.old) (O.told out.old) (O.sure out.old) (E.told err.old) (E.sure err.old))
