@@ -1,16 +1,18 @@
-use Rattle.std.proofs.Common.{◌≡◌, ◌≢◌, ℕ, ◌<◌, lit<, true, false, cond, not, List, refl, ap, sym, ◌∙◌, arith}
+use Rattle.std.proofs.Common.{◌≡◌, ◌≢◌, ℕ, ◌<◌, lit<, true, false, cond, not, List, [], refl, ap, sym, ◌∙◌, arith}
 use Rattle.std.proofs.lemmas.Bool.Decides.{nat_tests}
 use Rattle.std.specs.Prelude.{Option, ◌==◌}
 use Rattle.uxn_io.specs.Files.{Nodes}
-use Rattle.uxn_io.specs.Outside.{changed_by}
+use Rattle.uxn_io.specs.Taking.{remains-all}
 use Rattle.uxn_opcodes.specs.declared.Core.{Core}
+use Rattle.uxn_opcodes.specs.declared.Stop.{Stop}
 use Rattle.input_ports.specs.declared.Input.{Input}
 use Rattle.input_ports.specs.declared.Input.TheVariants.{Key, Down, Up, Mouse, Press, Release, Scroll}
 use Rattle.input_ports.specs.Page.{stores_of, stores_after, vector_of}
 use Rattle.varvara_bus.specs.declared.bus.Bus.{Bus}
 use Rattle.varvara_bus.specs.History.{stored, stored_short}
 use Rattle.varvara_bus.specs.State.{DeviceState}
-use Rattle.varvara_bus.specs.Bus.{ChangesDevices, FilesStay, BusStandsFor, world_of}
+use Rattle.varvara_bus.specs.Bus.{ChangesDevices, FilesStay, BusStandsFor, Meaning, Makes, world_of, sure_of}
+use Rattle.varvara_bus.specs.InstructionLaws.{makes-none, makes-both, stops-later}
 use Rattle.vector_loop.specs.declared.output.Outputs.{Outputs}
 use Rattle.vector_loop.specs.declared.tally.Tally.{Tally}
 use Rattle.vector_loop.specs.declared.watch.Moment.{Moment}
@@ -61,8 +63,8 @@ its-ports (Scroll x y) = lit< tt
 
 -- where the tree is as it was each file is there still
 pub files-kept : {T O E : Type 0} (told_tree : T → Option Nodes) (before now : Bus T O E) → ChangesDevices before now
-    → FilesStay (told_tree before.tree.now) (told_tree now.tree.now)
-files-kept told_tree before now changes = record { stays = λ path there. rw changes.tree there }
+    → FilesStay before.devices.now.root (told_tree before.tree.now) (told_tree now.tree.now)
+files-kept told_tree before now changes = record { stays = λ path outside there. rw changes.tree there }
 
 -- an input is stored, its vector is run, and it is settled
 abbrev pub applying : Input → State → State
@@ -75,96 +77,54 @@ device-is : (budget : ℕ) (input : Input) (state : State) → device budget inp
 unfolding device
 device-is budget input state = refl
 
-module _ {T O E W H : Type 0} (told_tree : T → Option Nodes) (told_out : O → Option (List ℕ)) (told_err : E → Option (List ℕ)) (held : W → H) (shown : H → Core → List ℕ → Moment → H) where
-  same-world : (before now : Bus T O E) → ChangesDevices before now → world_of told_tree told_out told_err now ≡ world_of told_tree told_out told_err before
-  same-world before now changes =
-      ap (λ tree. record { out = told_out now.out.now; err = told_err now.err.now; files = told_tree tree }) changes.tree
-      ∙ ap (λ out. record { out = told_out out; err = told_err now.err.now; files = told_tree before.tree.now }) changes.out
-      ∙ ap (λ err. record { out = told_out before.out.now; err = told_err err; files = told_tree before.tree.now }) changes.err
+give-is : (budget : ℕ) (outputs : Outputs) (event : Event) (state : State)
+    → give budget outputs event state ≡ happens budget outputs event (with_counted event state)
+unfolding give
+give-is budget outputs event state = refl
 
+module _ {T O E : Type 0} (meaning : Meaning T O E) where
+  -- where nothing but what the devices stand for changes nothing is made
+  pub makes-nothing : (before now : Bus T O E) → ChangesDevices before now → Makes meaning before now []
+  makes-nothing before now changes = record {
+    world = rw (changes.tree, changes.out, changes.err) refl;
+    remains = rw (changes.tree, changes.out, changes.err) (remains-all (sure_of meaning before) (meaning.tree before.tree.now));
+  }
+
+module _ {T O E W : Type 0} (meaning : Meaning T O E) where
   -- a part after the state was prepared for it, which changes nothing outside
   pub record Prepared (before middle : Running T O E W) (prepare : State → State) : Type 0 where
-    pub devices : (devices : DeviceState) → BusStandsFor told_tree before.bus devices → BusStandsFor told_tree middle.bus (prepare (state_of before devices)).devices
+    pub devices : (devices : DeviceState) → BusStandsFor meaning.tree before.bus devices
+        → BusStandsFor meaning.tree middle.bus (prepare (state_of before devices)).devices
     pub state : (devices : DeviceState) → state_of middle (prepare (state_of before devices)).devices ≡ prepare (state_of before devices)
     pub others : ChangesDevices before.bus middle.bus
-    pub watcher : held middle.watcher ≡ held before.watcher
+    pub watcher : middle.watcher ≡ before.watcher
 
-  pub follows-prepared : (before middle now : Running T O E W) (prepare : State → State) (part : State → Trail) → Prepared before middle prepare
-      → FollowsFrom told_tree told_out told_err held shown middle now part → FollowsFrom told_tree told_out told_err held shown before now (λ state. part (prepare state))
-  follows-prepared before middle now prepare part prepared follows = record {
-    from = λ devices stands.
-        let then = rw (prepared.state devices) at (follows.from (prepare (state_of before devices)).devices (prepared.devices devices stands)) in
-        record {
-          core = then.core;
-          devices = then.devices;
-          tally = then.tally;
-          world = then.world ∙ ap (λ w. changed_by w (part (prepare (state_of before devices))).changes) (same-world before.bus middle.bus prepared.others);
-          watcher = then.watcher ∙ ap (λ h. shown_all shown h (part (prepare (state_of before devices))).moments) prepared.watcher;
-        };
-  }
-
-  pub short-prepared : (before middle now : Running T O E W) (prepare : State → State) (part : State → Trail) → Prepared before middle prepare
-      → FallsShortFrom told_tree told_out told_err held shown middle now part → FallsShortFrom told_tree told_out told_err held shown before now (λ state. part (prepare state))
-  short-prepared before middle now prepare part prepared short = record {
+  pub short-prepared : (before middle now : Running T O E W) (stop : Stop) (prepare : State → State) (part : State → Trail)
+      → Prepared before middle prepare → FallsShortFrom meaning middle now stop part
+      → FallsShortFrom meaning before now stop (λ state. part (prepare state))
+  short-prepared before middle now stop prepare part prepared short = record {
     from = λ devices stands.
         let then = rw (prepared.state devices) at (short.from (prepare (state_of before devices)).devices (prepared.devices devices stands)) in
-        record {
-          made = then.made;
-          rest = then.rest;
-          parts = then.parts;
-          left = then.left ∙ ap (λ w. changed_by w then.made) (same-world before.bus middle.bus prepared.others);
-        };
+        stops-later meaning before.bus middle.bus now.bus stop [] (part (prepare (state_of before devices))).changes
+        (makes-nothing meaning before.bus middle.bus prepared.others) then;
   }
-
-  -- the ports are changed, and no instruction is run
-  pub follows-change : (before now : Running T O E W) (prepare : State → State) → Prepared before now prepare → FollowsFrom told_tree told_out told_err held shown before now (λ state. stays (prepare state))
-  follows-change before now prepare prepared = record {
-    from = λ devices stands. record {
-      core = ap (λ (s : State). s.core) (prepared.state devices);
-      devices = prepared.devices devices stands;
-      tally = ap (λ (s : State). s.tally) (prepared.state devices);
-      world = same-world before.bus now.bus prepared.others;
-      watcher = prepared.watcher;
-    };
-  }
-
-  -- nothing is done
-  pub follows-nothing : (now : Running T O E W) → FollowsFrom told_tree told_out told_err held shown now now stays
-  follows-nothing now = record { from = λ devices stands. record { core = refl; devices = stands; tally = refl; world = refl; watcher = refl } }
 
   -- the same under another name
-  pub follows-as : (before now : Running T O E W) (part other : State → Trail) → ((devices : DeviceState) → BusStandsFor told_tree before.bus devices → part (state_of before devices) ≡ other (state_of before devices))
-      → FollowsFrom told_tree told_out told_err held shown before now other → FollowsFrom told_tree told_out told_err held shown before now part
-  follows-as before now part other same follows = record { from = λ devices stands. rw (same devices stands) (follows.from devices stands) }
+  pub short-as : (before now : Running T O E W) (stop : Stop) (part other : State → Trail)
+      → ((devices : DeviceState) → BusStandsFor meaning.tree before.bus devices → part (state_of before devices) ≡ other (state_of before devices))
+      → FallsShortFrom meaning before now stop other → FallsShortFrom meaning before now stop part
+  short-as before now stop part other same short = record { from = λ devices stands. rw (same devices stands) (short.from devices stands) }
 
-  pub short-as : (before now : Running T O E W) (part other : State → Trail) → ((devices : DeviceState) → BusStandsFor told_tree before.bus devices → part (state_of before devices) ≡ other (state_of before devices))
-      → FallsShortFrom told_tree told_out told_err held shown before now other → FallsShortFrom told_tree told_out told_err held shown before now part
-  short-as before now part other same short = record { from = λ devices stands. rw (same devices stands) (short.from devices stands) }
-
-  -- a part, and then another
-  pub follows-then : (before middle now : Running T O E W) (part rest : State → Trail) → FollowsFrom told_tree told_out told_err held shown before middle part
-      → FollowsFrom told_tree told_out told_err held shown middle now rest → FollowsFrom told_tree told_out told_err held shown before now (λ state. followed_by (part state) rest)
-  follows-then before middle now part rest one more = record {
-    from = λ devices stands.
-        follows-both told_tree told_out told_err held shown before middle now (part (state_of before devices)) rest (one.from devices stands) more;
-  }
-
-  pub short-then : (before middle now : Running T O E W) (part rest : State → Trail) → FollowsFrom told_tree told_out told_err held shown before middle part
-      → FallsShortFrom told_tree told_out told_err held shown middle now rest → FallsShortFrom told_tree told_out told_err held shown before now (λ state. followed_by (part state) rest)
-  short-then before middle now part rest one more = record {
-    from = λ devices stands.
-        short-later told_tree told_out told_err held shown before middle now (part (state_of before devices)) rest (one.from devices stands) more;
-  }
-
-  pub short-at-first : (before now : Running T O E W) (part rest : State → Trail) → FallsShortFrom told_tree told_out told_err held shown before now part
-      → FallsShortFrom told_tree told_out told_err held shown before now (λ state. followed_by (part state) rest)
-  short-at-first before now part rest one = record {
-    from = λ devices stands.
-        short-first told_tree told_out told_err held shown before now (part (state_of before devices)) rest (one.from devices stands);
+  -- not all of a part, whatever would follow it
+  pub short-at-first : (before now : Running T O E W) (stop : Stop) (part rest : State → Trail) → FallsShortFrom meaning before now stop part
+      → FallsShortFrom meaning before now stop (λ state. followed_by (part state) rest)
+  short-at-first before now stop part rest one = record {
+    from = λ devices stands. short-first meaning before now stop (part (state_of before devices)) rest (one.from devices stands);
   }
 
   -- an event is counted, and then happens
-  counted : (core : Core) (bus : Bus T O E) (tally : Tally) (watcher : W) (event : Event) → Prepared (running core bus tally watcher) (running core bus (counting_event event tally) watcher) (with_counted event)
+  pub counted : (core : Core) (bus : Bus T O E) (tally : Tally) (watcher : W) (event : Event)
+      → Prepared (running core bus tally watcher) (running core bus (counting_event event tally) watcher) (with_counted event)
   counted core bus tally watcher event = record {
     devices = λ devices stands. stands;
     state = λ devices. refl;
@@ -172,33 +132,93 @@ module _ {T O E W H : Type 0} (told_tree : T → Option Nodes) (told_out : O →
     watcher = refl;
   }
 
-  give-is : (budget : ℕ) (outputs : Outputs) (event : Event) (state : State) → give budget outputs event state ≡ happens budget outputs event (with_counted event state)
-  unfolding give
-  give-is budget outputs event state = refl
+  pub short-given : (core : Core) (bus : Bus T O E) (tally : Tally) (watcher : W) (now : Running T O E W) (stop : Stop) (budget : ℕ) (outputs : Outputs)
+      (event : Event)
+      → FallsShortFrom meaning (running core bus (counting_event event tally) watcher) now stop (happens budget outputs event)
+      → FallsShortFrom meaning (running core bus tally watcher) now stop (give budget outputs event)
+  short-given core bus tally watcher now stop budget outputs event short =
+      short-as (running core bus tally watcher) now stop (give budget outputs event) (λ s. happens budget outputs event (with_counted event s))
+      (λ devices stands. give-is budget outputs event (state_of (running core bus tally watcher) devices))
+      (short-prepared (running core bus tally watcher) (running core bus (counting_event event tally) watcher) now stop (with_counted event)
+      (happens budget outputs event) (counted core bus tally watcher event) short)
+
+  pub short-device : (before now : Running T O E W) (stop : Stop) (budget : ℕ) (input : Input)
+      → FallsShortFrom meaning before now stop (λ s. vector_in budget (vector_of input) (applying input s))
+      → FallsShortFrom meaning before now stop (device budget input)
+  short-device before now stop budget input one =
+      short-as before now stop (device budget input) (λ s. followed_by (vector_in budget (vector_of input) (applying input s)) (settling input))
+      (λ devices stands. device-is budget input (state_of before devices))
+      (short-at-first before now stop (λ s. vector_in budget (vector_of input) (applying input s)) (settling input) one)
+
+module _ {T O E W H : Type 0} (meaning : Meaning T O E) (held : W → H) (shown : H → Core → List ℕ → Moment → H) where
+  pub follows-prepared : (before middle now : Running T O E W) (prepare : State → State) (part : State → Trail)
+      → Prepared meaning before middle prepare → FollowsFrom meaning held shown middle now part
+      → FollowsFrom meaning held shown before now (λ state. part (prepare state))
+  follows-prepared before middle now prepare part prepared follows = record {
+    from = λ devices stands.
+        let then = rw (prepared.state devices) at (follows.from (prepare (state_of before devices)).devices (prepared.devices devices stands)) in
+        record {
+          core = then.core;
+          devices = then.devices;
+          tally = then.tally;
+          makes = makes-both meaning before.bus middle.bus now.bus [] (part (prepare (state_of before devices))).changes
+              (makes-nothing meaning before.bus middle.bus prepared.others) then.makes;
+          watcher = then.watcher ∙ ap (λ w. shown_all shown (held w) (part (prepare (state_of before devices))).moments) prepared.watcher;
+        };
+  }
+
+  -- the ports are changed, and no instruction is run
+  pub follows-change : (before now : Running T O E W) (prepare : State → State) → Prepared meaning before now prepare
+      → FollowsFrom meaning held shown before now (λ state. stays (prepare state))
+  follows-change before now prepare prepared = record {
+    from = λ devices stands. record {
+      core = ap (λ (s : State). s.core) (prepared.state devices);
+      devices = prepared.devices devices stands;
+      tally = ap (λ (s : State). s.tally) (prepared.state devices);
+      makes = makes-nothing meaning before.bus now.bus prepared.others;
+      watcher = ap held prepared.watcher;
+    };
+  }
+
+  -- nothing is done
+  pub follows-nothing : (now : Running T O E W) → FollowsFrom meaning held shown now now stays
+  follows-nothing now = record {
+    from = λ devices stands. record { core = refl; devices = stands; tally = refl; makes = makes-none meaning now.bus; watcher = refl };
+  }
+
+  -- the same under another name
+  pub follows-as : (before now : Running T O E W) (part other : State → Trail)
+      → ((devices : DeviceState) → BusStandsFor meaning.tree before.bus devices → part (state_of before devices) ≡ other (state_of before devices))
+      → FollowsFrom meaning held shown before now other → FollowsFrom meaning held shown before now part
+  follows-as before now part other same follows = record { from = λ devices stands. rw (same devices stands) (follows.from devices stands) }
+
+  -- a part, and then another
+  pub follows-then : (before middle now : Running T O E W) (part rest : State → Trail) → FollowsFrom meaning held shown before middle part
+      → FollowsFrom meaning held shown middle now rest → FollowsFrom meaning held shown before now (λ state. followed_by (part state) rest)
+  follows-then before middle now part rest one more = record {
+    from = λ devices stands. follows-both meaning held shown before middle now (part (state_of before devices)) rest (one.from devices stands) more;
+  }
+
+  -- a part, and then not all of another
+  pub short-then : (before middle now : Running T O E W) (stop : Stop) (part rest : State → Trail) → FollowsFrom meaning held shown before middle part
+      → FallsShortFrom meaning middle now stop rest → FallsShortFrom meaning before now stop (λ state. followed_by (part state) rest)
+  short-then before middle now stop part rest one more = record {
+    from = λ devices stands. short-later meaning held shown before middle now stop (part (state_of before devices)) rest (one.from devices stands) more;
+  }
 
   pub follows-given : (core : Core) (bus : Bus T O E) (tally : Tally) (watcher : W) (now : Running T O E W) (budget : ℕ) (outputs : Outputs) (event : Event)
-      → FollowsFrom told_tree told_out told_err held shown (running core bus (counting_event event tally) watcher) now (happens budget outputs event)
-      → FollowsFrom told_tree told_out told_err held shown (running core bus tally watcher) now (give budget outputs event)
+      → FollowsFrom meaning held shown (running core bus (counting_event event tally) watcher) now (happens budget outputs event)
+      → FollowsFrom meaning held shown (running core bus tally watcher) now (give budget outputs event)
   follows-given core bus tally watcher now budget outputs event follows =
-      follows-as (running core bus tally watcher) now (give budget outputs event) (λ s. happens budget outputs event (with_counted event s)) (λ devices stands. give-is budget outputs event (state_of (running core bus tally watcher) devices))
-      (follows-prepared (running core bus tally watcher) (running core bus (counting_event event tally) watcher) now (with_counted event) (happens budget outputs event) (counted core bus tally watcher event) follows)
-
-  pub short-given : (core : Core) (bus : Bus T O E) (tally : Tally) (watcher : W) (now : Running T O E W) (budget : ℕ) (outputs : Outputs) (event : Event)
-      → FallsShortFrom told_tree told_out told_err held shown (running core bus (counting_event event tally) watcher) now (happens budget outputs event)
-      → FallsShortFrom told_tree told_out told_err held shown (running core bus tally watcher) now (give budget outputs event)
-  short-given core bus tally watcher now budget outputs event short =
-      short-as (running core bus tally watcher) now (give budget outputs event) (λ s. happens budget outputs event (with_counted event s)) (λ devices stands. give-is budget outputs event (state_of (running core bus tally watcher) devices))
-      (short-prepared (running core bus tally watcher) (running core bus (counting_event event tally) watcher) now (with_counted event) (happens budget outputs event) (counted core bus tally watcher event) short)
+      follows-as (running core bus tally watcher) now (give budget outputs event) (λ s. happens budget outputs event (with_counted event s))
+      (λ devices stands. give-is budget outputs event (state_of (running core bus tally watcher) devices))
+      (follows-prepared (running core bus tally watcher) (running core bus (counting_event event tally) watcher) now (with_counted event)
+      (happens budget outputs event) (counted meaning core bus tally watcher event) follows)
 
   pub follows-device : (before middle now : Running T O E W) (budget : ℕ) (input : Input)
-      → FollowsFrom told_tree told_out told_err held shown before middle (λ s. vector_in budget (vector_of input) (applying input s)) → FollowsFrom told_tree told_out told_err held shown middle now (settling input)
-      → FollowsFrom told_tree told_out told_err held shown before now (device budget input)
+      → FollowsFrom meaning held shown before middle (λ s. vector_in budget (vector_of input) (applying input s))
+      → FollowsFrom meaning held shown middle now (settling input) → FollowsFrom meaning held shown before now (device budget input)
   follows-device before middle now budget input one more =
-      follows-as before now (device budget input) (λ s. followed_by (vector_in budget (vector_of input) (applying input s)) (settling input)) (λ devices stands. device-is budget input (state_of before devices))
+      follows-as before now (device budget input) (λ s. followed_by (vector_in budget (vector_of input) (applying input s)) (settling input))
+      (λ devices stands. device-is budget input (state_of before devices))
       (follows-then before middle now (λ s. vector_in budget (vector_of input) (applying input s)) (settling input) one more)
-
-  pub short-device : (before now : Running T O E W) (budget : ℕ) (input : Input)
-      → FallsShortFrom told_tree told_out told_err held shown before now (λ s. vector_in budget (vector_of input) (applying input s)) → FallsShortFrom told_tree told_out told_err held shown before now (device budget input)
-  short-device before now budget input one =
-      short-as before now (device budget input) (λ s. followed_by (vector_in budget (vector_of input) (applying input s)) (settling input)) (λ devices stands. device-is budget input (state_of before devices))
-      (short-at-first before now (λ s. vector_in budget (vector_of input) (applying input s)) (settling input) one)

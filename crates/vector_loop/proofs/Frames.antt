@@ -84,21 +84,22 @@ module _ {T O E W H : Type 0} (telling : Telling T O E W H) where
 
   -- changes that a run makes itself are a part of it
   pub done-made : (core : Core) (before now : Bus T O E) (tally : Tally) (watcher : W) (changes : DeviceState → List Change) (budget : ℕ)
-      → Made telling.tree telling.out telling.err telling.tree_faults telling.out_faults telling.err_faults before now changes
+      → Made telling.meaning telling.tree_faults telling.out_faults telling.err_faults before now changes
       → Done telling (running core before tally watcher) (running core now tally watcher) (λ s. makes (changes s.devices) s) 0 0 budget
   done-made core before now tally watcher changes budget made = record {
     follows = record {
-      from = λ devices stands. record { core = refl; devices = made.stands devices stands; tally = refl; world = made.world devices stands; watcher = refl };
+      from = λ devices stands. record { core = refl; devices = made.stands devices stands; tally = refl; makes = made.makes devices stands; watcher = refl };
     };
     grown = grown-none tally budget;
     faults = made.faults;
     lent = made.same.lent;
+    root = made.same.root;
     files = made.same.files;
     frames = omega (arith, made.same.frames);
   }
 
   pub stopped-made : (core : Core) (before now : Bus T O E) (tally : Tally) (watcher : W) (changes : DeviceState → List Change) (budget : ℕ) (stop : Stop)
-      → CutShort telling.tree telling.out telling.err telling.tree_faults telling.out_faults telling.err_faults before now changes stop
+      → CutShort telling.meaning telling.tree_faults telling.out_faults telling.err_faults before now changes stop
       → Stopped telling (running core before tally watcher) (running core now tally watcher) (λ s. makes (changes s.devices) s) 0 0 budget stop
   stopped-made core before now tally watcher changes budget stop cut = record {
     short = record { from = λ devices stands. cut.cut devices stands };
@@ -106,15 +107,16 @@ module _ {T O E W H : Type 0} (telling : Telling T O E W H) where
     memory = λ wanted. absurd (no-memory stop cut.fault wanted);
     grown = grown-none tally budget;
     lent = cut.same.lent;
+    root = cut.same.root;
     files = cut.same.files;
     frames = omega (arith, cut.same.frames);
   }
 
   -- the samples of a frame, and the vectors of the voices that ended
   pub done-heard : (core : Core) (bus rendered kept_bus : Bus T O E) (tally : Tally) (watcher : W) (now : Running T O E W) (budget : ℕ) (outputs : Outputs) (samples : List ℤ) (ended : List Bool)
-      → ((devices : DeviceState) → BusStandsFor telling.tree bus devices → samples ≡ frame_of core.memory devices.sounds) → ((devices : DeviceState) → BusStandsFor telling.tree bus devices → ended ≡ endings 735 devices.sounds)
-      → Prepared telling.tree telling.out telling.err telling.held telling.shown (running core bus tally watcher) (running core rendered tally watcher) with_rendered → frames_begun rendered ≡ frames_begun bus
-      → Made telling.tree telling.out telling.err telling.tree_faults telling.out_faults telling.err_faults rendered kept_bus (λ s. appended_to outputs.samples (samples_bytes (map short_of samples)))
+      → ((devices : DeviceState) → BusStandsFor telling.meaning.tree bus devices → samples ≡ frame_of core.memory devices.sounds) → ((devices : DeviceState) → BusStandsFor telling.meaning.tree bus devices → ended ≡ endings 735 devices.sounds)
+      → Prepared telling.meaning (running core bus tally watcher) (running core rendered tally watcher) with_rendered → frames_begun rendered ≡ frames_begun bus
+      → Made telling.meaning telling.tree_faults telling.out_faults telling.err_faults rendered kept_bus (λ s. appended_to outputs.samples (samples_bytes (map short_of samples)))
       → Done telling (running core kept_bus tally watcher) now (ended_vectors budget ended) 4 0 budget
       → Done telling (running core bus tally watcher) now (heard budget outputs) 4 0 budget
   done-heard core bus rendered kept_bus tally watcher now budget outputs samples ended is_frame is_ended prepared frames made done =
@@ -126,9 +128,9 @@ module _ {T O E W H : Type 0} (telling : Telling T O E W H) where
       done)
 
   pub samples-stopped : (core : Core) (bus rendered kept_bus : Bus T O E) (tally : Tally) (watcher : W) (budget : ℕ) (outputs : Outputs) (samples : List ℤ) (ended : List Bool) (stop : Stop)
-      → ((devices : DeviceState) → BusStandsFor telling.tree bus devices → samples ≡ frame_of core.memory devices.sounds) → ((devices : DeviceState) → BusStandsFor telling.tree bus devices → ended ≡ endings 735 devices.sounds)
-      → Prepared telling.tree telling.out telling.err telling.held telling.shown (running core bus tally watcher) (running core rendered tally watcher) with_rendered → frames_begun rendered ≡ frames_begun bus
-      → CutShort telling.tree telling.out telling.err telling.tree_faults telling.out_faults telling.err_faults rendered kept_bus (λ s. appended_to outputs.samples (samples_bytes (map short_of samples))) stop
+      → ((devices : DeviceState) → BusStandsFor telling.meaning.tree bus devices → samples ≡ frame_of core.memory devices.sounds) → ((devices : DeviceState) → BusStandsFor telling.meaning.tree bus devices → ended ≡ endings 735 devices.sounds)
+      → Prepared telling.meaning (running core bus tally watcher) (running core rendered tally watcher) with_rendered → frames_begun rendered ≡ frames_begun bus
+      → CutShort telling.meaning telling.tree_faults telling.out_faults telling.err_faults rendered kept_bus (λ s. appended_to outputs.samples (samples_bytes (map short_of samples))) stop
       → Stopped telling (running core bus tally watcher) (running core kept_bus tally watcher) (heard budget outputs) 4 0 budget stop
   samples-stopped core bus rendered kept_bus tally watcher budget outputs samples ended stop is_frame is_ended prepared frames cut =
       stopped-within telling (running core bus tally watcher) (running core kept_bus tally watcher) (heard budget outputs) 0 0 4 0 budget stop (omega arith) (omega arith)
@@ -139,9 +141,9 @@ module _ {T O E W H : Type 0} (telling : Telling T O E W H) where
       (stopped-made core rendered kept_bus tally watcher (λ s. appended_to outputs.samples (samples_bytes (map short_of samples))) budget stop cut))))
 
   pub ended-stopped : (core : Core) (bus rendered kept_bus : Bus T O E) (tally : Tally) (watcher : W) (now : Running T O E W) (budget : ℕ) (outputs : Outputs) (samples : List ℤ) (ended : List Bool) (stop : Stop)
-      → ((devices : DeviceState) → BusStandsFor telling.tree bus devices → samples ≡ frame_of core.memory devices.sounds) → ((devices : DeviceState) → BusStandsFor telling.tree bus devices → ended ≡ endings 735 devices.sounds)
-      → Prepared telling.tree telling.out telling.err telling.held telling.shown (running core bus tally watcher) (running core rendered tally watcher) with_rendered → frames_begun rendered ≡ frames_begun bus
-      → Made telling.tree telling.out telling.err telling.tree_faults telling.out_faults telling.err_faults rendered kept_bus (λ s. appended_to outputs.samples (samples_bytes (map short_of samples)))
+      → ((devices : DeviceState) → BusStandsFor telling.meaning.tree bus devices → samples ≡ frame_of core.memory devices.sounds) → ((devices : DeviceState) → BusStandsFor telling.meaning.tree bus devices → ended ≡ endings 735 devices.sounds)
+      → Prepared telling.meaning (running core bus tally watcher) (running core rendered tally watcher) with_rendered → frames_begun rendered ≡ frames_begun bus
+      → Made telling.meaning telling.tree_faults telling.out_faults telling.err_faults rendered kept_bus (λ s. appended_to outputs.samples (samples_bytes (map short_of samples)))
       → Stopped telling (running core kept_bus tally watcher) now (ended_vectors budget ended) 4 0 budget stop
       → Stopped telling (running core bus tally watcher) now (heard budget outputs) 4 0 budget stop
   ended-stopped core bus rendered kept_bus tally watcher now budget outputs samples ended stop is_frame is_ended prepared frames made stopped =
@@ -173,14 +175,14 @@ module _ {T O E W H : Type 0} (telling : Telling T O E W H) where
 
   -- the picture is kept
   pub done-shot : (core : Core) (before now : Bus T O E) (tally : Tally) (watcher : W) (outputs : Outputs) (budget : ℕ)
-      → Made telling.tree telling.out telling.err telling.tree_faults telling.out_faults telling.err_faults before now (λ s. appended_to outputs.frames (picture_bytes s))
+      → Made telling.meaning telling.tree_faults telling.out_faults telling.err_faults before now (λ s. appended_to outputs.frames (picture_bytes s))
       → Done telling (running core before tally watcher) (running core now tally watcher) (shot outputs) 0 0 budget
   done-shot core before now tally watcher outputs budget made =
       done-as telling (running core before tally watcher) (running core now tally watcher) (λ s. makes (appended_to outputs.frames (picture_bytes s.devices)) s) (shot outputs) 0 0 budget (shot-is outputs)
       (done-made core before now tally watcher (λ s. appended_to outputs.frames (picture_bytes s)) budget made)
 
   pub shot-stopped : (core : Core) (before now : Bus T O E) (tally : Tally) (watcher : W) (outputs : Outputs) (budget : ℕ) (stop : Stop)
-      → CutShort telling.tree telling.out telling.err telling.tree_faults telling.out_faults telling.err_faults before now (λ s. appended_to outputs.frames (picture_bytes s)) stop
+      → CutShort telling.meaning telling.tree_faults telling.out_faults telling.err_faults before now (λ s. appended_to outputs.frames (picture_bytes s)) stop
       → Stopped telling (running core before tally watcher) (running core now tally watcher) (shot outputs) 0 0 budget stop
   shot-stopped core before now tally watcher outputs budget stop cut =
       stopped-as telling (running core before tally watcher) (running core now tally watcher) (λ s. makes (appended_to outputs.frames (picture_bytes s.devices)) s) (shot outputs) 0 0 budget stop (shot-is outputs)

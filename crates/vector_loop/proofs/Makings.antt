@@ -7,8 +7,7 @@ use Rattle.std.specs.Prelude.{Option, Result, Err, ℤ, slice_index_or, pos}
 use Rattle.std.specs.List.{flat_map, range_with_len}
 use Rattle.std.specs.Int.{w16, cast_unsigned}
 use Rattle.audio_mixer.specs.Laws.{short_of}
-use Rattle.uxn_io.specs.Files.{Nodes}
-use Rattle.uxn_io.specs.Outside.{Change, ToFile, changed_by, changed_by-append, cut-first, cut-later}
+use Rattle.uxn_io.specs.Outside.{Change, ToFile}
 use Rattle.uxn_opcodes.specs.declared.Stop.{Stop}
 use Rattle.screen_frame.specs.Colours.{colours_of}
 use Rattle.screen_frame.specs.Ppm.{head_bytes}
@@ -16,8 +15,8 @@ use Rattle.screen_layers.specs.Pictures.{picture_row_of}
 use Rattle.varvara_bus.specs.declared.bus.Bus.{Bus}
 use Rattle.varvara_bus.specs.History.{colour_bytes}
 use Rattle.varvara_bus.specs.State.{DeviceState}
-use Rattle.varvara_bus.specs.Bus.{BusStandsFor, world_of}
-use Rattle.varvara_bus.specs.InstructionLaws.{same-itself, same-again}
+use Rattle.varvara_bus.specs.Bus.{BusStandsFor, Meaning}
+use Rattle.varvara_bus.specs.InstructionLaws.{same-itself, same-again, makes-none, makes-both, stops-first, stops-later}
 use Rattle.vector_loop.specs.Making.{Made, CutShort}
 use Rattle.vector_loop.specs.Outputs.{picture_bytes, sample_bytes, samples_bytes}
 
@@ -76,23 +75,29 @@ sample_more samples into i short within size is before =
     let more : 2 * (i + 1) ≡ 2 * i + 2 = omega arith in
     rw more (taken ∙ ap (λ front. front ++ (short % 256 ∷ short / 256 ∷ [])) before ∙ ap (λ last. samples_bytes (map short_of (take i samples)) ++ last) bytes ∙ sym joined)
 
-module _ {T O E : Type 0} (told_tree : T → Option Nodes) (told_out : O → Option (List ℕ)) (told_err : E → Option (List ℕ)) (of_tree : T → ℕ) (of_out : O → ℕ) (of_err : E → ℕ) where
-  pub made-nothing : (bus : Bus T O E) → Made told_tree told_out told_err of_tree of_out of_err bus bus (λ s. [])
-  made-nothing bus = record { world = λ s stands. refl; stands = λ s stands. stands; devices = refl; faults = refl; same = same-itself told_tree bus }
+module _ {T O E : Type 0} (meaning : Meaning T O E) (of_tree : T → ℕ) (of_out : O → ℕ) (of_err : E → ℕ) where
+  pub made-nothing : (bus : Bus T O E) → Made meaning of_tree of_out of_err bus bus (λ s. [])
+  made-nothing bus = record {
+    makes = λ s stands. makes-none meaning bus;
+    stands = λ s stands. stands;
+    devices = refl;
+    faults = refl;
+    same = same-itself meaning.tree bus;
+  }
 
   -- the same changes, in the states that the bus stood for
-  pub made-where : (a b : Bus T O E) (changes other : DeviceState → List Change) → ((s : DeviceState) → BusStandsFor told_tree a s → changes s ≡ other s)
-      → Made told_tree told_out told_err of_tree of_out of_err a b changes → Made told_tree told_out told_err of_tree of_out of_err a b other
+  pub made-where : (a b : Bus T O E) (changes other : DeviceState → List Change) → ((s : DeviceState) → BusStandsFor meaning.tree a s → changes s ≡ other s)
+      → Made meaning of_tree of_out of_err a b changes → Made meaning of_tree of_out of_err a b other
   made-where a b changes other same made = record {
-    world = λ s stands. made.world s stands ∙ ap (changed_by (world_of told_tree told_out told_err a)) (same s stands);
+    makes = λ s stands. rw (← same s stands) (made.makes s stands);
     stands = made.stands;
     devices = made.devices;
     faults = made.faults;
     same = made.same;
   }
 
-  pub cut-where : (a b : Bus T O E) (changes other : DeviceState → List Change) (stop : Stop) → ((s : DeviceState) → BusStandsFor told_tree a s → changes s ≡ other s)
-      → CutShort told_tree told_out told_err of_tree of_out of_err a b changes stop → CutShort told_tree told_out told_err of_tree of_out of_err a b other stop
+  pub cut-where : (a b : Bus T O E) (changes other : DeviceState → List Change) (stop : Stop) → ((s : DeviceState) → BusStandsFor meaning.tree a s → changes s ≡ other s)
+      → CutShort meaning of_tree of_out of_err a b changes stop → CutShort meaning of_tree of_out of_err a b other stop
   cut-where a b changes other stop same cut = record {
     cut = λ s stands. rw (← same s stands) (cut.cut s stands);
     ledger = cut.ledger;
@@ -103,33 +108,32 @@ module _ {T O E : Type 0} (told_tree : T → Option Nodes) (told_out : O → Opt
   -- bytes for one file, after which others are to come
   pub record Putting (before now : Bus T O E) (path : List ℕ) (whole rest : DeviceState → List ℕ) : Type 0 where
     pub done : DeviceState → List ℕ
-    pub made : Made told_tree told_out told_err of_tree of_out of_err before now (λ s. to_file path (done s))
-    pub parts : (s : DeviceState) → BusStandsFor told_tree before s → whole s ≡ done s ++ rest s
+    pub made : Made meaning of_tree of_out of_err before now (λ s. to_file path (done s))
+    pub parts : (s : DeviceState) → BusStandsFor meaning.tree before s → whole s ≡ done s ++ rest s
 
   pub putting-start : (bus : Bus T O E) (path : List ℕ) (whole : DeviceState → List ℕ) → Putting bus bus path whole whole
   putting-start bus path whole = record { done = λ s. []; made = made-nothing bus; parts = λ s stands. refl }
 
   -- the next of them
-  pub putting-more : (a b c : Bus T O E) (path : List ℕ) (whole rest piece later : DeviceState → List ℕ) → ((s : DeviceState) → BusStandsFor told_tree a s → rest s ≡ piece s ++ later s)
-      → Putting a b path whole rest → Made told_tree told_out told_err of_tree of_out of_err b c (λ s. to_file path (piece s)) → Putting a c path whole later
+  pub putting-more : (a b c : Bus T O E) (path : List ℕ) (whole rest piece later : DeviceState → List ℕ) → ((s : DeviceState) → BusStandsFor meaning.tree a s → rest s ≡ piece s ++ later s)
+      → Putting a b path whole rest → Made meaning of_tree of_out of_err b c (λ s. to_file path (piece s)) → Putting a c path whole later
   putting-more a b c path whole rest piece later next putting made = record {
     done = λ s. putting.done s ++ piece s;
     made = record {
-      world = λ s stands.
-          made.world s (putting.made.stands s stands)
-          ∙ ap (λ w. changed_by w (to_file path (piece s))) (putting.made.world s stands)
-          ∙ sym (changed_by-append (world_of told_tree told_out told_err a) (to_file path (putting.done s)) (to_file path (piece s)))
-          ∙ ap (changed_by (world_of told_tree told_out told_err a)) (sym (map-append (λ byte. ToFile path byte) (putting.done s) (piece s)));
+      makes = λ s stands.
+          rw (map-append (λ byte. ToFile path byte) (putting.done s) (piece s))
+          (makes-both meaning a b c (to_file path (putting.done s)) (to_file path (piece s)) (putting.made.makes s stands)
+          (made.makes s (putting.made.stands s stands)));
       stands = λ s stands. made.stands s (putting.made.stands s stands);
       devices = made.devices ∙ putting.made.devices;
       faults = made.faults ∙ putting.made.faults;
-      same = same-again told_tree a b c putting.made.same made.same;
+      same = same-again meaning.tree a b c putting.made.same made.same;
     };
     parts = λ s stands. putting.parts s stands ∙ ap (λ bytes. putting.done s ++ bytes) (next s stands) ∙ sym (append_assoc (putting.done s) (piece s) (later s));
   }
 
-  pub putting-end : (a b : Bus T O E) (path : List ℕ) (whole rest : DeviceState → List ℕ) → ((s : DeviceState) → BusStandsFor told_tree a s → rest s ≡ [])
-      → Putting a b path whole rest → Made told_tree told_out told_err of_tree of_out of_err a b (λ s. to_file path (whole s))
+  pub putting-end : (a b : Bus T O E) (path : List ℕ) (whole rest : DeviceState → List ℕ) → ((s : DeviceState) → BusStandsFor meaning.tree a s → rest s ≡ [])
+      → Putting a b path whole rest → Made meaning of_tree of_out of_err a b (λ s. to_file path (whole s))
   putting-end a b path whole rest none putting = made-where a b (λ s. to_file path (putting.done s)) (λ s. to_file path (whole s))
       (λ s stands. ap (to_file path) (sym (append-nil (putting.done s)) ∙ ap (λ bytes. putting.done s ++ bytes) (sym (none s stands)) ∙ sym (putting.parts s stands)))
       putting.made
@@ -141,16 +145,16 @@ module _ {T O E : Type 0} (told_tree : T → Option Nodes) (told_out : O → Opt
       ∙ ap (λ changes. to_file path done ++ changes) (map-append (λ byte. ToFile path byte) piece later)
       ∙ sym (append_assoc (to_file path done) (to_file path piece) (to_file path later))
 
-  pub putting-cut : (a b c : Bus T O E) (path : List ℕ) (whole rest piece later : DeviceState → List ℕ) (stop : Stop) → ((s : DeviceState) → BusStandsFor told_tree a s → rest s ≡ piece s ++ later s)
-      → Putting a b path whole rest → CutShort told_tree told_out told_err of_tree of_out of_err b c (λ s. to_file path (piece s)) stop
-      → CutShort told_tree told_out told_err of_tree of_out of_err a c (λ s. to_file path (whole s)) stop
+  pub putting-cut : (a b c : Bus T O E) (path : List ℕ) (whole rest piece later : DeviceState → List ℕ) (stop : Stop) → ((s : DeviceState) → BusStandsFor meaning.tree a s → rest s ≡ piece s ++ later s)
+      → Putting a b path whole rest → CutShort meaning of_tree of_out of_err b c (λ s. to_file path (piece s)) stop
+      → CutShort meaning of_tree of_out of_err a c (λ s. to_file path (whole s)) stop
   putting-cut a b c path whole rest piece later stop next putting cut = record {
     cut = λ s stands.
         rw (parts-mapped path (whole s) (putting.done s) (piece s) (later s) (putting.parts s stands ∙ ap (λ bytes. putting.done s ++ bytes) (next s stands)))
-        (cut-first (world_of told_tree told_out told_err a) (world_of told_tree told_out told_err c) (to_file path (putting.done s) ++ to_file path (piece s)) (to_file path (later s))
-        (cut-later (world_of told_tree told_out told_err a) (world_of told_tree told_out told_err b) (world_of told_tree told_out told_err c) (to_file path (putting.done s)) (to_file path (piece s))
-        (putting.made.world s stands) (cut.cut s (putting.made.stands s stands))));
+        (stops-first meaning a c stop (to_file path (putting.done s) ++ to_file path (piece s)) (to_file path (later s))
+        (stops-later meaning a b c stop (to_file path (putting.done s)) (to_file path (piece s)) (putting.made.makes s stands)
+        (cut.cut s (putting.made.stands s stands))));
     ledger = rw (← putting.made.faults) cut.ledger;
     fault = cut.fault;
-    same = same-again told_tree a b c putting.made.same cut.same;
+    same = same-again meaning.tree a b c putting.made.same cut.same;
   }

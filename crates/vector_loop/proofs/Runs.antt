@@ -1,4 +1,4 @@
-use Rattle.std.proofs.Common.{◌≡◌, ◌≢◌, ℕ, zero, suc, ◌+◌, ◌*◌, ◌^◌, ◌<◌, ◌≤◌, get_or, add-one, length-drop, length-append, false, List, [], ◌∷◌, ◌++◌, length, drop, refl, ap, sym, ◌∙◌, arith}
+use Rattle.std.proofs.Common.{◌≡◌, ◌≢◌, ℕ, zero, suc, ◌+◌, ◌*◌, ◌^◌, ◌<◌, ◌≤◌, ◌⊎◌, get_or, add-one, length-drop, length-append, false, List, [], ◌∷◌, ◌++◌, length, drop, refl, ap, sym, ◌∙◌, arith}
 use Rattle.std.proofs.lemmas.List.{append-nil, get_or-map, length-map}
 use Rattle.std.proofs.lemmas.List.Sums.{sum_by-cons}
 use Rattle.std.specs.List.{sum_by}
@@ -10,11 +10,12 @@ use Rattle.uxn_io.specs.Files.{Nodes}
 use Rattle.uxn_io.specs.Faults.{counts}
 use Rattle.uxn_opcodes.specs.declared.Core.{Core}
 use Rattle.uxn_opcodes.specs.declared.Stop.{Stop}
+use Rattle.uxn_opcodes.specs.declared.Stop.TheVariants.{NoMemory}
 use Rattle.varvara_bus.specs.declared.bus.Bus.{Bus}
 use Rattle.varvara_bus.specs.History.{stored}
 use Rattle.varvara_bus.specs.State.{DeviceState}
-use Rattle.varvara_bus.specs.Bus.{SameLent, IsFileWhereTold, FilesStay, BusStandsFor, Reads, ChangesDevices, frames_begun, bus_faults}
-use Rattle.vector_loop.proofs.Along.{is_page, reached}
+use Rattle.varvara_bus.specs.Bus.{SameLent, HasRoot, FilesStay, BusStandsFor, Reads, ChangesDevices, frames_begun, bus_faults}
+use Rattle.vector_loop.proofs.Along.{is_page, reached, stops-here}
 use Rattle.vector_loop.specs.declared.tally.Tally.{Tally}
 use Rattle.vector_loop.specs.State.{State, new_tally, with_stored}
 use Rattle.vector_loop.specs.Trail.{Trail, stays, followed_by}
@@ -25,7 +26,7 @@ use Rattle.vector_loop.specs.declared.watch.Moment.{Moment}
 use Rattle.vector_loop.specs.Vector.{vector}
 use Rattle.vector_loop.specs.Watch.{IsPage, ports_read, moment_of, shown_all}
 use Rattle.vector_loop.specs.declared.output.Outputs.{Outputs}
-use Rattle.vector_loop.specs.Outputs.{OutputsThere}
+use Rattle.vector_loop.specs.Outputs.{IsOutput, OutputsThere}
 use Rattle.vector_loop.specs.Event.{unless_over, give_each, give}
 use Rattle.vector_loop.specs.Run.{console_byte, argument_bytes, arguments_given, kind_before, made_ready, run}
 use Rattle.vector_loop.specs.Follows.{Running, running, state_of, FollowsFrom, FallsShortFrom, EndsFrom, HasGrown, HasRoom}
@@ -186,19 +187,31 @@ room-new begun given budget p q r =
       shots = omega (arith, q);
     }
 
--- an output that is a file is one still
-output-still : (output : Option (List ℕ)) (before now : Option Nodes) → IfSome output (IsFileWhereTold before) → FilesStay before now → IfSome output (IsFileWhereTold now)
-output-still None before now there stay = tt
-output-still (Some path) before now there stay = stay.stays path there
-
-pub outputs-still : (outputs : Outputs) (before now : Option Nodes) → OutputsThere outputs before → FilesStay before now → OutputsThere outputs now
-outputs-still outputs before now there stay = record {
-  frames = output-still outputs.frames before now there.frames stay;
-  samples = output-still outputs.samples before now there.samples stay;
+-- an output that is there is there still
+output-still : (output : Option (List ℕ)) (root root_now : Option (List ℕ)) (before now : Option Nodes) → IfSome output (IsOutput root before)
+    → root_now ≡ root → FilesStay root before now → IfSome output (IsOutput root_now now)
+output-still None root root_now before now there same stay = tt
+output-still (Some path) root root_now before now there same stay = record {
+  file = stay.stays path there.outside there.file;
+  outside = rw same there.outside;
 }
 
-pub files-both : (a b c : Option Nodes) → FilesStay a b → FilesStay b c → FilesStay a c
-files-both a b c p q = record { stays = λ path there. q.stays path (p.stays path there) }
+pub outputs-still : (outputs : Outputs) (root root_now : Option (List ℕ)) (before now : Option Nodes) → OutputsThere outputs root before
+    → root_now ≡ root → FilesStay root before now → OutputsThere outputs root_now now
+outputs-still outputs root root_now before now there same stay = record {
+  frames = output-still outputs.frames root root_now before now there.frames same stay;
+  samples = output-still outputs.samples root root_now before now there.samples same stay;
+}
+
+-- what stays in one part of a run, and then in another
+pub files-both : (root root_then : Option (List ℕ)) (a b c : Option Nodes) → root_then ≡ root → FilesStay root a b → FilesStay root_then b c
+    → FilesStay root a c
+files-both root root_then a b c same p q = record { stays = λ path outside there. (rw same at q).stays path outside (p.stays path outside there) }
+
+-- memory is wanting still where there was a root before
+pub wanting-still : {T O E : Type 0} (refuses : Type 0) (before now : Bus T O E) → now.devices.now.root ≡ before.devices.now.root
+    → refuses ⊎ HasRoot now.devices.now → refuses ⊎ HasRoot before.devices.now
+wanting-still refuses before now same wanting = rw same at wanting
 
 lent-both : {T O E : Type 0} (a b c : Bus T O E) → SameLent a b → SameLent b c → SameLent a c
 lent-both a b c p q = record { devices = q.devices ∙ p.devices; tree = q.tree ∙ p.tree; out = q.out ∙ p.out; err = q.err ∙ p.err }
@@ -223,71 +236,77 @@ run-is budget outputs script s = refl
 module _ {T O E W H : Type 0} (telling : Telling T O E W H) where
   pub done-nothing : (now : Running T O E W) (budget : ℕ) → Done telling now now stays 0 0 budget
   done-nothing now budget = record {
-    follows = follows-nothing telling.tree telling.out telling.err telling.held telling.shown now;
+    follows = follows-nothing telling.meaning telling.held telling.shown now;
     grown = grown-none now.tally budget;
     faults = refl;
     lent = record { devices = refl; tree = refl; out = refl; err = refl };
-    files = record { stays = λ path there. there };
+    root = refl;
+    files = record { stays = λ path outside there. there };
     frames = omega arith;
   }
 
   pub done-both : (a b c : Running T O E W) (part rest : State → Trail) (b1 g1 b2 g2 budget : ℕ) → Done telling a b part b1 g1 budget → Done telling b c rest b2 g2 budget
       → Done telling a c (λ s. followed_by (part s) rest) (b1 + b2) (g1 + g2) budget
   done-both a b c part rest b1 g1 b2 g2 budget p q = record {
-    follows = follows-then telling.tree telling.out telling.err telling.held telling.shown a b c part rest p.follows q.follows;
+    follows = follows-then telling.meaning telling.held telling.shown a b c part rest p.follows q.follows;
     grown = grown-both a.tally b.tally c.tally b1 g1 b2 g2 budget p.grown q.grown;
     faults = q.faults ∙ p.faults;
     lent = lent-both a.bus b.bus c.bus p.lent q.lent;
-    files = files-both _ _ _ p.files q.files;
+    root = q.root ∙ p.root;
+    files = files-both _ _ _ _ _ p.root p.files q.files;
     frames = omega (arith, p.frames, q.frames);
   }
 
   pub stopped-later : (a b c : Running T O E W) (part rest : State → Trail) (b1 g1 b2 g2 budget : ℕ) (stop : Stop) → Done telling a b part b1 g1 budget → Stopped telling b c rest b2 g2 budget stop
       → Stopped telling a c (λ s. followed_by (part s) rest) (b1 + b2) (g1 + g2) budget stop
   stopped-later a b c part rest b1 g1 b2 g2 budget stop p q = record {
-    short = short-then telling.tree telling.out telling.err telling.held telling.shown a b c part rest p.follows q.short;
+    short = short-then telling.meaning telling.held telling.shown a b c stop part rest p.follows q.short;
     ledger = rw (← p.faults) q.ledger;
-    memory = q.memory;
+    memory = λ wanted. wanting-still telling.may_refuse a.bus b.bus p.root (q.memory wanted);
     grown = grown-both a.tally b.tally c.tally b1 g1 b2 g2 budget p.grown q.grown;
     lent = lent-both a.bus b.bus c.bus p.lent q.lent;
-    files = files-both _ _ _ p.files q.files;
+    root = q.root ∙ p.root;
+    files = files-both _ _ _ _ _ p.root p.files q.files;
     frames = omega (arith, p.frames, q.frames);
   }
 
   pub stopped-first : (a b : Running T O E W) (part rest : State → Trail) (begun given budget : ℕ) (stop : Stop) → Stopped telling a b part begun given budget stop
       → Stopped telling a b (λ s. followed_by (part s) rest) begun given budget stop
   stopped-first a b part rest begun given budget stop p = record {
-    short = short-at-first telling.tree telling.out telling.err telling.held telling.shown a b part rest p.short;
+    short = short-at-first telling.meaning a b stop part rest p.short;
     ledger = p.ledger;
     memory = p.memory;
     grown = p.grown;
     lent = p.lent;
+    root = p.root;
     files = p.files;
     frames = p.frames;
   }
 
   -- the same under another name, in the states that the bus stood for
   pub done-where : (a b : Running T O E W) (part other : State → Trail) (begun given budget : ℕ)
-      → ((devices : DeviceState) → BusStandsFor telling.tree a.bus devices → other (state_of a devices) ≡ part (state_of a devices))
+      → ((devices : DeviceState) → BusStandsFor telling.meaning.tree a.bus devices → other (state_of a devices) ≡ part (state_of a devices))
       → Done telling a b part begun given budget → Done telling a b other begun given budget
   done-where a b part other begun given budget same p = record {
-    follows = follows-as telling.tree telling.out telling.err telling.held telling.shown a b other part same p.follows;
+    follows = follows-as telling.meaning telling.held telling.shown a b other part same p.follows;
     grown = p.grown;
     faults = p.faults;
     lent = p.lent;
+    root = p.root;
     files = p.files;
     frames = p.frames;
   }
 
   pub stopped-where : (a b : Running T O E W) (part other : State → Trail) (begun given budget : ℕ) (stop : Stop)
-      → ((devices : DeviceState) → BusStandsFor telling.tree a.bus devices → other (state_of a devices) ≡ part (state_of a devices))
+      → ((devices : DeviceState) → BusStandsFor telling.meaning.tree a.bus devices → other (state_of a devices) ≡ part (state_of a devices))
       → Stopped telling a b part begun given budget stop → Stopped telling a b other begun given budget stop
   stopped-where a b part other begun given budget stop same p = record {
-    short = short-as telling.tree telling.out telling.err telling.held telling.shown a b other part same p.short;
+    short = short-as telling.meaning a b stop other part same p.short;
     ledger = p.ledger;
     memory = p.memory;
     grown = p.grown;
     lent = p.lent;
+    root = p.root;
     files = p.files;
     frames = p.frames;
   }
@@ -309,6 +328,7 @@ module _ {T O E W H : Type 0} (telling : Telling T O E W H) where
     memory = d.memory;
     grown = grown-within a.tally b.tally b1 g1 b2 g2 budget p q d.grown;
     lent = d.lent;
+    root = d.root;
     files = d.files;
     frames = omega (arith, d.frames, q);
   }
@@ -319,22 +339,23 @@ module _ {T O E W H : Type 0} (telling : Telling T O E W H) where
     grown = grown-within a.tally b.tally b1 g1 b2 g2 budget p q d.grown;
     faults = d.faults;
     lent = d.lent;
+    root = d.root;
     files = d.files;
     frames = omega (arith, d.frames, q);
   }
 
   -- where the run is over, and where it is not
-  pub done-over : (now : Running T O E W) (rest : State → Trail) (byte begun given budget : ℕ) → ((devices : DeviceState) → BusStandsFor telling.tree now.bus devices → byte ≡ stored devices.history 0x0f) → byte ≢ 0
+  pub done-over : (now : Running T O E W) (rest : State → Trail) (byte begun given budget : ℕ) → ((devices : DeviceState) → BusStandsFor telling.meaning.tree now.bus devices → byte ≡ stored devices.history 0x0f) → byte ≢ 0
       → Done telling now now (unless_over rest) begun given budget
   done-over now rest byte begun given budget is some = done-within now now (unless_over rest) 0 0 begun given budget (omega arith) (omega arith)
       (done-where now now stays (unless_over rest) 0 0 budget (λ devices stands. over rest (state_of now devices) byte (is devices stands) some) (done-nothing now budget))
 
-  pub done-not_over : (a b : Running T O E W) (rest : State → Trail) (byte begun given budget : ℕ) → ((devices : DeviceState) → BusStandsFor telling.tree a.bus devices → byte ≡ stored devices.history 0x0f) → byte ≡ 0
+  pub done-not_over : (a b : Running T O E W) (rest : State → Trail) (byte begun given budget : ℕ) → ((devices : DeviceState) → BusStandsFor telling.meaning.tree a.bus devices → byte ≡ stored devices.history 0x0f) → byte ≡ 0
       → Done telling a b rest begun given budget → Done telling a b (unless_over rest) begun given budget
   done-not_over a b rest byte begun given budget is none d =
       done-where a b rest (unless_over rest) begun given budget (λ devices stands. not-over rest (state_of a devices) byte (is devices stands) none) d
 
-  pub stopped-not_over : (a b : Running T O E W) (rest : State → Trail) (byte begun given budget : ℕ) (stop : Stop) → ((devices : DeviceState) → BusStandsFor telling.tree a.bus devices → byte ≡ stored devices.history 0x0f) → byte ≡ 0
+  pub stopped-not_over : (a b : Running T O E W) (rest : State → Trail) (byte begun given budget : ℕ) (stop : Stop) → ((devices : DeviceState) → BusStandsFor telling.meaning.tree a.bus devices → byte ≡ stored devices.history 0x0f) → byte ≡ 0
       → Stopped telling a b rest begun given budget stop → Stopped telling a b (unless_over rest) begun given budget stop
   stopped-not_over a b rest byte begun given budget stop is none d =
       stopped-where a b rest (unless_over rest) begun given budget stop (λ devices stands. not-over rest (state_of a devices) byte (is devices stands) none) d
@@ -437,27 +458,29 @@ module _ {T O E W H : Type 0} (telling : Telling T O E W H) where
       ∙ ap (λ err. counts (telling.tree_faults a.tree.now) (telling.out_faults a.out.now) (telling.err_faults err)) changes.err
 
   pub done-prepared : (core : Core) (bus middle : Bus T O E) (tally : Tally) (watcher : W) (now : Running T O E W) (prepare : State → State) (part_of : State → Trail) (begun given budget : ℕ)
-      → Prepared telling.tree telling.out telling.err telling.held telling.shown (running core bus tally watcher) (running core middle tally watcher) prepare → frames_begun middle ≡ frames_begun bus
+      → Prepared telling.meaning (running core bus tally watcher) (running core middle tally watcher) prepare → frames_begun middle ≡ frames_begun bus
       → Done telling (running core middle tally watcher) now part_of begun given budget → Done telling (running core bus tally watcher) now (λ s. part_of (prepare s)) begun given budget
   done-prepared core bus middle tally watcher now prepare part_of begun given budget prepared frames done = record {
-    follows = follows-prepared telling.tree telling.out telling.err telling.held telling.shown (running core bus tally watcher) (running core middle tally watcher) now prepare part_of prepared done.follows;
+    follows = follows-prepared telling.meaning telling.held telling.shown (running core bus tally watcher) (running core middle tally watcher) now prepare part_of prepared done.follows;
     grown = done.grown;
     faults = done.faults ∙ same_faults bus middle prepared.others;
     lent = lent-both bus middle now.bus prepared.others.lent done.lent;
-    files = files-both _ _ _ (files-kept telling.tree bus middle prepared.others) done.files;
+    root = done.root ∙ prepared.others.root;
+    files = files-both _ _ _ _ _ prepared.others.root (files-kept telling.meaning.tree bus middle prepared.others) done.files;
     frames = omega (arith, done.frames, frames);
   }
 
   pub stopped-prepared : (core : Core) (bus middle : Bus T O E) (tally : Tally) (watcher : W) (now : Running T O E W) (prepare : State → State) (part_of : State → Trail) (begun given budget : ℕ) (stop : Stop)
-      → Prepared telling.tree telling.out telling.err telling.held telling.shown (running core bus tally watcher) (running core middle tally watcher) prepare → frames_begun middle ≡ frames_begun bus
+      → Prepared telling.meaning (running core bus tally watcher) (running core middle tally watcher) prepare → frames_begun middle ≡ frames_begun bus
       → Stopped telling (running core middle tally watcher) now part_of begun given budget stop → Stopped telling (running core bus tally watcher) now (λ s. part_of (prepare s)) begun given budget stop
   stopped-prepared core bus middle tally watcher now prepare part_of begun given budget stop prepared frames stopped = record {
-    short = short-prepared telling.tree telling.out telling.err telling.held telling.shown (running core bus tally watcher) (running core middle tally watcher) now prepare part_of prepared stopped.short;
+    short = short-prepared telling.meaning (running core bus tally watcher) (running core middle tally watcher) now stop prepare part_of prepared stopped.short;
     ledger = rw (← same_faults bus middle prepared.others) stopped.ledger;
-    memory = stopped.memory;
+    memory = λ wanted. wanting-still telling.may_refuse bus middle prepared.others.root (stopped.memory wanted);
     grown = stopped.grown;
     lent = lent-both bus middle now.bus prepared.others.lent stopped.lent;
-    files = files-both _ _ _ (files-kept telling.tree bus middle prepared.others) stopped.files;
+    root = stopped.root ∙ prepared.others.root;
+    files = files-both _ _ _ _ _ prepared.others.root (files-kept telling.meaning.tree bus middle prepared.others) stopped.files;
     frames = omega (arith, stopped.frames, frames);
   }
 
@@ -491,9 +514,9 @@ module _ {T O E W H : Type 0} (telling : Telling T O E W H) where
       (stopped-later b c d (arguments_part budget script) (events_part budget outputs script) b2 g2 b3 g3 budget stop q r))
 
   -- the end was shown, or not
-  pub ends-run : (ended : H → Core → List ℕ → Moment → H) (before now : Running T O E W) (part : State → Trail) (watcher_new : W) → FollowsFrom telling.tree telling.out telling.err telling.held telling.shown before now part
-      → ((page : List ℕ) → IsPage (Reads telling.tree now.bus now.core) page → telling.held watcher_new ≡ ended (telling.held now.watcher) now.core page (record { instructions = now.tally.instructions; address = now.core.at }))
-      → EndsFrom telling.tree telling.out telling.err telling.held telling.shown ended before (running now.core now.bus now.tally watcher_new) part
+  pub ends-run : (ended : H → Core → List ℕ → Moment → H) (before now : Running T O E W) (part : State → Trail) (watcher_new : W) → FollowsFrom telling.meaning telling.held telling.shown before now part
+      → ((page : List ℕ) → IsPage (Reads telling.meaning.tree now.bus now.core) page → telling.held watcher_new ≡ ended (telling.held now.watcher) now.core page (record { instructions = now.tally.instructions; address = now.core.at }))
+      → EndsFrom telling.meaning telling.held telling.shown ended before (running now.core now.bus now.tally watcher_new) part
   ends-run ended before now part watcher_new follows shown_end = record {
     from = λ devices stands.
         let f = follows.from devices stands in
@@ -502,22 +525,23 @@ module _ {T O E W H : Type 0} (telling : Telling T O E W H) where
           core = f.core;
           devices = f.devices;
           tally = f.tally;
-          world = f.world;
-          watcher = shown_end (ports_read 256 (state_of now last.devices)) (is_page telling.tree now.bus (state_of now last.devices) f.devices)
+          makes = f.makes;
+          watcher = shown_end (ports_read 256 (state_of now last.devices)) (is_page telling.meaning.tree now.bus (state_of now last.devices) f.devices)
               ∙ ap (λ h. ended h now.core (ports_read 256 (state_of now last.devices)) (moment_of (state_of now last.devices))) f.watcher
               ∙ ap (λ (s : State). ended (shown_all telling.shown (telling.held before.watcher) (part (state_of before devices)).moments) s.core (ports_read 256 s) (moment_of s))
-              (reached telling.tree telling.out telling.err telling.held telling.shown before now (part (state_of before devices)) f);
+              (reached telling.meaning telling.held telling.shown before now (part (state_of before devices)) f);
         };
   }
 
-  pub short-of_all : (before now other : Running T O E W) (part : State → Trail) → other.bus ≡ now.bus → FollowsFrom telling.tree telling.out telling.err telling.held telling.shown before now part
-      → FallsShortFrom telling.tree telling.out telling.err telling.held telling.shown before other part
+  pub short-of_all : (before now other : Running T O E W) (part : State → Trail) → other.bus ≡ now.bus
+      → FollowsFrom telling.meaning telling.held telling.shown before now part → FallsShortFrom telling.meaning before other NoMemory part
   short-of_all before now other part same follows = record {
     from = λ devices stands.
         let f = follows.from devices stands in
-        rw same (record { made = (part (state_of before devices)).changes; rest = []; parts = sym (append-nil (part (state_of before devices)).changes); left = f.world });
+        let changes = (part (state_of before devices)).changes in
+        rw same (rw (append-nil changes) at (stops-here telling.meaning before.bus now.bus changes [] f.makes));
   }
 
-  pub short-elsewhere : (before now other : Running T O E W) (part : State → Trail) → other.bus ≡ now.bus → FallsShortFrom telling.tree telling.out telling.err telling.held telling.shown before now part
-      → FallsShortFrom telling.tree telling.out telling.err telling.held telling.shown before other part
-  short-elsewhere before now other part same short = record { from = λ devices stands. rw same (short.from devices stands) }
+  pub short-elsewhere : (before now other : Running T O E W) (stop : Stop) (part : State → Trail) → other.bus ≡ now.bus
+      → FallsShortFrom telling.meaning before now stop part → FallsShortFrom telling.meaning before other stop part
+  short-elsewhere before now other stop part same short = record { from = λ devices stands. rw same (short.from devices stands) }

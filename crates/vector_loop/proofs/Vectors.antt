@@ -2,15 +2,16 @@ use Rattle.std.proofs.Common.{◌≡◌, ◌≢◌, ℕ, zero, suc, true, false,
 use Rattle.std.proofs.lemmas.Bool.Decides.{nat_tests}
 use Rattle.std.specs.Prelude.{Option, Ok, Err, ◌==◌, ◌||◌}
 use Rattle.uxn_io.specs.Files.{Nodes}
-use Rattle.uxn_io.specs.Outside.{cut-here}
 use Rattle.uxn_opcodes.specs.declared.Core.{Core}
 use Rattle.uxn_opcodes.specs.declared.Stop.{Stop}
+use Rattle.uxn_opcodes.specs.declared.Stop.TheVariants.{NoMemory}
 use Rattle.uxn_opcodes.specs.declared.Turn.TheVariants.{Ran, Broke as Broken}
 use Rattle.uxn_opcodes.specs.Rule.{opcode_at}
 use Rattle.uxn_opcodes.specs.Instruction.{Instruction}
 use Rattle.varvara_bus.specs.declared.bus.Bus.{Bus}
 use Rattle.varvara_bus.specs.State.{DeviceState}
-use Rattle.varvara_bus.specs.Bus.{BusStandsFor, Reads, world_of, bus_rules}
+use Rattle.varvara_bus.specs.Bus.{BusStandsFor, Reads, Meaning, bus_rules}
+use Rattle.varvara_bus.specs.InstructionLaws.{makes-none}
 use Rattle.vector_loop.specs.declared.tally.Tally.{Tally}
 use Rattle.vector_loop.specs.declared.tally.VectorEnd.TheVariants.{Broke, Cut}
 use Rattle.vector_loop.specs.declared.watch.Moment.{Moment}
@@ -20,7 +21,7 @@ use Rattle.vector_loop.specs.Vector.{instruction, at_break, instructions, breaks
 use Rattle.vector_loop.specs.Watch.{IsPage}
 use Rattle.vector_loop.specs.Follows.{Running, running, state_of, Follows, FollowsFrom, FallsShortFrom}
 use Rattle.vector_loop.proofs.Trails.{followed_by-again, followed_by-at}
-use Rattle.vector_loop.proofs.Along.{follows-nothing, follows-both, short-later, short-first, follows-instruction, short-instruction}
+use Rattle.vector_loop.proofs.Along.{follows-nothing, follows-both, short-later, short-first, stops-here, follows-instruction, short-instruction}
 
 instructions-break : (left : ℕ) (state : State) → at_break state ≡ true → instructions (suc left) state ≡ instruction state
 unfolding instructions
@@ -52,16 +53,16 @@ is_zero n h = grind (arith, nat_tests)
 is_not_zero : (n : ℕ) → n ≢ 0 → (n == 0) ≡ false
 is_not_zero n h = grind (arith, nat_tests)
 
-module _ {T O E W H : Type 0} (told_tree : T → Option Nodes) (told_out : O → Option (List ℕ)) (told_err : E → Option (List ℕ)) (held : W → H) (shown : H → Core → List ℕ → Moment → H) where
+module _ {T O E W H : Type 0} (meaning : Meaning T O E) (held : W → H) (shown : H → Core → List ℕ → Moment → H) where
   -- what was done so far of a vector, with so many instructions left
   record SoFar (before now : Running T O E W) (budget left : ℕ) (devices : DeviceState) : Type 0 where
     done : Trail
-    follows : Follows told_tree told_out told_err held shown before now done
+    follows : Follows meaning held shown before now done
     whole : followed_by done (instructions left) ≡ instructions budget (state_of before devices)
     ends : breaks left done.last ≡ breaks budget (state_of before devices)
 
   pub record Along (before now : Running T O E W) (budget left : ℕ) : Type 0 where
-    from : (devices : DeviceState) → BusStandsFor told_tree before.bus devices → SoFar before now budget left devices
+    from : (devices : DeviceState) → BusStandsFor meaning.tree before.bus devices → SoFar before now budget left devices
 
   -- the same with the number written otherwise
   pub along-left : (before now : Running T O E W) (budget left other : ℕ) → left ≡ other → Along before now budget left → Along before now budget other
@@ -74,14 +75,14 @@ module _ {T O E W H : Type 0} (told_tree : T → Option Nodes) (told_out : O →
 
   -- the watcher was shown the machine
   abbrev pub Watched : Running T O E W → W → Type 0
-  Watched now watcher_new = (page : List ℕ) → IsPage (Reads told_tree now.bus now.core) page
+  Watched now watcher_new = (page : List ℕ) → IsPage (Reads meaning.tree now.bus now.core) page
       → held watcher_new ≡ shown (held now.watcher) now.core page (record { instructions = now.tally.instructions; address = now.core.at })
 
   pub along-start : (now : Running T O E W) (budget : ℕ) → Along now now budget budget
   along-start now budget = record {
     from = λ devices stands. record {
       done = stays (state_of now devices);
-      follows = follows-nothing told_tree told_out told_err held shown now devices stands;
+      follows = follows-nothing meaning held shown now devices stands;
       whole = refl;
       ends = refl;
     };
@@ -92,7 +93,7 @@ module _ {T O E W H : Type 0} (told_tree : T → Option Nodes) (told_out : O →
 
   pub along-ran : (before now : Running T O E W) (budget left : ℕ) (core_new : Core) (bus_new : Bus T O E) (watcher_new : W)
       → Along before now budget (suc left) → Watched now watcher_new
-      → Instruction (bus_rules told_tree told_out told_err) now.core now.bus (Ok Ran) core_new bus_new → opcode_at now.core ≢ 0
+      → Instruction (bus_rules meaning) now.core now.bus (Ok Ran) core_new bus_new → opcode_at now.core ≢ 0
       → Along before (running core_new bus_new (counting_instruction now.tally) watcher_new) budget left
   along-ran before now budget left core_new bus_new watcher_new along watched ran goes_on = record {
     from = λ devices stands.
@@ -100,8 +101,8 @@ module _ {T O E W H : Type 0} (told_tree : T → Option Nodes) (told_out : O →
         let on = goes-on-at now so_far.done now.core so_far.follows.core goes_on in
         record {
           done = followed_by so_far.done instruction;
-          follows = follows-both told_tree told_out told_err held shown before now (running core_new bus_new (counting_instruction now.tally) watcher_new) so_far.done instruction so_far.follows
-              (follows-instruction told_tree told_out told_err held shown now core_new bus_new watcher_new Ran watched ran);
+          follows = follows-both meaning held shown before now (running core_new bus_new (counting_instruction now.tally) watcher_new) so_far.done instruction so_far.follows
+              (follows-instruction meaning held shown now core_new bus_new watcher_new Ran watched ran);
           whole = followed_by-again so_far.done instruction (instructions left)
               ∙ sym (followed_by-at so_far.done (instructions (suc left)) (λ s. followed_by (instruction s) (instructions left)) (instructions-next left so_far.done.last on))
               ∙ so_far.whole;
@@ -111,84 +112,86 @@ module _ {T O E W H : Type 0} (told_tree : T → Option Nodes) (told_out : O →
 
   pub broke-follows : (before now : Running T O E W) (budget left : ℕ) (core_new : Core) (bus_new : Bus T O E) (watcher_new : W)
       → Along before now budget (suc left) → Watched now watcher_new
-      → Instruction (bus_rules told_tree told_out told_err) now.core now.bus (Ok Broken) core_new bus_new → opcode_at now.core ≡ 0
-      → FollowsFrom told_tree told_out told_err held shown before (running core_new bus_new (counting_instruction now.tally) watcher_new) (instructions budget)
+      → Instruction (bus_rules meaning) now.core now.bus (Ok Broken) core_new bus_new → opcode_at now.core ≡ 0
+      → FollowsFrom meaning held shown before (running core_new bus_new (counting_instruction now.tally) watcher_new) (instructions budget)
   broke-follows before now budget left core_new bus_new watcher_new along watched ran breaks = record {
     from = λ devices stands.
         let so_far = along.from devices stands in
         let on : at_break so_far.done.last ≡ true = ap (λ (c : Core). opcode_at c == 0) (sym so_far.follows.core) ∙ is_zero (opcode_at now.core) breaks in
         let whole = sym so_far.whole ∙ followed_by-at so_far.done (instructions (suc left)) instruction (instructions-break left so_far.done.last on) in
-        rw whole (follows-both told_tree told_out told_err held shown before now (running core_new bus_new (counting_instruction now.tally) watcher_new) so_far.done instruction so_far.follows
-        (follows-instruction told_tree told_out told_err held shown now core_new bus_new watcher_new Broken watched ran));
+        rw whole (follows-both meaning held shown before now (running core_new bus_new (counting_instruction now.tally) watcher_new) so_far.done instruction so_far.follows
+        (follows-instruction meaning held shown now core_new bus_new watcher_new Broken watched ran));
   }
 
   pub broke-ends : (before now : Running T O E W) (budget left : ℕ) → Along before now budget (suc left) → opcode_at now.core ≡ 0
-      → (devices : DeviceState) → BusStandsFor told_tree before.bus devices → breaks budget (state_of before devices) ≡ true
+      → (devices : DeviceState) → BusStandsFor meaning.tree before.bus devices → breaks budget (state_of before devices) ≡ true
   broke-ends before now budget left along breaks devices stands =
       let so_far = along.from devices stands in
       let on : at_break so_far.done.last ≡ true = ap (λ (c : Core). opcode_at c == 0) (sym so_far.follows.core) ∙ is_zero (opcode_at now.core) breaks in
       sym so_far.ends ∙ breaks-break left so_far.done.last on
 
   pub cut-follows : (before now : Running T O E W) (budget : ℕ) → Along before now budget 0
-      → FollowsFrom told_tree told_out told_err held shown before (running now.core now.bus (counting_cut now.tally) now.watcher) (instructions budget)
+      → FollowsFrom meaning held shown before (running now.core now.bus (counting_cut now.tally) now.watcher) (instructions budget)
   cut-follows before now budget along = record {
     from = λ devices stands.
         let so_far = along.from devices stands in
         let whole = sym so_far.whole ∙ followed_by-at so_far.done (instructions 0) (λ s. stays (record s { tally = counting_cut s.tally })) (instructions-zero so_far.done.last) in
-        rw whole (follows-both told_tree told_out told_err held shown before now (running now.core now.bus (counting_cut now.tally) now.watcher) so_far.done (λ s. stays (record s { tally = counting_cut s.tally })) so_far.follows
-        (record { from = λ reached s. record { core = refl; devices = s; tally = refl; world = refl; watcher = refl } }));
+        rw whole (follows-both meaning held shown before now (running now.core now.bus (counting_cut now.tally) now.watcher) so_far.done (λ s. stays (record s { tally = counting_cut s.tally })) so_far.follows
+        (record { from = λ reached s. record { core = refl; devices = s; tally = refl; makes = makes-none meaning now.bus; watcher = refl } }));
   }
 
   pub cut-ends : (before now : Running T O E W) (budget : ℕ) → Along before now budget 0
-      → (devices : DeviceState) → BusStandsFor told_tree before.bus devices → breaks budget (state_of before devices) ≡ false
+      → (devices : DeviceState) → BusStandsFor meaning.tree before.bus devices → breaks budget (state_of before devices) ≡ false
   cut-ends before now budget along devices stands =
       let so_far = along.from devices stands in
       sym so_far.ends ∙ breaks-zero so_far.done.last
 
   pub stop-short : (before now : Running T O E W) (budget left : ℕ) (core_new : Core) (bus_new : Bus T O E) (tally_new : Tally) (watcher_new : W) (stop : Stop)
       → Along before now budget (suc left)
-      → Instruction (bus_rules told_tree told_out told_err) now.core now.bus (Err stop) core_new bus_new → opcode_at now.core ≢ 0
-      → FallsShortFrom told_tree told_out told_err held shown before (running core_new bus_new tally_new watcher_new) (instructions budget)
+      → Instruction (bus_rules meaning) now.core now.bus (Err stop) core_new bus_new → opcode_at now.core ≢ 0
+      → FallsShortFrom meaning before (running core_new bus_new tally_new watcher_new) stop (instructions budget)
   stop-short before now budget left core_new bus_new tally_new watcher_new stop along stopped goes_on = record {
     from = λ devices stands.
         let so_far = along.from devices stands in
         let on = goes-on-at now so_far.done now.core so_far.follows.core goes_on in
         let whole = sym so_far.whole ∙ followed_by-at so_far.done (instructions (suc left)) (λ s. followed_by (instruction s) (instructions left)) (instructions-next left so_far.done.last on) in
-        rw whole (short-later told_tree told_out told_err held shown before now (running core_new bus_new tally_new watcher_new) so_far.done (λ s. followed_by (instruction s) (instructions left)) so_far.follows
+        rw whole (short-later meaning held shown before now (running core_new bus_new tally_new watcher_new) stop so_far.done (λ s. followed_by (instruction s) (instructions left)) so_far.follows
         (record {
-          from = λ reached s. short-first told_tree told_out told_err held shown now (running core_new bus_new tally_new watcher_new) (instruction (state_of now reached)) (instructions left)
-              ((short-instruction told_tree told_out told_err held shown now core_new bus_new tally_new watcher_new stop stopped).from reached s);
+          from = λ reached s. short-first meaning now (running core_new bus_new tally_new watcher_new) stop (instruction (state_of now reached)) (instructions left)
+              ((short-instruction meaning now core_new bus_new tally_new watcher_new stop stopped).from reached s);
         }));
   }
 
   pub refused-short : (before now : Running T O E W) (budget left : ℕ) (tally_new : Tally) (watcher_new : W) → Along before now budget left
-      → FallsShortFrom told_tree told_out told_err held shown before (running now.core now.bus tally_new watcher_new) (instructions budget)
+      → FallsShortFrom meaning before (running now.core now.bus tally_new watcher_new) NoMemory (instructions budget)
   refused-short before now budget left tally_new watcher_new along = record {
     from = λ devices stands.
         let so_far = along.from devices stands in
         let whole : instructions budget (state_of before devices) ≡ followed_by so_far.done (instructions left) = sym so_far.whole in
-        rw whole (cut-here (world_of told_tree told_out told_err before.bus) (world_of told_tree told_out told_err now.bus) so_far.done.changes (instructions left so_far.done.last).changes so_far.follows.world);
+        rw whole (stops-here meaning before.bus now.bus so_far.done.changes (instructions left so_far.done.last).changes so_far.follows.makes);
   }
 
   -- what begins at an address is a vector
   pub vector-follows : (core core_new : Core) (bus bus_new : Bus T O E) (tally tally_new : Tally) (watcher watcher_new : W) (budget at count other : ℕ) → count ≡ other
-      → FollowsFrom told_tree told_out told_err held shown (running (record core { at = at }) bus (counting_vector tally) watcher)
+      → FollowsFrom meaning held shown (running (record core { at = at }) bus (counting_vector tally) watcher)
       (running core_new bus_new (record tally_new { instructions = count }) watcher_new) (instructions budget)
-      → FollowsFrom told_tree told_out told_err held shown (running core bus tally watcher)
+      → FollowsFrom meaning held shown (running core bus tally watcher)
       (running core_new bus_new (record tally_new { instructions = other }) watcher_new) (vector budget at)
   unfolding vector
   vector-follows core core_new bus bus_new tally tally_new watcher watcher_new budget at count other same follows = record {
     from = λ devices stands.
         let done = follows.from devices stands in
-        record { core = done.core; devices = done.devices; tally = ap (λ n. record tally_new { instructions = n }) (sym same) ∙ done.tally; world = done.world; watcher = done.watcher };
+        record { core = done.core; devices = done.devices; tally = ap (λ n. record tally_new { instructions = n }) (sym same) ∙ done.tally; makes = done.makes; watcher = done.watcher };
   }
 
-  pub vector-short : (core : Core) (bus : Bus T O E) (tally : Tally) (watcher : W) (now : Running T O E W) (budget at : ℕ)
-      → FallsShortFrom told_tree told_out told_err held shown (running (record core { at = at }) bus (counting_vector tally) watcher) now (instructions budget)
-      → FallsShortFrom told_tree told_out told_err held shown (running core bus tally watcher) now (vector budget at)
+module _ {T O E W : Type 0} (meaning : Meaning T O E) where
+  pub vector-short : (core : Core) (bus : Bus T O E) (tally : Tally) (watcher : W) (now : Running T O E W) (stop : Stop) (budget at : ℕ)
+      → FallsShortFrom meaning (running (record core { at = at }) bus (counting_vector tally) watcher) now stop (instructions budget)
+      → FallsShortFrom meaning (running core bus tally watcher) now stop (vector budget at)
   unfolding vector
-  vector-short core bus tally watcher now budget at short = record { from = λ devices stands. short.from devices stands }
+  vector-short core bus tally watcher now stop budget at short = record { from = λ devices stands. short.from devices stands }
 
+module _ {T O E W : Type 0} (told_tree : T → Option Nodes) where
   pub broke-is : (core : Core) (bus : Bus T O E) (tally : Tally) (watcher : W) (budget at : ℕ)
       → ((devices : DeviceState) → BusStandsFor told_tree bus devices
       → breaks budget (state_of (running (record core { at = at }) bus (counting_vector tally) watcher) devices) ≡ true)

@@ -1,13 +1,12 @@
 -- What a part of a run answers: it was done, or it stopped.
-use Rattle.std.specs.Prelude.{◌≡◌, ℕ, ◌+◌, ◌≤◌, List, Option, Result, Ok, Err}
-use Rattle.uxn_io.specs.Files.{Nodes}
+use Rattle.std.specs.Prelude.{◌≡◌, ℕ, ◌+◌, ◌≤◌, ◌⊎◌, List, Result, Ok, Err}
 use Rattle.uxn_io.specs.Faults.{Counts, Ledger}
 use Rattle.varvara_bus.specs.declared.bus.Bus.{Bus}
 use Rattle.uxn_opcodes.specs.declared.Core.{Core}
 use Rattle.uxn_opcodes.specs.declared.Stop.{Stop}
 use Rattle.uxn_opcodes.specs.declared.Stop.TheVariants.{NoMemory}
 use Rattle.uxn_opcodes.specs.Ports.{blame_of}
-use Rattle.varvara_bus.specs.Bus.{SameLent, FilesStay, frames_begun, bus_faults}
+use Rattle.varvara_bus.specs.Bus.{SameLent, FilesStay, HasRoot, Meaning, frames_begun, bus_faults}
 use Rattle.vector_loop.specs.declared.watch.Moment.{Moment}
 use Rattle.vector_loop.specs.State.{State}
 use Rattle.vector_loop.specs.Trail.{Trail}
@@ -15,9 +14,7 @@ use Rattle.vector_loop.specs.Follows.{Running, FollowsFrom, FallsShortFrom, HasG
 
 -- what trees, sinks and a watcher tell, and how they count
 pub record Telling (T O E W H : Type 0) : Type 1 where
-  pub tree : T → Option Nodes
-  pub out : O → Option (List ℕ)
-  pub err : E → Option (List ℕ)
+  pub meaning : Meaning T O E
   pub tree_faults : T → ℕ
   pub out_faults : O → ℕ
   pub err_faults : E → ℕ
@@ -25,12 +22,10 @@ pub record Telling (T O E W H : Type 0) : Type 1 where
   pub shown : H → Core → List ℕ → Moment → H
   pub may_refuse : Type 0
 
-abbrev pub telling_of : {T O E W H : Type 0} → (T → Option Nodes) → (O → Option (List ℕ)) → (E → Option (List ℕ)) → (T → ℕ) → (O → ℕ)
-    → (E → ℕ) → (W → H) → (H → Core → List ℕ → Moment → H) → Type 0 → Telling T O E W H
-telling_of tree out err tree_faults out_faults err_faults held shown may_refuse = record {
-  tree = tree;
-  out = out;
-  err = err;
+abbrev pub telling_of : {T O E W H : Type 0} → Meaning T O E → (T → ℕ) → (O → ℕ) → (E → ℕ)
+    → (W → H) → (H → Core → List ℕ → Moment → H) → Type 0 → Telling T O E W H
+telling_of meaning tree_faults out_faults err_faults held shown may_refuse = record {
+  meaning = meaning;
   tree_faults = tree_faults;
   out_faults = out_faults;
   err_faults = err_faults;
@@ -46,21 +41,23 @@ module _ {T O E W H : Type 0} (telling : Telling T O E W H) where
 
   -- a part was done, with so many vectors and events at most; no fault was counted
   pub record Done (before now : Running T O E W) (part : State → Trail) (begun given budget : ℕ) : Type 0 where
-    pub follows : FollowsFrom telling.tree telling.out telling.err telling.held telling.shown before now part
+    pub follows : FollowsFrom telling.meaning telling.held telling.shown before now part
     pub grown : HasGrown before.tally now.tally begun given budget
     pub faults : faults_of now.bus ≡ faults_of before.bus
     pub lent : SameLent before.bus now.bus
-    pub files : FilesStay (telling.tree before.bus.tree.now) (telling.tree now.bus.tree.now)
+    pub root : now.bus.devices.now.root ≡ before.bus.devices.now.root
+    pub files : FilesStay before.bus.devices.now.root (telling.meaning.tree before.bus.tree.now) (telling.meaning.tree now.bus.tree.now)
     pub frames : frames_begun now.bus ≤ frames_begun before.bus + given
 
   -- a part stopped: a front of it was done, and who is to blame counted a fault
   pub record Stopped (before now : Running T O E W) (part : State → Trail) (begun given budget : ℕ) (stop : Stop) : Type 0 where
-    pub short : FallsShortFrom telling.tree telling.out telling.err telling.held telling.shown before now part
+    pub short : FallsShortFrom telling.meaning before now stop part
     pub ledger : Ledger (faults_of before.bus) (faults_of now.bus) (blame_of {T = Unit {0}} (Err stop))
-    pub memory : stop ≡ NoMemory → telling.may_refuse
+    pub memory : stop ≡ NoMemory → telling.may_refuse ⊎ HasRoot before.bus.devices.now
     pub grown : HasGrown before.tally now.tally begun given budget
     pub lent : SameLent before.bus now.bus
-    pub files : FilesStay (telling.tree before.bus.tree.now) (telling.tree now.bus.tree.now)
+    pub root : now.bus.devices.now.root ≡ before.bus.devices.now.root
+    pub files : FilesStay before.bus.devices.now.root (telling.meaning.tree before.bus.tree.now) (telling.meaning.tree now.bus.tree.now)
     pub frames : frames_begun now.bus ≤ frames_begun before.bus + given
 
   -- the one or the other, by the answer

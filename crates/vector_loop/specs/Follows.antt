@@ -1,11 +1,10 @@
 -- What it is for a machine, its bus, a tally and a watcher to follow a trail.
-use Rattle.std.specs.Prelude.{◌≡◌, ℕ, ◌+◌, ◌*◌, ◌≤◌, List, Option}
-use Rattle.uxn_io.specs.Files.{Nodes}
-use Rattle.uxn_io.specs.Outside.{changed_by, IsCutOff}
+use Rattle.std.specs.Prelude.{◌≡◌, ℕ, ◌+◌, ◌*◌, ◌≤◌, List}
 use Rattle.uxn_opcodes.specs.declared.Core.{Core}
+use Rattle.uxn_opcodes.specs.declared.Stop.{Stop}
 use Rattle.varvara_bus.specs.declared.bus.Bus.{Bus}
 use Rattle.varvara_bus.specs.State.{DeviceState}
-use Rattle.varvara_bus.specs.Bus.{BusStandsFor, world_of}
+use Rattle.varvara_bus.specs.Bus.{BusStandsFor, Meaning, Makes, StopsShort}
 use Rattle.vector_loop.specs.declared.tally.Tally.{Tally}
 use Rattle.vector_loop.specs.declared.watch.Moment.{Moment}
 use Rattle.vector_loop.specs.State.{State}
@@ -45,36 +44,36 @@ pub record HasRoom (limit : ℕ) (tally : Tally) (begun given budget : ℕ) : Ty
   pub frames : tally.frames + given ≤ limit
   pub shots : tally.shots + given ≤ limit
 
-module _ {T O E W H : Type 0} (told_tree : T → Option Nodes) (told_out : O → Option (List ℕ)) (told_err : E
-    → Option (List ℕ)) (held : W → H) (shown : H → Core → List ℕ → Moment → H) where
+module _ {T O E W : Type 0} (meaning : Meaning T O E) where
+  -- not all of a trail was done: a front of its changes is made, and whoever is to blame for the stop did not surely take all of them
+  abbrev pub FallsShort : Running T O E W → Running T O E W → Stop → Trail → Type 0
+  FallsShort before now stop trail = StopsShort meaning before.bus now.bus stop trail.changes
+
+  -- the same from each state that the bus stood for
+  pub record FallsShortFrom (before now : Running T O E W) (stop : Stop) (part : State → Trail) : Type 0 where
+    pub from : (devices : DeviceState) → BusStandsFor meaning.tree before.bus devices → FallsShort before now stop (part (state_of before devices))
+
+module _ {T O E W H : Type 0} (meaning : Meaning T O E) (held : W → H) (shown : H → Core → List ℕ → Moment → H) where
   -- all of a trail was done: the last state is reached, the changes are made, and the watcher was shown all moments
   pub record Follows (before now : Running T O E W) (trail : Trail) : Type 0 where
     pub core : now.core ≡ trail.last.core
-    pub devices : BusStandsFor told_tree now.bus trail.last.devices
+    pub devices : BusStandsFor meaning.tree now.bus trail.last.devices
     pub tally : now.tally ≡ trail.last.tally
-    pub world : world_of told_tree told_out told_err now.bus ≡ changed_by (world_of told_tree told_out told_err before.bus) trail.changes
+    pub makes : Makes meaning before.bus now.bus trail.changes
     pub watcher : held now.watcher ≡ shown_all shown (held before.watcher) trail.moments
-
-  -- not all of it was done: a front of its changes is made
-  abbrev pub FallsShort : Running T O E W → Running T O E W → Trail → Type 0
-  FallsShort before now trail = IsCutOff (world_of told_tree told_out told_err before.bus)
-      (world_of told_tree told_out told_err now.bus) trail.changes
 
   -- the same from each state that the bus stood for
   pub record FollowsFrom (before now : Running T O E W) (part : State → Trail) : Type 0 where
-    pub from : (devices : DeviceState) → BusStandsFor told_tree before.bus devices → Follows before now (part (state_of before devices))
-
-  pub record FallsShortFrom (before now : Running T O E W) (part : State → Trail) : Type 0 where
-    pub from : (devices : DeviceState) → BusStandsFor told_tree before.bus devices → FallsShort before now (part (state_of before devices))
+    pub from : (devices : DeviceState) → BusStandsFor meaning.tree before.bus devices → Follows before now (part (state_of before devices))
 
   -- all of a run was done, and the watcher was shown its end
   pub record Ends (ended : H → Core → List ℕ → Moment → H) (before now : Running T O E W) (trail : Trail) : Type 0 where
     pub core : now.core ≡ trail.last.core
-    pub devices : BusStandsFor told_tree now.bus trail.last.devices
+    pub devices : BusStandsFor meaning.tree now.bus trail.last.devices
     pub tally : now.tally ≡ trail.last.tally
-    pub world : world_of told_tree told_out told_err now.bus ≡ changed_by (world_of told_tree told_out told_err before.bus) trail.changes
+    pub makes : Makes meaning before.bus now.bus trail.changes
     pub watcher : held now.watcher ≡ ended (shown_all shown (held before.watcher) trail.moments) trail.last.core
         (ports_read 256 trail.last) (moment_of trail.last)
 
   pub record EndsFrom (ended : H → Core → List ℕ → Moment → H) (before now : Running T O E W) (part : State → Trail) : Type 0 where
-    pub from : (devices : DeviceState) → BusStandsFor told_tree before.bus devices → Ends ended before now (part (state_of before devices))
+    pub from : (devices : DeviceState) → BusStandsFor meaning.tree before.bus devices → Ends ended before now (part (state_of before devices))

@@ -9,7 +9,7 @@ use Rattle.screen_frame.specs.Ppm.{head_bytes}
 use Rattle.screen_layers.specs.Pictures.{picture_row_of}
 use Rattle.varvara_bus.specs.History.{colour_bytes}
 use Rattle.varvara_bus.specs.State.{DeviceState}
-use Rattle.varvara_bus.specs.Bus.{IsFileWhereTold}
+use Rattle.varvara_bus.specs.Bus.{IsFileWhereTold, IsOutside}
 use Rattle.vector_loop.specs.declared.output.Outputs.{Outputs}
 
 -- bytes appended to an output, where it is asked for
@@ -33,7 +33,12 @@ sample_bytes sample = cast_unsigned w16 sample % 256 ∷ cast_unsigned w16 sampl
 abbrev pub samples_bytes : List ℤ → List ℕ
 samples_bytes samples = flat_map sample_bytes samples
 
--- each output that is asked for is a file, where the tree tells its contents
-pub record OutputsThere (outputs : Outputs) (told : Option Nodes) : Type 0 where
-  pub frames : IfSome outputs.frames (IsFileWhereTold told)
-  pub samples : IfSome outputs.samples (IsFileWhereTold told)
+-- an output at a path: a file is there, where the tree tells its contents, and it lies outside the part that the program sees
+pub record IsOutput (root : Option (List ℕ)) (told : Option Nodes) (path : List ℕ) : Type 0 where
+  pub file : IsFileWhereTold told path
+  pub outside : IsOutside root path
+
+-- each output that is asked for is there
+pub record OutputsThere (outputs : Outputs) (root : Option (List ℕ)) (told : Option Nodes) : Type 0 where
+  pub frames : IfSome outputs.frames (IsOutput root told)
+  pub samples : IfSome outputs.samples (IsOutput root told)

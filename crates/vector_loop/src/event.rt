@@ -1,9 +1,9 @@
 //! Events.
-ghost use Rattle.std.specs.Prelude.{◌≡◌, ◌+◌, ◌*◌, ◌^◌, ◌<◌, ◌≤◌, OnOk, OnErr, IfErr};
+ghost use Rattle.std.specs.Prelude.{◌≡◌, ◌+◌, ◌*◌, ◌^◌, ◌<◌, ◌≤◌, ◌⊎◌, OnOk, IfErr};
 ghost use Rattle.play_script.specs.declared.script.Event.TheVariants as events;
 ghost use Rattle.uxn_io.specs.Faults.{Ledger};
 ghost use Rattle.uxn_opcodes.specs.Ports.{blame_of};
-ghost use Rattle.varvara_bus.specs.Bus.{SameLent, SameBus, FilesStay, frames_begun, bus_faults};
+ghost use Rattle.varvara_bus.specs.Bus.{SameLent, SameBus, FilesStay, HasRoot, meaning_of, frames_begun, bus_faults};
 ghost use Rattle.vector_loop.specs.Event.{vector_in, console, device, give};
 ghost use Rattle.vector_loop.specs.Outputs.{OutputsThere};
 ghost use Rattle.vector_loop.specs.Follows.{running, FollowsFrom, FallsShortFrom, HasGrown};
@@ -45,13 +45,13 @@ pub(crate) fn run_vector_in<'a, T: Tree, O: Sink, E: Sink, W: Watcher>(
     requires instructions { tally.old.instructions ≤ 2 ^ 62 }
     requires vectors { tally.old.vectors ≤ 2 ^ 62 }
     requires cuts { tally.old.cuts ≤ 2 ^ 62 }
-    ensures ok { OnOk result (FollowsFrom T.told O.told E.told W.held W.shown
+    ensures ok { OnOk result (FollowsFrom (meaning_of T.told O.told E.told T.sure O.sure E.sure) W.held W.shown
         (running core.old bus.old tally.old watcher.old) (running core.new bus.new tally.new watcher.new) (vector_in budget port)) }
-    ensures err { OnErr result (FallsShortFrom T.told O.told E.told W.held W.shown
-        (running core.old bus.old tally.old watcher.old) (running core.new bus.new tally.new watcher.new) (vector_in budget port)) }
+    ensures err { IfErr result (λ stop. FallsShortFrom (meaning_of T.told O.told E.told T.sure O.sure E.sure)
+        (running core.old bus.old tally.old watcher.old) (running core.new bus.new tally.new watcher.new) stop (vector_in budget port)) }
     ensures grown { HasGrown tally.old tally.new 1 0 budget }
     ensures ledger { Ledger (bus_faults T.faults O.faults E.faults bus.old) (bus_faults T.faults O.faults E.faults bus.new) (blame_of result) }
-    ensures memory { IfErr result (λ stop. stop ≡ Stop.NoMemory → W.may_refuse) }
+    ensures memory { IfErr result (λ stop. stop ≡ Stop.NoMemory → W.may_refuse ⊎ HasRoot bus.old.devices.now) }
     ensures same { SameBus T.told bus.old bus.new }
 {
     let at = bus.stored_short(port);
@@ -78,13 +78,13 @@ pub(crate) fn give_console<'a, T: Tree, O: Sink, E: Sink, W: Watcher>(
     requires instructions { tally.old.instructions ≤ 2 ^ 62 }
     requires vectors { tally.old.vectors ≤ 2 ^ 62 }
     requires cuts { tally.old.cuts ≤ 2 ^ 62 }
-    ensures ok { OnOk result (FollowsFrom T.told O.told E.told W.held W.shown
+    ensures ok { OnOk result (FollowsFrom (meaning_of T.told O.told E.told T.sure O.sure E.sure) W.held W.shown
         (running core.old bus.old tally.old watcher.old) (running core.new bus.new tally.new watcher.new) (console budget byte kind)) }
-    ensures err { OnErr result (FallsShortFrom T.told O.told E.told W.held W.shown
-        (running core.old bus.old tally.old watcher.old) (running core.new bus.new tally.new watcher.new) (console budget byte kind)) }
+    ensures err { IfErr result (λ stop. FallsShortFrom (meaning_of T.told O.told E.told T.sure O.sure E.sure)
+        (running core.old bus.old tally.old watcher.old) (running core.new bus.new tally.new watcher.new) stop (console budget byte kind)) }
     ensures grown { HasGrown tally.old tally.new 1 0 budget }
     ensures ledger { Ledger (bus_faults T.faults O.faults E.faults bus.old) (bus_faults T.faults O.faults E.faults bus.new) (blame_of result) }
-    ensures memory { IfErr result (λ stop. stop ≡ Stop.NoMemory → W.may_refuse) }
+    ensures memory { IfErr result (λ stop. stop ≡ Stop.NoMemory → W.may_refuse ⊎ HasRoot bus.old.devices.now) }
     ensures same { SameBus T.told bus.old bus.new }
 {
     bus.give(byte, kind);
@@ -107,13 +107,13 @@ fn give_device<'a, T: Tree, O: Sink, E: Sink, W: Watcher>(
     requires instructions { tally.old.instructions ≤ 2 ^ 62 }
     requires vectors { tally.old.vectors ≤ 2 ^ 62 }
     requires cuts { tally.old.cuts ≤ 2 ^ 62 }
-    ensures ok { OnOk result (FollowsFrom T.told O.told E.told W.held W.shown
+    ensures ok { OnOk result (FollowsFrom (meaning_of T.told O.told E.told T.sure O.sure E.sure) W.held W.shown
         (running core.old bus.old tally.old watcher.old) (running core.new bus.new tally.new watcher.new) (device budget input.now)) }
-    ensures err { OnErr result (FallsShortFrom T.told O.told E.told W.held W.shown
-        (running core.old bus.old tally.old watcher.old) (running core.new bus.new tally.new watcher.new) (device budget input.now)) }
+    ensures err { IfErr result (λ stop. FallsShortFrom (meaning_of T.told O.told E.told T.sure O.sure E.sure)
+        (running core.old bus.old tally.old watcher.old) (running core.new bus.new tally.new watcher.new) stop (device budget input.now)) }
     ensures grown { HasGrown tally.old tally.new 1 0 budget }
     ensures ledger { Ledger (bus_faults T.faults O.faults E.faults bus.old) (bus_faults T.faults O.faults E.faults bus.new) (blame_of result) }
-    ensures memory { IfErr result (λ stop. stop ≡ Stop.NoMemory → W.may_refuse) }
+    ensures memory { IfErr result (λ stop. stop ≡ Stop.NoMemory → W.may_refuse ⊎ HasRoot bus.old.devices.now) }
     ensures same { SameBus T.told bus.old bus.new }
 {
     bus.apply(input);
@@ -139,7 +139,7 @@ pub fn run_event<'a, T: Tree, O: Sink, E: Sink, W: Watcher>(
     tally: &mut Tally,
     watcher: &mut W,
 ) -> Result<(), Stop>
-    requires outputs { OutputsThere outputs.now (T.told bus.old.tree.now) }
+    requires outputs { OutputsThere outputs.now bus.old.devices.now.root (T.told bus.old.tree.now) }
     requires frames { event.now ≡ events.Frame → frames_begun bus.old < 1000000 }
     requires budget { 1 ≤ budget }
     requires instructions { tally.old.instructions ≤ 2 ^ 61 }
@@ -150,17 +150,18 @@ pub fn run_event<'a, T: Tree, O: Sink, E: Sink, W: Watcher>(
     requires shot_count { tally.old.shots ≤ 2 ^ 61 }
 
     // From each state that the bus stood for, all of the event was done, or a front of what it does.
-    ensures ok { OnOk result (FollowsFrom T.told O.told E.told W.held W.shown
+    ensures ok { OnOk result (FollowsFrom (meaning_of T.told O.told E.told T.sure O.sure E.sure) W.held W.shown
         (running core.old bus.old tally.old watcher.old) (running core.new bus.new tally.new watcher.new) (give budget outputs.now event.now)) }
-    ensures err { OnErr result (FallsShortFrom T.told O.told E.told W.held W.shown
-        (running core.old bus.old tally.old watcher.old) (running core.new bus.new tally.new watcher.new) (give budget outputs.now event.now)) }
+    ensures err { IfErr result (λ stop. FallsShortFrom (meaning_of T.told O.told E.told T.sure O.sure E.sure)
+        (running core.old bus.old tally.old watcher.old) (running core.new bus.new tally.new watcher.new) stop (give budget outputs.now event.now)) }
     ensures grown { HasGrown tally.old tally.new 5 1 budget }
 
-    // A fault comes only where its count rose; memory is wanting only to the watcher.
+    // A fault comes only where its count rose; memory is wanting only to the watcher or where there is a root.
     ensures ledger { Ledger (bus_faults T.faults O.faults E.faults bus.old) (bus_faults T.faults O.faults E.faults bus.new) (blame_of result) }
-    ensures memory { IfErr result (λ stop. stop ≡ Stop.NoMemory → W.may_refuse) }
+    ensures memory { IfErr result (λ stop. stop ≡ Stop.NoMemory → W.may_refuse ⊎ HasRoot bus.old.devices.now) }
     ensures lent { SameLent bus.old bus.new }
-    ensures files { FilesStay (T.told bus.old.tree.now) (T.told bus.new.tree.now) }
+    ensures root { bus.new.devices.now.root ≡ bus.old.devices.now.root }
+    ensures files { FilesStay bus.old.devices.now.root (T.told bus.old.tree.now) (T.told bus.new.tree.now) }
     ensures begun { frames_begun bus.new ≤ frames_begun bus.old + 1 }
 {
     tally.events += 1;

@@ -1,8 +1,8 @@
 //! Frames: the screen's vector, the samples, and the vectors of the voices whose notes end.
-ghost use Rattle.std.specs.Prelude.{◌≡◌, ◌+◌, ◌^◌, ◌<◌, ◌≤◌, IfErr, OnOk, OnErr};
+ghost use Rattle.std.specs.Prelude.{◌≡◌, ◌+◌, ◌^◌, ◌<◌, ◌≤◌, ◌⊎◌, IfErr, OnOk};
 ghost use Rattle.uxn_io.specs.Faults.{Ledger};
 ghost use Rattle.uxn_opcodes.specs.Ports.{blame_of};
-ghost use Rattle.varvara_bus.specs.Bus.{SameLent, FilesStay, IsFileWhereTold, frames_begun, bus_faults};
+ghost use Rattle.varvara_bus.specs.Bus.{SameLent, FilesStay, HasRoot, meaning_of, frames_begun, bus_faults};
 ghost use Rattle.vector_loop.specs.Answers.{telling_of, Answers};
 ghost use Rattle.vector_loop.specs.Event.{unless_over, vector_where, ended_vectors, heard, shown_and_heard, frame};
 ghost use Rattle.vector_loop.specs.Follows.{running, FollowsFrom, FallsShortFrom, HasGrown, HasRoom};
@@ -38,7 +38,7 @@ fn run_ended<'a, T: Tree, O: Sink, E: Sink, W: Watcher>(
     requires voice { voice < 4 }
     requires budget { 1 ≤ budget }
     requires room { HasRoom (2 ^ 62) tally.old 1 0 budget }
-    ensures { Answers (telling_of T.told O.told E.told T.faults O.faults E.faults W.held W.shown W.may_refuse)
+    ensures { Answers (telling_of (meaning_of T.told O.told E.told T.sure O.sure E.sure) T.faults O.faults E.faults W.held W.shown W.may_refuse)
         (running core.old bus.old tally.old watcher.old) (running core.new bus.new tally.new watcher.new)
         (unless_over (vector_where budget ended voice)) 1 0 budget result }
 {
@@ -63,7 +63,7 @@ fn run_all_ended<'a, T: Tree, O: Sink, E: Sink, W: Watcher>(
 ) -> Result<(), Stop>
     requires budget { 1 ≤ budget }
     requires room { HasRoom (2 ^ 62) tally.old 4 0 budget }
-    ensures { Answers (telling_of T.told O.told E.told T.faults O.faults E.faults W.held W.shown W.may_refuse)
+    ensures { Answers (telling_of (meaning_of T.told O.told E.told T.sure O.sure E.sure) T.faults O.faults E.faults W.held W.shown W.may_refuse)
         (running core.old bus.old tally.old watcher.old) (running core.new bus.new tally.new watcher.new)
         (ended_vectors budget ended.now) 4 0 budget result }
 {
@@ -94,10 +94,10 @@ fn give_samples<'a, T: Tree, O: Sink, E: Sink, W: Watcher>(
     tally: &mut Tally,
     watcher: &mut W,
 ) -> Result<(), Stop>
-    requires outputs { OutputsThere outputs.now (T.told bus.old.tree.now) }
+    requires outputs { OutputsThere outputs.now bus.old.devices.now.root (T.told bus.old.tree.now) }
     requires budget { 1 ≤ budget }
     requires room { HasRoom (2 ^ 62) tally.old 4 0 budget }
-    ensures { Answers (telling_of T.told O.told E.told T.faults O.faults E.faults W.held W.shown W.may_refuse)
+    ensures { Answers (telling_of (meaning_of T.told O.told E.told T.sure O.sure E.sure) T.faults O.faults E.faults W.held W.shown W.may_refuse)
         (running core.old bus.old tally.old watcher.old) (running core.new bus.new tally.new watcher.new)
         (heard budget outputs.now) 4 0 budget result }
 {
@@ -122,10 +122,10 @@ fn show_and_sound<'a, T: Tree, O: Sink, E: Sink, W: Watcher>(
     tally: &mut Tally,
     watcher: &mut W,
 ) -> Result<(), Stop>
-    requires outputs { OutputsThere outputs.now (T.told bus.old.tree.now) }
+    requires outputs { OutputsThere outputs.now bus.old.devices.now.root (T.told bus.old.tree.now) }
     requires budget { 1 ≤ budget }
     requires room { HasRoom (2 ^ 62) tally.old 5 0 budget }
-    ensures { Answers (telling_of T.told O.told E.told T.faults O.faults E.faults W.held W.shown W.may_refuse)
+    ensures { Answers (telling_of (meaning_of T.told O.told E.told T.sure O.sure E.sure) T.faults O.faults E.faults W.held W.shown W.may_refuse)
         (running core.old bus.old tally.old watcher.old) (running core.new bus.new tally.new watcher.new)
         (shown_and_heard budget outputs.now) 5 0 budget result }
 {
@@ -151,19 +151,20 @@ pub(crate) fn give_frame<'a, T: Tree, O: Sink, E: Sink, W: Watcher>(
     tally: &mut Tally,
     watcher: &mut W,
 ) -> Result<(), Stop>
-    requires outputs { OutputsThere outputs.now (T.told bus.old.tree.now) }
+    requires outputs { OutputsThere outputs.now bus.old.devices.now.root (T.told bus.old.tree.now) }
     requires frames { frames_begun bus.old < 1000000 }
     requires budget { 1 ≤ budget }
     requires room { HasRoom (2 ^ 62) tally.old 5 0 budget }
-    ensures ok { OnOk result (FollowsFrom T.told O.told E.told W.held W.shown
+    ensures ok { OnOk result (FollowsFrom (meaning_of T.told O.told E.told T.sure O.sure E.sure) W.held W.shown
         (running core.old bus.old tally.old watcher.old) (running core.new bus.new tally.new watcher.new) (frame budget outputs.now)) }
-    ensures err { OnErr result (FallsShortFrom T.told O.told E.told W.held W.shown
-        (running core.old bus.old tally.old watcher.old) (running core.new bus.new tally.new watcher.new) (frame budget outputs.now)) }
+    ensures err { IfErr result (λ stop. FallsShortFrom (meaning_of T.told O.told E.told T.sure O.sure E.sure)
+        (running core.old bus.old tally.old watcher.old) (running core.new bus.new tally.new watcher.new) stop (frame budget outputs.now)) }
     ensures grown { HasGrown tally.old tally.new 5 0 budget }
     ensures ledger { Ledger (bus_faults T.faults O.faults E.faults bus.old) (bus_faults T.faults O.faults E.faults bus.new) (blame_of result) }
-    ensures memory { IfErr result (λ stop. stop ≡ Stop.NoMemory → W.may_refuse) }
+    ensures memory { IfErr result (λ stop. stop ≡ Stop.NoMemory → W.may_refuse ⊎ HasRoot bus.old.devices.now) }
     ensures lent { SameLent bus.old bus.new }
-    ensures files { FilesStay (T.told bus.old.tree.now) (T.told bus.new.tree.now) }
+    ensures root { bus.new.devices.now.root ≡ bus.old.devices.now.root }
+    ensures files { FilesStay bus.old.devices.now.root (T.told bus.old.tree.now) (T.told bus.new.tree.now) }
     ensures begun { frames_begun bus.new ≤ frames_begun bus.old + 1 }
 {
     bus.frame_begins();

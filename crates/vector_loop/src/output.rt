@@ -3,9 +3,9 @@ ghost use Rattle.std.specs.Prelude.{◌≡◌, ◌*◌, ◌<◌, IfSome, length,
 ghost use Rattle.screen_layers.specs.Pictures.{picture_row_of};
 ghost use Rattle.audio_mixer.specs.Laws.{short_of};
 ghost use Rattle.uxn_io.specs.Outside.{ToFile};
-ghost use Rattle.varvara_bus.specs.Bus.{IsFileWhereTold, screen_of};
-ghost use Rattle.vector_loop.specs.Making.{Makes};
-ghost use Rattle.vector_loop.specs.Outputs.{appended_to, picture_bytes, samples_bytes};
+ghost use Rattle.varvara_bus.specs.Bus.{meaning_of, screen_of};
+ghost use Rattle.vector_loop.specs.Making.{MadeOrCut};
+ghost use Rattle.vector_loop.specs.Outputs.{IsOutput, appended_to, picture_bytes, samples_bytes};
 
 use screen_frame::{Palette, ppm_head};
 use uxn_io::{Path, Sink, Tree};
@@ -33,8 +33,9 @@ fn append_to<'a, T: Tree, O: Sink, E: Sink>(
     path: &Path,
     bytes: &[u8],
 ) -> Result<(), Stop>
-    requires there { IsFileWhereTold (T.told bus.old.tree.now) path.now }
-    ensures { Makes T.told O.told E.told T.faults O.faults E.faults bus.old bus.new (λ state. map (λ byte. ToFile path.now byte) bytes.now) result }
+    requires there { IsOutput bus.old.devices.now.root (T.told bus.old.tree.now) path.now }
+    ensures { MadeOrCut (meaning_of T.told O.told E.told T.sure O.sure E.sure) T.faults O.faults E.faults bus.old bus.new
+        (λ state. map (λ byte. ToFile path.now byte) bytes.now) result }
 {
     match bus.append(path, bytes) {
         Ok(()) => Ok(()),
@@ -50,9 +51,9 @@ fn append_row<'a, T: Tree, O: Sink, E: Sink>(
     y: u16,
     row: &mut [u8; 6141],
 ) -> Result<(), Stop>
-    requires there { IsFileWhereTold (T.told bus.old.tree.now) path.now }
+    requires there { IsOutput bus.old.devices.now.root (T.told bus.old.tree.now) path.now }
     requires row { y < (screen_of bus.old).height }
-    ensures { Makes T.told O.told E.told T.faults O.faults E.faults bus.old bus.new
+    ensures { MadeOrCut (meaning_of T.told O.told E.told T.sure O.sure E.sure) T.faults O.faults E.faults bus.old bus.new
         (λ state. map (λ byte. ToFile path.now byte) (picture_row_of palette.now.colours state.picture y)) result }
 {
     let count = bus.screen().picture_row(y, palette, row);
@@ -67,8 +68,8 @@ fn append_picture<'a, T: Tree, O: Sink, E: Sink>(
     bus: &mut Bus<'a, T, O, E>,
     path: &Path,
 ) -> Result<(), Stop>
-    requires there { IsFileWhereTold (T.told bus.old.tree.now) path.now }
-    ensures { Makes T.told O.told E.told T.faults O.faults E.faults bus.old bus.new
+    requires there { IsOutput bus.old.devices.now.root (T.told bus.old.tree.now) path.now }
+    ensures { MadeOrCut (meaning_of T.told O.told E.told T.sure O.sure E.sure) T.faults O.faults E.faults bus.old bus.new
         (λ state. map (λ byte. ToFile path.now byte) (picture_bytes state)) result }
 {
     let palette = bus.palette();
@@ -94,8 +95,9 @@ pub(crate) fn keep_picture<'a, T: Tree, O: Sink, E: Sink>(
     bus: &mut Bus<'a, T, O, E>,
     output: &Option<Path>,
 ) -> Result<(), Stop>
-    requires there { IfSome output.now (IsFileWhereTold (T.told bus.old.tree.now)) }
-    ensures { Makes T.told O.told E.told T.faults O.faults E.faults bus.old bus.new (λ state. appended_to output.now (picture_bytes state)) result }
+    requires there { IfSome output.now (IsOutput bus.old.devices.now.root (T.told bus.old.tree.now)) }
+    ensures { MadeOrCut (meaning_of T.told O.told E.told T.sure O.sure E.sure) T.faults O.faults E.faults bus.old bus.new
+        (λ state. appended_to output.now (picture_bytes state)) result }
 {
     match output {
         None => Ok(()),
@@ -124,8 +126,8 @@ pub(crate) fn keep_samples<'a, T: Tree, O: Sink, E: Sink>(
     output: &Option<Path>,
     samples: &[i16; 1470],
 ) -> Result<(), Stop>
-    requires there { IfSome output.now (IsFileWhereTold (T.told bus.old.tree.now)) }
-    ensures { Makes T.told O.told E.told T.faults O.faults E.faults bus.old bus.new
+    requires there { IfSome output.now (IsOutput bus.old.devices.now.root (T.told bus.old.tree.now)) }
+    ensures { MadeOrCut (meaning_of T.told O.told E.told T.sure O.sure E.sure) T.faults O.faults E.faults bus.old bus.new
         (λ state. appended_to output.now (samples_bytes (map short_of samples.now))) result }
 {
     match output {

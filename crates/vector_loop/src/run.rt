@@ -1,10 +1,10 @@
 //! Whole runs.
-ghost use Rattle.std.specs.Prelude.{◌≡◌, ◌+◌, ◌*◌, ◌^◌, ◌<◌, ◌≤◌, ◌++◌, [], ◌∷◌, length, OnOk, OnErr, IfOk, IfErr};
+ghost use Rattle.std.specs.Prelude.{◌≡◌, ◌+◌, ◌*◌, ◌^◌, ◌<◌, ◌≤◌, ◌++◌, [], ◌∷◌, ◌⊎◌, length, OnOk, IfOk, IfErr};
 ghost use Rattle.uxn_io.specs.Faults.{Ledger};
 ghost use Rattle.uxn_opcodes.specs.Ports.{blame_of};
 ghost use Rattle.play_script.specs.Held.{bytes_in};
 ghost use Rattle.varvara_bus.specs.State.{DeviceState, storing};
-ghost use Rattle.varvara_bus.specs.Bus.{SameLent, FilesStay, BusStandsFor, ChangesDevices, frames_begun, bus_faults};
+ghost use Rattle.varvara_bus.specs.Bus.{SameLent, FilesStay, HasRoot, BusStandsFor, ChangesDevices, meaning_of, frames_begun, bus_faults};
 ghost use Rattle.vector_loop.specs.State.{new_tally};
 ghost use Rattle.vector_loop.specs.Outputs.{OutputsThere};
 ghost use Rattle.vector_loop.specs.Event.{unless_over, give_each, console, give};
@@ -56,7 +56,7 @@ fn give_byte<'a, T: Tree, O: Sink, E: Sink, W: Watcher>(
 ) -> Result<(), Stop>
     requires budget { 1 ≤ budget }
     requires room { HasRoom (2 ^ 61) tally.old 1 0 budget }
-    ensures { Answers (telling_of T.told O.told E.told T.faults O.faults E.faults W.held W.shown W.may_refuse)
+    ensures { Answers (telling_of (meaning_of T.told O.told E.told T.sure O.sure E.sure) T.faults O.faults E.faults W.held W.shown W.may_refuse)
         (running core.old bus.old tally.old watcher.old) (running core.new bus.new tally.new watcher.new)
         (unless_over (console budget byte kind)) 1 0 budget result }
 {
@@ -81,7 +81,7 @@ fn give_argument<'a, T: Tree, O: Sink, E: Sink, W: Watcher>(
 ) -> Result<(), Stop>
     requires budget { 1 ≤ budget }
     requires room { HasRoom (2 ^ 61) tally.old (length text.now + 1) 0 budget }
-    ensures { Answers (telling_of T.told O.told E.told T.faults O.faults E.faults W.held W.shown W.may_refuse)
+    ensures { Answers (telling_of (meaning_of T.told O.told E.told T.sure O.sure E.sure) T.faults O.faults E.faults W.held W.shown W.may_refuse)
         (running core.old bus.old tally.old watcher.old) (running core.new bus.new tally.new watcher.new)
         (give_each (console_byte budget) (argument_bytes text.now ++ (10, kind) ∷ [])) (length text.now + 1) 0 budget result }
 {
@@ -115,7 +115,7 @@ fn give_arguments<'a, T: Tree, O: Sink, E: Sink, W: Watcher>(
 ) -> Result<(), Stop>
     requires budget { 1 ≤ budget }
     requires room { HasRoom (2 ^ 61) tally.old (length (arguments_given (bytes_in arguments.now))) 0 budget }
-    ensures { Answers (telling_of T.told O.told E.told T.faults O.faults E.faults W.held W.shown W.may_refuse)
+    ensures { Answers (telling_of (meaning_of T.told O.told E.told T.sure O.sure E.sure) T.faults O.faults E.faults W.held W.shown W.may_refuse)
         (running core.old bus.old tally.old watcher.old) (running core.new bus.new tally.new watcher.new)
         (give_each (console_byte budget) (arguments_given (bytes_in arguments.now))) (length (arguments_given (bytes_in arguments.now))) 0 budget result }
 {
@@ -141,11 +141,11 @@ fn give_event<'a, T: Tree, O: Sink, E: Sink, W: Watcher>(
     tally: &mut Tally,
     watcher: &mut W,
 ) -> Result<(), Stop>
-    requires outputs { OutputsThere outputs.now (T.told bus.old.tree.now) }
+    requires outputs { OutputsThere outputs.now bus.old.devices.now.root (T.told bus.old.tree.now) }
     requires frames { frames_begun bus.old < 1000000 }
     requires budget { 1 ≤ budget }
     requires room { HasRoom (2 ^ 61) tally.old 5 1 budget }
-    ensures { Answers (telling_of T.told O.told E.told T.faults O.faults E.faults W.held W.shown W.may_refuse)
+    ensures { Answers (telling_of (meaning_of T.told O.told E.told T.sure O.sure E.sure) T.faults O.faults E.faults W.held W.shown W.may_refuse)
         (running core.old bus.old tally.old watcher.old) (running core.new bus.new tally.new watcher.new)
         (unless_over (give budget outputs.now event.now)) 5 1 budget result }
 {
@@ -168,11 +168,11 @@ fn give_events<'a, T: Tree, O: Sink, E: Sink, W: Watcher>(
     tally: &mut Tally,
     watcher: &mut W,
 ) -> Result<(), Stop>
-    requires outputs { OutputsThere outputs.now (T.told bus.old.tree.now) }
+    requires outputs { OutputsThere outputs.now bus.old.devices.now.root (T.told bus.old.tree.now) }
     requires frames { frames_begun bus.old + length events.now ≤ 1000000 }
     requires budget { 1 ≤ budget }
     requires room { HasRoom (2 ^ 61) tally.old (length events.now * 5) (length events.now) budget }
-    ensures { Answers (telling_of T.told O.told E.told T.faults O.faults E.faults W.held W.shown W.may_refuse)
+    ensures { Answers (telling_of (meaning_of T.told O.told E.told T.sure O.sure E.sure) T.faults O.faults E.faults W.held W.shown W.may_refuse)
         (running core.old bus.old tally.old watcher.old) (running core.new bus.new tally.new watcher.new)
         (give_each (give budget outputs.now) events.now) (length events.now * 5) (length events.now) budget result }
 {
@@ -207,21 +207,21 @@ pub fn run_script<'a, T: Tree, O: Sink, E: Sink, W: Watcher>(
     budget: u32,
     watcher: &mut W,
 ) -> Result<Tally, Stop>
-    requires outputs { OutputsThere outputs.now (T.told bus.old.tree.now) }
+    requires outputs { OutputsThere outputs.now bus.old.devices.now.root (T.told bus.old.tree.now) }
     requires frames { frames_begun bus.old ≡ 0 }
     requires budget { 1 ≤ budget }
 
     // From each state that the bus stood for, all of the run was done, or a front of what it does.
-    ensures ok { IfOk result (λ tally. EndsFrom T.told O.told E.told W.held W.shown W.ended
+    ensures ok { IfOk result (λ tally. EndsFrom (meaning_of T.told O.told E.told T.sure O.sure E.sure) W.held W.shown W.ended
         (running core.old bus.old new_tally watcher.old) (running core.new bus.new tally watcher.new) (run budget outputs.now script.now)) }
-    ensures err { OnErr result (FallsShortFrom T.told O.told E.told W.held W.shown
-        (running core.old bus.old new_tally watcher.old) (running core.new bus.new new_tally watcher.new) (run budget outputs.now script.now)) }
+    ensures err { IfErr result (λ stop. FallsShortFrom (meaning_of T.told O.told E.told T.sure O.sure E.sure)
+        (running core.old bus.old new_tally watcher.old) (running core.new bus.new new_tally watcher.new) stop (run budget outputs.now script.now)) }
 
-    // A fault comes only where its count rose; memory is wanting only to the watcher.
+    // A fault comes only where its count rose; memory is wanting only to the watcher or where there is a root.
     ensures ledger { Ledger (bus_faults T.faults O.faults E.faults bus.old) (bus_faults T.faults O.faults E.faults bus.new) (blame_of result) }
-    ensures memory { IfErr result (λ stop. stop ≡ Stop.NoMemory → W.may_refuse) }
+    ensures memory { IfErr result (λ stop. stop ≡ Stop.NoMemory → W.may_refuse ⊎ HasRoot bus.old.devices.now) }
     ensures lent { SameLent bus.old bus.new }
-    ensures files { OnOk result (FilesStay (T.told bus.old.tree.now) (T.told bus.new.tree.now)) }
+    ensures files { OnOk result (FilesStay bus.old.devices.now.root (T.told bus.old.tree.now) (T.told bus.new.tree.now)) }
 {
     script.known();
     let mut tally = Tally {

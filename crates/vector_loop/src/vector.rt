@@ -1,9 +1,9 @@
 //! The run of a vector.
-ghost use Rattle.std.specs.Prelude.{◌≡◌, ◌≢◌, ◌+◌, ◌*◌, ◌^◌, ◌<◌, ◌≤◌, ◌-◌, true, false, Ok, None, IfOk, OnOk, OnErr, IfErr, IfSome};
+ghost use Rattle.std.specs.Prelude.{◌≡◌, ◌≢◌, ◌+◌, ◌*◌, ◌^◌, ◌<◌, ◌≤◌, ◌-◌, ◌⊎◌, true, false, Ok, None, IfOk, OnOk, IfErr, IfSome};
 ghost use Rattle.uxn_io.specs.Faults.{Ledger};
 ghost use Rattle.uxn_opcodes.specs.Ports.{blame_of};
 ghost use Rattle.varvara_bus.specs.State.{DeviceState};
-ghost use Rattle.varvara_bus.specs.Bus.{BusStandsFor, SameBus, bus_faults};
+ghost use Rattle.varvara_bus.specs.Bus.{BusStandsFor, SameBus, HasRoot, meaning_of, bus_faults};
 ghost use Rattle.vector_loop.specs.Vector.{instructions, breaks, vector, vector_end};
 ghost use Rattle.vector_loop.specs.Follows.{running, state_of, FollowsFrom, FallsShortFrom, HasGrown};
 
@@ -30,22 +30,22 @@ fn run_instructions<'a, T: Tree, O: Sink, E: Sink, W: Watcher>(
     ensures within { IfOk result (λ broke. IfSome broke (λ left. left ≤ budget)) }
     ensures some { IfOk result (λ broke. IfSome broke (λ left. 1 ≤ left)) }
     ensures broke { IfOk result (λ broke. IfSome broke (λ left. (before : Tally) → before.instructions ≡ start
-        → FollowsFrom T.told O.told E.told W.held W.shown (running core.old bus.old before watcher.old)
+        → FollowsFrom (meaning_of T.told O.told E.told T.sure O.sure E.sure) W.held W.shown (running core.old bus.old before watcher.old)
         (running core.new bus.new (record before { instructions = start + (budget - left) + 1 }) watcher.new) (instructions budget))) }
     ensures broke_end { IfOk result (λ broke. IfSome broke (λ left. (before : Tally) → before.instructions ≡ start
         → (devices : DeviceState) → BusStandsFor T.told bus.old devices
         → breaks budget (state_of (running core.old bus.old before watcher.old) devices) ≡ true)) }
     ensures cut { result ≡ Ok None → (before : Tally) → before.instructions ≡ start
-        → FollowsFrom T.told O.told E.told W.held W.shown (running core.old bus.old before watcher.old)
+        → FollowsFrom (meaning_of T.told O.told E.told T.sure O.sure E.sure) W.held W.shown (running core.old bus.old before watcher.old)
         (running core.new bus.new (record before { instructions = start + budget; cuts = before.cuts + 1 }) watcher.new) (instructions budget) }
     ensures cut_end { result ≡ Ok None → (before : Tally) → before.instructions ≡ start
         → (devices : DeviceState) → BusStandsFor T.told bus.old devices
         → breaks budget (state_of (running core.old bus.old before watcher.old) devices) ≡ false }
-    ensures err { OnErr result ((before : Tally) → before.instructions ≡ start
-        → FallsShortFrom T.told O.told E.told W.held W.shown (running core.old bus.old before watcher.old)
-        (running core.new bus.new before watcher.new) (instructions budget)) }
+    ensures err { IfErr result (λ stop. (before : Tally) → before.instructions ≡ start
+        → FallsShortFrom (meaning_of T.told O.told E.told T.sure O.sure E.sure) (running core.old bus.old before watcher.old)
+        (running core.new bus.new before watcher.new) stop (instructions budget)) }
     ensures ledger { Ledger (bus_faults T.faults O.faults E.faults bus.old) (bus_faults T.faults O.faults E.faults bus.new) (blame_of result) }
-    ensures memory { IfErr result (λ stop. stop ≡ Stop.NoMemory → W.may_refuse) }
+    ensures memory { IfErr result (λ stop. stop ≡ Stop.NoMemory → W.may_refuse ⊎ HasRoot bus.old.devices.now) }
     ensures same { SameBus T.told bus.old bus.new }
 {
     let mut left = budget;
@@ -84,17 +84,17 @@ pub fn run_vector<'a, T: Tree, O: Sink, E: Sink, W: Watcher>(
     requires cuts { tally.old.cuts ≤ 2 ^ 62 }
 
     // From each state that the bus stood for, all of the vector was done, or a front of what it does.
-    ensures ok { OnOk result (FollowsFrom T.told O.told E.told W.held W.shown
+    ensures ok { OnOk result (FollowsFrom (meaning_of T.told O.told E.told T.sure O.sure E.sure) W.held W.shown
         (running core.old bus.old tally.old watcher.old) (running core.new bus.new tally.new watcher.new) (vector budget at)) }
     ensures end { IfOk result (λ end. (devices : DeviceState) → BusStandsFor T.told bus.old devices
         → end ≡ vector_end budget at (state_of (running core.old bus.old tally.old watcher.old) devices)) }
-    ensures err { OnErr result (FallsShortFrom T.told O.told E.told W.held W.shown
-        (running core.old bus.old tally.old watcher.old) (running core.new bus.new tally.new watcher.new) (vector budget at)) }
+    ensures err { IfErr result (λ stop. FallsShortFrom (meaning_of T.told O.told E.told T.sure O.sure E.sure)
+        (running core.old bus.old tally.old watcher.old) (running core.new bus.new tally.new watcher.new) stop (vector budget at)) }
     ensures grown { HasGrown tally.old tally.new 1 0 budget }
 
-    // Memory is wanting only to the watcher, and a fault comes only where its count rose.
+    // Memory is wanting only to the watcher or where there is a root, and a fault comes only where its count rose.
     ensures ledger { Ledger (bus_faults T.faults O.faults E.faults bus.old) (bus_faults T.faults O.faults E.faults bus.new) (blame_of result) }
-    ensures memory { IfErr result (λ stop. stop ≡ Stop.NoMemory → W.may_refuse) }
+    ensures memory { IfErr result (λ stop. stop ≡ Stop.NoMemory → W.may_refuse ⊎ HasRoot bus.old.devices.now) }
     ensures same { SameBus T.told bus.old bus.new }
 {
     core.at = at;

@@ -5,7 +5,7 @@ use Rattle.vector_loop.proofs.Events.{files-kept}
 use Rattle.vector_loop.proofs.frame.give_samples.Goals as goal
 
 pub keep_samples-requires : goal.keep_samples-requires
-keep_samples-requires g c = record { there = (outputs-still c.args.outputs.now _ _ c.requires.outputs (files-kept g.T.Tree.told _ _ c.audio_frame-ended.ensures.others)).samples }
+keep_samples-requires g c = record { there = (outputs-still c.args.outputs.now _ _ _ _ c.requires.outputs c.audio_frame-ended.ensures.others.root (files-kept g.T.Tree.told _ _ c.audio_frame-ended.ensures.others)).samples }
 
 pub returns-in-Err : goal.returns-in-Err
 returns-in-Err g c =

@@ -20,6 +20,7 @@ returns-in-Ok g c =
       grown = c.in-Ok.ensures.grown;
       faults = c.in-Ok.ensures.ledger;
       lent = c.in-Ok.ensures.same.lent;
+      root = c.in-Ok.ensures.same.root;
       files = c.in-Ok.ensures.same.files;
       frames = omega (arith, c.in-Ok.ensures.same.frames);
     }))
@@ -33,6 +34,7 @@ returns-in-Err g c =
       memory = c.in-Err.ensures.memory;
       grown = c.in-Err.ensures.grown;
       lent = c.in-Err.ensures.same.lent;
+      root = c.in-Err.ensures.same.root;
       files = c.in-Err.ensures.same.files;
       frames = omega (arith, c.in-Err.ensures.same.frames);
     }))

@@ -11,6 +11,7 @@ returns-in-Err g c = shown-stopped _ _ _ c.args.budget c.args.outputs.now _ (rec
   memory = c.in-Err.ensures.memory;
   grown = c.in-Err.ensures.grown;
   lent = c.in-Err.ensures.same.lent;
+  root = c.in-Err.ensures.same.root;
   files = c.in-Err.ensures.same.files;
   frames = omega (arith, c.in-Err.ensures.same.frames);
 })
@@ -22,13 +23,14 @@ returns-then-stored-ne0 g c =
       grown = c.in-Ok.ensures.grown;
       faults = c.in-Ok.ensures.ledger;
       lent = c.in-Ok.ensures.same.lent;
+      root = c.in-Ok.ensures.same.root;
       files = c.in-Ok.ensures.same.files;
       frames = omega (arith, c.in-Ok.ensures.same.frames);
     })
     (done-over _ _ (heard c.args.budget c.args.outputs.now) c.stored.result 4 0 c.args.budget c.stored.ensures.stored c.if-stored-ne0.true)
 
 pub give_samples-requires-clause-outputs : goal.give_samples-requires-clause-outputs
-give_samples-requires-clause-outputs g c = outputs-still _ _ _ c.requires.outputs c.in-Ok.ensures.same.files
+give_samples-requires-clause-outputs g c = outputs-still _ _ _ _ _ c.requires.outputs c.in-Ok.ensures.same.root c.in-Ok.ensures.same.files
 
 pub give_samples-requires-clause-room : goal.give_samples-requires-clause-room
 give_samples-requires-clause-room g c = room-left _ _ _ 1 0 4 0 c.args.budget c.requires.room c.in-Ok.ensures.grown
@@ -40,6 +42,7 @@ returns-in-Ok-give_samples g c =
       grown = c.in-Ok.ensures.grown;
       faults = c.in-Ok.ensures.ledger;
       lent = c.in-Ok.ensures.same.lent;
+      root = c.in-Ok.ensures.same.root;
       files = c.in-Ok.ensures.same.files;
       frames = omega (arith, c.in-Ok.ensures.same.frames);
     })
@@ -52,6 +55,7 @@ returns-in-Err-give_samples g c =
       grown = c.in-Ok.ensures.grown;
       faults = c.in-Ok.ensures.ledger;
       lent = c.in-Ok.ensures.same.lent;
+      root = c.in-Ok.ensures.same.root;
       files = c.in-Ok.ensures.same.files;
       frames = omega (arith, c.in-Ok.ensures.same.frames);
     })

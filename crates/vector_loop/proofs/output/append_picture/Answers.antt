@@ -7,24 +7,27 @@ use Rattle.vector_loop.proofs.output.append_picture.Goals as goal
 
 pub returns-in-Err : goal.returns-in-Err
 returns-in-Err g c =
-    putting-cut _ _ _ _ _ _ _ _ _ c.args.path.now picture_bytes picture_bytes (λ s. c.as_slice.result.now)
+    putting-cut _ _ _ _ _ _ _ c.args.path.now picture_bytes picture_bytes (λ s. c.as_slice.result.now)
     (λ s. flat_map (picture_row_of c.palette-palette.result.colours s.picture) (range_with_len 0 (c.height-height.result - 0))) _
     (λ s stands. picture-parts s c.width-width.result c.height-height.result c.palette-palette.result.colours _ (c.width-width.ensures ∙ (c.screen.ensures.screen s stands).width)
     (c.height-height.ensures ∙ (c.screen-2.ensures.screen s stands).height) (c.palette-palette.ensures s stands) (c.as_slice.ensures.value ∙ c.ppm_head-head.ensures))
-    (putting-start _ _ _ _ _ _ _ c.args.path.now picture_bytes) c.in-Err.ensures
+    (putting-start _ _ _ _ _ c.args.path.now picture_bytes) c.in-Err.ensures
 
 pub loop-y-init : goal.loop-y-init
 loop-y-init g c = record {
   putting =
-      putting-more _ _ _ _ _ _ _ _ _ c.args.path.now picture_bytes picture_bytes (λ s. c.as_slice.result.now)
+      putting-more _ _ _ _ _ _ _ c.args.path.now picture_bytes picture_bytes (λ s. c.as_slice.result.now)
       (λ s. flat_map (picture_row_of c.palette-palette.result.colours s.picture) (range_with_len 0 (c.height-height.result - 0)))
       (λ s stands. picture-parts s c.width-width.result c.height-height.result c.palette-palette.result.colours _ (c.width-width.ensures ∙ (c.screen.ensures.screen s stands).width)
       (c.height-height.ensures ∙ (c.screen-2.ensures.screen s stands).height) (c.palette-palette.ensures s stands) (c.as_slice.ensures.value ∙ c.ppm_head-head.ensures))
-      (putting-start _ _ _ _ _ _ _ c.args.path.now picture_bytes) c.in-Ok.ensures;
+      (putting-start _ _ _ _ _ c.args.path.now picture_bytes) c.in-Ok.ensures;
 }
 
 pub append_row-requires-clause-there : goal.append_row-requires-clause-there
-append_row-requires-clause-there g c = c.loop-y.invariant.putting.made.same.files.stays c.args.path.now c.requires.there
+append_row-requires-clause-there g c = record {
+  file = c.loop-y.invariant.putting.made.same.files.stays c.args.path.now c.requires.there.outside c.requires.there.file;
+  outside = rw c.loop-y.invariant.putting.made.same.root c.requires.there.outside;
+}
 
 pub append_row-requires-clause-row : goal.append_row-requires-clause-row
 append_row-requires-clause-row g c =
@@ -33,7 +36,7 @@ append_row-requires-clause-row g c =
 pub loop-y-preserved : goal.loop-y-preserved
 loop-y-preserved g c = record {
   putting =
-      putting-more _ _ _ _ _ _ _ _ _ c.args.path.now picture_bytes _ (λ s. picture_row_of c.palette-palette.result.colours s.picture c.loop-y.y)
+      putting-more _ _ _ _ _ _ _ c.args.path.now picture_bytes _ (λ s. picture_row_of c.palette-palette.result.colours s.picture c.loop-y.y)
       (λ s. flat_map (picture_row_of c.palette-palette.result.colours s.picture) (range_with_len (c.loop-y.y + 1) (c.height-height.result - (c.loop-y.y + 1))))
       (λ s stands. rows-next (picture_row_of c.palette-palette.result.colours s.picture) c.loop-y.y c.height-height.result c.loop-y-test.true)
       c.loop-y.invariant.putting c.in-Ok-append_row.ensures;
@@ -41,13 +44,13 @@ loop-y-preserved g c = record {
 
 pub returns-in-Err-append_row : goal.returns-in-Err-append_row
 returns-in-Err-append_row g c =
-    putting-cut _ _ _ _ _ _ _ _ _ c.args.path.now picture_bytes _ (λ s. picture_row_of c.palette-palette.result.colours s.picture c.loop-y.y)
+    putting-cut _ _ _ _ _ _ _ c.args.path.now picture_bytes _ (λ s. picture_row_of c.palette-palette.result.colours s.picture c.loop-y.y)
     (λ s. flat_map (picture_row_of c.palette-palette.result.colours s.picture) (range_with_len (c.loop-y.y + 1) (c.height-height.result - (c.loop-y.y + 1)))) _
     (λ s stands. rows-next (picture_row_of c.palette-palette.result.colours s.picture) c.loop-y.y c.height-height.result c.loop-y-test.true)
     c.loop-y.invariant.putting c.in-Err-append_row.ensures
 
 pub returns : goal.returns
 returns g c =
-    putting-end _ _ _ _ _ _ _ _ c.args.path.now picture_bytes _
+    putting-end _ _ _ _ _ _ c.args.path.now picture_bytes _
     (λ s stands. rows-end (picture_row_of c.palette-palette.result.colours s.picture) c.loop-y.y c.height-height.result c.loop-y-test.false)
     c.loop-y.invariant.putting

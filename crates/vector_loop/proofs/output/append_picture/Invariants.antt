@@ -2,11 +2,12 @@ use Rattle.std.proofs.Common.{◌-◌}
 use Rattle.std.specs.List.{flat_map, range_with_len}
 use Rattle.screen_layers.specs.Pictures.{picture_row_of}
 use Rattle.vector_loop.specs.Outputs.{picture_bytes}
+use Rattle.varvara_bus.specs.Bus.{meaning_of}
 use Rattle.vector_loop.proofs.Makings.{Putting}
 use Rattle.vector_loop.proofs.output.append_picture.Given as goal
 
 abbrev pub invariant-loop-y : goal.invariant-loop-y
 invariant-loop-y g l = record {
-  putting : Putting g.T.Tree.told g.O.Sink.told g.E.Sink.told g.T.Tree.faults g.O.Sink.faults g.E.Sink.faults l.fn.bus l.bus l.path picture_bytes
+  putting : Putting (meaning_of g.T.Tree.told g.O.Sink.told g.E.Sink.told g.T.Tree.sure g.O.Sink.sure g.E.Sink.sure) g.T.Tree.faults g.O.Sink.faults g.E.Sink.faults l.fn.bus l.bus l.path picture_bytes
       (λ s. flat_map (picture_row_of l.palette.colours s.picture) (range_with_len l.y (l.height - l.y)));
 }

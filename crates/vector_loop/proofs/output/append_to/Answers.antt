@@ -4,7 +4,7 @@ use Rattle.vector_loop.proofs.output.append_to.Goals as goal
 
 pub returns-in-Ok : goal.returns-in-Ok
 returns-in-Ok g c = record {
-  world = λ s stands. c.in-Ok.ensures.ok;
+  makes = λ s stands. c.in-Ok.ensures.ok;
   stands = c.in-Ok.ensures.stands;
   devices = c.in-Ok.ensures.devices;
   faults = c.in-Ok.ensures.ledger;
@@ -13,7 +13,7 @@ returns-in-Ok g c = record {
 
 pub returns-in-Err : goal.returns-in-Err
 returns-in-Err g c = record {
-  cut = λ s stands. c.in-Err.ensures.cut;
+  cut = λ s stands. rw (same-stop _ _ _ refl c.in-Err.ensures.err) c.in-Err.ensures.cut;
   ledger = c.in-Err.ensures.ledger;
   fault = same-stop _ _ _ refl c.in-Err.ensures.err;
   same = c.in-Err.ensures.same;

@@ -1,4 +1,5 @@
 use Rattle.std.proofs.Common.{[], ◌∷◌, ◌++◌, drop}
+use Rattle.varvara_bus.specs.Bus.{meaning_of}
 use Rattle.vector_loop.specs.Event.{give_each}
 use Rattle.vector_loop.specs.Run.{console_byte, argument_bytes}
 use Rattle.vector_loop.specs.Answers.{telling_of}
@@ -8,7 +9,7 @@ use Rattle.vector_loop.proofs.run.give_argument.Given as goal
 
 abbrev pub invariant-loop-byte : goal.invariant-loop-byte
 invariant-loop-byte g l = record {
-  going : Going (telling_of g.T.Tree.told g.O.Sink.told g.E.Sink.told g.T.Tree.faults g.O.Sink.faults g.E.Sink.faults g.W.Watcher.held g.W.Watcher.shown g.W.Watcher.may_refuse)
+  going : Going (telling_of (meaning_of g.T.Tree.told g.O.Sink.told g.E.Sink.told g.T.Tree.sure g.O.Sink.sure g.E.Sink.sure) g.T.Tree.faults g.O.Sink.faults g.E.Sink.faults g.W.Watcher.held g.W.Watcher.shown g.W.Watcher.may_refuse)
       (running l.fn.core l.fn.bus l.fn.tally l.fn.watcher) (running l.core l.bus l.tally l.watcher)
       (give_each (console_byte l.budget) (argument_bytes l.text ++ (10, l.kind) ∷ []))
       (give_each (console_byte l.budget) (drop l.byte-index (argument_bytes l.text ++ (10, l.kind) ∷ []))) l.byte-index 0 l.budget;

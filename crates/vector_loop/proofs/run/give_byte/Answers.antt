@@ -12,6 +12,7 @@ returns-in-Ok g c = done-not_over _ _ _ (console c.args.budget c.args.byte c.arg
   grown = c.in-Ok.ensures.grown;
   faults = c.in-Ok.ensures.ledger;
   lent = c.in-Ok.ensures.same.lent;
+  root = c.in-Ok.ensures.same.root;
   files = c.in-Ok.ensures.same.files;
   frames = omega (arith, c.in-Ok.ensures.same.frames);
 })
@@ -23,6 +24,7 @@ returns-in-Err g c = stopped-not_over _ _ _ (console c.args.budget c.args.byte c
   memory = c.in-Err.ensures.memory;
   grown = c.in-Err.ensures.grown;
   lent = c.in-Err.ensures.same.lent;
+  root = c.in-Err.ensures.same.root;
   files = c.in-Err.ensures.same.files;
   frames = omega (arith, c.in-Err.ensures.same.frames);
 })

@@ -11,6 +11,7 @@ returns-in-Ok g c = done-not_over _ _ _ (give c.args.budget c.args.outputs.now c
   grown = c.in-Ok.ensures.grown;
   faults = c.in-Ok.ensures.ledger;
   lent = c.in-Ok.ensures.lent;
+  root = c.in-Ok.ensures.root;
   files = c.in-Ok.ensures.files;
   frames = c.in-Ok.ensures.begun;
 })
@@ -22,6 +23,7 @@ returns-in-Err g c = stopped-not_over _ _ _ (give c.args.budget c.args.outputs.n
   memory = c.in-Err.ensures.memory;
   grown = c.in-Err.ensures.grown;
   lent = c.in-Err.ensures.lent;
+  root = c.in-Err.ensures.root;
   files = c.in-Err.ensures.files;
   frames = c.in-Err.ensures.begun;
 })

@@ -7,7 +7,7 @@ pub loop-event-init : goal.loop-event-init
 loop-event-init g c = record { going = going-start _ _ _ c.args.budget }
 
 pub give_event-requires-clause-outputs : goal.give_event-requires-clause-outputs
-give_event-requires-clause-outputs g c = outputs-still _ _ _ c.requires.outputs c.loop-event.invariant.going.done.files
+give_event-requires-clause-outputs g c = outputs-still _ _ _ _ _ c.requires.outputs c.loop-event.invariant.going.done.root c.loop-event.invariant.going.done.files
 
 pub give_event-requires-clause-frames : goal.give_event-requires-clause-frames
 give_event-requires-clause-frames g c = omega (arith, c.loop-event.invariant.going.done.frames, c.requires.frames, c.loop-event-test.true)

@@ -1,4 +1,4 @@
-use Rattle.std.proofs.Common.{◌≡◌, suc, ◌+◌, ◌-◌, refl, ◌∙◌, arith}
+use Rattle.std.proofs.Common.{◌≡◌, suc, ◌+◌, ◌-◌, refl, ◌∙◌, inr, arith}
 use Rattle.varvara_bus.specs.InstructionLaws.{same-itself, same-again, instruction-lent, instruction-fault}
 use Rattle.vector_loop.proofs.Along.{not-break, is-break, stop-no-break}
 use Rattle.vector_loop.proofs.Vectors.{along-left, along-counted, along-start, along-ran, broke-follows, broke-ends, cut-follows, cut-ends, stop-short, refused-short}
@@ -6,8 +6,8 @@ use Rattle.vector_loop.proofs.vector.run_instructions.Goals as goal
 
 pub loop-core-init : goal.loop-core-init
 loop-core-init g c = record {
-  along = λ before started. along-counted _ _ _ _ _ _ _ _ before _ _ _ before.instructions _ (omega (arith, started))
-      (along-start _ _ _ _ _ _ c.args.budget);
+  along = λ before started. along-counted _ _ _ _ _ _ before _ _ _ before.instructions _ (omega (arith, started))
+      (along-start _ _ _ _ c.args.budget);
   same = same-itself _ c.args.bus.now;
   faults = refl;
   some = c.requires.budget;
@@ -19,62 +19,63 @@ loop-core-preserved g c =
     let one : c.loop-core.left ≡ suc (c.loop-core.left - 1) = omega (arith, c.loop-core.invariant.some) in
     let ran = rw c.in-Ok-Ran.field-0-is at c.in-Ok-Ran.ensures.instruction in
     record {
-      along = λ before started. along-counted _ _ _ _ _ _ _ _ before _ _ _ (c.args.start + (c.args.budget - c.loop-core.left) + 1) _
+      along = λ before started. along-counted _ _ _ _ _ _ before _ _ _ (c.args.start + (c.args.budget - c.loop-core.left) + 1) _
           (omega (arith, c.loop-core.invariant.some, c.loop-core.invariant.within))
-          (along-ran _ _ _ _ _ _ _ _ _ _ _ _ (along-left _ _ _ _ _ _ _ _ _ _ one (c.loop-core.invariant.along before started)) c.in-Ok.ensures.ok ran (not-break _ _ _ _ _ _ _ ran));
-      same = same-again _ _ _ _ c.loop-core.invariant.same (instruction-lent _ _ _ _ _ _ _ _ ran);
+          (along-ran _ _ _ _ _ _ _ _ _ _ (along-left _ _ _ _ _ _ _ _ one (c.loop-core.invariant.along before started)) c.in-Ok.ensures.ok ran (not-break _ _ _ _ _ ran));
+      same = same-again _ _ _ _ c.loop-core.invariant.same (instruction-lent _ _ _ _ _ _ ran);
       faults = c.in-Ok-Ran.ensures.ledger ∙ c.loop-core.invariant.faults;
       some = omega (arith, c.loop-core.invariant.some, c.if-left-eq0.false);
       within = omega (arith, c.loop-core.invariant.within);
     }
 
 pub returns-in_default-clause-err : goal.returns-in_default-clause-err
-returns-in_default-clause-err g c before started = refused-short _ _ _ _ _ _ _ _ _ _ _ (c.loop-core.invariant.along before started)
+returns-in_default-clause-err g c before started = refused-short _ _ _ _ _ _ _ _ _ (c.loop-core.invariant.along before started)
 
 pub returns-in-Ok-Broke-clause-broke : goal.returns-in-Ok-Broke-clause-broke
 returns-in-Ok-Broke-clause-broke g c before started =
     let one : c.loop-core.left ≡ suc (c.loop-core.left - 1) = omega (arith, c.loop-core.invariant.some) in
     let ran = rw c.in-Ok-Broke.field-0-is at c.in-Ok-Broke.ensures.instruction in
-    broke-follows _ _ _ _ _ _ _ _ _ _ _ _ (along-left _ _ _ _ _ _ _ _ _ _ one (c.loop-core.invariant.along before started)) c.in-Ok.ensures.ok ran (is-break _ _ _ _ _ _ _ ran)
+    broke-follows _ _ _ _ _ _ _ _ _ _ (along-left _ _ _ _ _ _ _ _ one (c.loop-core.invariant.along before started)) c.in-Ok.ensures.ok ran (is-break _ _ _ _ _ ran)
 
 pub returns-in-Ok-Broke-clause-broke_end : goal.returns-in-Ok-Broke-clause-broke_end
 returns-in-Ok-Broke-clause-broke_end g c before started =
     let one : c.loop-core.left ≡ suc (c.loop-core.left - 1) = omega (arith, c.loop-core.invariant.some) in
     let ran = rw c.in-Ok-Broke.field-0-is at c.in-Ok-Broke.ensures.instruction in
-    broke-ends _ _ _ _ _ _ _ _ _ (along-left _ _ _ _ _ _ _ _ _ _ one (c.loop-core.invariant.along before started)) (is-break _ _ _ _ _ _ _ ran)
+    broke-ends _ _ _ _ _ _ _ (along-left _ _ _ _ _ _ _ _ one (c.loop-core.invariant.along before started)) (is-break _ _ _ _ _ ran)
 
 pub returns-in-Ok-Broke-clause-same : goal.returns-in-Ok-Broke-clause-same
 returns-in-Ok-Broke-clause-same g c =
     let ran = rw c.in-Ok-Broke.field-0-is at c.in-Ok-Broke.ensures.instruction in
-    same-again _ _ _ _ c.loop-core.invariant.same (instruction-lent _ _ _ _ _ _ _ _ ran)
+    same-again _ _ _ _ c.loop-core.invariant.same (instruction-lent _ _ _ _ _ _ ran)
 
 pub returns-in-Err-clause-err : goal.returns-in-Err-clause-err
 returns-in-Err-clause-err g c before started =
     let one : c.loop-core.left ≡ suc (c.loop-core.left - 1) = omega (arith, c.loop-core.invariant.some) in
-    stop-short _ _ _ _ _ _ _ _ _ _ _ _ _ _ (along-left _ _ _ _ _ _ _ _ _ _ one (c.loop-core.invariant.along before started)) c.in-Err.ensures.instruction (stop-no-break _ _ _ _ _ _ _ _ c.in-Err.ensures.instruction)
+    stop-short _ _ _ _ _ _ _ _ _ _ _ _ (along-left _ _ _ _ _ _ _ _ one (c.loop-core.invariant.along before started)) c.in-Err.ensures.instruction (stop-no-break _ _ _ _ _ _ c.in-Err.ensures.instruction)
 
 pub returns-in-Err-clause-memory : goal.returns-in-Err-clause-memory
-returns-in-Err-clause-memory g c wanted = absurd (instruction-fault _ _ _ _ _ _ _ _ c.in-Err.ensures.instruction wanted)
+returns-in-Err-clause-memory g c wanted =
+    inr (rw c.loop-core.invariant.same.root at (instruction-fault _ _ _ _ _ _ c.in-Err.ensures.instruction wanted))
 
 pub returns-in-Err-clause-same : goal.returns-in-Err-clause-same
-returns-in-Err-clause-same g c = same-again _ _ _ _ c.loop-core.invariant.same (instruction-lent _ _ _ _ _ _ _ _ c.in-Err.ensures.instruction)
+returns-in-Err-clause-same g c = same-again _ _ _ _ c.loop-core.invariant.same (instruction-lent _ _ _ _ _ _ c.in-Err.ensures.instruction)
 
 pub returns-then-left-eq0-clause-cut : goal.returns-then-left-eq0-clause-cut
 returns-then-left-eq0-clause-cut g c none before started =
     let last : c.loop-core.left ≡ 1 = omega (arith, c.loop-core.invariant.some, c.if-left-eq0.true) in
     let ran = rw c.in-Ok-Ran.field-0-is at c.in-Ok-Ran.ensures.instruction in
-    cut-follows _ _ _ _ _ _ _ _ (along-counted _ _ _ _ _ _ _ _ before _ _ _ (c.args.start + (c.args.budget - c.loop-core.left) + 1) (c.args.start + c.args.budget)
+    cut-follows _ _ _ _ _ _ (along-counted _ _ _ _ _ _ before _ _ _ (c.args.start + (c.args.budget - c.loop-core.left) + 1) (c.args.start + c.args.budget)
     (omega (arith, c.loop-core.invariant.within, last))
-    (along-ran _ _ _ _ _ _ _ _ _ _ _ _ (along-left _ _ _ _ _ _ _ _ _ _ last (c.loop-core.invariant.along before started)) c.in-Ok.ensures.ok ran (not-break _ _ _ _ _ _ _ ran)))
+    (along-ran _ _ _ _ _ _ _ _ _ _ (along-left _ _ _ _ _ _ _ _ last (c.loop-core.invariant.along before started)) c.in-Ok.ensures.ok ran (not-break _ _ _ _ _ ran)))
 
 pub returns-then-left-eq0-clause-cut_end : goal.returns-then-left-eq0-clause-cut_end
 returns-then-left-eq0-clause-cut_end g c none before started =
     let last : c.loop-core.left ≡ 1 = omega (arith, c.loop-core.invariant.some, c.if-left-eq0.true) in
     let ran = rw c.in-Ok-Ran.field-0-is at c.in-Ok-Ran.ensures.instruction in
-    cut-ends _ _ _ _ _ _ _ _
-    (along-ran _ _ _ _ _ _ _ _ _ _ _ _ (along-left _ _ _ _ _ _ _ _ _ _ last (c.loop-core.invariant.along before started)) c.in-Ok.ensures.ok ran (not-break _ _ _ _ _ _ _ ran))
+    cut-ends _ _ _ _ _ _
+    (along-ran _ _ _ _ _ _ _ _ _ _ (along-left _ _ _ _ _ _ _ _ last (c.loop-core.invariant.along before started)) c.in-Ok.ensures.ok ran (not-break _ _ _ _ _ ran))
 
 pub returns-then-left-eq0-clause-same : goal.returns-then-left-eq0-clause-same
 returns-then-left-eq0-clause-same g c =
     let ran = rw c.in-Ok-Ran.field-0-is at c.in-Ok-Ran.ensures.instruction in
-    same-again _ _ _ _ c.loop-core.invariant.same (instruction-lent _ _ _ _ _ _ _ _ ran)
+    same-again _ _ _ _ c.loop-core.invariant.same (instruction-lent _ _ _ _ _ _ ran)

@@ -1,5 +1,5 @@
 use Rattle.std.proofs.Common.{◌≡◌, ◌+◌, ◌-◌, ◌≤◌}
-use Rattle.varvara_bus.specs.Bus.{SameBus, bus_faults}
+use Rattle.varvara_bus.specs.Bus.{SameBus, meaning_of, bus_faults}
 use Rattle.vector_loop.specs.declared.tally.Tally.{Tally}
 use Rattle.vector_loop.specs.Follows.{running}
 use Rattle.vector_loop.proofs.Vectors.{Along}
@@ -8,7 +8,7 @@ use Rattle.vector_loop.proofs.vector.run_instructions.Given as goal
 abbrev pub invariant-loop-core : goal.invariant-loop-core
 invariant-loop-core g l = record {
   along : (before : Tally) → before.instructions ≡ l.start
-      → Along g.T.Tree.told g.O.Sink.told g.E.Sink.told g.W.Watcher.held g.W.Watcher.shown (running l.fn.core l.fn.bus before l.fn.watcher)
+      → Along (meaning_of g.T.Tree.told g.O.Sink.told g.E.Sink.told g.T.Tree.sure g.O.Sink.sure g.E.Sink.sure) g.W.Watcher.held g.W.Watcher.shown (running l.fn.core l.fn.bus before l.fn.watcher)
       (running l.core l.bus (record before { instructions = l.start + (l.budget - l.left) }) l.watcher) l.budget l.left;
   same : SameBus g.T.Tree.told l.fn.bus l.bus;
   faults : bus_faults g.T.Tree.faults g.O.Sink.faults g.E.Sink.faults l.bus ≡ bus_faults g.T.Tree.faults g.O.Sink.faults g.E.Sink.faults l.fn.bus;
