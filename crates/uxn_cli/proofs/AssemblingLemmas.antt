@@ -1,4 +1,4 @@
-use Rattle.std.proofs.Common.{◌≡◌, ℕ, ◌<◌, length, arith, not, List, [], ◌∷◌, map, refl, ap, ap₂, sym, ◌∙◌, subst}
+use Rattle.std.proofs.Common.{◌≡◌, ℕ, ◌<◌, length, arith, not, List, [], ◌∷◌, map, refl, ap, ap₂, sym, ◌∙◌, subst, inl}
 use Rattle.std.specs.Prelude.{Option, Some, None, Result, Ok, Err, IfSome, option_map, option_to_list, find, ◌++◌}
 use Rattle.std.proofs.lemmas.List.{map-append, length-map}
 use Rattle.uxn_io.specs.declared.trees.FileBytes.{FileBytes}

@@ -26,7 +26,7 @@ use Rattle.uxn_debugger.specs.Reading.{commands_of_text}
 use Rattle.system_port.specs.DebugText.{exit_code_of}
 use Rattle.varvara_bus.specs.History.{stored}
 use Rattle.uxn_cli.specs.Job.{Job, trail_of}
-use Rattle.uxn_cli.specs.Verdict.{and_then, View, Work, Run, Write, Print, view_of, source_by, source_in, rom_in, labels_by, labels_at, labels_in, given_in, debug_labels, commands_from, commands_in, script_from, script_in, job_of, program_in, texts_of, work_of, made_by, judged, verdict}
+use Rattle.uxn_cli.specs.Verdict.{and_then, View, Work, Run, Write, Print, view_of, source_by, source_in, rom_in, labels_by, labels_at, labels_in, given_in, debug_labels, commands_from, commands_in, script_from, script_in, home_by, job_of, program_in, texts_of, work_of, made_by, judged, verdict}
 use Rattle.uxn_cli.specs.Outcome.{outcome_of}
 use Rattle.uxn_cli.specs.Answer.{IsUntold, IsViewOf, Judges, HasOutcome, HasEnded, EndsEarly, Answers}
 use Rattle.uxn_cli.specs.Causes.{IsEarly, IsExactly, verdict_on, IsIllegal, IsPathless, IsMissing, IsFaulty, IsUnfit, IsBadScript, IsBadCommands, IsBlocked, EndsWith, PutsLine}
@@ -167,9 +167,9 @@ program-later false path file = then-later (source_in path file) (λ source. Ok 
 
 work-later : (command : Command) (task : Task) (view : View) → IsLater (work_of command task view)
 work-later Play task view =
-    then-later (program_in task.rom task.file view.file) (λ rom. and_then (script_in task.script view.script) (λ script. Ok (Run (job_of task rom script None))))
+    then-later (program_in task.rom task.file view.file) (λ rom. and_then (script_in task.script view.script) (λ script. Ok (Run (job_of task (home_by task.root view.part view.parent) rom script None))))
     (program-later task.rom task.file view.file)
-    (λ rom. then-later (script_in task.script view.script) (λ script. Ok (Run (job_of task rom script None))) (script-later task.script view.script) (λ script. tt))
+    (λ rom. then-later (script_in task.script view.script) (λ script. Ok (Run (job_of task (home_by task.root view.part view.parent) rom script None))) (script-later task.script view.script) (λ script. tt))
 work-later Debug task view =
     then-later (program_in task.rom task.file view.file) _ (program-later task.rom task.file view.file)
     (λ rom. then-later (given_in task.symbols view.symbols) _ (given-later task.symbols view.symbols)

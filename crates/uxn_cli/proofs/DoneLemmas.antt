@@ -12,7 +12,6 @@ use Rattle.uxn_cli.specs.Job.{text_at}
 use Rattle.uxn_cli.specs.Outcome.{creating, filling_all}
 use Rattle.uxn_cli.specs.World.{world}
 use Rattle.uxn_cli.specs.Prepared.{Around, around, WasDone, FellShort, TreeWasDone, TreeFellShort}
-use Rattle.uxn_cli.proofs.SureLemmas.{never}
 
 -- the files after changes that were made
 told-after : (a b : Around) (changes : List Change) → WasDone a b changes → b.world.files ≡ option_map (λ nodes. files_by nodes changes) a.world.files
@@ -85,8 +84,8 @@ not-taken (Some nodes) start here changes read not = λ takes.
 
 -- a tree that surely takes changes is read
 pub unread-taken : (told : Option Nodes) (room : Room) (changes : List Change) (P : Type 0) → (P → ⊥) → (0 < room.files → P) → IfSome told (λ nodes. TreeTakes room nodes changes → ⊥)
-unread-taken None room changes P no sure = tt
-unread-taken (Some nodes) room changes P no sure = λ takes. no (sure (some-room room nodes changes takes))
+unread-taken None room changes P false_so reads = tt
+unread-taken (Some nodes) room changes P false_so reads = λ takes. false_so (reads (some-room room nodes changes takes))
 
 -- ---- a text that is written
 
@@ -105,10 +104,10 @@ pub text-short : (path text : List ℕ) (tree now : Option Nodes) (room left : R
     → ((out err : Option (List ℕ)) → IsCutOff (world tree out err) (world now out err) (filling_all (text_at (Some path) text)))
     → IfSome tree (λ nodes. 0 < room.files → (0 < length text → length (bytes_at nodes path) + length text ≤ room.bytes) → P)
     → TreeFellShort tree now room left (filling_all (text_at (Some path) text))
-text-short path text tree now room left P no cut fails = λ out err out_sure err_sure. record {
+text-short path text tree now room left P false_so cut fails = λ out err out_sure err_sure. record {
   cut = cut out err;
   not_sure = subst (λ changes. IfSome tree (λ nodes. TreeTakes room nodes changes → ⊥)) (sym (written path text))
-      (never tree (λ nodes. TreeTakes room nodes (map (λ byte. ToFile path byte) text)) P ⊥ no (text-not-sure tree room path text P fails));
+      (text-not-sure tree room path text P false_so fails);
 }
 
 -- ---- files that are made

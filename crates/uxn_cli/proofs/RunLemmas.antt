@@ -1,5 +1,5 @@
 -- What `play` and `debug` do, step by step.
-use Rattle.std.proofs.Common.{◌≡◌, ◌≢◌, ◌<◌, length, ℕ, Bool, true, false, not, List, [], ◌∷◌, ◌++◌, map, refl, ap, sym, ◌∙◌, subst, inl, inr, append_assoc, append-nil, arith}
+use Rattle.std.proofs.Common.{◌≡◌, ◌≢◌, ◌<◌, ◌≤◌, length, ℕ, Bool, true, false, not, List, [], ◌∷◌, ◌++◌, map, refl, ap, sym, ◌∙◌, subst, inl, inr, append_assoc, append-nil, arith}
 use Rattle.std.specs.Prelude.{Option, Some, None, Result, Ok, Err, IfSome, IsSome, option_map, option_to_list, find, is_some, ◌||◌, ◌⊎◌, fold}
 use Rattle.std.specs.List.{list_any}
 use Rattle.std.specs.Str.{bytes_eq}
@@ -349,7 +349,7 @@ module _ (task : Task) (tree : Option Nodes) where
       rest = reporting job.report (trail_of job) ++ filling_all (log_by job.debug (trail_of job))
 
       begun : WasDone entry ready (creating (outputs_in job))
-      begun = rw outs at begins out err out_sure err_sure
+      begun = rw outs at (begins out err out_sure err_sure)
 
       -- the run was done, and what is written after it
       pub is_run : (now : Around) (answer : ℕ) → HasFinished ready now (trail_of job) rest answer → HasEnded (Ok task) (world tree out err) now.world answer
@@ -413,11 +413,11 @@ home-files None made task home out err at apart same is =
     go task.root at.root at.none gone
   where
     go : (root : Option (List ℕ)) → home.root ≡ root → (root ≡ None → home ≡ no_home) → made ≡ None → HasFiles made home.root home.part home.parent ⊎ ((◌≡◌ {A = Option Nodes} None None) × IsSome home.root)
-    go None is none gone = inl (rw (gone, none refl) (refl, (refl, refl)))
+    go None is none gone = inl (rw (gone, none refl) (refl, refl, refl))
     go (Some root) is none gone = inr (refl, rw is refl)
 home-files (Some nodes) made task home out err at apart same is =
     let now : made ≡ Some (files_by nodes (creating (outputs_of task))) = ap (λ w. w.files) is ∙ files-told (world (Some nodes) out err) (creating (outputs_of task)) in
-    let kept : home_in task.root (files_by nodes (creating (outputs_of task))) ≡ home_in task.root nodes = home-made task.root (outputs_of task) nodes (rw same at all-apart task apart) in
+    let kept : home_in task.root (files_by nodes (creating (outputs_of task))) ≡ home_in task.root nodes = home-made task.root (outputs_of task) nodes (rw same at (all-apart task apart)) in
     inl (rw (now, at.told) (sym (ap (λ h. h.part) kept), sym (ap (λ h. h.parent) kept)))
 
 -- a machine that is ready runs the trail of its job
@@ -534,7 +534,7 @@ debug-root task debug = ap (λ c. root_by c task) debug
 
 module _ (task : Task) (told new : Option Nodes) (makes : Made (outputs_of task) told new) (apart : HasApartOutputs task) where
   output-at : root_by task.command task ≡ task.root → (path : List ℕ) → list_any (bytes_eq path) (outputs_of task) ≡ true → IsOutput task.root new path
-  output-at root path among = record { file = makes.files path among; outside = rw root at outputs-outside task path apart among }
+  output-at root path among = record { file = makes.files path among; outside = rw root at (outputs-outside task path apart among) }
 
   pub play-files : task.command ≡ Play → RunFiles task new
   play-files play = run-files [] task new (λ path among. output-at (play-root task play) path (rw (play-outputs task play) among))

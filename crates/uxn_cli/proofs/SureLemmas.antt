@@ -44,12 +44,19 @@ few_takes room nodes paths few = record {
 }
 
 -- and then some room is left
-pub few_left : (before : Option Nodes) (start here : Room) (paths : List (List ℕ)) → IfSome before (λ nodes. TreeTakes start nodes (creating paths) → TreeLeft start here nodes (creating paths))
-    → IfSome before (λ nodes. length paths < start.files → (0 < here.files) × (start.bytes ≤ here.bytes))
-few_left None start here paths left = tt
-few_left (Some nodes) start here paths left = λ few.
-    let one = left (few_takes start nodes paths few) in
-    (omega (arith, one.files, made_few nodes (creating paths), length-map paths (λ (path : List ℕ). Creates path), few), one.bytes)
+pub few_left : (before : Option Nodes) (start here : Room) (paths : List (List ℕ)) (count : ℕ) → length paths ≡ count
+    → IfSome before (λ nodes. TreeTakes start nodes (creating paths) → TreeLeft start here nodes (creating paths))
+    → IfSome before (λ nodes. count < start.files → (0 < here.files) × (start.bytes ≤ here.bytes))
+few_left None start here paths count so left = tt
+few_left (Some nodes) start here paths count so left = λ few.
+    let one = left (few_takes start nodes paths (omega (arith, few, so))) in
+    (omega (arith, one.files, made_few nodes (creating paths), length-map paths (λ (path : List ℕ). Creates path), few, so), one.bytes)
+
+-- what fails where they are surely made fails there
+pub few_sure : (before : Option Nodes) (start : Room) (paths : List (List ℕ)) (count : ℕ) → length paths ≡ count → (A : Nodes → Type 0) (P : Type 0)
+    → IfSome before (λ nodes. TreeTakes start nodes (creating paths) → P) → IfSome before (λ nodes. count < start.files → A nodes → P)
+few_sure None start paths count so A P takes = tt
+few_sure (Some nodes) start paths count so A P takes = λ few more. takes (few_takes start nodes paths (omega (arith, few, so)))
 
 -- what goes on from here goes on from the start: the rest is surely taken, and what is left after it is left after all
 abbrev pub Continues : Option Nodes → Option Nodes → Room → Room → List Change → List Change → Type 0

@@ -211,6 +211,6 @@ debugging_for task session home =
     reporting_for task session.machine home ++ filling_all (log_by (Some (debugging_of task session)) (trail_for task session.machine home))
 
 -- a run was done with all that is behind it, and its exit code is the status
-pub record HasFinished (before now : Around) (trail : Trail) (changes : List Change) (status : ℕ) : Type 0 where
-  pub status : status ≡ exit_in trail.last
+pub record HasFinished (before now : Around) (trail : Trail) (changes : List Change) (answer : ℕ) : Type 0 where
+  pub status : answer ≡ exit_in trail.last
   pub done : WasDone before now changes

@@ -31,8 +31,8 @@ returns-clause-left g c =
 pub returns-in_err-path-2-clause-takes : goal.returns-in_err-path-2-clause-takes
 returns-in_err-path-2-clause-takes g c = λ blamed.
     not-taken (g.T.Tree.told c.args.tree.now) _ _ _ c.in_ok-path.ensures.left
-    (never (g.T.Tree.told c.args.tree.now) _ _ ⊥ (λ no. absurd cc) (rw (c.in_ok-path.ensures.same, c.deref-3.ensures.value, c.in_ok-outputs.ensures, c.deref.ensures.value, c.in_ok-paths.ensures) at c.in_err-path-2.ensures.sure))
+    (never (g.T.Tree.told c.args.tree.now) _ _ ⊥ (λ fault. absurd cc) (rw (c.in_ok-path.ensures.same, c.deref-3.ensures.value, c.in_ok-outputs.ensures, c.deref.ensures.value, c.in_ok-paths.ensures) at c.in_err-path-2.ensures.sure))
 
 pub returns-in_err-path-clause-takes : goal.returns-in_err-path-clause-takes
 returns-in_err-path-clause-takes g c = λ blamed.
-    unread-taken (g.T.Tree.told c.args.tree.now) _ _ _ (λ no. absurd cc) c.in_err-path.ensures.sure
+    unread-taken (g.T.Tree.told c.args.tree.now) _ _ _ (λ fault. absurd cc) c.in_err-path.ensures.sure

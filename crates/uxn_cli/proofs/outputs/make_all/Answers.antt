@@ -28,3 +28,21 @@ loop-output-preserved g c = record {
       (can_next c.args.outputs.now c.loop-output.output-index c.output-item.result c.loop-output-test.true c.output-item.is _ c.loop-output.invariant.can) c.in_ok-create.ensures.left
       (rw (ap creating (map_at (λ o. o.path) c.args.outputs.now c.loop-output.output-index c.output-item.result c.loop-output-test.true c.output-item.is)) at c.loop-output.invariant.goes_on);
 }
+
+pub returns-in_err-create-clause-sure : goal.returns-in_err-create-clause-sure
+returns-in_err-create-clause-sure g c =
+    let result : c.from_residual.result ≡ Err c.in_err-create.field-0.0 = search rules in
+    rw result (continues-sure c.output-item.result.path _ _ _ _ _ _ _ _ c.loop-output.invariant.made
+    (rw (ap creating (map_at (λ o. o.path) c.args.outputs.now c.loop-output.output-index c.output-item.result c.loop-output-test.true c.output-item.is)) at c.loop-output.invariant.goes_on)
+    c.in_err-create.ensures.sure)
+
+pub returns-then-not-branch-clause-left : goal.returns-then-not-branch-clause-left
+returns-then-not-branch-clause-left g c =
+    let none = untold c.args.outputs.now c.loop-output.output-index c.output-item.result c.loop-output-test.true c.output-item.is _ _ c.in_ok-create.field-0
+    c.loop-output.invariant.made c.loop-output.invariant.can c.in_ok-create.ensures.answer c.if-not-branch.true in
+    rw none.0 tt
+
+pub returns-clause-left : goal.returns-clause-left
+returns-clause-left g c =
+    continues-all _ _ _ _ _ _ c.loop-output.invariant.made
+    (rw (ap (λ rest. creating (paths_of rest)) (drop_of_length-le c.args.outputs.now c.loop-output-test.false)) at c.loop-output.invariant.goes_on)

@@ -1,8 +1,13 @@
 use Rattle.std.proofs.Common.{◌≡◌, ◌∙◌, ap, rules}
+use Rattle.std.specs.Prelude.{false}
+use Rattle.std.specs.FinMap as fin
 use Rattle.system_port.specs.DebugText.{exit_code_of}
 use Rattle.varvara_bus.specs.Bus.{BusStandsFor}
 use Rattle.uxn_cli.specs.Job.{Home, devices_with, trail_by}
 use Rattle.uxn_cli.proofs.running.run_machine.Goals as goal
+
+pub run_script-requires-clause-frames : goal.run_script-requires-clause-frames
+run_script-requires-clause-frames g c = ap (λ devices. devices.time.frames) c.new-bus.ensures.devices_now ∙ (c.requires.devices fin.empty false).frames
 
 pub returns-in-Ok-clause-ok : goal.returns-in-Ok-clause-ok
 unfolding trail_by

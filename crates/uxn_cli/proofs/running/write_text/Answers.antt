@@ -11,7 +11,7 @@ returns-in-Ok-clause-files g c = text-stays c.in-Some.path c.args.text.now _ _ c
 
 pub returns-in-Err-clause-err : goal.returns-in-Err-clause-err
 returns-in-Err-clause-err g c =
-    rw c.in-Some.is (text-short c.in-Some.path c.args.text.now _ _ _ _ _ (λ no. absurd cc) (λ out err. text-cut c.in-Some.path c.args.text.now _ _ out err c.in-Err.ensures.err) c.in-Err.ensures.sure)
+    rw c.in-Some.is (text-short c.in-Some.path c.args.text.now _ _ _ _ _ (λ fault. absurd cc) (λ out err. text-cut c.in-Some.path c.args.text.now _ _ out err c.in-Err.ensures.err) c.in-Err.ensures.sure)
 
 pub returns-in-None-clause-ok : goal.returns-in-None-clause-ok
 returns-in-None-clause-ok g c = λ out err out_sure err_sure. rw c.in-None.is (done-nothing _)
