@@ -54,3 +54,9 @@ returns-in-Err-clause-sure_sinks g c =
     (g.T.Tree.sure c.args.tree.now) _ _ c.in_ok-session.ensures.left c.in_ok-make_outputs.ensures.left
     (g.O.Sink.told c.args.out.now) (g.E.Sink.told c.args.err.now) (g.O.Sink.sure c.args.out.now) (g.E.Sink.sure c.args.err.now)
     _ c.in-Err.stop (c.in-Err.ensures.err)
+
+pub debug_made-requires-clause-files : goal.debug_made-requires-clause-files
+debug_made-requires-clause-files g c = debug-files c.args.task.now _ _ c.in_ok-make_outputs.ensures.makes c.requires.apart c.requires.command
+
+pub debug_made-requires-clause-log : goal.debug_made-requires-clause-log
+debug_made-requires-clause-log g c = debug-log c.args.task.now _ _ c.in_ok-make_outputs.ensures.makes c.requires.apart c.requires.command

@@ -53,3 +53,6 @@ returns-in-Err-clause-sure_sinks g c =
     (g.T.Tree.sure c.args.tree.now) _ _ c.in_ok-machine.ensures.left c.in_ok-make_outputs.ensures.left
     (g.O.Sink.told c.args.out.now) (g.E.Sink.told c.args.err.now) (g.O.Sink.sure c.args.out.now) (g.E.Sink.sure c.args.err.now)
     _ c.in-Err.stop (λ home root files. short-last _ _ _ _ (c.in-Err.ensures.err home root files))
+
+pub run_made-requires-clause-files : goal.run_made-requires-clause-files
+run_made-requires-clause-files g c = play-files c.args.task.now _ _ c.in_ok-make_outputs.ensures.makes c.requires.apart c.requires.command
