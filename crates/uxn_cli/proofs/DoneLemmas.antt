@@ -1,17 +1,17 @@
 -- Changes that were made one after the other, or cut off, and what is sure then.
-use Rattle.std.proofs.Common.{◌≡◌, ℕ, ◌+◌, ◌<◌, ◌≤◌, List, [], ◌∷◌, ◌++◌, length, map, refl, ap, sym, ◌∙◌, subst, append-nil, arith}
+use Rattle.std.proofs.Common.{◌≡◌, ℕ, ◌+◌, ◌<◌, ◌≤◌, List, [], ◌++◌, length, map, refl, ap, sym, ◌∙◌, subst, append-nil, arith}
 use Rattle.std.specs.Prelude.{Option, Some, None, IfSome, option_map}
 use Rattle.uxn_io.specs.Files.{Nodes, bytes_at}
-use Rattle.uxn_io.specs.Outside.{Change, ToFile, World, IsCutOff, changed_by, changed_by-append, files_by, cut-first, cut-later}
+use Rattle.uxn_io.specs.Outside.{Change, ToFile, IsCutOff, changed_by, changed_by-append, files_by, cut-first, cut-later}
 use Rattle.uxn_io.specs.Room.{Room, Leaves}
-use Rattle.uxn_io.specs.Taking.{TreeTakes, TreeLeft, Sure, sure, Remains, WasNotSure, files-told, remains-all, remains-both, not-sure-first, not-sure-later}
+use Rattle.uxn_io.specs.Taking.{TreeTakes, TreeLeft, sure, Remains, WasNotSure, files-told, remains-all, remains-both, not-sure-first, not-sure-later}
 use Rattle.uxn_opcodes.specs.declared.Stop.{Stop}
 use Rattle.varvara_bus.proofs.Appends.{text-left, text-not-sure, text-out, text-err}
 use Rattle.uxn_cli.specs.Blame.{blame_of}
 use Rattle.uxn_cli.specs.Job.{text_at}
 use Rattle.uxn_cli.specs.Outcome.{creating, filling_all}
 use Rattle.uxn_cli.specs.World.{world}
-use Rattle.uxn_cli.specs.Prepared.{Around, around, WasDone, FellShort, TreeWasDone, TreeFellShort}
+use Rattle.uxn_cli.specs.Prepared.{Around, WasDone, FellShort, TreeWasDone, TreeFellShort}
 
 -- the files after changes that were made
 told-after : (a b : Around) (changes : List Change) → WasDone a b changes → b.world.files ≡ option_map (λ nodes. files_by nodes changes) a.world.files

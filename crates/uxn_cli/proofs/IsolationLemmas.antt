@@ -1,19 +1,19 @@
 -- What a call sees of a tree, and what it leaves alone.
-use Rattle.std.proofs.Common.{◌≡◌, ℕ, Bool, true, false, cond, List, [], ◌∷◌, ◌++◌, map, refl, ap, sym, ◌∙◌}
-use Rattle.std.specs.Prelude.{Option, Some, None, Result, Ok, Err, IfOk, ◌||◌}
+use Rattle.std.proofs.Common.{◌≡◌, ℕ, true, false, List, [], ◌∷◌, ◌++◌, map, refl, ap, sym, ◌∙◌}
+use Rattle.std.specs.Prelude.{Result, Ok, Err, IfOk, ◌||◌}
 use Rattle.std.specs.List.{list_any}
 use Rattle.std.specs.Str.{bytes_eq}
 use Rattle.std.specs.FinMap as fin
 use Rattle.std.proofs.lemmas.Slice.Eq.{bytes_eq-Decides}
 use Rattle.file_ports.specs.RootPart.{below}
-use Rattle.uxn_io.specs.Files.{Nodes, File}
+use Rattle.uxn_io.specs.Files.{Nodes}
 use Rattle.uxn_io.specs.Outside.{Change, ToErr, Creates, changed_files, files_by}
 use Rattle.varvara_bus.specs.Touching.{Spares, Each, spared-one}
 use Rattle.uxn_cli.specs.declared.task.Task.{Task}
 use Rattle.uxn_cli.specs.declared.refusal.Refusal.{Refusal}
 use Rattle.uxn_cli.specs.Lines.{line_of}
-use Rattle.uxn_cli.specs.Request.{outputs_of, root_by}
-use Rattle.uxn_cli.specs.Verdict.{Work, Run, Write, Print, View, view_of, judged, work_of}
+use Rattle.uxn_cli.specs.Request.{root_by}
+use Rattle.uxn_cli.specs.Verdict.{Work, Run, Write, Print, view_of, judged, work_of}
 use Rattle.uxn_cli.specs.Outcome.{outcome_of, creating, writing, running}
 use Rattle.uxn_cli.specs.Causes.{verdict_on, IsAside}
 use Rattle.uxn_cli.specs.Isolation.{LookSame, files_after, IsWritten, LooksAtItsView}

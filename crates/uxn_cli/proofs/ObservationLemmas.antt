@@ -1,13 +1,12 @@
 -- `debug` and `play` with the same items.
-use Rattle.std.proofs.Common.{◌≡◌, ℕ, ◌+◌, ◌≤◌, Bool, true, false, true≢false, not, cond, List, [], ◌∷◌, ◌++◌, map, refl, ap, sym, ◌∙◌, subst, append_assoc, append-nil, arith, inl, inr}
-use Rattle.std.specs.Prelude.{Option, Some, None, Result, Ok, Err, IfOk, option_to_list, option_map, find, count_by, IfSome, ◌||◌, ◌⊎◌, nat_lt}
+use Rattle.std.proofs.Common.{◌≡◌, ℕ, ◌≤◌, Bool, true, false, true≢false, not, cond, List, [], ◌∷◌, ◌++◌, refl, ap, sym, ◌∙◌, subst, append_assoc, append-nil, arith, inl, inr}
+use Rattle.std.specs.Prelude.{Option, Some, None, Result, Ok, Err, option_to_list, option_map, find, count_by, IfSome, ◌||◌, ◌⊎◌, nat_lt}
 use Rattle.std.specs.List.{list_any}
 use Rattle.std.specs.Str.{bytes_eq}
 use Rattle.std.proofs.lemmas.Bool.Decides.{nat_tests}
 use Rattle.std.proofs.lemmas.List.{map-append}
 use Rattle.std.proofs.lemmas.List.Sums.{sum_by-append}
-use Rattle.std.proofs.lemmas.List.Folds.{find-append, list_any-append}
-use Rattle.std.proofs.lemmas.Slice.Eq.{bytes_eq-Decides}
+use Rattle.std.proofs.lemmas.List.Folds.{list_any-append}
 use Rattle.file_ports.specs.RootPart.{is_in, below, parent_is_folder}
 use Rattle.uxn_io.specs.Changes.{can_create}
 use Rattle.uxn_io.specs.Files.{Nodes}
@@ -19,13 +18,13 @@ use Rattle.uxn_cli.specs.declared.words.Command.TheVariants.{Play, Debug}
 use Rattle.uxn_cli.specs.declared.task.Task.{Task}
 use Rattle.uxn_cli.specs.declared.refusal.Refusal.{Refusal}
 use Rattle.uxn_cli.specs.Words.{settings}
-use Rattle.uxn_cli.specs.Request.{and_then, path_in, optional_path_in, paths_in, inputs_by, run_outputs, outputs_of, root_by, places_of, meets, clashes, first_clash, apart, apart_by, legal, request}
+use Rattle.uxn_cli.specs.Request.{and_then, path_in, optional_path_in, paths_in, inputs_by, run_outputs, outputs_of, root_by, meets, clashes, first_clash, apart, apart_by, legal, request}
 use Rattle.uxn_cli.specs.Verdict.{Work, Run, View, view_of, judged, work_of, made_by, blocked_seen, program_in, given_in, script_in, commands_in, debug_labels, debugging, home_by, job_of}
 use Rattle.uxn_cli.specs.Job.{Job, Debugging, outputs_in, trail_of, log_by}
 use Rattle.uxn_cli.specs.Outcome.{outcome_of, creating, filling_all, reporting, running}
 use Rattle.uxn_cli.specs.Answer.{HasOutcome, Judges, IsUntold, Answers}
 use Rattle.uxn_cli.specs.Causes.{IsEarly, verdict_on}
-use Rattle.uxn_cli.specs.Observation.{unwatched, watched, with_log, played, HaveSameItems, ComeToOneRun, IsNoLog, HaveSamePart, IsOutcomeButLog, ShowsWhatPlayDoes}
+use Rattle.uxn_cli.specs.Observation.{unwatched, watched, with_log, played, HaveSameItems, ComeToOneRun, IsOutcomeButLog, ShowsWhatPlayDoes}
 use Rattle.uxn_cli.proofs.AfterLemmas.{IsOfAFile, quiet, creating-quiet, filling-quiet, out-after, err-after, files-after, if-some, parts-same}
 use Rattle.uxn_cli.proofs.CauseLemmas.{told_verdict, early_is}
 use Rattle.uxn_cli.proofs.ChangeLemmas.{creating-spares}

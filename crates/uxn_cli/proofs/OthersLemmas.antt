@@ -1,14 +1,13 @@
 -- What other paths keep.
-use Rattle.std.proofs.Common.{◌≡◌, ℕ, Bool, true, false, cond, List, [], ◌∷◌, ◌++◌, map, refl, ap, sym, ◌∙◌, subst, inl, inr}
+use Rattle.std.proofs.Common.{◌≡◌, ℕ, Bool, true, false, List, [], ◌∷◌, ◌++◌, refl, ap, ◌∙◌, subst, inl, inr}
 use Rattle.std.specs.Prelude.{Option, Some, None, Result, Ok, Err, IfOk, IfSome, option_to_list, ◌||◌}
 use Rattle.std.specs.List.{list_any}
 use Rattle.std.specs.Str.{bytes_eq}
 use Rattle.std.specs.FinMap as fin
 use Rattle.file_ports.specs.Device.{suits}
-use Rattle.tal_words.specs.declared.name.Label.{Label}
 use Rattle.tal_listing.specs.Disassembly.{disassembly}
 use Rattle.uxn_io.specs.Files.{Nodes}
-use Rattle.uxn_io.specs.Outside.{Change, ToOut, ToErr, World, changed_by}
+use Rattle.uxn_io.specs.Outside.{ToOut, ToErr, World}
 use Rattle.uxn_opcodes.specs.declared.Stop.{Stop}
 use Rattle.uxn_opcodes.specs.declared.Stop.TheVariants.{TreeFault, SinkFault, NoMemory}
 use Rattle.play_script.specs.Scripts.{ScriptView}
@@ -19,15 +18,14 @@ use Rattle.uxn_cli.specs.declared.words.Command.{Command}
 use Rattle.uxn_cli.specs.declared.words.Command.TheVariants.{Play, Debug, Assemble, Disassemble}
 use Rattle.uxn_cli.specs.declared.task.Task.{Task}
 use Rattle.uxn_cli.specs.declared.refusal.Refusal.{Refusal}
-use Rattle.uxn_cli.specs.World.{Text}
 use Rattle.uxn_opcodes.specs.declared.Core.{Core}
 use Rattle.vector_loop.specs.declared.output.Outputs.{Outputs}
 use Rattle.vector_loop.specs.Trail.{Trail}
 use Rattle.vector_loop.specs.Touching.{IsOther, run-leaves}
 use Rattle.uxn_cli.specs.Job.{Debugging, Job, Home, log_in, outputs_in, outputs_by as run_outputs_by, trail_of, trail_by, devices_with, start_with, text_at, log_by}
-use Rattle.uxn_cli.specs.Verdict.{and_then, View, Work, Run, Write, Print, source_in, rom_in, labels_in, program_in, script_in, given_in, debug_labels, commands_in, debugging, home_by, job_of, texts_of, outputs_by, outputs_of, root_by, work_of, made_by, judged, verdict}
-use Rattle.uxn_cli.specs.Outcome.{outcome_of, creating, filling_all, reporting, running, writing}
-use Rattle.uxn_cli.specs.Answer.{IsUntold, Judges, HasCut, IsCut, Answers}
+use Rattle.uxn_cli.specs.Verdict.{and_then, View, Work, Run, Write, Print, source_in, rom_in, labels_in, program_in, script_in, given_in, debug_labels, commands_in, debugging, home_by, job_of, texts_of, outputs_by, root_by, work_of, made_by, verdict}
+use Rattle.uxn_cli.specs.Outcome.{outcome_of, creating, filling_all, reporting, running}
+use Rattle.uxn_cli.specs.Answer.{IsUntold, HasCut, IsCut, Answers}
 use Rattle.uxn_cli.specs.Causes.{IsAside, KeepsOthers}
 use Rattle.uxn_cli.proofs.ChangeLemmas.{paths_in, creating-spares, filling-spares, writing-spares}
 use Rattle.uxn_cli.proofs.AssemblingLemmas.{paths-texts_of}

@@ -1,8 +1,7 @@
 -- The inputs of `play` and `debug`, met one after the other.
-use Rattle.std.proofs.Common.{◌≡◌, ◌≢◌, ℕ, Bool, true, false, List, [], ◌∷◌, ◌++◌, refl, ap, sym, ◌∙◌, subst}
-use Rattle.std.specs.Prelude.{Option, Some, None, Result, Ok, Err, IfSome, unwrap_or, option_map}
+use Rattle.std.proofs.Common.{◌≡◌, ℕ, List, refl, ap, sym, ◌∙◌, subst}
+use Rattle.std.specs.Prelude.{Option, Some, None, Result, Ok, Err, IfSome, unwrap_or}
 use Rattle.tal_words.specs.declared.name.Label.{Label}
-use Rattle.tal_rom.specs.Assembly.{rom_of, layout}
 use Rattle.uxn_io.specs.declared.trees.FileBytes.{FileBytes}
 use Rattle.uxn_io.specs.Files.{Nodes}
 use Rattle.play_script.specs.Scripts.{ScriptView}
@@ -14,8 +13,8 @@ use Rattle.uxn_cli.specs.declared.refusal.Refusal.{Refusal}
 use Rattle.uxn_cli.specs.declared.refusal.Halt.{Halt}
 use Rattle.uxn_cli.specs.declared.refusal.Halt.TheVariants.{Refused, Stopped}
 use Rattle.file_ports.specs.RootPart.{below, parent_is_folder}
-use Rattle.uxn_cli.specs.Job.{Debugging, Home, home_in}
-use Rattle.uxn_cli.specs.Verdict.{and_then, View, Work, Run, file_seen, symbols_seen, symbols_by, script_seen, script_by, commands_seen, program_in, own_labels, script_in, given_in, debug_labels, commands_in, debugging, home_by, job_of, work_of, root_by}
+use Rattle.uxn_cli.specs.Job.{Home, home_in}
+use Rattle.uxn_cli.specs.Verdict.{and_then, View, Work, Run, file_seen, symbols_seen, symbols_by, script_seen, script_by, commands_seen, program_in, script_in, given_in, debug_labels, commands_in, debugging, home_by, job_of, work_of, root_by}
 use Rattle.uxn_cli.specs.Prepared.{Sees, Accepts, rom_in_program, labels_in_program, LoadsProgram, Loads, SeesWork, Unready, IsHomeOf}
 use Rattle.uxn_cli.proofs.VerdictLemmas.{unread_symbols, unread_script, unread_commands, unseen_part, unseen_parent}
 

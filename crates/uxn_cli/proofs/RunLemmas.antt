@@ -1,35 +1,28 @@
 -- What `play` and `debug` do, step by step.
-use Rattle.std.proofs.Common.{◌≡◌, ◌≢◌, ◌<◌, ◌≤◌, length, ℕ, Bool, true, false, not, List, [], ◌∷◌, ◌++◌, map, refl, ap, sym, ◌∙◌, subst, inl, inr, append_assoc, append-nil, arith}
-use Rattle.std.specs.Prelude.{Option, Some, None, Result, Ok, Err, IfSome, IsSome, option_map, option_to_list, find, is_some, ◌||◌, ◌⊎◌, fold}
+use Rattle.std.proofs.Common.{◌≡◌, ◌<◌, ◌≤◌, length, ℕ, true, false, not, List, [], ◌∷◌, ◌++◌, map, refl, ap, sym, ◌∙◌, subst, inl, inr, arith}
+use Rattle.std.specs.Prelude.{Option, Some, None, Result, Ok, Err, IfSome, IsSome, option_map, option_to_list, find, ◌||◌, ◌⊎◌, fold}
 use Rattle.std.specs.List.{list_any}
 use Rattle.std.specs.Str.{bytes_eq}
-use Rattle.std.specs.FinMap as fin
 use Rattle.std.proofs.lemmas.List.Elements.{All-head, All-tail}
 use Rattle.std.proofs.lemmas.Slice.Eq.{bytes_eq-Decides}
 use Rattle.tal_words.specs.declared.name.Label.{Label}
-use Rattle.tal_rom.specs.Assembly.{rom_of}
-use Rattle.uxn_io.specs.declared.trees.FileBytes.{FileBytes}
-use Rattle.uxn_io.specs.declared.trees.FileBytes.TheVariants.{Missing as NoFile}
 use Rattle.uxn_io.specs.Changes.{can_create, with_appended, HasAppendedFront}
-use Rattle.uxn_io.specs.Files.{Nodes, Node, file_at, bytes_of}
+use Rattle.uxn_io.specs.Files.{Nodes, file_at}
 use Rattle.uxn_io.specs.Outside.{Change, World, changed_by, files_by, IsCutOff, cut-first}
 use Rattle.uxn_io.specs.Appending.{cut-file}
 use Rattle.uxn_io.specs.Room.{Room, Leaves}
 use Rattle.uxn_io.specs.Faults.{TheTree, ASink}
 use Rattle.uxn_io.specs.Taking.{TreeTakes, TreeLeft, SinkTakes, sure, WasNotSure, bytes_out, bytes_err, files-told, takes-first}
-use Rattle.uxn_opcodes.specs.declared.Core.{Core}
 use Rattle.uxn_opcodes.specs.declared.Stop.{Stop}
 use Rattle.uxn_opcodes.specs.declared.Stop.TheVariants.{TreeFault, SinkFault, NoMemory}
-use Rattle.uxn_opcodes.specs.Rule.{new_core}
 use Rattle.varvara_bus.specs.Bus.{FilesStay, IsFileWhereTold}
 use Rattle.varvara_bus.specs.State.{HasFiles}
 use Rattle.varvara_bus.proofs.Appends.{appended-stays}
 use Rattle.vector_loop.specs.Outputs.{IsOutput}
 use Rattle.vector_loop.specs.State.{State}
 use Rattle.vector_loop.specs.Trail.{Trail}
-use Rattle.vector_loop.specs.Watch.{ports_read, moment_of, shown_all}
+use Rattle.vector_loop.specs.Watch.{shown_all}
 use Rattle.uxn_debugger.specs.declared.command.DebugCommand.{DebugCommand}
-use Rattle.uxn_debugger.specs.Log.{Shown, log_of}
 use Rattle.uxn_debugger.specs.Watching.{Watching, new_watching, shown as shown_to, ended as ended_by, after_moment, after_end, KeepsTheLog}
 use Rattle.uxn_cli.specs.declared.outputs.Output.{Output}
 use Rattle.uxn_cli.specs.declared.machine.Machine.{Machine}
@@ -43,14 +36,14 @@ use Rattle.uxn_cli.specs.declared.refusal.Halt.TheVariants.{Refused, Stopped}
 use Rattle.uxn_cli.specs.World.{world, Text, with_empty, with_bytes, CanMake, AreFiles, HasMadeFront}
 use Rattle.uxn_cli.specs.Outputs.{seen_texts, paths_of}
 use Rattle.uxn_cli.specs.Blame.{blame_of}
-use Rattle.uxn_cli.specs.Job.{Debugging, Job, Home, no_home, home_in, outputs_in, outputs_by, trail_by, trail_of, exit_in, text_at, report_text, shown_of, log_text, log_by}
-use Rattle.uxn_cli.specs.Outcome.{outcome_of, creating, filling_all, reporting, running}
+use Rattle.uxn_cli.specs.Job.{Debugging, Job, Home, no_home, home_in, outputs_in, trail_by, trail_of, exit_in, text_at, report_text, shown_of, log_text, log_by}
+use Rattle.uxn_cli.specs.Outcome.{creating, filling_all, reporting, running}
 use Rattle.uxn_cli.specs.Request.{root_by, run_outputs, HasApartOutputs}
 use Rattle.uxn_cli.specs.Lines.{line_of}
 use Rattle.uxn_cli.specs.Causes.{verdict_on}
 use Rattle.uxn_cli.specs.Room.{TakesFor, TreeSuffices, SinksSuffice}
-use Rattle.uxn_cli.specs.Verdict.{and_then, View, Work, Run, file_seen, symbols_seen, script_seen, commands_seen, blocked_seen, job_of, inputs_by, outputs_of, clashes, made_by, work_of, judged}
-use Rattle.uxn_cli.specs.Answer.{IsViewOf, Judges, HasEnded, IsRefused, HasFront, HasCut, IsCut, IsUntold, MayStop, Performs}
+use Rattle.uxn_cli.specs.Verdict.{and_then, Work, Run, blocked_seen, job_of, inputs_by, outputs_of, made_by, work_of}
+use Rattle.uxn_cli.specs.Answer.{Judges, HasEnded, HasFront, HasCut, IsCut, IsUntold, MayStop, Performs}
 use Rattle.uxn_cli.specs.Prepared.{Around, around, WasDone, FellShort, TreeWasDone, AtHome, HasFinished, IsHomeOf, trail_for, SeesWork, IsReady, Unready, Made, HalfMade, Blocked, MakesOutputs, HasRun, WasShown, RunFiles, outputs_for}
 use Rattle.uxn_cli.proofs.ApartLemmas.{no_clash-fewer, makes_all, made_files}
 use Rattle.uxn_cli.proofs.AssemblingLemmas.{seen_paths}

@@ -22,7 +22,6 @@ use Rattle.vector_loop.specs.declared.output.Outputs.{Outputs}
 use Rattle.vector_loop.specs.Outputs.{IsOutput}
 use Rattle.vector_loop.specs.Watch.{ports_read, moment_of, shown_all}
 use Rattle.vector_loop.specs.Trail.{Trail}
-use Rattle.uxn_debugger.specs.declared.command.DebugCommand.{DebugCommand}
 use Rattle.uxn_cli.specs.declared.task.Task.{Task}
 use Rattle.uxn_cli.specs.declared.program.Program.{Program}
 use Rattle.uxn_cli.specs.declared.program.Program.TheVariants.{Rom, Source}
@@ -33,7 +32,7 @@ use Rattle.uxn_cli.specs.declared.refusal.Refusal.{Refusal}
 use Rattle.uxn_cli.specs.declared.refusal.Refusal.TheVariants.{NoOutput}
 use Rattle.uxn_cli.specs.declared.refusal.Halt.{Halt}
 use Rattle.uxn_cli.specs.declared.refusal.Halt.TheVariants.{Refused, Stopped}
-use Rattle.uxn_cli.specs.Verdict.{View, Work, Run, file_seen, symbols_seen, script_seen, script_by, commands_seen, part_seen, parent_seen, program_in, own_labels, script_in, commands_in, debugging, job_of, work_of}
+use Rattle.uxn_cli.specs.Verdict.{View, Work, Run, file_seen, symbols_seen, script_seen, commands_seen, part_seen, parent_seen, program_in, own_labels, debugging, job_of, work_of}
 use Rattle.uxn_cli.specs.World.{world}
 use Rattle.uxn_cli.specs.Job.{Debugging, Home, no_home, home_in, clock_by, outputs_by, trail_by, exit_in, log_by}
 use Rattle.uxn_cli.specs.Outcome.{creating, filling_all, reporting}

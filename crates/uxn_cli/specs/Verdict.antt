@@ -1,9 +1,7 @@
 -- What the words and the view of the tree determine before anything is done: a refusal, or the work.
-use Rattle.std.specs.Prelude.{◌≡◌, ℕ, Bool, true, false, not, nat_lt, ◌||◌, List, [], ◌∷◌, ◌++◌, count_by}
-use Rattle.std.specs.Prelude.{find, Option, Some, None, option_to_list, Result, Ok, Err}
+use Rattle.std.specs.Prelude.{ℕ, Bool, true, false, not, List, [], ◌++◌}
+use Rattle.std.specs.Prelude.{find, Option, Some, None, Result, Ok, Err}
 use Rattle.std.specs.Prelude.{if◌then◌else◌, unwrap_or}
-use Rattle.std.specs.List.{list_any}
-use Rattle.std.specs.Str.{bytes_eq}
 use Rattle.tal_words.specs.declared.fault.Fault.{Fault}
 use Rattle.tal_words.specs.Faults.{fault_text}
 use Rattle.tal_words.specs.declared.name.Label.{Label}

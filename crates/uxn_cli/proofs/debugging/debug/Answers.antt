@@ -1,8 +1,6 @@
-use Rattle.std.proofs.Common.{◌≡◌, refl, inl, inr, rules}
+use Rattle.std.proofs.Common.{◌≡◌, refl, inl, rules}
 use Rattle.std.specs.Prelude.{Some, Err}
-use Rattle.uxn_cli.specs.World.{world}
 use Rattle.uxn_cli.specs.Prepared.{debugging_of}
-use Rattle.uxn_cli.proofs.DoneLemmas.{done-both}
 use Rattle.uxn_cli.proofs.RunLemmas.{unprepared, debug-outputs, debug-root, debug-files, debug-log, ready-unmade, ready-unmade-tree, ready-run, ready-cut, ready-tree, ready-sinks}
 use Rattle.uxn_cli.proofs.debugging.debug.Goals as goal
 

@@ -2,7 +2,7 @@ use Rattle.std.proofs.Common.{◌≡◌, ◌∙◌, ap, rules}
 use Rattle.std.specs.Prelude.{Err}
 use Rattle.uxn_opcodes.specs.declared.Stop.TheVariants.{TreeFault}
 use Rattle.uxn_debugger.specs.Watching.{new_watching}
-use Rattle.uxn_cli.specs.Job.{Home, log_text}
+use Rattle.uxn_cli.specs.Job.{log_text}
 use Rattle.uxn_cli.specs.Prepared.{debugging_of, labels_in_session, trail_for, reporting_for}
 use Rattle.uxn_cli.proofs.DoneLemmas.{short-first}
 use Rattle.uxn_cli.proofs.RunLemmas.{stays-if, kept-log, texts-after, cut-after}

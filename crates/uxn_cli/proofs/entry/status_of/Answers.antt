@@ -1,4 +1,4 @@
-use Rattle.std.proofs.Common.{◌≡◌, ◌∙◌, sym, map, string_bytes}
+use Rattle.std.proofs.Common.{◌∙◌, sym, map, string_bytes}
 use Rattle.uxn_cli.specs.Request.{request}
 use Rattle.uxn_cli.specs.Causes.{verdict_on}
 use Rattle.uxn_cli.specs.Room.{TreeSuffices, SinksSuffice}

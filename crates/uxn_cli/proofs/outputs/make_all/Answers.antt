@@ -1,11 +1,10 @@
-use Rattle.std.proofs.Common.{◌≡◌, ◌∙◌, ◌+◌, ◌∷◌, ap, drop, rules, drop_of_length-le}
+use Rattle.std.proofs.Common.{◌≡◌, ◌∙◌, ap, rules, drop_of_length-le}
 use Rattle.std.specs.Prelude.{Err, option_map}
 use Rattle.uxn_io.specs.Changes.{with_created}
-use Rattle.uxn_io.specs.Outside.{Creates}
 use Rattle.uxn_cli.specs.Outcome.{creating}
 use Rattle.uxn_cli.specs.Outputs.{paths_of}
 use Rattle.uxn_cli.proofs.OutputLemmas.{map_at, made_more, can_next, can_rest, untold, made_front}
-use Rattle.uxn_cli.proofs.SureLemmas.{continues-start, continues-more, continues-sure, continues-all}
+use Rattle.uxn_cli.proofs.SureLemmas.{continues-more, continues-sure, continues-all}
 use Rattle.uxn_cli.proofs.outputs.make_all.Goals as goal
 
 pub returns-in_err-create-clause-err : goal.returns-in_err-create-clause-err

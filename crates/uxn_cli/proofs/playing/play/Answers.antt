@@ -1,6 +1,5 @@
-use Rattle.std.proofs.Common.{◌≡◌, refl, inl, inr, rules}
+use Rattle.std.proofs.Common.{◌≡◌, inl, inr, rules}
 use Rattle.std.specs.Prelude.{None, Err}
-use Rattle.uxn_cli.specs.World.{world}
 use Rattle.uxn_cli.proofs.DoneLemmas.{done-last, short-last}
 use Rattle.uxn_cli.proofs.RunLemmas.{unprepared, play-outputs, play-root, play-files, ready-unmade, ready-unmade-tree, ready-run, ready-cut, ready-tree, ready-sinks}
 use Rattle.uxn_cli.proofs.playing.play.Goals as goal

@@ -1,9 +1,9 @@
-use Rattle.std.proofs.Common.{◌≡◌, ◌∙◌, ap, rules}
+use Rattle.std.proofs.Common.{◌∙◌, ap, rules}
 use Rattle.std.specs.Prelude.{false}
 use Rattle.std.specs.FinMap as fin
 use Rattle.system_port.specs.DebugText.{exit_code_of}
 use Rattle.varvara_bus.specs.Bus.{BusStandsFor}
-use Rattle.uxn_cli.specs.Job.{Home, devices_with, trail_by}
+use Rattle.uxn_cli.specs.Job.{devices_with, trail_by}
 use Rattle.uxn_cli.proofs.running.run_machine.Goals as goal
 
 pub run_script-requires-clause-frames : goal.run_script-requires-clause-frames

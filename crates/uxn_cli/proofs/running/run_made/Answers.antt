@@ -1,4 +1,4 @@
-use Rattle.std.proofs.Common.{◌≡◌, ◌∙◌, ap, sym, subst, rules}
+use Rattle.std.proofs.Common.{◌≡◌, ◌∙◌, sym, subst, rules}
 use Rattle.std.specs.Prelude.{Err, false}
 use Rattle.std.specs.FinMap as fin
 use Rattle.uxn_opcodes.specs.declared.Stop.TheVariants.{TreeFault}
