@@ -52,7 +52,7 @@ parent_continues path parent e =
           ∙ ap (λ p. p ++ 47 ∷ join_with_byte 47 (drop n names)) h.1,
     )
 
-parent_under : (path parent : List ℕ) → parent_of path ≡ Some parent → is_under path parent ≡ true
+pub parent_under : (path parent : List ℕ) → parent_of path ≡ Some parent → is_under path parent ≡ true
 parent_under path parent e = let continues = parent_continues path parent e in sym (under_answer path parent true (λ t. continues, λ c. refl))
 
 -- ---- what a made file leaves

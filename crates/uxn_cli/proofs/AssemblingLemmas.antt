@@ -1,4 +1,4 @@
-use Rattle.std.proofs.Common.{◌≡◌, ℕ, ◌<◌, length, arith, not, List, [], ◌∷◌, map, refl, ap, ap₂, sym, ◌∙◌, subst}
+use Rattle.std.proofs.Common.{◌≡◌, ℕ, ◌<◌, length, arith, not, List, [], ◌∷◌, map, refl, ap, ap₂, sym, ◌∙◌, subst, inl}
 use Rattle.std.specs.Prelude.{Option, Some, None, Result, Ok, Err, IfSome, option_map, option_to_list, find, ◌++◌}
 use Rattle.std.proofs.lemmas.List.{map-append, length-map}
 use Rattle.uxn_io.specs.declared.trees.FileBytes.{FileBytes}
@@ -20,7 +20,7 @@ use Rattle.uxn_cli.specs.Request.{root_by, HasApartOutputs}
 use Rattle.uxn_cli.specs.Verdict.{and_then, View, Work, Write, source_in, texts_of, inputs_by, outputs_by, outputs_of, clashes, blocked_seen, made_by, judged}
 use Rattle.uxn_cli.specs.Answer.{IsViewOf, Judges, HasEnded, IsRefused, HasCut}
 use Rattle.uxn_cli.proofs.ChangeLemmas.{written-changes, written-cut}
-use Rattle.uxn_cli.proofs.VerdictLemmas.{unread_script, unread_commands}
+use Rattle.uxn_cli.proofs.VerdictLemmas.{unread_script, unread_commands, unseen_part, unseen_parent}
 use Rattle.uxn_cli.specs.Causes.{verdict_on}
 use Rattle.uxn_cli.specs.Room.{Takes, TakesFor, TreeSuffices}
 use Rattle.uxn_cli.proofs.ApartLemmas.{makes_all, fills_all}
@@ -29,12 +29,20 @@ use Rattle.uxn_cli.proofs.SureLemmas.{fills_more}
 
 -- the view of `asm`
 abbrev pub asm_view : (tree : Option Nodes) (task : Task) → FileBytes → Option (List ℕ) → View
-asm_view tree task file blocked = record { file = file; symbols = NoFile; script = (unread_script tree task).0; commands = (unread_commands tree task).0; blocked = blocked }
+asm_view tree task file blocked = record {
+  file = file;
+  symbols = NoFile;
+  script = (unread_script tree task).0;
+  commands = (unread_commands tree task).0;
+  part = (unseen_part tree task).0;
+  parent = (unseen_parent tree task).0;
+  blocked = blocked;
+}
 
 pub sees_asm : (tree : Option Nodes) (task : Task) (file : FileBytes) (blocked : Option (List ℕ)) → task.command ≡ Assemble
     → IfSome tree (λ nodes. file ≡ whole_file (file_at nodes task.file) 4194304) → IfSome tree (λ nodes. blocked ≡ blocked_seen nodes task) → IsViewOf tree task (asm_view tree task file blocked)
-sees_asm None task file blocked asm found looked = record { file = tt; symbols = tt; script = tt; commands = tt; blocked = tt }
-sees_asm (Some nodes) task file blocked asm found looked = record { file = rw asm found; symbols = rw asm refl; script = refl; commands = refl; blocked = looked }
+sees_asm None task file blocked asm found looked = record { file = tt; symbols = tt; script = tt; commands = tt; part = tt; parent = tt; blocked = tt }
+sees_asm (Some nodes) task file blocked asm found looked = record { file = rw asm found; symbols = rw asm refl; script = refl; commands = refl; part = refl; parent = refl; blocked = looked }
 
 then_made : (said : Result (List ℕ) Rattle.uxn_cli.specs.declared.refusal.Refusal.Refusal) (work : List ℕ → Work) (blocked : Option (List ℕ))
     → and_then (and_then said (λ source. Ok (work source))) (made_by blocked) ≡ and_then said (λ source. made_by blocked (work source))
@@ -98,15 +106,15 @@ module _ (task : Task) (asm : task.command ≡ Assemble) (tree : Option Nodes) (
   pub sure_files : (start here : Room) (P : Type 0) → HasApartOutputs task
       → IfSome tree (λ nodes. None ≡ find (λ path. not (can_create nodes path)) (paths_of outputs)) → Leaves start here 0 0
       → IfSome tree (λ nodes. length outputs < here.files → CanFill here.bytes (seen_texts outputs) (with_empty (seen_texts outputs) nodes) → P)
-      → IfSome tree (λ nodes. TreeSuffices (verdict_on nodes (Ok task)) start → P)
+      → IfSome tree (λ nodes. TreeSuffices (verdict_on nodes (Ok task)) start nodes → P)
   sure_files start here P apart looked left sure = go tree (judges_asm None looked) (rw paths at looked) sure
     where
       go : (t : Option Nodes) → Judges (Ok task) t (Ok (Write (texts_of task source))) → IfSome t (λ nodes. None ≡ find (λ path. not (can_create nodes path)) (outputs_of task))
           → IfSome t (λ nodes. length outputs < here.files → CanFill here.bytes (seen_texts outputs) (with_empty (seen_texts outputs) nodes) → P)
-          → IfSome t (λ nodes. TreeSuffices (verdict_on nodes (Ok task)) start → P)
+          → IfSome t (λ nodes. TreeSuffices (verdict_on nodes (Ok task)) start nodes → P)
       go None j l s = tt
       go (Some nodes) j l s = λ takes.
-          let V : Result Work Refusal → Type 0 = λ v. TakesFor v start in
+          let V : Result Work Refusal → Type 0 = λ v. TakesFor v start nodes in
           let room : Takes start (texts_of task source) = subst V (sym (told_verdict nodes (Ok task) (Ok (Write (texts_of task source))) j)) takes.takes in
           let mine : Takes start (seen_texts outputs) = rw texts room in
           let few = mine.files in
@@ -134,8 +142,7 @@ module _ (task : Task) (asm : task.command ≡ Assemble) (tree : Option Nodes) (
       found = Ok (Write (texts_of task source));
       judges = judges_asm None looked;
       may = tt;
-      cut = written-cut out err (texts_of task source) tree now (can_here apart looked) (rw (← texts) front);
-      short = λ text. absurd text;
+      front = inl (record { cut = written-cut out err (texts_of task source) tree now (can_here apart looked) (rw (← texts) front); short = λ text. absurd text });
     }
 
     -- all files were written
@@ -144,10 +151,10 @@ module _ (task : Task) (asm : task.command ≡ Assemble) (tree : Option Nodes) (
     is_written apart looked written = record {
       found = Ok (Write (texts_of task source));
       judges = judges_asm None looked;
-      has = record {
+      has = inl (record {
         status = refl;
         world = ap (λ t. world t out err) (written ∙ ap (λ ts. option_map (with_texts ts) tree) texts) ∙ sym (written-changes out err (texts_of task source) tree (can_here apart looked));
-      };
+      });
     }
 
 -- a file that a tree which tells nothing did not make

@@ -26,9 +26,9 @@ use Rattle.uxn_debugger.specs.Reading.{commands_of_text}
 use Rattle.system_port.specs.DebugText.{exit_code_of}
 use Rattle.varvara_bus.specs.History.{stored}
 use Rattle.uxn_cli.specs.Job.{Job, trail_of}
-use Rattle.uxn_cli.specs.Verdict.{and_then, View, Work, Run, Write, Print, view_of, source_by, source_in, rom_in, labels_by, labels_at, labels_in, given_in, debug_labels, commands_from, commands_in, script_from, script_in, job_of, program_in, texts_of, work_of, made_by, judged, verdict}
+use Rattle.uxn_cli.specs.Verdict.{and_then, View, Work, Run, Write, Print, view_of, source_by, source_in, rom_in, labels_by, labels_at, labels_in, given_in, debug_labels, commands_from, commands_in, script_from, script_in, home_by, job_of, program_in, texts_of, work_of, made_by, judged, verdict}
 use Rattle.uxn_cli.specs.Outcome.{outcome_of}
-use Rattle.uxn_cli.specs.Answer.{IsViewOf, Judges, HasOutcome, HasEnded, EndsEarly, Answers}
+use Rattle.uxn_cli.specs.Answer.{IsUntold, IsViewOf, Judges, HasOutcome, HasEnded, EndsEarly, Answers}
 use Rattle.uxn_cli.specs.Causes.{IsEarly, IsExactly, verdict_on, IsIllegal, IsPathless, IsMissing, IsFaulty, IsUnfit, IsBadScript, IsBadCommands, IsBlocked, EndsWith, PutsLine}
 use Rattle.tal_symbols.specs.Reading.{symbols_in}
 use Rattle.tal_listing.specs.Disassembly.{disassembly}
@@ -167,9 +167,9 @@ program-later false path file = then-later (source_in path file) (λ source. Ok 
 
 work-later : (command : Command) (task : Task) (view : View) → IsLater (work_of command task view)
 work-later Play task view =
-    then-later (program_in task.rom task.file view.file) (λ rom. and_then (script_in task.script view.script) (λ script. Ok (Run (job_of task rom script None))))
+    then-later (program_in task.rom task.file view.file) (λ rom. and_then (script_in task.script view.script) (λ script. Ok (Run (job_of task (home_by task.root view.part view.parent) rom script None))))
     (program-later task.rom task.file view.file)
-    (λ rom. then-later (script_in task.script view.script) (λ script. Ok (Run (job_of task rom script None))) (script-later task.script view.script) (λ script. tt))
+    (λ rom. then-later (script_in task.script view.script) (λ script. Ok (Run (job_of task (home_by task.root view.part view.parent) rom script None))) (script-later task.script view.script) (λ script. tt))
 work-later Debug task view =
     then-later (program_in task.rom task.file view.file) _ (program-later task.rom task.file view.file)
     (λ rom. then-later (given_in task.symbols view.symbols) _ (given-later task.symbols view.symbols)
@@ -195,7 +195,7 @@ later-status (Err refusal) number later e large small = omega arith
 
 -- the verdict on what stands in a tree that tells its contents
 same_view : (nodes : Nodes) (task : Task) (view : View) → IsViewOf (Some nodes) task view → view ≡ view_of nodes task
-same_view nodes task view seen = rw (← seen.file, ← seen.symbols, ← seen.script, ← seen.commands, ← seen.blocked) refl
+same_view nodes task view seen = rw (← seen.file, ← seen.symbols, ← seen.script, ← seen.commands, ← seen.part, ← seen.parent, ← seen.blocked) refl
 
 pub told_verdict : (nodes : Nodes) (asked : Result Task Refusal) (found : Result Work Refusal) → Judges asked (Some nodes) found → found ≡ verdict_on nodes asked
 told_verdict nodes (Err refusal) found j = sym j.judged
@@ -211,7 +211,7 @@ pathless_asked (Err r) view e = let word = only_pathless r e in (word.0, ap Err 
 pathless_asked (Ok task) view e = absurd (later-status (judged task view) 129 (judged-later task view) e (omega arith) (omega arith))
 
 module _ (asked : Result Task Refusal) (before now : World) (answer : ℕ) where
-  early_is : EndsEarly asked before now answer → IsEarly answer
+  pub early_is : EndsEarly asked before now answer → IsEarly answer
   early_is e = elim e.stop as (λ stop. answer ≡ early_status stop → IsEarly answer) [
     | TreeFault ↦ λ s. inl s
     | SinkFault ↦ λ s. inr (inl s)
@@ -223,24 +223,37 @@ module _ (asked : Result Task Refusal) (before now : World) (answer : ℕ) where
   early_large (inr (inl e)) = omega arith
   early_large (inr (inr e)) = omega arith
 
-  -- a status comes exactly with a fact, where a verdict has that status exactly with it
-  exactly : (status : ℕ) (P : Type 0) → status ≤ 135 → ((found : Result Work Refusal) → Judges asked before.files found → status_by found ≡ status → P)
+  -- a run that is not told ends with an exit code
+  untold_code : (tree : Option Nodes) (found : Result Work Refusal) → IsUntold tree found → status_by found ≤ 127
+  untold_code (Some nodes) found untold = absurd untold
+  untold_code None (Err refusal) untold = absurd untold
+  untold_code None (Ok work) untold = is_code work
+
+  -- a status comes exactly with a fact, where a verdict has that status exactly with it; a refusal's, where a run may not be told
+  exactly : (status : ℕ) (P : Type 0) → status ≤ 135 → ((found : Result Work Refusal) → IsUntold before.files found → 128 ≤ status)
+      → ((found : Result Work Refusal) → Judges asked before.files found → status_by found ≡ status → P)
       → ((found : Result Work Refusal) → Judges asked before.files found → P → status_by found ≡ status) → Answers asked before now answer → IsExactly answer status P
-  exactly status P small only whenever (inl ended) = record {
-    only = λ e. only ended.found ended.judges (sym ended.has.status ∙ e);
-    whenever = λ p. inl (ended.has.status ∙ whenever ended.found ended.judges p);
-  }
-  exactly status P small only whenever (inr early) = record {
+  exactly status P small large only whenever (inl ended) = elim ended.has [
+    | inl has ↦ record {
+      only = λ e. only ended.found ended.judges (sym has.status ∙ e);
+      whenever = λ p. inl (has.status ∙ whenever ended.found ended.judges p);
+    }
+    | inr untold ↦ record {
+      only = λ e. absurd (let le = large ended.found untold.0 in let code = untold.1 in omega (arith, e, le, code));
+      whenever = λ p. absurd (let le = large ended.found untold.0 in let code = untold_code before.files ended.found untold.0 in let is = whenever ended.found ended.judges p in omega (arith, is, le, code));
+    }
+  ]
+  exactly status P small large only whenever (inr early) = record {
     only = λ e. (let large = early_large (early_is early) in absurd (omega arith));
     whenever = λ p. inr (early_is early);
   }
 
   pub exactly_illegal : Answers asked before now answer → IsExactly answer 128 (IsIllegal asked)
-  exactly_illegal = exactly 128 (IsIllegal asked) (omega arith)
+  exactly_illegal = exactly 128 (IsIllegal asked) (omega arith) (λ found untold. omega arith)
       (λ found j e. illegal_asked asked j.view (ap status_by j.judged ∙ e)) (λ found j p. sym (ap status_by j.judged) ∙ ap (λ a. status_by (verdict a j.view)) p)
 
   pub exactly_pathless : Answers asked before now answer → IsExactly answer 129 (IsPathless asked)
-  exactly_pathless = exactly 129 (IsPathless asked) (omega arith)
+  exactly_pathless = exactly 129 (IsPathless asked) (omega arith) (λ found untold. omega arith)
       (λ found j e. pathless_asked asked j.view (ap status_by j.judged ∙ e)) (λ found j p. sym (ap status_by j.judged) ∙ ap (λ a. status_by (verdict a j.view)) p.1)
 
   -- the same for a status that what stands in the tree decides
@@ -250,7 +263,7 @@ module _ (asked : Result Task Refusal) (before now : World) (answer : ℕ) where
   exactly_told None same status small Is only whenever a = tt
   exactly_told (Some nodes) same status small Is only whenever a =
       let on : (found : Result Work Refusal) → Judges asked before.files found → found ≡ verdict_on nodes asked = λ found j. told_verdict nodes asked found (subst (λ t. Judges asked t found) same j) in
-      exactly status (Is (verdict_on nodes asked)) small (λ found j e. only (verdict_on nodes asked) (ap status_by (sym (on found j)) ∙ e))
+      exactly status (Is (verdict_on nodes asked)) small (λ found untold. absurd (subst (λ t. IsUntold t found) same untold)) (λ found j e. only (verdict_on nodes asked) (ap status_by (sym (on found j)) ∙ e))
       (λ found j p. ap status_by (on found j) ∙ whenever (verdict_on nodes asked) p) a
 
   pub exactly_missing : Answers asked before now answer → IfSome before.files (λ nodes. IsExactly answer 130 (IsMissing (verdict_on nodes asked)))
@@ -284,7 +297,10 @@ module _ (asked : Result Task Refusal) (before now : World) (answer : ℕ) where
 
   -- a refusal puts its one line on the error output, and nothing on the other
   refusal_of : HasEnded asked before now answer → 128 ≤ answer → (refusal : Refusal) × HasOutcome (outcome_of (Err refusal)) before now answer
-  refusal_of ended large = go ended.found ended.has
+  refusal_of ended large = elim ended.has [
+    | inl has ↦ go ended.found has
+    | inr untold ↦ absurd (let code = untold.1 in omega (arith, code, large))
+  ]
     where
       go : (found : Result Work Refusal) → HasOutcome (outcome_of found) before now answer → (refusal : Refusal) × HasOutcome (outcome_of (Err refusal)) before now answer
       go (Ok work) has = absurd (let e = has.status in omega (arith, is_code work))

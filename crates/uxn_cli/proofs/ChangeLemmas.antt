@@ -1,7 +1,7 @@
 -- Files that are written and texts that are put, as changes in order.
-use Rattle.std.proofs.Common.{◌≡◌, ◌≢◌, ℕ, zero, suc, ◌+◌, ◌<◌, Bool, true, false, cond, List, [], ◌∷◌, ◌++◌, map, take, drop, length, refl, ap, sym, ◌∙◌, arith, append_assoc, take-append-drop, length-drop}
-use Rattle.std.specs.Prelude.{Option, Some, None, IfSome, ◌⊎◌, option_map, slice_get, ◌||◌}
-use Rattle.std.specs.List.{flat_map, list_any}
+use Rattle.std.proofs.Common.{◌≡◌, ◌≢◌, ℕ, zero, suc, ◌<◌, Bool, true, false, cond, List, [], ◌∷◌, ◌++◌, map, take, drop, length, refl, ap, sym, ◌∙◌, arith, take-append-drop, length-drop}
+use Rattle.std.specs.Prelude.{Option, Some, None, IfSome, option_map, slice_get, ◌||◌}
+use Rattle.std.specs.List.{list_any}
 use Rattle.std.specs.Str.{bytes_eq}
 use Rattle.std.specs.FinMap as fin
 use Rattle.std.proofs.Common.{inl, inr}
@@ -9,7 +9,7 @@ use Rattle.std.proofs.lemmas.List.{map-append}
 use Rattle.std.proofs.lemmas.Grind.{flat_map-append}
 use Rattle.uxn_io.specs.Told.{extended, HasTakenFront}
 use Rattle.uxn_io.specs.Files.{Nodes, File}
-use Rattle.uxn_io.specs.Changes.{can_create, with_created, with_appended, HasAppendedFront}
+use Rattle.uxn_io.specs.Changes.{with_created, with_appended}
 use Rattle.uxn_io.specs.Outside.{Change, ToOut, ToErr, Creates, ToFile, World, changed_by, changed_by-append, changed_by-out, changed_by-err, IsCutOff, cut-first, cut-later}
 use Rattle.uxn_io.specs.Appending.{changed_by-file, cut-file}
 use Rattle.varvara_bus.specs.Touching.{Spares, Each, each-append, each-map}

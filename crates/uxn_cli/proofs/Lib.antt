@@ -13,3 +13,8 @@ pub mod SureLemmas
 pub mod AssemblingLemmas
 pub mod OpcodeLemmas
 pub mod OthersLemmas
+pub mod AfterLemmas
+pub mod RootLemmas
+pub mod ObservationLemmas
+pub mod DoneLemmas
+pub mod IsolationLemmas

@@ -76,6 +76,10 @@ module _ (outputs : List Output) (at : ℕ) (output : Output) (lt : at < length 
   unfolding CanMake
   can_here nodes can = rw rest_here at can
 
+  pub can_next : (now : Option Nodes) → IfSome now (CanMake (drop at texts)) → IfSome now (λ nodes. can_create nodes output.path ≡ true)
+  can_next None can = tt
+  can_next (Some nodes) can = (can_here nodes can).0
+
   pub can_rest : (now new : Option Nodes) → new ≡ option_map (with_created output.path) now → IfSome now (CanMake (drop at texts)) → IfSome new (CanMake (drop (at + 1) texts))
   can_rest None new e can = rw e tt
   can_rest (Some nodes) new e can = rw e (can_here nodes can).1

@@ -1,8 +1,7 @@
 -- The inputs of `play` and `debug`, met one after the other.
-use Rattle.std.proofs.Common.{◌≡◌, ◌≢◌, ℕ, Bool, true, false, List, [], ◌∷◌, ◌++◌, refl, ap, sym, ◌∙◌, subst}
-use Rattle.std.specs.Prelude.{Option, Some, None, Result, Ok, Err, IfSome, unwrap_or, option_map}
+use Rattle.std.proofs.Common.{◌≡◌, ℕ, List, refl, ap, sym, ◌∙◌, subst}
+use Rattle.std.specs.Prelude.{Option, Some, None, Result, Ok, Err, IfSome, unwrap_or}
 use Rattle.tal_words.specs.declared.name.Label.{Label}
-use Rattle.tal_rom.specs.Assembly.{rom_of, layout}
 use Rattle.uxn_io.specs.declared.trees.FileBytes.{FileBytes}
 use Rattle.uxn_io.specs.Files.{Nodes}
 use Rattle.play_script.specs.Scripts.{ScriptView}
@@ -13,21 +12,55 @@ use Rattle.uxn_cli.specs.declared.words.Command.TheVariants.{Play, Debug}
 use Rattle.uxn_cli.specs.declared.refusal.Refusal.{Refusal}
 use Rattle.uxn_cli.specs.declared.refusal.Halt.{Halt}
 use Rattle.uxn_cli.specs.declared.refusal.Halt.TheVariants.{Refused, Stopped}
-use Rattle.uxn_cli.specs.Job.{Debugging}
-use Rattle.uxn_cli.specs.Verdict.{and_then, View, Work, Run, file_seen, symbols_seen, symbols_by, script_seen, script_by, commands_seen, program_in, own_labels, script_in, given_in, debug_labels, commands_in, debugging, job_of, work_of}
-use Rattle.uxn_cli.specs.Prepared.{Sees, Accepts, rom_in_program, labels_in_program, LoadsProgram, Loads, SeesWork, Unready}
-use Rattle.uxn_cli.proofs.VerdictLemmas.{unread_symbols, unread_script, unread_commands}
+use Rattle.file_ports.specs.RootPart.{below, parent_is_folder}
+use Rattle.uxn_cli.specs.Job.{Home, home_in}
+use Rattle.uxn_cli.specs.Verdict.{and_then, View, Work, Run, file_seen, symbols_seen, symbols_by, script_seen, script_by, commands_seen, program_in, script_in, given_in, debug_labels, commands_in, debugging, home_by, job_of, work_of, root_by}
+use Rattle.uxn_cli.specs.Prepared.{Sees, Accepts, rom_in_program, labels_in_program, LoadsProgram, Loads, SeesWork, Unready, IsHomeOf}
+use Rattle.uxn_cli.proofs.VerdictLemmas.{unread_symbols, unread_script, unread_commands, unseen_part, unseen_parent}
 
 module _ (task : Task) (tree : Option Nodes) where
+  -- what was seen, where the outputs were not looked at yet
+  abbrev view_with : FileBytes → FileBytes → FileBytes → FileBytes → View
+  view_with file symbols script commands = record {
+    file = file;
+    symbols = symbols;
+    script = script;
+    commands = commands;
+    part = (unseen_part tree task).0;
+    parent = (unseen_parent tree task).0;
+    blocked = None;
+  }
+
+  -- the folder of the program's own files
+  abbrev pub home : Home
+  home = home_by task.root (unseen_part tree task).0 (unseen_parent tree task).0
+
+  pub is-home : root_by task.command task ≡ task.root → IsHomeOf tree task home
+  is-home same = record { root = is_root task.root; told = is_told tree; none = λ none. rw none refl }
+    where
+      is_root : (root : Option (List ℕ)) → (home_by root (unseen_part tree task).0 (unseen_parent tree task).0).root ≡ root
+      is_root None = refl
+      is_root (Some root) = refl
+
+      told_by : (root : Option (List ℕ)) (nodes : Nodes) → home_by root (below root nodes) (parent_is_folder root nodes) ≡ home_in root nodes
+      told_by None nodes = refl
+      told_by (Some root) nodes = refl
+
+      is_told : (t : Option Nodes) → IfSome t (λ nodes. home_by task.root (unseen_part t task).0 (unseen_parent t task).0 ≡ home_in task.root nodes)
+      is_told None = tt
+      is_told (Some nodes) = rw same (told_by task.root nodes)
+
   seen_work : (file symbols script commands : FileBytes) → IfSome tree (λ nodes. file ≡ file_seen nodes task) → IfSome tree (λ nodes. symbols ≡ symbols_seen nodes task)
       → IfSome tree (λ nodes. script ≡ script_seen nodes task) → IfSome tree (λ nodes. commands ≡ commands_seen nodes task)
-      → (said : Result Work Refusal) → work_of task.command task (record { file = file; symbols = symbols; script = script; commands = commands; blocked = None }) ≡ said → SeesWork tree task said
+      → (said : Result Work Refusal) → work_of task.command task (view_with file symbols script commands) ≡ said → SeesWork tree task said
   seen_work file symbols script commands f s t c said is = record {
-    view = record { file = file; symbols = symbols; script = script; commands = commands; blocked = None };
+    view = view_with file symbols script commands;
     file = f;
     symbols = s;
     script = t;
     commands = c;
+    part = (unseen_part tree task).1;
+    parent = (unseen_parent tree task).1;
     work = is;
   }
 
@@ -38,12 +71,12 @@ module _ (task : Task) (tree : Option Nodes) where
   -- ---- `play`
 
   module _ (play : task.command ≡ Play) where
-    play_work : (file symbols script commands : FileBytes) → work_of task.command task (record { file = file; symbols = symbols; script = script; commands = commands; blocked = None })
-        ≡ and_then (program_in task.rom task.file file) (λ rom. and_then (script_in task.script script) (λ given. Ok (Run (job_of task rom given None))))
-    play_work file symbols script commands = ap (λ c. work_of c task (record { file = file; symbols = symbols; script = script; commands = commands; blocked = None })) play
+    play_work : (file symbols script commands : FileBytes) → work_of task.command task (view_with file symbols script commands)
+        ≡ and_then (program_in task.rom task.file file) (λ rom. and_then (script_in task.script script) (λ given. Ok (Run (job_of task home rom given None))))
+    play_work file symbols script commands = ap (λ c. work_of c task (view_with file symbols script commands)) play
 
     play_seen : (file script : FileBytes) → IfSome tree (λ nodes. file ≡ file_seen nodes task) → IfSome tree (λ nodes. script ≡ script_seen nodes task) → (said : Result Work Refusal)
-        → and_then (program_in task.rom task.file file) (λ rom. and_then (script_in task.script script) (λ given. Ok (Run (job_of task rom given None)))) ≡ said → SeesWork tree task said
+        → and_then (program_in task.rom task.file file) (λ rom. and_then (script_in task.script script) (λ given. Ok (Run (job_of task home rom given None)))) ≡ said → SeesWork tree task said
     play_seen file script f t said is =
         seen_work file (unread_symbols tree task).0 script (unread_commands tree task).0 f (unread_symbols tree task).1 t (unread_commands tree task).1 said
         (play_work file (unread_symbols tree task).0 script (unread_commands tree task).0 ∙ is)
@@ -52,18 +85,18 @@ module _ (task : Task) (tree : Option Nodes) where
     play-unloaded (Stopped stop) loads = loads
     play-unloaded (Refused refusal) loads =
         play_seen loads.file (unread_script tree task).0 loads.seen (unread_script tree task).1 (Err refusal)
-        (ap (λ s. and_then s (λ rom. and_then (script_in task.script (unread_script tree task).0) (λ given. Ok (Run (job_of task rom given None))))) loads.said_so)
+        (ap (λ s. and_then s (λ rom. and_then (script_in task.script (unread_script tree task).0) (λ given. Ok (Run (job_of task home rom given None))))) loads.said_so)
 
     module _ (program : Program) (loads : LoadsProgram tree task program) where
-      loaded_play : (script : FileBytes) → and_then (program_in task.rom task.file loads.file) (λ rom. and_then (script_in task.script script) (λ given. Ok (Run (job_of task rom given None))))
-          ≡ and_then (script_in task.script script) (λ given. Ok (Run (job_of task (rom_in_program program) given None)))
-      loaded_play script = ap (λ s. and_then s (λ rom. and_then (script_in task.script script) (λ given. Ok (Run (job_of task rom given None))))) loads.rom
+      loaded_play : (script : FileBytes) → and_then (program_in task.rom task.file loads.file) (λ rom. and_then (script_in task.script script) (λ given. Ok (Run (job_of task home rom given None))))
+          ≡ and_then (script_in task.script script) (λ given. Ok (Run (job_of task home (rom_in_program program) given None)))
+      loaded_play script = ap (λ s. and_then s (λ rom. and_then (script_in task.script script) (λ given. Ok (Run (job_of task home rom given None))))) loads.rom
 
       unscripted_play : (halt : Halt) → Accepts {B = ScriptView} (λ script. script) tree (λ nodes. script_by nodes task.script) (script_in task.script) (Err halt) → Unready tree task halt
       unscripted_play (Stopped stop) accepts = accepts
       unscripted_play (Refused refusal) accepts =
           play_seen loads.file accepts.file loads.seen accepts.seen (Err refusal)
-          (loaded_play accepts.file ∙ ap (λ s. and_then s (λ given. Ok (Run (job_of task (rom_in_program program) given None)))) accepts.said_so)
+          (loaded_play accepts.file ∙ ap (λ s. and_then s (λ given. Ok (Run (job_of task home (rom_in_program program) given None)))) accepts.said_so)
 
       pub play-unscripted : (halt : Halt) (told : Option Nodes) → told ≡ tree → Accepts {B = ScriptView} (λ script. script) told (λ nodes. script_by nodes task.script) (script_in task.script) (Err halt)
           → Unready tree task halt
@@ -71,18 +104,18 @@ module _ (task : Task) (tree : Option Nodes) where
           unscripted_play halt (subst (λ t. Accepts {B = ScriptView} (λ script. script) t (λ nodes. script_by nodes task.script) (script_in task.script) (Err halt)) same accepts)
 
       pub play-ready : (script : ScriptView) (told : Option Nodes) → told ≡ tree → Sees told (λ nodes. script_by nodes task.script) (script_in task.script) (Ok script)
-          → SeesWork tree task (Ok (Run (job_of task (rom_in_program program) script None)))
+          → SeesWork tree task (Ok (Run (job_of task home (rom_in_program program) script None)))
       play-ready script told same there =
           let accepts = seen-here _ _ _ told same there in
-          play_seen loads.file accepts.file loads.seen accepts.seen (Ok (Run (job_of task (rom_in_program program) script None)))
-          (loaded_play accepts.file ∙ ap (λ s. and_then s (λ given. Ok (Run (job_of task (rom_in_program program) given None)))) accepts.said_so)
+          play_seen loads.file accepts.file loads.seen accepts.seen (Ok (Run (job_of task home (rom_in_program program) script None)))
+          (loaded_play accepts.file ∙ ap (λ s. and_then s (λ given. Ok (Run (job_of task home (rom_in_program program) given None)))) accepts.said_so)
 
   -- ---- `debug`
 
   module _ (debug : task.command ≡ Debug) where
     -- the work of `debug`, by what the inputs say
     abbrev watched : List ℕ → ScriptView → List DebugCommand → List Label → Work
-    watched rom script commands labels = Run (job_of task rom script (Some (debugging task commands labels)))
+    watched rom script commands labels = Run (job_of task home rom script (Some (debugging task commands labels)))
 
     abbrev from_commands : FileBytes → List ℕ → List Label → ScriptView → Result Work Refusal
     from_commands commands rom labels script = and_then (commands_in labels task.commands commands) (λ given. Ok (watched rom script given labels))
@@ -98,7 +131,7 @@ module _ (task : Task) (tree : Option Nodes) where
         → and_then (program_in task.rom task.file file) (from_symbols file symbols script commands) ≡ said → SeesWork tree task said
     debug_seen file symbols script commands f s t c said is =
         seen_work file symbols script commands f (rw debug s) t c said
-        (ap (λ command. work_of command task (record { file = file; symbols = symbols; script = script; commands = commands; blocked = None })) debug ∙ is)
+        (ap (λ command. work_of command task (view_with file symbols script commands)) debug ∙ is)
 
     unread_given : (symbols : FileBytes) × IfSome tree (λ nodes. symbols ≡ symbols_by nodes task.symbols)
     unread_given = go tree
@@ -173,7 +206,7 @@ module _ (task : Task) (tree : Option Nodes) where
 
           pub debug-ready : (commands : List DebugCommand) (told : Option Nodes) (shown : List Label) → told ≡ tree → shown ≡ labels
               → Sees told (λ nodes. script_by nodes task.commands) (commands_in shown task.commands) (Ok commands)
-              → SeesWork tree task (Ok (Run (job_of task (rom_in_program program) script (Some (debugging task commands labels)))))
+              → SeesWork tree task (Ok (Run (job_of task home (rom_in_program program) script (Some (debugging task commands labels)))))
           debug-ready commands told shown same is there =
               let commanded : Sees tree (λ nodes. script_by nodes task.commands) (commands_in labels task.commands) (Ok commands) =
               subst (λ l. Sees tree (λ nodes. script_by nodes task.commands) (commands_in l task.commands) (Ok commands)) is (seen-here _ _ _ told same there) in

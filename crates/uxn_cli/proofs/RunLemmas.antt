@@ -1,30 +1,28 @@
 -- What `play` and `debug` do, step by step.
-use Rattle.std.proofs.Common.{◌≡◌, ◌≢◌, ◌<◌, length, ℕ, Bool, true, false, not, List, [], ◌∷◌, ◌++◌, map, refl, ap, sym, ◌∙◌, subst, inl, inr, append_assoc, append-nil, arith}
-use Rattle.std.specs.Prelude.{Option, Some, None, Result, Ok, Err, IfSome, IsSome, option_map, option_to_list, find, is_some, ◌||◌, ◌⊎◌, fold}
+use Rattle.std.proofs.Common.{◌≡◌, ◌<◌, ◌≤◌, length, ℕ, true, false, not, List, [], ◌∷◌, ◌++◌, map, refl, ap, sym, ◌∙◌, subst, inl, inr, arith}
+use Rattle.std.specs.Prelude.{Option, Some, None, Result, Ok, Err, IfSome, IsSome, option_map, option_to_list, find, ◌||◌, ◌⊎◌, fold}
 use Rattle.std.specs.List.{list_any}
 use Rattle.std.specs.Str.{bytes_eq}
-use Rattle.std.specs.FinMap as fin
 use Rattle.std.proofs.lemmas.List.Elements.{All-head, All-tail}
 use Rattle.std.proofs.lemmas.Slice.Eq.{bytes_eq-Decides}
 use Rattle.tal_words.specs.declared.name.Label.{Label}
-use Rattle.tal_rom.specs.Assembly.{rom_of}
-use Rattle.uxn_io.specs.declared.trees.FileBytes.{FileBytes}
-use Rattle.uxn_io.specs.declared.trees.FileBytes.TheVariants.{Missing as NoFile}
 use Rattle.uxn_io.specs.Changes.{can_create, with_appended, HasAppendedFront}
-use Rattle.uxn_io.specs.Files.{Nodes, Node, file_at, bytes_of}
-use Rattle.uxn_io.specs.Outside.{Change, World, changed_by, changed_by-append, IsCutOff, cut-first, cut-later}
+use Rattle.uxn_io.specs.Files.{Nodes, file_at}
+use Rattle.uxn_io.specs.Outside.{Change, World, changed_by, files_by, IsCutOff, cut-first}
 use Rattle.uxn_io.specs.Appending.{cut-file}
 use Rattle.uxn_io.specs.Room.{Room, Leaves}
-use Rattle.uxn_opcodes.specs.declared.Core.{Core}
+use Rattle.uxn_io.specs.Faults.{TheTree, ASink}
+use Rattle.uxn_io.specs.Taking.{TreeTakes, TreeLeft, SinkTakes, sure, WasNotSure, bytes_out, bytes_err, files-told, takes-first}
 use Rattle.uxn_opcodes.specs.declared.Stop.{Stop}
 use Rattle.uxn_opcodes.specs.declared.Stop.TheVariants.{TreeFault, SinkFault, NoMemory}
-use Rattle.uxn_opcodes.specs.Rule.{new_core}
 use Rattle.varvara_bus.specs.Bus.{FilesStay, IsFileWhereTold}
+use Rattle.varvara_bus.specs.State.{HasFiles}
+use Rattle.varvara_bus.proofs.Appends.{appended-stays}
+use Rattle.vector_loop.specs.Outputs.{IsOutput}
 use Rattle.vector_loop.specs.State.{State}
 use Rattle.vector_loop.specs.Trail.{Trail}
-use Rattle.vector_loop.specs.Watch.{ports_read, moment_of, shown_all}
+use Rattle.vector_loop.specs.Watch.{shown_all}
 use Rattle.uxn_debugger.specs.declared.command.DebugCommand.{DebugCommand}
-use Rattle.uxn_debugger.specs.Log.{Shown, log_of}
 use Rattle.uxn_debugger.specs.Watching.{Watching, new_watching, shown as shown_to, ended as ended_by, after_moment, after_end, KeepsTheLog}
 use Rattle.uxn_cli.specs.declared.outputs.Output.{Output}
 use Rattle.uxn_cli.specs.declared.machine.Machine.{Machine}
@@ -37,20 +35,22 @@ use Rattle.uxn_cli.specs.declared.refusal.Halt.{Halt}
 use Rattle.uxn_cli.specs.declared.refusal.Halt.TheVariants.{Refused, Stopped}
 use Rattle.uxn_cli.specs.World.{world, Text, with_empty, with_bytes, CanMake, AreFiles, HasMadeFront}
 use Rattle.uxn_cli.specs.Outputs.{seen_texts, paths_of}
-use Rattle.uxn_cli.specs.Job.{Debugging, Job, outputs_in, outputs_by, trail_by, trail_of, exit_in, text_at, report_text, shown_of, log_text, log_by}
-use Rattle.uxn_cli.specs.Outcome.{outcome_of, creating, filling_all, reporting, running}
+use Rattle.uxn_cli.specs.Blame.{blame_of}
+use Rattle.uxn_cli.specs.Job.{Debugging, Job, Home, no_home, home_in, outputs_in, trail_by, trail_of, exit_in, text_at, report_text, shown_of, log_text, log_by}
+use Rattle.uxn_cli.specs.Outcome.{creating, filling_all, reporting, running}
 use Rattle.uxn_cli.specs.Request.{root_by, run_outputs, HasApartOutputs}
 use Rattle.uxn_cli.specs.Lines.{line_of}
 use Rattle.uxn_cli.specs.Causes.{verdict_on}
 use Rattle.uxn_cli.specs.Room.{TakesFor, TreeSuffices, SinksSuffice}
-use Rattle.uxn_cli.specs.Verdict.{and_then, View, Work, Run, file_seen, symbols_seen, script_seen, commands_seen, blocked_seen, job_of, inputs_by, outputs_of, clashes, made_by, work_of, judged}
-use Rattle.uxn_cli.specs.Answer.{IsViewOf, Judges, HasEnded, IsRefused, HasCut, IsCut, Performs}
-use Rattle.uxn_cli.specs.Prepared.{SeesWork, IsReady, Unready, Made, HalfMade, Blocked, MakesOutputs, HasRun, WasShown, RunFiles, outputs_for}
+use Rattle.uxn_cli.specs.Verdict.{and_then, Work, Run, blocked_seen, job_of, inputs_by, outputs_of, made_by, work_of}
+use Rattle.uxn_cli.specs.Answer.{Judges, HasEnded, HasFront, HasCut, IsCut, IsUntold, MayStop, Performs}
+use Rattle.uxn_cli.specs.Prepared.{Around, around, WasDone, FellShort, TreeWasDone, AtHome, HasFinished, IsHomeOf, trail_for, SeesWork, IsReady, Unready, Made, HalfMade, Blocked, MakesOutputs, HasRun, WasShown, RunFiles, outputs_for}
 use Rattle.uxn_cli.proofs.ApartLemmas.{no_clash-fewer, makes_all, made_files}
 use Rattle.uxn_cli.proofs.AssemblingLemmas.{seen_paths}
 use Rattle.uxn_cli.proofs.CauseLemmas.{told_verdict}
 use Rattle.uxn_cli.proofs.ChangeLemmas.{paths_in, made-changes, filled-changes, made-cut}
-use Rattle.uxn_cli.proofs.OutputLemmas.{appended-file}
+use Rattle.uxn_cli.proofs.DoneLemmas.{done-both, short-later, read-before, not-taken, files-made}
+use Rattle.uxn_cli.proofs.RootLemmas.{outputs-outside, home-made, all-apart}
 use Rattle.uxn_cli.proofs.VerdictLemmas.{unlooked}
 
 -- ---- texts that are written after a run
@@ -68,34 +68,40 @@ pub text-cut : (path text : List ℕ) (tree now : Option Nodes) (out err : Optio
     → IsCutOff (world tree out err) (world now out err) (filling_all (text_at (Some path) text))
 text-cut path text tree now out err front = cut-first (world tree out err) (world now out err) _ [] (cut-file (world tree out err) now path text front)
 
-pub text-stays : (path text : List ℕ) (tree now : Option Nodes) → now ≡ option_map (with_appended path text) tree → FilesStay tree now
-text-stays path text None now is = record { stays = λ other there. rw is tt }
-text-stays path text (Some nodes) now is = record { stays = λ other there. rw is (appended-file nodes path other text there) }
+pub text-stays : (path text : List ℕ) (tree now : Option Nodes) → now ≡ option_map (with_appended path text) tree → (root : Option (List ℕ)) → FilesStay root tree now
+text-stays path text tree now is root = rw is (appended-stays root tree path text)
 
-pub same-stays : (tree : Option Nodes) → FilesStay tree tree
-same-stays tree = record { stays = λ other there. there }
+pub same-stays : (tree : Option Nodes) (root : Option (List ℕ)) → FilesStay root tree tree
+same-stays tree root = record { stays = λ other outside there. there }
 
-pub stays-both : (a b c : Option Nodes) → FilesStay a b → FilesStay b c → FilesStay a c
-stays-both a b c f g = record { stays = λ path there. g.stays path (f.stays path there) }
+pub stays-both : (root : Option (List ℕ)) (a b c : Option Nodes) → FilesStay root a b → FilesStay root b c → FilesStay root a c
+stays-both root a b c f g = record { stays = λ path outside there. g.stays path outside (f.stays path outside there) }
 
-pub stays-if : (file : Option (List ℕ)) (before now : Option Nodes) → FilesStay before now → IfSome file (IsFileWhereTold before) → IfSome file (IsFileWhereTold now)
-stays-if None before now f there = tt
-stays-if (Some path) before now f there = f.stays path there
+pub stays-if : (root file : Option (List ℕ)) (before now : Option Nodes) → FilesStay root before now → IfSome file (IsOutput root before) → IfSome file (IsFileWhereTold now)
+stays-if root None before now f there = tt
+stays-if root (Some path) before now f there = f.stays path there.outside there.file
+
+pub files-if : (root file : Option (List ℕ)) (tree : Option Nodes) → IfSome file (IsOutput root tree) → IfSome file (IsFileWhereTold tree)
+files-if root None tree there = tt
+files-if root (Some path) tree there = there.file
 
 -- a run and its report
-pub reported : (before middle now : World) (report : Option (List ℕ)) (trail : Trail) (ended : Ended) → HasRun before middle trail ended
-    → now ≡ changed_by middle (filling_all (text_at report (report_text ended.exit ended.tally))) → now ≡ changed_by before (reporting report trail)
-reported before middle now report trail ended ran is =
-    is ∙ ap (λ text. changed_by middle (filling_all (text_at report text))) (ap (λ e. report_text e ended.tally) ran.exit ∙ ap (λ t. report_text (exit_in trail.last) t) ran.tally)
-    ∙ ap (λ w. changed_by w (filling_all (text_at report (report_text (exit_in trail.last) trail.last.tally)))) ran.world
-    ∙ sym (changed_by-append before trail.changes (filling_all (text_at report (report_text (exit_in trail.last) trail.last.tally))))
+same-report : (trail : Trail) (ended : Ended) → ended.exit ≡ exit_in trail.last → ended.tally ≡ trail.last.tally → report_text ended.exit ended.tally ≡ report_text (exit_in trail.last) trail.last.tally
+same-report trail ended exit tally = ap (λ e. report_text e ended.tally) exit ∙ ap (λ t. report_text (exit_in trail.last) t) tally
 
-pub report-cut-after : (before middle now : World) (report : Option (List ℕ)) (trail : Trail) (ended : Ended) → HasRun before middle trail ended
-    → IsCutOff middle now (filling_all (text_at report (report_text ended.exit ended.tally))) → IsCutOff before now (reporting report trail)
-report-cut-after before middle now report trail ended ran cut =
-    let text : report_text ended.exit ended.tally ≡ report_text (exit_in trail.last) trail.last.tally =
-    ap (λ e. report_text e ended.tally) ran.exit ∙ ap (λ t. report_text (exit_in trail.last) t) ran.tally in
-    cut-later before middle now trail.changes (filling_all (text_at report (report_text (exit_in trail.last) trail.last.tally))) ran.world (rw text at cut)
+pub reported : (before middle now : Around) (report : Option (List ℕ)) (trail : Trail) (ended : Ended) → HasRun before middle trail ended
+    → WasDone middle now (filling_all (text_at report (report_text ended.exit ended.tally))) → HasFinished before now trail (reporting report trail) ended.exit
+reported before middle now report trail ended ran done = record {
+  status = ran.exit;
+  done = done-both before middle now trail.changes (filling_all (text_at report (report_text (exit_in trail.last) trail.last.tally))) ran.done
+      (subst (λ text. WasDone middle now (filling_all (text_at report text))) (same-report trail ended ran.exit ran.tally) done);
+}
+
+pub report-cut-after : (before middle now : Around) (report : Option (List ℕ)) (trail : Trail) (ended : Ended) (stop : Stop) → HasRun before middle trail ended
+    → FellShort middle now (filling_all (text_at report (report_text ended.exit ended.tally))) stop → FellShort before now (reporting report trail) stop
+report-cut-after before middle now report trail ended stop ran short =
+    short-later before middle now trail.changes (filling_all (text_at report (report_text (exit_in trail.last) trail.last.tally))) stop ran.done
+    (subst (λ text. FellShort middle now (filling_all (text_at report text)) stop) (same-report trail ended ran.exit ran.tally) short)
 
 -- what a debugger held in the end has the log of the whole run
 shown-fold : (states : List State) (held : Watching) → shown_all after_moment held states ≡ fold shown_to held (map shown_of states)
@@ -112,21 +118,22 @@ kept-log keeps commands labels file trail before now new was =
     ∙ keeps commands labels (map shown_of trail.moments) (shown_of trail.last)
 
 -- a run, its report, and a text behind it
-pub texts-after : (before middle now : World) (changes : List Change) (file : Option (List ℕ)) (text last : List ℕ) → text ≡ last → middle ≡ changed_by before changes
-    → now ≡ changed_by middle (filling_all (text_at file text)) → now ≡ changed_by before (changes ++ filling_all (text_at file last))
-texts-after before middle now changes file text last same ran is =
-    is ∙ ap (λ t. changed_by middle (filling_all (text_at file t))) same ∙ ap (λ w. changed_by w (filling_all (text_at file last))) ran
-    ∙ sym (changed_by-append before changes (filling_all (text_at file last)))
+pub texts-after : (before middle now : Around) (trail : Trail) (changes : List Change) (file : Option (List ℕ)) (text last : List ℕ) (status : ℕ) → text ≡ last
+    → HasFinished before middle trail changes status → WasDone middle now (filling_all (text_at file text)) → HasFinished before now trail (changes ++ filling_all (text_at file last)) status
+texts-after before middle now trail changes file text last status same ran done = record {
+  status = ran.status;
+  done = done-both before middle now changes (filling_all (text_at file last)) ran.done (subst (λ t. WasDone middle now (filling_all (text_at file t))) same done);
+}
 
-pub cut-after : (before middle now : World) (changes : List Change) (file : Option (List ℕ)) (text last : List ℕ) → text ≡ last → middle ≡ changed_by before changes
-    → IsCutOff middle now (filling_all (text_at file text)) → IsCutOff before now (changes ++ filling_all (text_at file last))
-cut-after before middle now changes file text last same ran cut =
-    cut-later before middle now changes (filling_all (text_at file last)) ran (subst (λ t. IsCutOff middle now (filling_all (text_at file t))) same cut)
+pub cut-after : (before middle now : Around) (trail : Trail) (changes : List Change) (file : Option (List ℕ)) (text last : List ℕ) (status : ℕ) (stop : Stop) → text ≡ last
+    → HasFinished before middle trail changes status → FellShort middle now (filling_all (text_at file text)) stop → FellShort before now (changes ++ filling_all (text_at file last)) stop
+cut-after before middle now trail changes file text last status stop same ran short =
+    short-later before middle now changes (filling_all (text_at file last)) stop ran.done (subst (λ t. FellShort middle now (filling_all (text_at file t)) stop) same short)
 
 -- ---- what is sure
 
 -- where the tree suffices it is read without a fault
-pub reads-surely : (tree : Option Nodes) (asked : Result Task Refusal) (start : Room) (P : Type 0) → (0 < start.files → P) → IfSome tree (λ nodes. TreeSuffices (verdict_on nodes asked) start → P)
+pub reads-surely : (tree : Option Nodes) (asked : Result Task Refusal) (start : Room) (P : Type 0) → (0 < start.files → P) → IfSome tree (λ nodes. TreeSuffices (verdict_on nodes asked) start nodes → P)
 reads-surely None asked start P f = tt
 reads-surely (Some nodes) asked start P f = λ s. f s.some
 
@@ -140,15 +147,15 @@ refused-surely (Some nodes) asked refusal out err P j f = λ s.
 
 -- ---- outputs that are made
 
-any-here : (path : List ℕ) (last : List (List ℕ)) → list_any (bytes_eq path) (path ∷ last) ≡ true
+pub any-here : (path : List ℕ) (last : List (List ℕ)) → list_any (bytes_eq path) (path ∷ last) ≡ true
 any-here path last = ap (λ b. b || list_any (bytes_eq path) last) ((bytes_eq-Decides path path).1 refl)
 
-any-left : (path : List ℕ) (first last : List (List ℕ)) → list_any (bytes_eq path) first ≡ true → list_any (bytes_eq path) (first ++ last) ≡ true
+pub any-left : (path : List ℕ) (first last : List (List ℕ)) → list_any (bytes_eq path) first ≡ true → list_any (bytes_eq path) (first ++ last) ≡ true
 any-left path [] last e = absurd cc
 any-left path (other ∷ first) last e =
     elim (bytes_eq path other) as (λ b. (b || list_any (bytes_eq path) first) ≡ true → (b || list_any (bytes_eq path) (first ++ last)) ≡ true) [ true ↦ λ h. refl | false ↦ λ h. any-left path first last h ] e
 
-any-right : (path : List ℕ) (first last : List (List ℕ)) → list_any (bytes_eq path) last ≡ true → list_any (bytes_eq path) (first ++ last) ≡ true
+pub any-right : (path : List ℕ) (first last : List (List ℕ)) → list_any (bytes_eq path) last ≡ true → list_any (bytes_eq path) (first ++ last) ≡ true
 any-right path [] last e = e
 any-right path (other ∷ first) last e =
     elim (bytes_eq path other) as (λ b. (b || list_any (bytes_eq path) (first ++ last)) ≡ true) [ true ↦ refl | false ↦ any-right path first last e ]
@@ -163,21 +170,21 @@ file_among path (text ∷ texts) nodes e files =
 
 -- the outputs of a run among the outputs of a task
 pub run-files : (first : List (List ℕ)) (task : Task) (told : Option Nodes)
-    → ((path : List ℕ) → list_any (bytes_eq path) (first ++ run_outputs task) ≡ true → IsFileWhereTold told path) → RunFiles task told
+    → ((path : List ℕ) → list_any (bytes_eq path) (first ++ run_outputs task) ≡ true → IsOutput task.root told path) → RunFiles task told
 run-files first task told all = record {
   frames = go task.frames (λ path e. all path (any-right path first (run_outputs task) (any-left path _ (option_to_list task.report) (any-left path (option_to_list task.frames) (option_to_list task.samples) e))));
   samples = go task.samples (λ path e. all path (any-right path first (run_outputs task) (any-left path _ (option_to_list task.report) (any-right path (option_to_list task.frames) (option_to_list task.samples) e))));
   report = go task.report (λ path e. all path (any-right path first (run_outputs task) (any-right path _ (option_to_list task.report) e)));
 }
   where
-    go : (file : Option (List ℕ)) → ((path : List ℕ) → list_any (bytes_eq path) (option_to_list file) ≡ true → IsFileWhereTold told path) → IfSome file (IsFileWhereTold told)
+    go : (file : Option (List ℕ)) → ((path : List ℕ) → list_any (bytes_eq path) (option_to_list file) ≡ true → IsOutput task.root told path) → IfSome file (IsOutput task.root told)
     go None all = tt
     go (Some path) all = all path (any-here path [])
 
-pub log-file : (log : Option (List ℕ)) (rest : List (List ℕ)) (told : Option Nodes)
-    → ((path : List ℕ) → list_any (bytes_eq path) (option_to_list log ++ rest) ≡ true → IsFileWhereTold told path) → IfSome log (IsFileWhereTold told)
-log-file None rest told all = tt
-log-file (Some path) rest told all = all path (any-here path rest)
+pub log-file : (log : Option (List ℕ)) (rest : List (List ℕ)) (P : List ℕ → Type 0)
+    → ((path : List ℕ) → list_any (bytes_eq path) (option_to_list log ++ rest) ≡ true → P path) → IfSome log P
+log-file None rest P all = tt
+log-file (Some path) rest P all = all path (any-here path rest)
 
 module _ (task : Task) (tree : Option Nodes) (outputs : List Output) (paths : paths_of outputs ≡ outputs_of task) where
   text_paths : paths_in (seen_texts outputs) ≡ outputs_of task
@@ -234,7 +241,7 @@ module _ (task : Task) (tree : Option Nodes) where
       → Judges (Ok task) tree (and_then said (made_by blocked))
   judges said work blocked looked = record {
     view = record work.view { blocked = blocked };
-    seen = record { file = work.file; symbols = work.symbols; script = work.script; commands = work.commands; blocked = looked };
+    seen = record { file = work.file; symbols = work.symbols; script = work.script; commands = work.commands; part = work.part; parent = work.parent; blocked = looked };
     judged = ap (λ s. and_then s (made_by blocked)) (same_work task.command ∙ work.work);
   }
     where
@@ -259,35 +266,45 @@ module _ (task : Task) (tree : Option Nodes) where
     judges_run : IfSome tree (λ nodes. None ≡ find (λ path. not (can_create nodes path)) (outputs_of task)) → Judges (Ok task) tree (Ok (Run job))
     judges_run looked = judges (Ok (Run job)) work None looked
 
-    -- of a run nothing is sure
-    pub run-tree : (start : Room) (P : Type 0) → IfSome tree (λ nodes. None ≡ find (λ path. not (can_create nodes path)) (outputs_of task)) → IfSome tree (λ nodes. TreeSuffices (verdict_on nodes (Ok task)) start → P)
-    run-tree start P looked = go tree (judges_run looked)
+    -- where the tree suffices it surely takes what the run does to it
+    pub run-tree : (start : Room) (P : Type 0) → IfSome tree (λ nodes. None ≡ find (λ path. not (can_create nodes path)) (outputs_of task))
+        → IfSome tree (λ nodes. TreeTakes start nodes (running job) → P) → IfSome tree (λ nodes. TreeSuffices (verdict_on nodes (Ok task)) start nodes → P)
+    run-tree start P looked takes = go tree (judges_run looked) takes
       where
-        go : (t : Option Nodes) → Judges (Ok task) t (Ok (Run job)) → IfSome t (λ nodes. TreeSuffices (verdict_on nodes (Ok task)) start → P)
-        go None j = tt
-        go (Some nodes) j = λ s.
-            let V : Result Work Refusal → Type 0 = λ v. TakesFor v start in
-            absurd (subst V (sym (told_verdict nodes (Ok task) (Ok (Run job)) j)) s.takes)
+        go : (t : Option Nodes) → Judges (Ok task) t (Ok (Run job)) → IfSome t (λ nodes. TreeTakes start nodes (running job) → P) → IfSome t (λ nodes. TreeSuffices (verdict_on nodes (Ok task)) start nodes → P)
+        go None j takes = tt
+        go (Some nodes) j takes = λ s.
+            let V : Result Work Refusal → Type 0 = λ v. TakesFor v start nodes in
+            takes (subst V (sym (told_verdict nodes (Ok task) (Ok (Run job)) j)) s.takes)
 
-    pub run-sinks : (out err : ℕ) (P : Type 0) → IfSome tree (λ nodes. None ≡ find (λ path. not (can_create nodes path)) (outputs_of task)) → IfSome tree (λ nodes. SinksSuffice (verdict_on nodes (Ok task)) out err → P)
-    run-sinks out err P looked = go tree (judges_run looked)
+    pub run-sinks : (out err : ℕ) (P : Type 0) → IfSome tree (λ nodes. None ≡ find (λ path. not (can_create nodes path)) (outputs_of task))
+        → (SinkTakes out (bytes_out (running job)) → SinkTakes err (bytes_err (running job)) → P) → IfSome tree (λ nodes. SinksSuffice (verdict_on nodes (Ok task)) out err → P)
+    run-sinks out err P looked takes = go tree (judges_run looked)
       where
         go : (t : Option Nodes) → Judges (Ok task) t (Ok (Run job)) → IfSome t (λ nodes. SinksSuffice (verdict_on nodes (Ok task)) out err → P)
         go None j = tt
         go (Some nodes) j = λ s.
             let V : Result Work Refusal → Type 0 = λ v. SinksSuffice v out err in
-            absurd (subst V (sym (told_verdict nodes (Ok task) (Ok (Run job)) j)) s)
+            let both : SinkTakes out (bytes_out (running job)) × SinkTakes err (bytes_err (running job)) = subst V (sym (told_verdict nodes (Ok task) (Ok (Run job)) j)) s in
+            takes both.0 both.1
 
-    -- where the tree suffices no fault comes before the outputs are made
-    pub unmade-tree : (start here : Room) (P : Type 0) → (0 < start.files → 0 < here.files)
+    -- where the tree suffices no fault comes before the outputs are made, or as they are made
+    pub unmade-tree : (start here : Room) (P : Type 0) → Leaves start here 0 0
         → (0 < here.files → P → IfSome tree (λ nodes. None ≡ find (λ path. not (can_create nodes path)) (outputs_of task)))
-        → IfSome tree (λ nodes. TreeSuffices (verdict_on nodes (Ok task)) start → P → ⊥)
-    unmade-tree start here P left sure = go tree (λ looked. run-tree start ⊥ looked) sure
+        → (P → IfSome tree (λ nodes. TreeTakes here nodes (creating (outputs_of task)) → ⊥))
+        → IfSome tree (λ nodes. TreeSuffices (verdict_on nodes (Ok task)) start nodes → P → ⊥)
+    unfolding running
+    unmade-tree start here P left sure takes = go tree (λ looked made. run-tree start ⊥ looked made) sure takes
       where
-        go : (t : Option Nodes) → (IfSome t (λ nodes. None ≡ find (λ path. not (can_create nodes path)) (outputs_of task)) → IfSome t (λ nodes. TreeSuffices (verdict_on nodes (Ok task)) start → ⊥))
-            → (0 < here.files → P → IfSome t (λ nodes. None ≡ find (λ path. not (can_create nodes path)) (outputs_of task))) → IfSome t (λ nodes. TreeSuffices (verdict_on nodes (Ok task)) start → P → ⊥)
-        go None run sure = tt
-        go (Some nodes) run sure = λ s p. run (sure (left s.some) p) s
+        go : (t : Option Nodes) → (IfSome t (λ nodes. None ≡ find (λ path. not (can_create nodes path)) (outputs_of task)) → IfSome t (λ nodes. TreeTakes start nodes (running job) → ⊥)
+            → IfSome t (λ nodes. TreeSuffices (verdict_on nodes (Ok task)) start nodes → ⊥))
+            → (0 < here.files → P → IfSome t (λ nodes. None ≡ find (λ path. not (can_create nodes path)) (outputs_of task)))
+            → (P → IfSome t (λ nodes. TreeTakes here nodes (creating (outputs_of task)) → ⊥)) → IfSome t (λ nodes. TreeSuffices (verdict_on nodes (Ok task)) start nodes → P → ⊥)
+        go None run sure takes = tt
+        go (Some nodes) run sure takes = λ s p.
+            run (sure (let files = left.files s.some in let some = s.some in omega (arith, files, some)) p)
+            (λ all. not-taken (Some nodes) start here (creating (outputs_of task)) left (takes p)
+            (rw outs (takes-first start nodes (creating (outputs_in job)) (reporting job.report (trail_of job) ++ filling_all (log_by job.debug (trail_of job))) all))) s
 
     half_made : (new : Option Nodes) (out err : Option (List ℕ)) → HalfMade (outputs_of task) tree new → HasCut (Ok task) (world tree out err) (world new out err) TreeFault
     unfolding running
@@ -295,8 +312,10 @@ module _ (task : Task) (tree : Option Nodes) where
       found = Ok (Run job);
       judges = judges_run half.looked;
       may = tt;
-      cut = cut-first (world tree out err) (world new out err) (creating (outputs_in job)) _ (rw (ap creating outs) at (half.cut out err));
-      short = λ text. absurd text;
+      front = inl (record {
+        cut = cut-first (world tree out err) (world new out err) (creating (outputs_in job)) _ (rw (ap creating outs) at (half.cut out err));
+        short = λ text. absurd text;
+      });
     }
 
     -- the outputs were not made
@@ -311,47 +330,99 @@ module _ (task : Task) (tree : Option Nodes) where
     unmade new out err (Stopped NoMemory) same = inl (ap (λ t. world t out err) same)
     unmade new out err (Stopped SinkFault) none = absurd none
 
-    module _ (made : Option Nodes) (m : Made (outputs_of task) tree made) (out err : Option (List ℕ)) where
-      begun : world made out err ≡ changed_by (world tree out err) (creating (outputs_in job))
-      begun = m.made out err ∙ ap (λ ps. changed_by (world tree out err) (creating ps)) outs
+    module _ (made : Option Nodes) (looked : IfSome tree (λ nodes. None ≡ find (λ path. not (can_create nodes path)) (outputs_of task)))
+        (start left : Room) (begins : TreeWasDone tree made start left (creating (outputs_of task))) (out err : Option (List ℕ)) (out_sure err_sure : ℕ) where
+      abbrev entry : Around
+      entry = around tree start out out_sure err err_sure
+
+      abbrev ready : Around
+      ready = around made left out out_sure err err_sure
+
+      abbrev rest : List Change
+      rest = reporting job.report (trail_of job) ++ filling_all (log_by job.debug (trail_of job))
+
+      begun : WasDone entry ready (creating (outputs_in job))
+      begun = rw outs at (begins out err out_sure err_sure)
 
       -- the run was done, and what is written after it
-      pub is_run : (now : World) (answer : ℕ) → answer ≡ exit_in (trail_of job).last
-          → now ≡ changed_by (world made out err) (reporting job.report (trail_of job) ++ filling_all (log_by job.debug (trail_of job))) → HasEnded (Ok task) (world tree out err) now answer
+      pub is_run : (now : Around) (answer : ℕ) → HasFinished ready now (trail_of job) rest answer → HasEnded (Ok task) (world tree out err) now.world answer
       unfolding running
-      is_run now answer status ran = record {
+      is_run now answer ran = record {
         found = Ok (Run job);
-        judges = judges_run m.looked;
-        has = record {
-          status = status;
-          world = ran ∙ ap (λ w. changed_by w (reporting job.report (trail_of job) ++ filling_all (log_by job.debug (trail_of job)))) begun
-              ∙ sym (changed_by-append (world tree out err) (creating (outputs_in job)) (reporting job.report (trail_of job) ++ filling_all (log_by job.debug (trail_of job))));
-        };
+        judges = judges_run looked;
+        has = inl (record { status = ran.status; world = (done-both entry ready now (creating (outputs_in job)) rest begun ran.done).world });
       }
 
-      run-cut : (now : World) → IsCutOff (world made out err) now (reporting job.report (trail_of job) ++ filling_all (log_by job.debug (trail_of job)))
-          → IsCutOff (world tree out err) now (outcome_of (Ok (Run job))).changes
-      unfolding running
-      run-cut now cut =
-          cut-later (world tree out err) (world made out err) now (creating (outputs_in job)) (reporting job.report (trail_of job) ++ filling_all (log_by job.debug (trail_of job))) begun cut
-
       -- it was cut short
-      pub is_cut_run : (now : World) (stop : Stop) → (stop ≡ NoMemory → IsSome job.debug) → IsCutOff (world made out err) now (reporting job.report (trail_of job) ++ filling_all (log_by job.debug (trail_of job)))
-          → IsCut (Ok task) (world tree out err) now stop
-      is_cut_run now TreeFault memory cut = inr (record { found = Ok (Run job); judges = judges_run m.looked; may = tt; cut = run-cut now cut; short = λ text. absurd text })
-      is_cut_run now SinkFault memory cut = record { found = Ok (Run job); judges = judges_run m.looked; may = tt; cut = run-cut now cut; short = λ text. absurd text }
-      is_cut_run now NoMemory memory cut = inr (record { found = Ok (Run job); judges = judges_run m.looked; may = memory refl; cut = run-cut now cut; short = λ text. absurd text })
+      pub is_short : (now : Around) (stop : Stop) → FellShort ready now rest stop → FellShort entry now (running job) stop
+      unfolding running
+      is_short now stop short = short-later entry ready now (creating (outputs_in job)) rest stop begun short
+
+      pub is_cut_run : (now : Around) (stop : Stop) → (stop ≡ NoMemory → IsSome job.debug ⊎ IsSome job.home.root) → FellShort ready now rest stop → IsCut (Ok task) (world tree out err) now.world stop
+      is_cut_run now stop memory short = cut_run stop (may stop memory) (inl (record { cut = (is_short now stop short).cut; short = λ text. absurd text }))
+        where
+          may : (stop : Stop) → (stop ≡ NoMemory → IsSome job.debug ⊎ IsSome job.home.root) → MayStop (Ok (Run job)) stop
+          may TreeFault memory = tt
+          may SinkFault memory = tt
+          may NoMemory memory = memory refl
+
+          cut_run : (stop : Stop) → MayStop (Ok (Run job)) stop → HasFront (Ok (Run job)) (world tree out err) now.world ⊎ IsUntold tree (Ok (Run job)) → IsCut (Ok task) (world tree out err) now.world stop
+          cut_run TreeFault may front = inr (record { found = Ok (Run job); judges = judges_run looked; may = may; front = front })
+          cut_run SinkFault may front = record { found = Ok (Run job); judges = judges_run looked; may = may; front = front }
+          cut_run NoMemory may front = inr (record { found = Ok (Run job); judges = judges_run looked; may = may; front = front })
+
+    -- beneath a root in a tree that tells nothing no more is said
+    pub is_untold_run : IfSome tree (λ nodes. None ≡ find (λ path. not (can_create nodes path)) (outputs_of task)) → IsUntold tree (Ok (Run job)) → (before now : World) (answer : ℕ) → before.files ≡ tree
+        → answer ≤ 127 → HasEnded (Ok task) before now answer
+    is_untold_run looked untold before now answer same small = record {
+      found = Ok (Run job);
+      judges = subst (λ t. Judges (Ok task) t (Ok (Run job))) (sym same) (judges_run looked);
+      has = inr (subst (λ t. IsUntold t (Ok (Run job))) (sym same) untold, small);
+    }
+
+    pub is_untold_cut : IfSome tree (λ nodes. None ≡ find (λ path. not (can_create nodes path)) (outputs_of task)) → IsUntold tree (Ok (Run job)) → (before now : World) (stop : Stop) → before.files ≡ tree
+        → (stop ≡ NoMemory → IsSome job.debug ⊎ IsSome job.home.root) → IsCut (Ok task) before now stop
+    is_untold_cut looked untold before now stop same memory = go stop memory
+      where
+        cut : (stop : Stop) → MayStop (Ok (Run job)) stop → HasCut (Ok task) before now stop
+        cut stop may = record {
+          found = Ok (Run job);
+          judges = subst (λ t. Judges (Ok task) t (Ok (Run job))) (sym same) (judges_run looked);
+          may = may;
+          front = inr (subst (λ t. IsUntold t (Ok (Run job))) (sym same) untold);
+        }
+
+        go : (stop : Stop) → (stop ≡ NoMemory → IsSome job.debug ⊎ IsSome job.home.root) → IsCut (Ok task) before now stop
+        go TreeFault memory = inr (cut TreeFault tt)
+        go SinkFault memory = cut SinkFault tt
+        go NoMemory memory = inr (cut NoMemory (memory refl))
+
+-- the folder of a program's own files once the outputs were made
+home-files : (tree made : Option Nodes) (task : Task) (home : Home) (out err : Option (List ℕ)) → IsHomeOf tree task home → HasApartOutputs task → root_by task.command task ≡ task.root
+    → world made out err ≡ changed_by (world tree out err) (creating (outputs_of task))
+    → HasFiles made home.root home.part home.parent ⊎ ((tree ≡ None) × IsSome home.root)
+home-files None made task home out err at apart same is =
+    let gone : made ≡ None = ap (λ w. w.files) is ∙ files-told (world None out err) (creating (outputs_of task)) in
+    go task.root at.root at.none gone
+  where
+    go : (root : Option (List ℕ)) → home.root ≡ root → (root ≡ None → home ≡ no_home) → made ≡ None → HasFiles made home.root home.part home.parent ⊎ ((◌≡◌ {A = Option Nodes} None None) × IsSome home.root)
+    go None is none gone = inl (rw (gone, none refl) (refl, refl, refl))
+    go (Some root) is none gone = inr (refl, rw is refl)
+home-files (Some nodes) made task home out err at apart same is =
+    let now : made ≡ Some (files_by nodes (creating (outputs_of task))) = ap (λ w. w.files) is ∙ files-told (world (Some nodes) out err) (creating (outputs_of task)) in
+    let kept : home_in task.root (files_by nodes (creating (outputs_of task))) ≡ home_in task.root nodes = home-made task.root (outputs_of task) nodes (rw same at (all-apart task apart)) in
+    inl (rw (now, at.told) (sym (ap (λ h. h.part) kept), sym (ap (λ h. h.parent) kept)))
 
 -- a machine that is ready runs the trail of its job
 module _ (tree : Option Nodes) (task : Task) (debug : Option Debugging) (machine : Machine) (ready : IsReady tree task debug machine) where
   abbrev ready-job : Job
-  ready-job = job_of task ready.rom machine.script debug
+  ready-job = job_of task ready.home ready.rom machine.script debug
 
-  abbrev machine-trail : Trail
-  machine-trail = trail_by task.budget (outputs_for task) machine.script machine.core
+  ready-trail : trail_for task machine ready.home ≡ trail_of ready-job
+  ready-trail = ap (trail_by task.budget (outputs_for task) machine.script ready.home) ready.core
 
-  ready-trail : machine-trail ≡ trail_of ready-job
-  ready-trail = ap (trail_by task.budget (outputs_for task) machine.script) ready.core
+  abbrev behind : Trail → List Change
+  behind trail = reporting task.report trail ++ filling_all (log_by debug trail)
 
   module _ (outs : outputs_of task ≡ outputs_in ready-job) (told : Option Nodes) (same : told ≡ tree) (new : Option Nodes) where
     pub ready-unmade : (out err : Option (List ℕ)) (halt : Halt) → MakesOutputs (outputs_of task) told new (Err halt) → Performs (Ok task) (world tree out err) (world new out err) (Err halt)
@@ -359,32 +430,86 @@ module _ (tree : Option Nodes) (task : Task) (debug : Option Debugging) (machine
 
     pub ready-unmade-tree : (start here : Room) (P : Type 0) → Leaves start here 0 0
         → (0 < here.files → P → IfSome told (λ nodes. None ≡ find (λ path. not (can_create nodes path)) (outputs_of task)))
-        → IfSome tree (λ nodes. TreeSuffices (verdict_on nodes (Ok task)) start → P → ⊥)
-    ready-unmade-tree start here P left sure =
-        unmade-tree task tree ready-job ready.sees outs start here P (λ some. (let files = left.files some in omega (arith, files, some)))
+        → (P → IfSome told (λ nodes. TreeTakes here nodes (creating (outputs_of task)) → ⊥))
+        → IfSome tree (λ nodes. TreeSuffices (verdict_on nodes (Ok task)) start nodes → P → ⊥)
+    ready-unmade-tree start here P left sure takes =
+        unmade-tree task tree ready-job ready.sees outs start here P left
         (λ some p. subst (λ t. IfSome t (λ nodes. None ≡ find (λ path. not (can_create nodes path)) (outputs_of task))) same (sure some p))
+        (λ p. subst (λ t. IfSome t (λ nodes. TreeTakes here nodes (creating (outputs_of task)) → ⊥)) same (takes p))
 
-    module _ (makes : Made (outputs_of task) told new) where
+    module _ (makes : Made (outputs_of task) told new) (apart : HasApartOutputs task) (root : root_by task.command task ≡ task.root) (start here left : Room) (read : Leaves start here 0 0)
+        (takes : IfSome told (λ nodes. TreeTakes here nodes (creating (outputs_of task)) → TreeLeft here left nodes (creating (outputs_of task)))) where
       ready-made : Made (outputs_of task) tree new
       ready-made = subst (λ t. Made (outputs_of task) t new) same makes
 
-      pub ready-run : (out err : Option (List ℕ)) (now : World) (answer : ℕ) → answer ≡ exit_in machine-trail.last
-          → now ≡ changed_by (world new out err) (reporting task.report machine-trail ++ filling_all (log_by debug machine-trail)) → HasEnded (Ok task) (world tree out err) now answer
-      ready-run out err now answer status ran =
-          is_run task tree ready-job ready.sees outs new ready-made out err now answer (status ∙ ap (λ t. exit_in t.last) ready-trail)
-          (ran ∙ ap (λ t. changed_by (world new out err) (reporting task.report t ++ filling_all (log_by debug t))) ready-trail)
+      ready-begins : TreeWasDone tree new start left (creating (outputs_of task))
+      ready-begins =
+          read-before tree new start here left (creating (outputs_of task)) read
+          (files-made (outputs_of task) tree new here left ready-made.made
+          (subst (λ t. IfSome t (λ nodes. TreeTakes here nodes (creating (outputs_of task)) → TreeLeft here left nodes (creating (outputs_of task)))) same takes))
 
-      pub ready-cut : (out err : Option (List ℕ)) (now : World) (stop : Stop) → (stop ≡ NoMemory → IsSome debug)
-          → IsCutOff (world new out err) now (reporting task.report machine-trail ++ filling_all (log_by debug machine-trail)) → IsCut (Ok task) (world tree out err) now stop
-      ready-cut out err now stop memory cut =
-          is_cut_run task tree ready-job ready.sees outs new ready-made out err now stop memory
-          (subst (λ t. IsCutOff (world new out err) now (reporting task.report t ++ filling_all (log_by debug t))) ready-trail cut)
+      module _ (out err : Option (List ℕ)) (out_sure err_sure : ℕ) where
+        home : HasFiles new ready.home.root ready.home.part ready.home.parent ⊎ ((tree ≡ None) × IsSome ready.home.root)
+        home = home-files tree new task ready.home out err ready.at_home apart root (ready-made.made out err)
 
-      pub ready-tree : (start : Room) (P : Type 0) → IfSome tree (λ nodes. TreeSuffices (verdict_on nodes (Ok task)) start → P)
-      ready-tree start P = run-tree task tree ready-job ready.sees outs start P ready-made.looked
+        untold : (tree ≡ None) × IsSome ready.home.root → IsUntold tree (Ok (Run ready-job))
+        untold u = subst (λ t. IsUntold t (Ok (Run ready-job))) (sym u.0) u.1
 
-      pub ready-sinks : (out err : ℕ) (P : Type 0) → IfSome tree (λ nodes. SinksSuffice (verdict_on nodes (Ok task)) out err → P)
-      ready-sinks out err P = run-sinks task tree ready-job ready.sees outs out err P ready-made.looked
+        abbrev from_ready : Around
+        from_ready = around new left out out_sure err err_sure
+
+        pub ready-run : (now : Around) (answer : ℕ) → answer ≤ 127
+            → AtHome task.root new (λ h. HasFinished from_ready now (trail_for task machine h) (behind (trail_for task machine h)) answer)
+            → HasEnded (Ok task) (world tree out err) now.world answer
+        ready-run now answer small ran = elim home [
+          | inl files ↦
+              is_run task tree ready-job ready.sees outs new ready-made.looked start left ready-begins out err out_sure err_sure now answer
+              (subst (λ t. HasFinished from_ready now t (behind t) answer) ready-trail (ran ready.home ready.at_home.root files))
+          | inr none ↦ is_untold_run task tree ready-job ready.sees outs ready-made.looked (untold none) (world tree out err) now.world answer refl small
+        ]
+
+        memory-root : (stop : Stop) → (stop ≡ NoMemory → IsSome debug ⊎ IsSome task.root) → stop ≡ NoMemory → IsSome debug ⊎ IsSome ready.home.root
+        memory-root stop memory e = rw ready.at_home.root (memory e)
+
+        pub ready-cut : (now : Around) (stop : Stop) → (stop ≡ NoMemory → IsSome debug ⊎ IsSome task.root)
+            → AtHome task.root new (λ h. FellShort from_ready now (behind (trail_for task machine h)) stop) → IsCut (Ok task) (world tree out err) now.world stop
+        ready-cut now stop memory short = elim home [
+          | inl files ↦
+              is_cut_run task tree ready-job ready.sees outs new ready-made.looked start left ready-begins out err out_sure err_sure now stop (memory-root stop memory)
+              (subst (λ t. FellShort from_ready now (behind t) stop) ready-trail (short ready.home ready.at_home.root files))
+          | inr none ↦ is_untold_cut task tree ready-job ready.sees outs ready-made.looked (untold none) (world tree out err) now.world stop refl (memory-root stop memory)
+        ]
+
+        -- where the tree and the sinks suffice they are not to blame
+        not-sure : (now : Around) (stop : Stop) → HasFiles new ready.home.root ready.home.part ready.home.parent → AtHome task.root new (λ h. FellShort from_ready now (behind (trail_for task machine h)) stop)
+            → WasNotSure (blame_of stop) (sure start out_sure err_sure) tree (running ready-job)
+        not-sure now stop files short =
+            (is_short task tree ready-job ready.sees outs new ready-made.looked start left ready-begins out err out_sure err_sure now stop
+            (subst (λ t. FellShort from_ready now (behind t) stop) ready-trail (short ready.home ready.at_home.root files))).not_sure
+
+        pub ready-tree : (now : Around) (stop : Stop) → AtHome task.root new (λ h. FellShort from_ready now (behind (trail_for task machine h)) stop)
+            → IfSome tree (λ nodes. TreeSuffices (verdict_on nodes (Ok task)) start nodes → blame_of stop ≡ TheTree → ⊥)
+        ready-tree now stop short = elim home [
+          | inl files ↦ turned tree (λ blamed. run-tree task tree ready-job ready.sees outs start ⊥ ready-made.looked (subst (λ b. WasNotSure b (sure start out_sure err_sure) tree (running ready-job)) blamed (not-sure now stop files short)))
+          | inr none ↦ rw none.0 tt
+        ]
+          where
+            turned : (t : Option Nodes) → (blame_of stop ≡ TheTree → IfSome t (λ nodes. TreeSuffices (verdict_on nodes (Ok task)) start nodes → ⊥))
+                → IfSome t (λ nodes. TreeSuffices (verdict_on nodes (Ok task)) start nodes → blame_of stop ≡ TheTree → ⊥)
+            turned None h = tt
+            turned (Some nodes) h = λ s blamed. h blamed s
+
+        pub ready-sinks : (now : Around) (stop : Stop) → AtHome task.root new (λ h. FellShort from_ready now (behind (trail_for task machine h)) stop)
+            → IfSome tree (λ nodes. SinksSuffice (verdict_on nodes (Ok task)) out_sure err_sure → blame_of stop ≡ ASink → ⊥)
+        ready-sinks now stop short = elim home [
+          | inl files ↦ turned tree (λ blamed. run-sinks task tree ready-job ready.sees outs out_sure err_sure ⊥ ready-made.looked (subst (λ b. WasNotSure b (sure start out_sure err_sure) tree (running ready-job)) blamed (not-sure now stop files short)))
+          | inr none ↦ rw none.0 tt
+        ]
+          where
+            turned : (t : Option Nodes) → (blame_of stop ≡ ASink → IfSome t (λ nodes. SinksSuffice (verdict_on nodes (Ok task)) out_sure err_sure → ⊥))
+                → IfSome t (λ nodes. SinksSuffice (verdict_on nodes (Ok task)) out_sure err_sure → blame_of stop ≡ ASink → ⊥)
+            turned None h = tt
+            turned (Some nodes) h = λ s blamed. h blamed s
 
 -- what `play` makes, and what `debug` makes
 pub play-outputs : (task : Task) → task.command ≡ Play → outputs_of task ≡ run_outputs task
@@ -393,19 +518,22 @@ play-outputs task play = rw play refl
 pub debug-outputs : (task : Task) → task.command ≡ Debug → outputs_of task ≡ option_to_list task.log ++ run_outputs task
 debug-outputs task debug = rw debug refl
 
-module _ (task : Task) (told new : Option Nodes) (makes : Made (outputs_of task) told new) where
+-- the root of a run
+pub play-root : (task : Task) → task.command ≡ Play → root_by task.command task ≡ task.root
+play-root task play = ap (λ c. root_by c task) play
+
+pub debug-root : (task : Task) → task.command ≡ Debug → root_by task.command task ≡ task.root
+debug-root task debug = ap (λ c. root_by c task) debug
+
+module _ (task : Task) (told new : Option Nodes) (makes : Made (outputs_of task) told new) (apart : HasApartOutputs task) where
+  output-at : root_by task.command task ≡ task.root → (path : List ℕ) → list_any (bytes_eq path) (outputs_of task) ≡ true → IsOutput task.root new path
+  output-at root path among = record { file = makes.files path among; outside = rw root at (outputs-outside task path apart among) }
+
   pub play-files : task.command ≡ Play → RunFiles task new
-  play-files play = run-files [] task new (λ path among. makes.files path (rw (play-outputs task play) among))
+  play-files play = run-files [] task new (λ path among. output-at (play-root task play) path (rw (play-outputs task play) among))
 
   pub debug-files : task.command ≡ Debug → RunFiles task new
-  debug-files debug = run-files (option_to_list task.log) task new (λ path among. makes.files path (rw (debug-outputs task debug) among))
+  debug-files debug = run-files (option_to_list task.log) task new (λ path among. output-at (debug-root task debug) path (rw (debug-outputs task debug) among))
 
-  pub debug-log : task.command ≡ Debug → IfSome task.log (IsFileWhereTold new)
-  debug-log debug = log-file task.log (run_outputs task) new (λ path among. makes.files path (rw (debug-outputs task debug) among))
-
--- where nothing is written after a report
-pub nothing-after : (before now : World) (changes : List Change) → now ≡ changed_by before changes → now ≡ changed_by before (changes ++ [])
-nothing-after before now changes is = is ∙ ap (changed_by before) (sym (append-nil changes))
-
-pub cut-before-nothing : (before now : World) (changes : List Change) → IsCutOff before now changes → IsCutOff before now (changes ++ [])
-cut-before-nothing before now changes cut = subst (IsCutOff before now) (sym (append-nil changes)) cut
+  pub debug-log : task.command ≡ Debug → IfSome task.log (IsOutput task.root new)
+  debug-log debug = log-file task.log (run_outputs task) (IsOutput task.root new) (λ path among. output-at (debug-root task debug) path (rw (debug-outputs task debug) among))

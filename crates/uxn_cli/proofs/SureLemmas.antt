@@ -1,8 +1,13 @@
-use Rattle.std.proofs.Common.{◌≡◌, ℕ, zero, suc, ◌+◌, ◌<◌, ◌≤◌, true, false, cond, List, [], ◌∷◌, take, drop, length, get_or, arith}
+use Rattle.std.proofs.Common.{◌≡◌, ℕ, zero, suc, ◌+◌, ◌<◌, ◌≤◌, true, false, cond, List, [], ◌∷◌, ◌++◌, take, drop, length, get_or, refl, ap, ◌∙◌, arith}
 use Rattle.std.specs.Prelude.{Option, Some, None, IfSome, option_map}
-use Rattle.uxn_io.specs.Changes.{makes_file, new_files, with_appended}
-use Rattle.uxn_io.specs.Files.{Nodes, bytes_at}
+use Rattle.std.proofs.lemmas.List.{length-append, length-map}
+use Rattle.std.specs.FinMap as fin
+use Rattle.uxn_io.specs.Changes.{makes_file, new_files, can_create, with_created, with_appended}
+use Rattle.uxn_io.specs.Files.{Nodes, File, bytes_at}
+use Rattle.uxn_io.specs.Outside.{Change, ToOut, ToErr, Creates, ToFile, Removes, changed_files}
 use Rattle.uxn_io.specs.Room.{Room, Leaves}
+use Rattle.uxn_io.specs.Taking.{TreeTakes, TreeLeft, makes_more, files_made, takes-later, left-both}
+use Rattle.uxn_cli.specs.Outcome.{creating}
 use Rattle.uxn_cli.specs.declared.outputs.Output.{Output}
 use Rattle.uxn_cli.specs.World.{Text, with_empty, with_bytes, CanFill}
 use Rattle.uxn_cli.specs.Outputs.{seen_text, seen_texts}
@@ -12,30 +17,84 @@ use Rattle.uxn_cli.proofs.OutputLemmas.{rest_here}
 one_file : (nodes : Nodes) (path : List ℕ) → new_files nodes path ≤ 1
 one_file nodes path = elim (makes_file nodes path) as (λ b. cond b 1 0 ≤ 1) [ true ↦ omega arith | false ↦ omega arith ]
 
--- what is left while files are made: so many fewer files
-abbrev pub LeavesMade : Option Nodes → ℕ → Room → Room → ℕ → Type 0
-LeavesMade before count start here made = IfSome before (λ nodes. count < start.files → (start.files ≤ here.files + made) × (start.bytes ≤ here.bytes))
+one_more : (nodes : Nodes) (change : Change) → makes_more nodes change ≤ 1
+one_more nodes (ToOut byte) = omega arith
+one_more nodes (ToErr byte) = omega arith
+one_more nodes (Creates path) = one_file nodes path
+one_more nodes (ToFile path byte) = omega arith
+one_more nodes (Removes path) = omega arith
 
-pub leaves_start : (before : Option Nodes) (count : ℕ) (start : Room) → LeavesMade before count start start 0
-leaves_start None count start = tt
-leaves_start (Some nodes) count start = λ h. (omega arith, omega arith)
+made_few : (nodes : Nodes) (changes : List Change) → files_made nodes changes ≤ length changes
+made_few nodes [] = omega arith
+made_few nodes (change ∷ changes) = (let more = made_few (changed_files change nodes) changes in omega (arith, one_more nodes change, more))
 
-module _ (path : List ℕ) (f : Nodes → Nodes) (count made : ℕ) (lt : made < count) (start here : Room) where
-  -- one file fewer is left
-  pub leaves_made : (before now : Option Nodes) (new : Room) → now ≡ option_map f before → LeavesMade before count start here made
-      → IfSome now (λ nodes. Leaves here new (new_files nodes path) 0) → LeavesMade before count start new (made + 1)
-  leaves_made None now new e left more = tt
-  leaves_made (Some nodes) None new e left more = absurd cc
-  leaves_made (Some nodes) (Some there) new e left more = λ h.
-      let l = left h in
-      let some : 0 < here.files = omega (arith, l.0) in
-      (omega (arith, l.0, one_file there path, more.files some), omega (arith, l.1, more.bytes some))
+-- what is made gets no byte
+no_bytes : (paths : List (List ℕ)) (first rest : List Change) (path : List ℕ) (byte : ℕ) → creating paths ≡ first ++ ToFile path byte ∷ rest → ⊥
+no_bytes [] [] rest path byte e = cc
+no_bytes [] (change ∷ first) rest path byte e = cc
+no_bytes (other ∷ paths) [] rest path byte e = cc
+no_bytes (other ∷ paths) (change ∷ first) rest path byte e = (let more : creating paths ≡ first ++ ToFile path byte ∷ rest = cc in no_bytes paths first rest path byte more)
 
--- some room is left once all are made
-pub leaves_some : (before : Option Nodes) (count made : ℕ) (start here : Room) → made ≤ count → LeavesMade before count start here made
+-- so many files are surely made where there is room for more
+pub few_takes : (room : Room) (nodes : Nodes) (paths : List (List ℕ)) → length paths < room.files → TreeTakes room nodes (creating paths)
+few_takes room nodes paths few = record {
+  files = λ first rest is.
+      omega (arith, made_few nodes first, ap length is, length-append first rest, length-map paths (λ (path : List ℕ). Creates path), few);
+  bytes = λ first rest path byte is. absurd (no_bytes paths first rest path byte is);
+}
+
+-- and then some room is left
+pub few_left : (before : Option Nodes) (start here : Room) (paths : List (List ℕ)) (count : ℕ) → length paths ≡ count
+    → IfSome before (λ nodes. TreeTakes start nodes (creating paths) → TreeLeft start here nodes (creating paths))
     → IfSome before (λ nodes. count < start.files → (0 < here.files) × (start.bytes ≤ here.bytes))
-leaves_some None count made start here le left = tt
-leaves_some (Some nodes) count made start here le left = λ h. let l = left h in (omega (arith, l.0), l.1)
+few_left None start here paths count so left = tt
+few_left (Some nodes) start here paths count so left = λ few.
+    let one = left (few_takes start nodes paths (omega (arith, few, so))) in
+    (omega (arith, one.files, made_few nodes (creating paths), length-map paths (λ (path : List ℕ). Creates path), few, so), one.bytes)
+
+-- what fails where they are surely made fails there
+pub few_sure : (before : Option Nodes) (start : Room) (paths : List (List ℕ)) (count : ℕ) → length paths ≡ count → (A : Nodes → Type 0) (P : Type 0)
+    → IfSome before (λ nodes. TreeTakes start nodes (creating paths) → P) → IfSome before (λ nodes. count < start.files → A nodes → P)
+few_sure None start paths count so A P takes = tt
+few_sure (Some nodes) start paths count so A P takes = λ few more. takes (few_takes start nodes paths (omega (arith, few, so)))
+
+-- what goes on from here goes on from the start: the rest is surely taken, and what is left after it is left after all
+abbrev pub Continues : Option Nodes → Option Nodes → Room → Room → List Change → List Change → Type 0
+Continues before now start here all rest =
+    IfSome before (λ nodes. TreeTakes start nodes all → IfSome now (λ there. TreeTakes here there rest × ((last : Room) → TreeLeft here last there rest → TreeLeft start last nodes all)))
+
+pub continues-start : (told : Option Nodes) (start : Room) (all : List Change) → Continues told told start start all all
+continues-start None start all = tt
+continues-start (Some nodes) start all = λ takes. (takes, λ last left. left)
+
+module _ (path : List ℕ) (all rest : List Change) (start here : Room) where
+  -- one file more is made
+  pub continues-more : (before now made : Option Nodes) (new : Room) → made ≡ option_map (with_created path) now → IfSome now (λ there. can_create there path ≡ true)
+      → IfSome now (λ there. Leaves here new (new_files there path) 0) → Continues before now start here all (Creates path ∷ rest) → Continues before made start new all rest
+  continues-more None now made new e can left goes = tt
+  continues-more (Some nodes) None made new e can left goes = λ takes. rw e tt
+  continues-more (Some nodes) (Some there) made new e can left goes = λ takes.
+      let on = goes takes in
+      let one = on.0.files (Creates path ∷ []) rest refl in
+      let some : 0 < here.files = omega (arith, one) in
+      let step : TreeLeft here new there (Creates path ∷ []) = record { files = (let more = left.files some in omega (arith, more)); bytes = left.bytes some } in
+      let is : made ≡ Some (changed_files (Creates path) there) = e ∙ ap (λ b. Some (cond b (fin.insert there path (File [])) there)) can in
+      rw is (takes-later here new there (Creates path ∷ []) rest on.0 step, λ last l. on.1 last (left-both here new last there (Creates path ∷ []) rest step l))
+
+  -- the next file is surely made
+  pub continues-sure : (before now : Option Nodes) (f : Nodes → Nodes) (P : Type 0) → now ≡ option_map f before → Continues before now start here all (Creates path ∷ rest)
+      → IfSome now (λ there. new_files there path < here.files → P) → IfSome before (λ nodes. TreeTakes start nodes all → P)
+  continues-sure None now f P e goes sure = tt
+  continues-sure (Some nodes) None f P e goes sure = absurd cc
+  continues-sure (Some nodes) (Some there) f P e goes sure = λ takes.
+      (let one = (goes takes).0.files (Creates path ∷ []) rest refl in sure (omega (arith, one)))
+
+-- all is done
+pub continues-all : (before now : Option Nodes) (f : Nodes → Nodes) (start here : Room) (all : List Change) → now ≡ option_map f before → Continues before now start here all []
+    → IfSome before (λ nodes. TreeTakes start nodes all → TreeLeft start here nodes all)
+continues-all None now f start here all e goes = tt
+continues-all (Some nodes) None f start here all e goes = absurd cc
+continues-all (Some nodes) (Some there) f start here all e goes = λ takes. (goes takes).1 here (record { files = omega arith; bytes = omega arith })
 
 -- files that can be filled still can, from a place on
 fills_from : (limit : ℕ) (texts : List Text) (at : ℕ) (nodes : Nodes) → CanFill limit texts nodes → CanFill limit (drop at texts) (with_bytes (take at texts) nodes)
@@ -63,7 +122,7 @@ leaves_same start here new a b = record {
 -- the next file surely gets its bytes
 pub sure_filled : (outputs : List Output) (at : ℕ) (output : Output) → at < length outputs → output ≡ get_or outputs at output → (start here : Room) (before now : Option Nodes) (piece : List ℕ) (P : Type 0)
     → now ≡ option_map (with_bytes (take at (seen_texts outputs))) before → piece ≡ output.bytes.items → Leaves start here 0 0
-    → IfSome now (λ nodes. 0 < here.files → length (bytes_at nodes output.path) + length piece ≤ here.bytes → P)
+    → IfSome now (λ nodes. 0 < here.files → (0 < length piece → length (bytes_at nodes output.path) + length piece ≤ here.bytes) → P)
     → IfSome before (λ nodes. 0 < start.files → CanFill start.bytes (seen_texts outputs) nodes → P)
 sure_filled outputs at output lt is start here None now piece P e bytes left sure = tt
 sure_filled outputs at output lt is start here (Some nodes) None piece P e bytes left sure = absurd cc
@@ -74,7 +133,7 @@ sure_filled outputs at output lt is start here (Some nodes) (Some there) piece P
     let same : there ≡ done = cc in
     let room = left.files some in
     let size = left.bytes some in
-    sure (omega arith) (rw (same, bytes) (omega (arith, one, size)))
+    sure (omega arith) (λ more. rw (same, bytes) (omega (arith, one, size)))
 
 -- the files are surely written
 pub sure_written : (texts : List Text) (count : ℕ) (start here : Room) (before now : Option Nodes) (P : Type 0) → now ≡ option_map (with_empty texts) before

@@ -1,7 +1,7 @@
-use Rattle.std.proofs.Common.{◌≡◌, ℕ, Bool, true, false, List, [], refl, ap, sym, ◌∙◌, subst, inl, inr}
-use Rattle.std.specs.Prelude.{Option, Some, None, Result, Ok, Err, IfSome, IfOk, IfErr, OnOk, OnErr, option_map, map}
+use Rattle.std.proofs.Common.{◌≡◌, ℕ, Bool, false, List, refl, ap, sym, ◌∙◌, subst, inl}
+use Rattle.std.specs.Prelude.{Option, Some, None, Result, Ok, Err, IfSome, IfOk, IfErr, OnOk, OnErr, map}
+use Rattle.std.specs.FinMap as fin
 use Rattle.tal_listing.specs.Disassembly.{disassembly}
-use Rattle.tal_rom.specs.Assembly.{rom_of}
 use Rattle.uxn_io.specs.declared.trees.FileBytes.{FileBytes}
 use Rattle.uxn_io.specs.declared.trees.FileBytes.TheVariants.{Missing as NoFile}
 use Rattle.uxn_io.specs.Files.{Nodes, file_at}
@@ -22,7 +22,7 @@ use Rattle.uxn_cli.specs.Blame.{Stops}
 use Rattle.uxn_cli.specs.Words.{settings}
 use Rattle.uxn_cli.specs.World.{world}
 use Rattle.uxn_cli.specs.Request.{and_then, legal, paths_in, apart, request}
-use Rattle.uxn_cli.specs.Verdict.{View, Work, Print, rom_in, labels_in, symbols_by, symbols_seen, script_seen, commands_seen, blocked_seen, made_by, judged, verdict}
+use Rattle.uxn_cli.specs.Verdict.{View, Work, Print, rom_in, labels_in, symbols_by, symbols_seen, script_seen, commands_seen, part_seen, parent_seen, blocked_seen, made_by, judged, verdict}
 use Rattle.uxn_cli.specs.Follows.{Follows}
 use Rattle.uxn_cli.specs.Answer.{IsViewOf, IsViewFor, IsRefused, Performs, Ends}
 
@@ -65,7 +65,11 @@ step_failed seen asked view tree new_tree out err (Stopped SinkFault) f is_view 
 pub words_failed : (asked : Result Task Refusal) (tree : Option Nodes) (out err : Option (List ℕ)) (halt : Halt) → Follows (λ (task : Task). task) (Err halt) asked
     → Performs asked (world tree out err) (world tree out err) (Err halt)
 words_failed asked tree out err (Refused refusal) f = rw f (record {
-  judges = record { view = record { file = NoFile; symbols = NoFile; script = NoFile; commands = NoFile; blocked = None }; seen = tt; judged = refl };
+  judges = record {
+    view = record { file = NoFile; symbols = NoFile; script = NoFile; commands = NoFile; part = fin.empty; parent = false; blocked = None };
+    seen = tt;
+    judged = refl;
+  };
   same = refl;
 })
 words_failed asked tree out err (Stopped TreeFault) f = inl refl
@@ -89,18 +93,34 @@ abbrev pub unread_symbols : (tree : Option Nodes) (task : Task) → (symbols : F
 unread_symbols None task = (NoFile, tt)
 unread_symbols (Some nodes) task = (symbols_seen nodes task, refl)
 
+abbrev pub unseen_part : (tree : Option Nodes) (task : Task) → (part : Nodes) × IfSome tree (λ nodes. part ≡ part_seen nodes task)
+unseen_part None task = (fin.empty, tt)
+unseen_part (Some nodes) task = (part_seen nodes task, refl)
+
+abbrev pub unseen_parent : (tree : Option Nodes) (task : Task) → (parent : Bool) × IfSome tree (λ nodes. parent ≡ parent_seen nodes task)
+unseen_parent None task = (false, tt)
+unseen_parent (Some nodes) task = (parent_seen nodes task, refl)
+
 abbrev pub unlooked : (tree : Option Nodes) (task : Task) → (blocked : Option (List ℕ)) × IfSome tree (λ nodes. blocked ≡ blocked_seen nodes task)
 unlooked None task = (None, tt)
 unlooked (Some nodes) task = (blocked_seen nodes task, refl)
 
 -- the view of `dis`
 abbrev pub dis_view : (tree : Option Nodes) (task : Task) → FileBytes → FileBytes → View
-dis_view tree task file symbols = record { file = file; symbols = symbols; script = (unread_script tree task).0; commands = (unread_commands tree task).0; blocked = None }
+dis_view tree task file symbols = record {
+  file = file;
+  symbols = symbols;
+  script = (unread_script tree task).0;
+  commands = (unread_commands tree task).0;
+  part = (unseen_part tree task).0;
+  parent = (unseen_parent tree task).0;
+  blocked = None;
+}
 
 pub sees_dis : (tree : Option Nodes) (task : Task) (file symbols : FileBytes) → task.command ≡ Disassemble
     → IfSome tree (λ nodes. file ≡ whole_file (file_at nodes task.file) 65280) → IfSome tree (λ nodes. symbols ≡ symbols_by nodes task.symbols) → IsViewOf tree task (dis_view tree task file symbols)
-sees_dis None task file symbols dis found read = record { file = tt; symbols = tt; script = tt; commands = tt; blocked = tt }
-sees_dis (Some nodes) task file symbols dis found read = rw dis (record { file = found; symbols = read; script = refl; commands = refl; blocked = refl })
+sees_dis None task file symbols dis found read = record { file = tt; symbols = tt; script = tt; commands = tt; part = tt; parent = tt; blocked = tt }
+sees_dis (Some nodes) task file symbols dis found read = rw dis (record { file = found; symbols = read; script = refl; commands = refl; part = refl; parent = refl; blocked = refl })
 
 pub judged-dis : (tree : Option Nodes) (task : Task) (file symbols : FileBytes) → task.command ≡ Disassemble
     → judged task (dis_view tree task file symbols) ≡ and_then (rom_in task.file file) (λ rom. and_then (labels_in task.symbols symbols) (λ labels. Ok (Print (disassembly rom labels))))
@@ -115,12 +135,17 @@ pub print_done : (asked : Result Task Refusal) (view : View) (text : List ℕ) (
 print_done asked view text tree new_tree out err new_out (Ok answer) e is_view same zero put front stops = record {
   found = Ok (Print text);
   judges = record { view = view; seen = is_view; judged = e };
-  has = record { status = zero; world = rw same (printed tree out err new_out text put) };
+  has = inl (record { status = zero; world = rw same (printed tree out err new_out text put) });
 }
 print_done asked view text tree new_tree out err new_out (Err halt) e is_view same zero put front stops =
     let is : halt ≡ Stopped SinkFault = cc in
     let cut = print-cut tree out err new_out text front in
-    rw (is, same) (record { found = Ok (Print text); judges = record { view = view; seen = is_view; judged = e }; may = tt; cut = cut.cut; short = λ text. cut.short })
+    rw (is, same) (record {
+      found = Ok (Print text);
+      judges = record { view = view; seen = is_view; judged = e };
+      may = tt;
+      front = inl (record { cut = cut.cut; short = λ text. cut.short });
+    })
 
 -- a refusal whose line was put, or was not
 pub refusal_ends : (asked : Result Task Refusal) (before : World) (tree : Option Nodes) (out err new_err : Option (List ℕ)) (refusal : Refusal) (result : Result ℕ Stop)
@@ -129,16 +154,16 @@ pub refusal_ends : (asked : Result Task Refusal) (before : World) (tree : Option
 refusal_ends asked before tree out err new_err refusal (Ok status) r ok stops = record {
   found = Err refusal;
   judges = r.judges;
-  has = record {
+  has = inl (record {
     status = ok.0;
     world = ap (λ e. world tree out e) ok.1 ∙ sym (changed_by-err (world tree out err) (line_of refusal))
         ∙ ap (λ w. changed_by w (map (λ byte. ToErr byte) (line_of refusal))) r.same;
-  };
+  });
 }
 refusal_ends asked before tree out err new_err refusal (Err SinkFault) r ok stops =
     let cut = line-cut tree out err new_err (line_of refusal) stops in
     let P : World → Type 0 = λ w. IsCutText w (world tree out new_err) (map (λ byte. ToErr byte) (line_of refusal)) in
     let from = subst P r.same cut in
-    record { found = Err refusal; judges = r.judges; may = tt; cut = from.cut; short = λ text. from.short }
+    record { found = Err refusal; judges = r.judges; may = tt; front = inl (record { cut = from.cut; short = λ text. from.short }) }
 refusal_ends asked before tree out err new_err refusal (Err NoMemory) r ok stops = inl (ap (λ e. world tree out e) stops ∙ r.same)
 refusal_ends asked before tree out err new_err refusal (Err TreeFault) r ok stops = absurd stops

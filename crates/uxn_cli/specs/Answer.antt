@@ -1,5 +1,5 @@
 -- What a call gives, and what stands where it ends early.
-use Rattle.std.specs.Prelude.{◌≡◌, ◌≢◌, ℕ, [], List, Option, Result, Ok, Err, IfOk, IfSome, IsSome, ◌⊎◌}
+use Rattle.std.specs.Prelude.{◌≡◌, ◌≢◌, ℕ, ◌≤◌, [], Option, Some, None, Result, Ok, Err, IfOk, IfSome, IsSome, ◌⊎◌}
 use Rattle.uxn_io.specs.Files.{Nodes}
 use Rattle.uxn_io.specs.Outside.{World, changed_by, IsCutOff}
 use Rattle.uxn_opcodes.specs.declared.Stop.{Stop}
@@ -9,7 +9,7 @@ use Rattle.uxn_cli.specs.declared.refusal.Refusal.{Refusal}
 use Rattle.uxn_cli.specs.declared.refusal.Halt.{Halt}
 use Rattle.uxn_cli.specs.declared.refusal.Halt.TheVariants.{Refused, Stopped}
 use Rattle.uxn_cli.specs.Blame.{early_status}
-use Rattle.uxn_cli.specs.Verdict.{View, Work, Run, Write, Print, file_seen, symbols_seen, script_seen, commands_seen, blocked_seen, verdict}
+use Rattle.uxn_cli.specs.Verdict.{View, Work, Run, Write, Print, file_seen, symbols_seen, script_seen, commands_seen, part_seen, parent_seen, blocked_seen, verdict}
 use Rattle.uxn_cli.specs.Outcome.{Outcome, outcome_of}
 
 -- the status and all that stands outside are those of an outcome
@@ -23,6 +23,8 @@ pub record IsViewOf (tree : Option Nodes) (task : Task) (view : View) : Type 0 w
   pub symbols : IfSome tree (λ nodes. view.symbols ≡ symbols_seen nodes task)
   pub script : IfSome tree (λ nodes. view.script ≡ script_seen nodes task)
   pub commands : IfSome tree (λ nodes. view.commands ≡ commands_seen nodes task)
+  pub part : IfSome tree (λ nodes. view.part ≡ part_seen nodes task)
+  pub parent : IfSome tree (λ nodes. view.parent ≡ parent_seen nodes task)
   pub blocked : IfSome tree (λ nodes. view.blocked ≡ blocked_seen nodes task)
 
 abbrev pub IsViewFor : Option Nodes → Result Task Refusal → View → Type 0
@@ -34,11 +36,19 @@ pub record Judges (asked : Result Task Refusal) (tree : Option Nodes) (verdict_i
   pub seen : IsViewFor tree asked view
   pub judged : verdict asked view ≡ verdict_is
 
--- the call ended with the outcome of its verdict
+-- what a run does beneath a root is not told, where the tree tells nothing
+abbrev pub IsUntold : Option Nodes → Result Work Refusal → Type 0
+IsUntold (Some nodes) found = ⊥
+IsUntold None (Err refusal) = ⊥
+IsUntold None (Ok (Run job)) = IsSome job.home.root
+IsUntold None (Ok (Write texts)) = ⊥
+IsUntold None (Ok (Print text)) = ⊥
+
+-- the call ended with the outcome of its verdict; with some exit code, where what the run does is not told
 pub record HasEnded (asked : Result Task Refusal) (before now : World) (answer : ℕ) : Type 0 where
   pub found : Result Work Refusal
   pub judges : Judges asked before.files found
-  pub has : HasOutcome (outcome_of found) before now answer
+  pub has : HasOutcome (outcome_of found) before now answer ⊎ (IsUntold before.files found × (answer ≤ 127))
 
 -- it is refused, and nothing was done yet
 pub record IsRefused (asked : Result Task Refusal) (before now : World) (refusal : Refusal) : Type 0 where
@@ -46,12 +56,12 @@ pub record IsRefused (asked : Result Task Refusal) (before now : World) (refusal
   pub same : now ≡ before
 
 -- what may stop a call in the middle of its changes: a sink where bytes are put on one, the tree where files are written, and
--- want of memory where a debugger watches a run
+-- want of memory where a debugger watches a run, or a run may list a folder
 abbrev pub MayStop : Result Work Refusal → Stop → Type 0
 MayStop (Err refusal) SinkFault = Unit {0}
 MayStop (Ok (Run job)) TreeFault = Unit {0}
 MayStop (Ok (Run job)) SinkFault = Unit {0}
-MayStop (Ok (Run job)) NoMemory = IsSome job.debug
+MayStop (Ok (Run job)) NoMemory = IsSome job.debug ⊎ IsSome job.home.root
 MayStop (Ok (Write texts)) TreeFault = Unit {0}
 MayStop (Ok (Print text)) SinkFault = Unit {0}
 MayStop _ _ = ⊥
@@ -63,12 +73,15 @@ IsText (Ok (Print text)) = Unit {0}
 IsText _ = ⊥
 
 -- of what was to be done a front was done; of a text that was to be put a front that is shorter
+pub record HasFront (found : Result Work Refusal) (before now : World) : Type 0 where
+  pub cut : IsCutOff before now (outcome_of found).changes
+  pub short : IsText found → cut.rest ≢ []
+
 pub record HasCut (asked : Result Task Refusal) (before now : World) (stop : Stop) : Type 0 where
   pub found : Result Work Refusal
   pub judges : Judges asked before.files found
   pub may : MayStop found stop
-  pub cut : IsCutOff before now (outcome_of found).changes
-  pub short : IsText found → cut.rest ≢ []
+  pub front : HasFront found before now ⊎ IsUntold before.files found
 
 -- what stands after a call that ended early: all is as it was, or a front of what was to be done was done
 abbrev pub IsCut : Result Task Refusal → World → World → Stop → Type 0

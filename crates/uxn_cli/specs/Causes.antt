@@ -1,9 +1,10 @@
 -- When each status is answered.
-use Rattle.std.specs.Prelude.{◌≡◌, ℕ, List, [], ◌∷◌, ◌++◌, Option, Result, Ok, Err, ◌⊎◌}
+use Rattle.std.specs.Prelude.{◌≡◌, ℕ, List, [], ◌∷◌, ◌++◌, Option, Some, Result, Ok, Err, ◌⊎◌}
 use Rattle.std.specs.Prelude.{false, IfOk, IfSome}
 use Rattle.std.specs.List.{list_any}
 use Rattle.std.specs.Str.{bytes_eq}
 use Rattle.std.specs.FinMap as map
+use Rattle.file_ports.specs.Device.{suits}
 use Rattle.uxn_io.specs.Told.{extended}
 use Rattle.uxn_io.specs.ByteList.{ByteList}
 use Rattle.uxn_io.specs.Files.{Nodes}
@@ -14,7 +15,7 @@ use Rattle.uxn_debugger.specs.declared.command.CommandKind.{CommandKind}
 use Rattle.uxn_cli.specs.declared.task.Task.{Task}
 use Rattle.uxn_cli.specs.declared.refusal.Refusal.{Refusal}
 use Rattle.uxn_cli.specs.declared.refusal.Refusal.TheVariants.{NotUnderstood, NoPath, NoOutput, Missing, Faulty, LongRom, BadSymbols, BadScript, BadCommands}
-use Rattle.uxn_cli.specs.Verdict.{Work, and_then, view_of, judged, outputs_of}
+use Rattle.uxn_cli.specs.Verdict.{Work, and_then, view_of, judged, outputs_of, root_by}
 use Rattle.uxn_cli.specs.Outcome.{outcome_of}
 
 -- a fault of the tree, a fault of a sink, or want of memory ended the call early
@@ -69,11 +70,12 @@ EndsWith code verdict = (work : Work) × (verdict ≡ Ok work) × ((outcome_of (
 abbrev pub PutsLine : Option (List ℕ) → Option (List ℕ) → Type 0
 PutsLine before now = (text : List ℕ) × (now ≡ extended before (text ++ 10 ∷ []))
 
--- the path is no file that the task writes
-abbrev pub IsNoOutput : Result Task Refusal → List ℕ → Type 0
-IsNoOutput asked path = IfOk asked (λ task. list_any (bytes_eq path) (outputs_of task) ≡ false)
+-- the path is no file that the task writes, and lies outside its root
+pub record IsAside (task : Task) (path : List ℕ) : Type 0 where
+  pub output : list_any (bytes_eq path) (outputs_of task) ≡ false
+  pub outside : suits (root_by task.command task) (Some path) ≡ false
 
--- every path but those of the outputs has its old node
+-- every path but those of the outputs and those beneath the root has its old node
 abbrev pub KeepsOthers : Result Task Refusal → Option Nodes → Option Nodes → Type 0
 KeepsOthers asked before now =
-    (path : List ℕ) → IsNoOutput asked path → IfSome before (λ old. IfSome now (λ new. map.get new path ≡ map.get old path))
+    (path : List ℕ) → IfOk asked (λ task. IsAside task path) → IfSome before (λ old. IfSome now (λ new. map.get new path ≡ map.get old path))

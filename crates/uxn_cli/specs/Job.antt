@@ -1,6 +1,9 @@
--- What is run: a ROM with a script, each vector of at most so many instructions; its pictures, its samples and its report; and
--- the commands of a debugger that watches it.
-use Rattle.std.specs.Prelude.{ℕ, List, map, [], ◌∷◌, ◌++◌, codes, decimal, Option, Some, None, option_to_list}
+-- What is run: a ROM with a script, each vector of at most so many instructions, beneath a root; its pictures, its samples and its
+-- report; and the commands of a debugger that watches it.
+use Rattle.std.specs.Prelude.{ℕ, Bool, false, List, map, [], ◌∷◌, ◌++◌, codes, decimal, Option, Some, None, option_to_list}
+use Rattle.std.specs.FinMap as nodes_map
+use Rattle.uxn_io.specs.Files.{Nodes}
+use Rattle.file_ports.specs.RootPart.{below, parent_is_folder}
 use Rattle.uxn_opcodes.specs.declared.Core.{Core}
 use Rattle.uxn_opcodes.specs.Rule.{new_core}
 use Rattle.system_port.specs.DebugText.{exit_code_of}
@@ -8,7 +11,7 @@ use Rattle.play_script.specs.declared.script.Clock.{Clock as ScriptClock}
 use Rattle.play_script.specs.Scripts.{ScriptView}
 use Rattle.varvara_bus.specs.declared.time.Clock.{Clock}
 use Rattle.varvara_bus.specs.History.{stored}
-use Rattle.varvara_bus.specs.State.{new_state}
+use Rattle.varvara_bus.specs.State.{DeviceState, new_state}
 use Rattle.vector_loop.specs.declared.tally.Tally.{Tally}
 use Rattle.vector_loop.specs.State.{State, new_tally}
 use Rattle.vector_loop.specs.Trail.{Trail}
@@ -26,10 +29,25 @@ pub record Debugging : Type 0 where
   pub labels : List Label
   pub log : Option (List ℕ)
 
+-- the folder of a program's own files: its path, where one is given; what lies there and beneath it; and whether its parent is
+-- a folder
+pub record Home : Type 0 where
+  pub root : Option (List ℕ)
+  pub part : Nodes
+  pub parent : Bool
+
+abbrev pub no_home : Home
+no_home = record { root = None; part = nodes_map.empty; parent = false }
+
+-- as the files of a tree tell it
+abbrev pub home_in : Option (List ℕ) → Nodes → Home
+home_in root nodes = record { root = root; part = below root nodes; parent = parent_is_folder root nodes }
+
 pub record Job : Type 0 where
   pub rom : List ℕ
   pub script : ScriptView
   pub budget : ℕ
+  pub home : Home
   pub frames : Option (List ℕ)
   pub samples : Option (List ℕ)
   pub report : Option (List ℕ)
@@ -52,15 +70,18 @@ abbrev pub clock_by : ScriptClock → Clock
 clock_by clock = record { seconds = clock.seconds; offset = clock.offset }
 
 -- a new machine, and the reference run from there
-abbrev pub start_with : Core → ScriptView → State
-start_with core script = record { core = core; devices = new_state (clock_by script.clock) None; tally = new_tally }
+abbrev pub devices_with : ScriptView → Home → DeviceState
+devices_with script home = new_state (clock_by script.clock) home.root home.part home.parent
 
-unfoldable pub trail_by : ℕ → Outputs → ScriptView → Core → Trail
-trail_by budget outputs script core = run budget outputs script (start_with core script)
+abbrev pub start_with : Core → ScriptView → Home → State
+start_with core script home = record { core = core; devices = devices_with script home; tally = new_tally }
+
+unfoldable pub trail_by : ℕ → Outputs → ScriptView → Home → Core → Trail
+trail_by budget outputs script home core = run budget outputs script (start_with core script home)
 
 -- that of the ROM
 abbrev pub trail_of : Job → Trail
-trail_of job = trail_by job.budget (outputs_by job.frames job.samples) job.script (new_core job.rom)
+trail_of job = trail_by job.budget (outputs_by job.frames job.samples) job.script job.home (new_core job.rom)
 
 -- the exit code: the low seven bits of port 0f at the end
 abbrev pub exit_in : State → ℕ

@@ -15,3 +15,4 @@ pub mod Answer
 pub mod Causes
 pub mod OpcodeNames
 pub mod Observation
+pub mod Isolation

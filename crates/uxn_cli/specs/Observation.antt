@@ -1,8 +1,19 @@
--- A debugger changes nothing of a run: its log is made first and gets its bytes last, and all else is the run's.
-use Rattle.std.specs.Prelude.{◌≡◌, List, ◌++◌, Option, Some, None, option_to_list}
-use Rattle.uxn_io.specs.Outside.{Change}
+-- A debugger changes nothing of a run but for its log: the log is made first and gets its bytes last, and all else is the run's.
+use Rattle.std.specs.Prelude.{◌≡◌, ℕ, false, List, ◌++◌, Option, Some, None, option_to_list, option_map, Result, Ok, IfOk}
+use Rattle.std.specs.List.{list_any}
+use Rattle.std.specs.Str.{bytes_eq}
+use Rattle.file_ports.specs.RootPart.{below}
+use Rattle.uxn_io.specs.Files.{Nodes}
+use Rattle.uxn_io.specs.Outside.{Change, World, changed_by}
+use Rattle.varvara_bus.specs.Touching.{told_at}
+use Rattle.uxn_cli.specs.declared.words.Command.TheVariants.{Play, Debug}
+use Rattle.uxn_cli.specs.declared.task.Task.{Task}
+use Rattle.uxn_cli.specs.declared.refusal.Refusal.{Refusal}
+use Rattle.uxn_cli.specs.Words.{settings}
 use Rattle.uxn_cli.specs.Job.{Debugging, Job, trail_of, exit_of, log_by}
-use Rattle.uxn_cli.specs.Outcome.{creating, filling_all, running}
+use Rattle.uxn_cli.specs.Verdict.{Work, Run}
+use Rattle.uxn_cli.specs.Outcome.{Outcome, outcome_of, creating, filling_all, running}
+use Rattle.uxn_cli.specs.Causes.{verdict_on}
 
 -- a run that nobody watches, and the same run under a debugger
 abbrev pub unwatched : Job → Job
@@ -18,3 +29,42 @@ with_log job debugging = creating (option_to_list debugging.log) ++ (running (un
 pub record OnlyWatches : Type 0 where
   pub status : (job : Job) (debugging : Debugging) → exit_of (watched job debugging) ≡ exit_of (unwatched job)
   pub changes : (job : Job) (debugging : Debugging) → running (watched job debugging) ≡ with_log job debugging
+
+-- what `play` is asked with the items of a `debug` but its commands, its log and its symbols
+abbrev pub played : Task → Task
+played task = record task { command = Play; commands = None; log = None; symbols = None }
+
+-- words of `debug`, and words of `play` with the same items but those three
+pub record HaveSameItems (words others : List (List ℕ)) : Type 0 where
+  pub task : Task
+  pub command : task.command ≡ Debug
+  pub debugs : settings words ≡ Some task
+  pub plays : settings others ≡ Some (played task)
+
+-- `debug` comes to a run under a debugger, and `play` to the same run
+pub record ComeToOneRun (debugged played : Result Work Refusal) : Type 0 where
+  pub job : Job
+  pub debugging : Debugging
+  pub debugs : debugged ≡ Ok (Run (watched job debugging))
+  pub plays : played ≡ Ok (Run (unwatched job))
+
+-- the path is not that of the log
+abbrev pub IsNoLog : Result Task Refusal → List ℕ → Type 0
+IsNoLog asked path = IfOk asked (λ task. list_any (bytes_eq path) (option_to_list task.log) ≡ false)
+
+-- what lies beneath the root of what is asked is the same
+abbrev pub HaveSamePart : Result Task Refusal → Option Nodes → Option Nodes → Type 0
+HaveSamePart asked now other = IfOk asked (λ task. option_map (below task.root) now ≡ option_map (below task.root) other)
+
+-- a status and a world are those of an outcome, but for the log
+pub record IsOutcomeButLog (asked : Result Task Refusal) (o : Outcome) (before now : World) (answer : ℕ) : Type 0 where
+  pub status : answer ≡ o.status
+  pub out : now.out ≡ (changed_by before o.changes).out
+  pub err : now.err ≡ (changed_by before o.changes).err
+  pub files : (path : List ℕ) → IsNoLog asked path → told_at path now.files ≡ told_at path (changed_by before o.changes).files
+  pub part : HaveSamePart asked now.files (changed_by before o.changes).files
+
+-- where `debug` comes to its run, it gives what `play` gives with the same items, but for the log
+pub record ShowsWhatPlayDoes (nodes : Nodes) (asked other : Result Task Refusal) (work : Work) : Type 0 where
+  pub run : ComeToOneRun (Ok work) (verdict_on nodes other)
+  pub given : (before : World) → IsOutcomeButLog asked (outcome_of (verdict_on nodes other)) before (changed_by before (outcome_of (Ok work)).changes) (outcome_of (Ok work)).status

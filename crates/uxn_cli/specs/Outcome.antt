@@ -1,5 +1,5 @@
 -- What a verdict gives: the status, and the changes outside, in order.
-use Rattle.std.specs.Prelude.{ℕ, List, [], ◌∷◌, ◌++◌, map, Option, Some, None, Result, Ok, Err}
+use Rattle.std.specs.Prelude.{ℕ, List, ◌++◌, map, Option, Result, Ok, Err}
 use Rattle.std.specs.List.{flat_map}
 use Rattle.uxn_io.specs.Outside.{Change, ToOut, ToErr, Creates, ToFile}
 use Rattle.uxn_cli.specs.declared.refusal.Refusal.{Refusal}

@@ -1,10 +1,12 @@
 -- What a run has before it begins: the inputs that were seen, and a new machine.
-use Rattle.std.specs.Prelude.{◌≡◌, ◌≢◌, ◌⊎◌, ℕ, true, not, find, unwrap_or, option_map, List, [], Option, None, Some, Result, Ok, Err, IfSome}
+use Rattle.std.specs.Prelude.{◌≡◌, ◌≢◌, ◌⊎◌, ℕ, Bool, true, not, find, unwrap_or, option_map, List, [], ◌++◌, Option, None, Some, Result, Ok, Err, IfSome}
 use Rattle.std.specs.List.{list_any}
 use Rattle.std.specs.Str.{bytes_eq}
 use Rattle.uxn_io.specs.declared.trees.FileBytes.{FileBytes}
 use Rattle.uxn_io.specs.Files.{Nodes}
-use Rattle.uxn_io.specs.Outside.{World, changed_by, IsCutOff}
+use Rattle.uxn_io.specs.Outside.{Change, World, changed_by, IsCutOff}
+use Rattle.uxn_io.specs.Room.{Room}
+use Rattle.uxn_io.specs.Taking.{Sure, sure, Remains, WasNotSure}
 use Rattle.uxn_io.specs.Changes.{can_create}
 use Rattle.uxn_opcodes.specs.declared.Core.{Core}
 use Rattle.uxn_opcodes.specs.declared.Stop.{Stop}
@@ -12,13 +14,14 @@ use Rattle.uxn_opcodes.specs.declared.Stop.TheVariants.{TreeFault, SinkFault, No
 use Rattle.uxn_opcodes.specs.Rule.{new_core}
 use Rattle.tal_words.specs.declared.name.Label.{Label}
 use Rattle.play_script.specs.Scripts.{ScriptView}
-use Rattle.varvara_bus.specs.State.{StandFor, new_state}
+use Rattle.varvara_bus.specs.State.{StandFor, HasFiles, new_state}
 use Rattle.varvara_bus.specs.Bus.{IsFileWhereTold}
+use Rattle.varvara_bus.specs.declared.devices.Devices.{Devices}
 use Rattle.vector_loop.specs.declared.watch.Moment.{Moment}
 use Rattle.vector_loop.specs.declared.output.Outputs.{Outputs}
+use Rattle.vector_loop.specs.Outputs.{IsOutput}
 use Rattle.vector_loop.specs.Watch.{ports_read, moment_of, shown_all}
 use Rattle.vector_loop.specs.Trail.{Trail}
-use Rattle.uxn_debugger.specs.declared.command.DebugCommand.{DebugCommand}
 use Rattle.uxn_cli.specs.declared.task.Task.{Task}
 use Rattle.uxn_cli.specs.declared.program.Program.{Program}
 use Rattle.uxn_cli.specs.declared.program.Program.TheVariants.{Rom, Source}
@@ -29,10 +32,11 @@ use Rattle.uxn_cli.specs.declared.refusal.Refusal.{Refusal}
 use Rattle.uxn_cli.specs.declared.refusal.Refusal.TheVariants.{NoOutput}
 use Rattle.uxn_cli.specs.declared.refusal.Halt.{Halt}
 use Rattle.uxn_cli.specs.declared.refusal.Halt.TheVariants.{Refused, Stopped}
-use Rattle.uxn_cli.specs.Verdict.{View, Work, Run, file_seen, symbols_seen, script_seen, script_by, commands_seen, program_in, own_labels, script_in, commands_in, debugging, job_of, work_of}
+use Rattle.uxn_cli.specs.Verdict.{View, Work, Run, file_seen, symbols_seen, script_seen, commands_seen, part_seen, parent_seen, program_in, own_labels, debugging, job_of, work_of}
 use Rattle.uxn_cli.specs.World.{world}
-use Rattle.uxn_cli.specs.Job.{Debugging, clock_by, outputs_by, exit_in}
-use Rattle.uxn_cli.specs.Outcome.{creating}
+use Rattle.uxn_cli.specs.Job.{Debugging, Home, no_home, home_in, clock_by, outputs_by, trail_by, exit_in, log_by}
+use Rattle.uxn_cli.specs.Outcome.{creating, filling_all, reporting}
+use Rattle.uxn_cli.specs.Blame.{blame_of}
 
 -- what was seen of an input, and what it says
 pub record Sees {A : Type 0} (tree : Option Nodes) (seen_in : Nodes → FileBytes) (said : FileBytes → Result A Refusal) (says : Result A Refusal) : Type 0 where
@@ -74,14 +78,28 @@ pub record SeesWork (tree : Option Nodes) (task : Task) (said : Result Work Refu
   pub symbols : IfSome tree (λ nodes. view.symbols ≡ symbols_seen nodes task)
   pub script : IfSome tree (λ nodes. view.script ≡ script_seen nodes task)
   pub commands : IfSome tree (λ nodes. view.commands ≡ commands_seen nodes task)
+  pub part : IfSome tree (λ nodes. view.part ≡ part_seen nodes task)
+  pub parent : IfSome tree (λ nodes. view.parent ≡ parent_seen nodes task)
   pub work : work_of task.command task view ≡ said
 
--- a machine that is ready: it is new, with the ROM and the script that are asked for
+-- devices are new: they stand for new ones with this script and this root, whatever lies there
+abbrev pub AreNew : Devices → ScriptView → Option (List ℕ) → Type 0
+AreNew devices script root = (part : Nodes) (parent : Bool) → StandFor devices (new_state (clock_by script.clock) root part parent)
+
+-- a folder of a program's own files is that of a task, as a tree tells it
+pub record IsHomeOf (tree : Option Nodes) (task : Task) (home : Home) : Type 0 where
+  pub root : home.root ≡ task.root
+  pub told : IfSome tree (λ nodes. home ≡ home_in task.root nodes)
+  pub none : task.root ≡ None → home ≡ no_home
+
+-- a machine that is ready: it is new, with the ROM, the script and the root that are asked for
 pub record IsReady (tree : Option Nodes) (task : Task) (debug : Option Debugging) (machine : Machine) : Type 0 where
   pub rom : List ℕ
+  pub home : Home
   pub core : machine.core ≡ new_core rom
-  pub devices : StandFor machine.devices (new_state (clock_by machine.script.clock) None)
-  pub sees : SeesWork tree task (Ok (Run (job_of task rom machine.script debug)))
+  pub devices : AreNew machine.devices machine.script task.root
+  pub at_home : IsHomeOf tree task home
+  pub sees : SeesWork tree task (Ok (Run (job_of task home rom machine.script debug)))
 
 -- why there is none
 abbrev pub Unready : Option Nodes → Task → Halt → Type 0
@@ -102,6 +120,33 @@ debugging_of task session = debugging task session.commands.items (labels_in_ses
 abbrev pub PreparesDebug : Option Nodes → Task → Result Session Halt → Type 0
 PreparesDebug tree task (Ok session) = IsReady tree task (Some (debugging_of task session)) session.machine
 PreparesDebug tree task (Err halt) = Unready tree task halt
+
+-- what a call can see and change, and what is sure of it
+pub record Around : Type 0 where
+  pub world : World
+  pub sure : Sure
+
+abbrev pub around : Option Nodes → Room → Option (List ℕ) → ℕ → Option (List ℕ) → ℕ → Around
+around tree room out out_sure err err_sure = record { world = world tree out err; sure = sure room out_sure err_sure }
+
+-- changes were made, and so much is sure after them
+pub record WasDone (before now : Around) (changes : List Change) : Type 0 where
+  pub world : now.world ≡ changed_by before.world changes
+  pub remains : Remains before.sure now.sure before.world.files changes
+
+-- a front of them was made, and whoever is to blame did not surely take all of them
+pub record FellShort (before now : Around) (changes : List Change) (stop : Stop) : Type 0 where
+  pub cut : IsCutOff before.world now.world changes
+  pub not_sure : WasNotSure (blame_of stop) before.sure before.world.files changes
+
+-- the same where nothing was put on the outputs
+abbrev pub TreeWasDone : Option Nodes → Option Nodes → Room → Room → List Change → Type 0
+TreeWasDone tree now room left changes =
+    (out err : Option (List ℕ)) (out_sure err_sure : ℕ) → WasDone (around tree room out out_sure err err_sure) (around now left out out_sure err err_sure) changes
+
+abbrev pub TreeFellShort : Option Nodes → Option Nodes → Room → Room → List Change → Type 0
+TreeFellShort tree now room left changes =
+    (out err : Option (List ℕ)) (out_sure err_sure : ℕ) → FellShort (around tree room out out_sure err err_sure) (around now left out out_sure err err_sure) changes TreeFault
 
 -- outputs that were made, and all of them are files now
 pub record Made (paths : List (List ℕ)) (tree now : Option Nodes) : Type 0 where
@@ -129,8 +174,8 @@ MakesOutputs paths tree now (Err (Stopped NoMemory)) = now ≡ tree
 MakesOutputs paths tree now (Err (Stopped SinkFault)) = ⊥
 
 -- all of a run was done
-pub record HasRun (before now : World) (trail : Trail) (ended : Ended) : Type 0 where
-  pub world : now ≡ changed_by before trail.changes
+pub record HasRun (before now : Around) (trail : Trail) (ended : Ended) : Type 0 where
+  pub done : WasDone before now trail.changes
   pub exit : ended.exit ≡ exit_in trail.last
   pub tally : ended.tally ≡ trail.last.tally
 
@@ -139,11 +184,32 @@ abbrev pub WasShown : {H : Type 0} → (H → Core → List ℕ → Moment → H
 WasShown shown ended before trail now =
     now ≡ ended (shown_all shown before trail.moments) trail.last.core (ports_read 256 trail.last) (moment_of trail.last)
 
--- the outputs of a run are files
+-- the outputs of a run are files outside its root
 pub record RunFiles (task : Task) (tree : Option Nodes) : Type 0 where
-  pub frames : IfSome task.frames (IsFileWhereTold tree)
-  pub samples : IfSome task.samples (IsFileWhereTold tree)
-  pub report : IfSome task.report (IsFileWhereTold tree)
+  pub frames : IfSome task.frames (IsOutput task.root tree)
+  pub samples : IfSome task.samples (IsOutput task.root tree)
+  pub report : IfSome task.report (IsOutput task.root tree)
+
+-- this holds of the folder of a program's own files, as a tree tells it
+abbrev pub AtHome : Option (List ℕ) → Option Nodes → (Home → Type 0) → Type 0
+AtHome root tree P = (home : Home) → home.root ≡ root → HasFiles tree home.root home.part home.parent → P home
 
 abbrev pub outputs_for : Task → Outputs
 outputs_for task = outputs_by task.frames task.samples
+
+-- the run of a machine for a task, from a folder of the program's own files
+abbrev pub trail_for : Task → Machine → Home → Trail
+trail_for task machine home = trail_by task.budget (outputs_for task) machine.script home machine.core
+
+-- what is done by a run and behind it: its report is written, and then the log of a debugger
+abbrev pub reporting_for : Task → Machine → Home → List Change
+reporting_for task machine home = reporting task.report (trail_for task machine home)
+
+abbrev pub debugging_for : Task → Session → Home → List Change
+debugging_for task session home =
+    reporting_for task session.machine home ++ filling_all (log_by (Some (debugging_of task session)) (trail_for task session.machine home))
+
+-- a run was done with all that is behind it, and its exit code is the status
+pub record HasFinished (before now : Around) (trail : Trail) (changes : List Change) (answer : ℕ) : Type 0 where
+  pub status : answer ≡ exit_in trail.last
+  pub done : WasDone before now changes

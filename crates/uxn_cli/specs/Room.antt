@@ -1,31 +1,34 @@
 -- What the tree and the sinks must surely take for a verdict (profile).
 use Rattle.std.specs.Prelude.{ℕ, ◌<◌, ◌≤◌, List, length, All, Result, Ok, Err}
+use Rattle.uxn_io.specs.Files.{Nodes}
 use Rattle.uxn_io.specs.Room.{Room}
+use Rattle.uxn_io.specs.Taking.{TreeTakes, SinkTakes, bytes_out, bytes_err}
 use Rattle.uxn_cli.specs.declared.refusal.Refusal.{Refusal}
 use Rattle.uxn_cli.specs.Lines.{line_of}
 use Rattle.uxn_cli.specs.World.{Text}
 use Rattle.uxn_cli.specs.Verdict.{Work, Run, Write, Print}
+use Rattle.uxn_cli.specs.Outcome.{running}
 
 -- a tree surely takes files: it has room for more files than these, and each is no longer than a file may be
 pub record Takes (room : Room) (texts : List Text) : Type 0 where
   pub files : length texts < room.files
   pub bytes : All (λ text. length text.bytes ≤ room.bytes) texts
 
--- the tree surely takes the files that are written. Of a run nothing is said.
-abbrev pub TakesFor : Result Work Refusal → Room → Type 0
-TakesFor (Err refusal) room = Unit {0}
-TakesFor (Ok (Run job)) room = ⊥
-TakesFor (Ok (Write texts)) room = Takes room texts
-TakesFor (Ok (Print text)) room = Unit {0}
+-- the tree surely takes the files that are written, and what a run does to it
+abbrev pub TakesFor : Result Work Refusal → Room → Nodes → Type 0
+TakesFor (Err refusal) room nodes = Unit {0}
+TakesFor (Ok (Run job)) room nodes = TreeTakes room nodes (running job)
+TakesFor (Ok (Write texts)) room nodes = Takes room texts
+TakesFor (Ok (Print text)) room nodes = Unit {0}
 
--- the tree suffices: it surely takes the files that are written, and is read without a fault
-pub record TreeSuffices (verdict : Result Work Refusal) (room : Room) : Type 0 where
+-- the tree suffices: it is read without a fault, and surely takes what is done to it
+pub record TreeSuffices (verdict : Result Work Refusal) (room : Room) (nodes : Nodes) : Type 0 where
   pub some : 0 < room.files
-  pub takes : TakesFor verdict room
+  pub takes : TakesFor verdict room nodes
 
--- the sinks suffice: they surely take the bytes that are put. Of a run nothing is said.
+-- the sinks suffice: they surely take the bytes that are put
 abbrev pub SinksSuffice : Result Work Refusal → ℕ → ℕ → Type 0
 SinksSuffice (Err refusal) out err = length (line_of refusal) < err
-SinksSuffice (Ok (Run job)) out err = ⊥
+SinksSuffice (Ok (Run job)) out err = SinkTakes out (bytes_out (running job)) × SinkTakes err (bytes_err (running job))
 SinksSuffice (Ok (Write texts)) out err = Unit {0}
 SinksSuffice (Ok (Print text)) out err = length text < out

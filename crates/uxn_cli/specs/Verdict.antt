@@ -1,9 +1,7 @@
 -- What the words and the view of the tree determine before anything is done: a refusal, or the work.
-use Rattle.std.specs.Prelude.{◌≡◌, ℕ, Bool, true, false, not, nat_lt, ◌||◌, List, [], ◌∷◌, ◌++◌, count_by}
-use Rattle.std.specs.Prelude.{find, Option, Some, None, option_to_list, Result, Ok, Err}
+use Rattle.std.specs.Prelude.{ℕ, Bool, true, false, not, List, [], ◌++◌}
+use Rattle.std.specs.Prelude.{find, Option, Some, None, Result, Ok, Err}
 use Rattle.std.specs.Prelude.{if◌then◌else◌, unwrap_or}
-use Rattle.std.specs.List.{list_any}
-use Rattle.std.specs.Str.{bytes_eq}
 use Rattle.tal_words.specs.declared.fault.Fault.{Fault}
 use Rattle.tal_words.specs.Faults.{fault_text}
 use Rattle.tal_words.specs.declared.name.Label.{Label}
@@ -21,6 +19,7 @@ use Rattle.uxn_debugger.specs.declared.command.DebugCommand.{DebugCommand}
 use Rattle.uxn_debugger.specs.declared.command.CommandKind.{CommandKind}
 use Rattle.uxn_debugger.specs.declared.command.CommandKind.TheVariants.{LongCommands}
 use Rattle.uxn_debugger.specs.Reading.{commands_of_text}
+use Rattle.file_ports.specs.RootPart.{below, parent_is_folder}
 use Rattle.uxn_io.specs.declared.trees.FileBytes.{FileBytes}
 use Rattle.uxn_io.specs.declared.trees.FileBytes.TheVariants.{Found, Missing as NoFile, TooLong}
 use Rattle.uxn_io.specs.ByteList.{tight}
@@ -32,16 +31,19 @@ use Rattle.uxn_cli.specs.declared.words.Command.TheVariants.{Play, Debug, Assemb
 use Rattle.uxn_cli.specs.declared.task.Task.{Task}
 use Rattle.uxn_cli.specs.declared.refusal.Refusal.{Refusal}
 use Rattle.uxn_cli.specs.declared.refusal.Refusal.TheVariants.{NoOutput, Missing, Faulty, LongRom, BadSymbols, BadScript, BadCommands}
-use Rattle.uxn_cli.specs.Job.{Debugging, Job, text_at}
+use Rattle.uxn_cli.specs.Job.{Debugging, Job, Home, no_home, text_at}
 use Rattle.uxn_cli.specs.World.{Text}
-pub use Rattle.uxn_cli.specs.Request.{and_then, inputs_by, outputs_by, outputs_of, clashes, HasApartOutputs}
+pub use Rattle.uxn_cli.specs.Request.{and_then, inputs_by, outputs_by, outputs_of, root_by, clashes, HasApartOutputs}
 
--- what the tree shows a task: its file, its file of symbols, its script, its commands, and the first output that cannot be made
+-- what the tree shows a task: its file, its file of symbols, its script, its commands, what lies beneath its root and whether the
+-- root's parent is a folder, and the first output that cannot be made
 pub record View : Type 0 where
   pub file : FileBytes
   pub symbols : FileBytes
   pub script : FileBytes
   pub commands : FileBytes
+  pub part : Nodes
+  pub parent : Bool
   pub blocked : Option (List ℕ)
 
 -- no more bytes of a file are looked at: 65,280 of a ROM, and 4,194,304 of a source
@@ -83,6 +85,13 @@ script_seen nodes task = script_by nodes task.script
 abbrev pub commands_seen : Nodes → Task → FileBytes
 commands_seen nodes task = script_by nodes task.commands
 
+-- what lies beneath the root, and whether its parent is a folder
+abbrev pub part_seen : Nodes → Task → Nodes
+part_seen nodes task = below (root_by task.command task) nodes
+
+abbrev pub parent_seen : Nodes → Task → Bool
+parent_seen nodes task = parent_is_folder (root_by task.command task) nodes
+
 abbrev pub blocked_seen : Nodes → Task → Option (List ℕ)
 blocked_seen nodes task = find (λ path. not (can_create nodes path)) (outputs_of task)
 
@@ -92,6 +101,8 @@ view_of nodes task = record {
   symbols = symbols_seen nodes task;
   script = script_seen nodes task;
   commands = commands_seen nodes task;
+  part = part_seen nodes task;
+  parent = parent_seen nodes task;
   blocked = blocked_seen nodes task;
 }
 
@@ -184,13 +195,19 @@ commands_in labels (Some path) file = commands_at labels path file
 abbrev pub debugging : Task → List DebugCommand → List Label → Debugging
 debugging task commands labels = record { commands = commands; labels = labels; log = task.log }
 
--- a run of a ROM with a script, which a debugger may watch
-abbrev pub job_of : Task → List ℕ → ScriptView → Option Debugging → Job
-job_of task rom script debug = record {
+-- the folder of a program's own files, as it was seen
+abbrev pub home_by : Option (List ℕ) → Nodes → Bool → Home
+home_by None part parent = no_home
+home_by (Some root) part parent = record { root = Some root; part = part; parent = parent }
+
+-- a run of a ROM with a script beneath a root, which a debugger may watch
+abbrev pub job_of : Task → Home → List ℕ → ScriptView → Option Debugging → Job
+job_of task home rom script debug = record {
   debug = debug;
   rom = rom;
   script = script;
   budget = task.budget;
+  home = home;
   frames = task.frames;
   samples = task.samples;
   report = task.report;
@@ -206,13 +223,13 @@ pub data Work : Type 0 where
 abbrev pub work_of : Command → Task → View → Result Work Refusal
 work_of Play task view =
     and_then (program_in task.rom task.file view.file) (λ rom.
-    and_then (script_in task.script view.script) (λ script. Ok (Run (job_of task rom script None))))
+    and_then (script_in task.script view.script) (λ script. Ok (Run (job_of task (home_by task.root view.part view.parent) rom script None))))
 work_of Debug task view =
     and_then (program_in task.rom task.file view.file) (λ rom.
     and_then (given_in task.symbols view.symbols) (λ given.
     and_then (script_in task.script view.script) (λ script.
     and_then (commands_in (debug_labels given task.rom view.file) task.commands view.commands) (λ commands.
-    Ok (Run (job_of task rom script (Some (debugging task commands (debug_labels given task.rom view.file)))))))))
+    Ok (Run (job_of task (home_by task.root view.part view.parent) rom script (Some (debugging task commands (debug_labels given task.rom view.file)))))))))
 work_of Assemble task view = and_then (source_in task.file view.file) (λ source. Ok (Write (texts_of task source)))
 work_of Disassemble task view =
     and_then (rom_in task.file view.file) (λ rom.

@@ -37,7 +37,7 @@ required name = record { name = name; has_value = true; is_required = true }
 -- the options of a run
 abbrev pub run_choices : List Choice
 run_choices =
-    switch (codes "rom") ∷ optional (codes "script") ∷ optional (codes "frames") ∷ optional (codes "samples")
+    switch (codes "rom") ∷ optional (codes "script") ∷ optional (codes "root") ∷ optional (codes "frames") ∷ optional (codes "samples")
     ∷ optional (codes "report") ∷ optional (codes "budget") ∷ []
 
 -- the options of each command

@@ -97,7 +97,7 @@ pub fn assemble_files<T: Tree>(alloc: Global, task: &Task, tree: &mut T) -> Resu
     ensures performs { (out err : Option (List ℕ)) → Performs (Ok task.now) (world (T.told tree.old) out err) (world (T.told tree.new) out err) result }
     ensures ledger { Ledger (counts (T.faults tree.old) 0 0) (counts (T.faults tree.new) 0 0) (blame_in result) }
     ensures no_sink { blame_in result ≡ ASink → ⊥ }
-    ensures sure { IfSome (T.told tree.old) (λ nodes. TreeSuffices (verdict_on nodes (Ok task.now)) (T.sure tree.old) → blame_in result ≡ TheTree → ⊥) }
+    ensures sure { IfSome (T.told tree.old) (λ nodes. TreeSuffices (verdict_on nodes (Ok task.now)) (T.sure tree.old) nodes → blame_in result ≡ TheTree → ⊥) }
 {
     let file = read_file(alloc, tree, &task.file, SOURCE_LIMIT)?;
     let accepted = accept_source(alloc, &task.file, file)?;

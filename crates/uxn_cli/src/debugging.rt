@@ -8,16 +8,12 @@ ghost use Rattle.uxn_cli.specs.Answer.{Performs};
 ghost use Rattle.uxn_cli.specs.Blame.{blame_in, OnRefused};
 ghost use Rattle.uxn_cli.specs.Causes.{verdict_on};
 ghost use Rattle.uxn_cli.specs.Room.{TreeSuffices, SinksSuffice};
-ghost use Rattle.uxn_io.specs.Outside.{changed_by, IsCutOff};
 ghost use Rattle.uxn_opcodes.specs.Ports.{blame_of};
-ghost use Rattle.varvara_bus.specs.Bus.{IsFileWhereTold};
-ghost use Rattle.varvara_bus.specs.State.{StandFor, new_state};
 ghost use Rattle.uxn_debugger.specs.Reading.{commands_of_text};
 ghost use Rattle.uxn_cli.specs.Follows.{Follows};
-ghost use Rattle.uxn_cli.specs.Job.{clock_by, exit_in, trail_by, log_by};
-ghost use Rattle.uxn_cli.specs.Outcome.{filling_all, reporting};
 ghost use Rattle.uxn_cli.specs.Verdict.{script_by, symbols_by, commands_from, commands_at, commands_in, given_in};
-ghost use Rattle.uxn_cli.specs.Prepared.{Accepts, PreparesDebug, RunFiles, debugging_of, outputs_for, labels_in_session, labels_in_program};
+ghost use Rattle.vector_loop.specs.Outputs.{IsOutput};
+ghost use Rattle.uxn_cli.specs.Prepared.{around, Accepts, PreparesDebug, AreNew, AtHome, FellShort, HasFinished, RunFiles, trail_for, debugging_for, labels_in_session, labels_in_program};
 
 use super::commands::{SYMBOLS_LIMIT, labels_at};
 use super::machine::{Machine, new_machine};
@@ -160,7 +156,7 @@ fn prepare<T: Tree>(alloc: Global, task: &Task, tree: &mut T) -> Result<Session,
     let script = accept_script(alloc, &task.script, tree)?;
     let labels = labels_of(&program, &given);
     let commands = accept_commands(alloc, &task.commands, labels, tree)?;
-    let machine = new_machine(alloc, program.rom(), script)?;
+    let machine = new_machine(alloc, task.root, program.rom(), script)?;
     Ok(Session {
         machine,
         commands,
@@ -178,19 +174,19 @@ fn debug_made<T: Tree, O: Sink, E: Sink>(
     out: &mut O,
     err: &mut E,
 ) -> Result<u8, Stop>
-    requires devices { StandFor session.machine.devices (new_state (clock_by session.machine.script.clock) None) }
+    requires devices { AreNew session.machine.devices session.machine.script task.now.root }
     requires budget { 1 ≤ task.now.budget }
     requires files { RunFiles task.now (T.told tree.old) }
-    requires log { IfSome task.now.log (IsFileWhereTold (T.told tree.old)) }
-    ensures status { IfOk result (λ status. status ≡ exit_in (trail_by task.now.budget (outputs_for task.now) session.machine.script session.machine.core).last) }
-    ensures ok { OnOk result (world (T.told tree.new) (O.told out.new) (E.told err.new)
-        ≡ changed_by (world (T.told tree.old) (O.told out.old) (E.told err.old))
-        (reporting task.now.report (trail_by task.now.budget (outputs_for task.now) session.machine.script session.machine.core)
-        ++ filling_all (log_by (Some (debugging_of task.now session)) (trail_by task.now.budget (outputs_for task.now) session.machine.script session.machine.core)))) }
-    ensures err { OnErr result (IsCutOff (world (T.told tree.old) (O.told out.old) (E.told err.old))
-        (world (T.told tree.new) (O.told out.new) (E.told err.new))
-        (reporting task.now.report (trail_by task.now.budget (outputs_for task.now) session.machine.script session.machine.core)
-        ++ filling_all (log_by (Some (debugging_of task.now session)) (trail_by task.now.budget (outputs_for task.now) session.machine.script session.machine.core)))) }
+    requires log { IfSome task.now.log (IsOutput task.now.root (T.told tree.old)) }
+    ensures code { IfOk result (λ status. status ≤ 127) }
+    ensures ok { AtHome task.now.root (T.told tree.old) (λ home. IfOk result (λ status. HasFinished
+        (around (T.told tree.old) (T.sure tree.old) (O.told out.old) (O.sure out.old) (E.told err.old) (E.sure err.old))
+        (around (T.told tree.new) (T.sure tree.new) (O.told out.new) (O.sure out.new) (E.told err.new) (E.sure err.new))
+        (trail_for task.now session.machine home) (debugging_for task.now session home) status)) }
+    ensures err { AtHome task.now.root (T.told tree.old) (λ home. IfErr result (λ stop. FellShort
+        (around (T.told tree.old) (T.sure tree.old) (O.told out.old) (O.sure out.old) (E.told err.old) (E.sure err.old))
+        (around (T.told tree.new) (T.sure tree.new) (O.told out.new) (O.sure out.new) (E.told err.new) (E.sure err.new))
+        (debugging_for task.now session home) stop)) }
     ensures ledger { Ledger (counts (T.faults tree.old) (O.faults out.old) (E.faults err.old))
         (counts (T.faults tree.new) (O.faults out.new) (E.faults err.new)) (blame_of result) }
 {
@@ -225,7 +221,7 @@ pub fn debug<T: Tree, O: Sink, E: Sink>(
     ensures ledger { Ledger (counts (T.faults tree.old) (O.faults out.old) (E.faults err.old))
         (counts (T.faults tree.new) (O.faults out.new) (E.faults err.new)) (blame_in result) }
     ensures kept { OnRefused result (err.new ≡ err.old) }
-    ensures sure_tree { IfSome (T.told tree.old) (λ nodes. TreeSuffices (verdict_on nodes (Ok task.now)) (T.sure tree.old) → blame_in result ≡ TheTree → ⊥) }
+    ensures sure_tree { IfSome (T.told tree.old) (λ nodes. TreeSuffices (verdict_on nodes (Ok task.now)) (T.sure tree.old) nodes → blame_in result ≡ TheTree → ⊥) }
     ensures sure_sinks { IfSome (T.told tree.old) (λ nodes. SinksSuffice (verdict_on nodes (Ok task.now)) (O.sure out.old) (E.sure err.old)
         → blame_in result ≡ ASink → ⊥) }
 {

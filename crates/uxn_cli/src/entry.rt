@@ -1,5 +1,5 @@
 //! The top call, from the words to the status.
-ghost use Rattle.std.specs.Prelude.{◌≡◌, ◌≤◌, ◌⊎◌, ℕ, Ok, map, string_bytes, IfOk, IfSome};
+ghost use Rattle.std.specs.Prelude.{◌≡◌, ◌≤◌, ◌⊎◌, ℕ, List, Ok, map, string_bytes, IfOk, IfSome};
 ghost use Rattle.uxn_io.specs.Faults.{Rose, Ledger, TheTree, ASink, counts};
 ghost use Rattle.uxn_cli.specs.World.{world};
 ghost use Rattle.uxn_cli.specs.Request.{request, HasApartOutputs};
@@ -8,8 +8,9 @@ ghost use Rattle.uxn_cli.specs.Follows.{Follows};
 ghost use Rattle.uxn_cli.specs.Answer.{Performs, Ends, Answers};
 ghost use Rattle.uxn_cli.specs.Blame.{blame_in, blame_by, blame_at, early_status, OnRefused};
 ghost use Rattle.uxn_cli.specs.Room.{TreeSuffices, SinksSuffice};
-ghost use Rattle.uxn_cli.specs.Causes.{IsExactly, verdict_on, IsIllegal, IsPathless, IsMissing, IsFaulty, IsUnfit, IsBadScript, IsBadCommands, IsBlocked, EndsWith, KeepsOthers, PutsLine};
+ghost use Rattle.uxn_cli.specs.Causes.{IsEarly, IsExactly, verdict_on, IsIllegal, IsPathless, IsMissing, IsFaulty, IsUnfit, IsBadScript, IsBadCommands, IsBlocked, EndsWith, KeepsOthers, PutsLine};
 ghost use Rattle.uxn_cli.specs.Outcome.{outcome_of};
+ghost use Rattle.uxn_cli.specs.Observation.{HaveSameItems, IsOutcomeButLog};
 
 use super::assembling::assemble_files;
 use super::commands::disassemble_rom;
@@ -51,7 +52,7 @@ fn perform<T: Tree, O: Sink, E: Sink>(
     ensures ledger { Ledger (counts (T.faults tree.old) (O.faults out.old) (E.faults err.old))
         (counts (T.faults tree.new) (O.faults out.new) (E.faults err.new)) (blame_in result) }
     ensures kept { OnRefused result (err.new ≡ err.old) }
-    ensures sure_tree { IfSome (T.told tree.old) (λ nodes. TreeSuffices (verdict_on nodes (request (map string_bytes words.now))) (T.sure tree.old)
+    ensures sure_tree { IfSome (T.told tree.old) (λ nodes. TreeSuffices (verdict_on nodes (request (map string_bytes words.now))) (T.sure tree.old) nodes
         → blame_in result ≡ TheTree → ⊥) }
     ensures sure_sinks { IfSome (T.told tree.old) (λ nodes. SinksSuffice (verdict_on nodes (request (map string_bytes words.now))) (O.sure out.old) (E.sure err.old)
         → blame_in result ≡ ASink → ⊥) }
@@ -77,7 +78,7 @@ fn answer<T: Tree, O: Sink, E: Sink>(
         (world (T.told tree.new) (O.told out.new) (E.told err.new)) result }
     ensures ledger { Ledger (counts (T.faults tree.old) (O.faults out.old) (E.faults err.old))
         (counts (T.faults tree.new) (O.faults out.new) (E.faults err.new)) (blame_by result) }
-    ensures sure_tree { IfSome (T.told tree.old) (λ nodes. TreeSuffices (verdict_on nodes (request (map string_bytes words.now))) (T.sure tree.old)
+    ensures sure_tree { IfSome (T.told tree.old) (λ nodes. TreeSuffices (verdict_on nodes (request (map string_bytes words.now))) (T.sure tree.old) nodes
         → blame_by result ≡ TheTree → ⊥) }
     ensures sure_sinks { IfSome (T.told tree.old) (λ nodes. SinksSuffice (verdict_on nodes (request (map string_bytes words.now))) (O.sure out.old) (E.sure err.old)
         → blame_by result ≡ ASink → ⊥) }
@@ -112,7 +113,7 @@ fn status_of<T: Tree, O: Sink, E: Sink>(
         (world (T.told tree.new) (O.told out.new) (E.told err.new)) result }
     ensures ledger { Ledger (counts (T.faults tree.old) (O.faults out.old) (E.faults err.old))
         (counts (T.faults tree.new) (O.faults out.new) (E.faults err.new)) (blame_at result) }
-    ensures sure_tree { IfSome (T.told tree.old) (λ nodes. TreeSuffices (verdict_on nodes (request (map string_bytes words.now))) (T.sure tree.old)
+    ensures sure_tree { IfSome (T.told tree.old) (λ nodes. TreeSuffices (verdict_on nodes (request (map string_bytes words.now))) (T.sure tree.old) nodes
         → result ≡ 136 → ⊥) }
     ensures sure_sinks { IfSome (T.told tree.old) (λ nodes. SinksSuffice (verdict_on nodes (request (map string_bytes words.now))) (O.sure out.old) (E.sure err.old)
         → result ≡ 137 → ⊥) }
@@ -129,6 +130,7 @@ fn status_of<T: Tree, O: Sink, E: Sink>(
 /// - `play SRC` assembles the source in the file SRC, or with `--rom` takes it as a ROM, and runs it over the
 ///   script of `--script`, each vector for at most `--budget` instructions. Bytes to the ports 18 and 19 go to
 ///   `out` and `err`; pictures, samples and the report go to the files of `--frames`, `--samples` and `--report`.
+///   Its file devices see and change what lies at and beneath `--root`, and nothing else.
 /// - `debug SRC --commands C --log P` does the same, follows the commands on the way, and writes the log.
 /// - `asm SRC --out P` writes a ROM, and a symbol file and a listing where they are asked for.
 /// - `dis ROM` prints a disassembly.
@@ -137,7 +139,8 @@ fn status_of<T: Tree, O: Sink, E: Sink>(
 /// else: 128 for words that are not legal, 129 for a word that is no path, 130 for an input that is no file, 131
 /// for a source with a fault, 132 for a script and 133 for commands with a faulty line, 134 for a ROM of more than
 /// 65,280 bytes or a faulty symbol file, 135 for an output that clashes or cannot be made. The call ends early with
-/// 136 where the tree failed, with 137 where a sink failed, and with 138 where memory is wanting.
+/// 136 where the tree failed, with 137 where a sink failed, and with 138 where memory is wanting. In a `play` without
+/// a root memory is wanting only before anything was done.
 pub fn uxn<T: Tree, O: Sink, E: Sink>(
     alloc: Global,
     words: &[String],
@@ -145,13 +148,13 @@ pub fn uxn<T: Tree, O: Sink, E: Sink>(
     out: &mut O,
     err: &mut E,
 ) -> u8
-    // Unless the call ends early, the status and the bytes added to both sinks are the outcome of what
-    // the words ask for and of what stands in the tree. After an early end that no sink is to blame for
-    // nothing was put; a refusal whose line could not be put has put a front of it that is shorter.
+    // Unless the call ends early, the status, the bytes added to both sinks and the files are the outcome of what
+    // the words ask for and of what stands in the tree; after an early end a front of that was done. Beneath a root in
+    // a tree that tells nothing a run ends with some exit code.
     ensures outcome { Answers (request (map string_bytes words.now)) (world (T.told tree.old) (O.told out.old) (E.told err.old))
         (world (T.told tree.new) (O.told out.new) (E.told err.new)) result }
 
-    // Every path that is no output has its old node.
+    // Every path that is no output and lies outside the root has its old node.
     ensures others { KeepsOthers (request (map string_bytes words.now)) (T.told tree.old) (T.told tree.new) }
 
     // When each refusal comes, and when the run ends with its exit code.
@@ -182,9 +185,14 @@ pub fn uxn<T: Tree, O: Sink, E: Sink>(
         → (Rose (T.faults tree.old) (T.faults tree.new) → ⊥) → (Rose (O.faults out.old) (O.faults out.new) → ⊥)
         → (Rose (E.faults err.old) (E.faults err.new) → ⊥) → (result ≡ (outcome_of (Ok work)).status) ⊎ (result ≡ 138)) }
 
-    // Where the tree and the sinks surely take what the verdict asks of them, none of them fails. Of the
-    // bytes that a run puts nothing is said.
-    ensures sure_tree { IfSome (T.told tree.old) (λ nodes. TreeSuffices (verdict_on nodes (request (map string_bytes words.now))) (T.sure tree.old)
+    // Where `debug` comes to its run it gives, but for its log, what `play` gives with the same items.
+    ensures watched { IfSome (T.told tree.old) (λ nodes. (others : List (List ℕ)) (work : Work) → HaveSameItems (map string_bytes words.now) others
+        → verdict_on nodes (request (map string_bytes words.now)) ≡ Ok work → IsEarly result ⊎ IsOutcomeButLog (request (map string_bytes words.now))
+        (outcome_of (verdict_on nodes (request others))) (world (T.told tree.old) (O.told out.old) (E.told err.old))
+        (world (T.told tree.new) (O.told out.new) (E.told err.new)) result) }
+
+    // Where the tree and the sinks surely take what the verdict asks of them, none of them fails.
+    ensures sure_tree { IfSome (T.told tree.old) (λ nodes. TreeSuffices (verdict_on nodes (request (map string_bytes words.now))) (T.sure tree.old) nodes
         → result ≡ 136 → ⊥) }
     ensures sure_sinks { IfSome (T.told tree.old) (λ nodes. SinksSuffice (verdict_on nodes (request (map string_bytes words.now))) (O.sure out.old) (E.sure err.old)
         → result ≡ 137 → ⊥) }

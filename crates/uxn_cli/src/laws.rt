@@ -1,9 +1,14 @@
 //! Laws that tie what stands below to one another.
-ghost use Rattle.std.specs.Prelude.{◌≡◌, ℕ, ◌<◌};
+ghost use Rattle.std.specs.Prelude.{◌≡◌, ℕ, ◌<◌, List, Ok};
 ghost use Rattle.tal_words.specs.Opcodes.{name_of_op};
 ghost use Rattle.uxn_opcodes.specs.Table.{op_of};
 ghost use Rattle.uxn_cli.specs.OpcodeNames.{row_name};
-ghost use Rattle.uxn_cli.specs.Observation.{OnlyWatches};
+ghost use Rattle.uxn_io.specs.Files.{Nodes};
+ghost use Rattle.uxn_cli.specs.Request.{request};
+ghost use Rattle.uxn_cli.specs.Verdict.{Work};
+ghost use Rattle.uxn_cli.specs.Causes.{verdict_on};
+ghost use Rattle.uxn_cli.specs.Isolation.{LookSame, LooksAtItsView};
+ghost use Rattle.uxn_cli.specs.Observation.{OnlyWatches, HaveSameItems, ShowsWhatPlayDoes};
 
 /// The name that a disassembly has for an instruction byte is that of the row by which the machine runs
 /// it, with the letters of its mode, for each of the 256 bytes.
@@ -15,4 +20,19 @@ pub fn names_are_those_of_rows()
 /// made first and gets its bytes last.
 pub fn the_debugger_only_watches()
     ensures { OnlyWatches }
+{}
+
+/// Where `debug` comes to its run, `play` with the same words but the commands, the log and the symbols comes to
+/// that run too: over every tree of files both give the same status and the same bytes to both outputs, and the same
+/// stands afterwards beneath the root and at every path but that of the log.
+pub fn debug_shows_what_play_does()
+    ensures { (nodes : Nodes) (words others : List (List ℕ)) (work : Work) → HaveSameItems words others → verdict_on nodes (request words) ≡ Ok work
+        → ShowsWhatPlayDoes nodes (request words) (request others) work }
+{}
+
+/// What is done depends on nothing of a tree but its view: over two trees that look the same to the words the statuses,
+/// the changes, the outputs and what lies beneath the root are the same in the end. Every path but those of the
+/// outputs and those beneath the root has its old node, and after a refusal every path has.
+pub fn each_call_looks_at_its_view_alone()
+    ensures { (words : List (List ℕ)) (nodes other : Nodes) → LookSame (request words) nodes other → LooksAtItsView (request words) nodes other }
 {}

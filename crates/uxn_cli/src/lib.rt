@@ -21,4 +21,7 @@ mod tests;
 mod words;
 
 pub use entry::uxn;
-pub use laws::{names_are_those_of_rows, the_debugger_only_watches};
+pub use laws::{
+    debug_shows_what_play_does, each_call_looks_at_its_view_alone, names_are_those_of_rows,
+    the_debugger_only_watches,
+};

@@ -1,11 +1,12 @@
 //! A machine before its run.
-ghost use Rattle.std.specs.Prelude.{◌≡◌, ◌≤◌, length, IfOk, None};
+ghost use Rattle.std.specs.Prelude.{◌≡◌, ◌≤◌, length, IfOk};
 ghost use Rattle.uxn_opcodes.specs.Rule.{new_core};
-ghost use Rattle.varvara_bus.specs.State.{StandFor, new_state};
 ghost use Rattle.uxn_cli.specs.Job.{clock_by};
+ghost use Rattle.uxn_cli.specs.Prepared.{AreNew};
 
 use play_script::Script;
 use std::alloc::{AllocError, Global};
+use uxn_io::Path;
 use uxn_opcodes::Core;
 use varvara_bus::{Clock, Devices};
 
@@ -31,16 +32,21 @@ fn clock_of(script: &Script) -> Clock
     }
 }
 
-/// A new machine, with all the memory that its run takes.
-pub fn new_machine(alloc: Global, rom: &[u8], script: Script) -> Result<Machine, AllocError>
+/// A new machine, with all the memory that its run takes, but for the listing of a folder.
+pub fn new_machine(
+    alloc: Global,
+    root: Option<Path>,
+    rom: &[u8],
+    script: Script,
+) -> Result<Machine, AllocError>
     requires { length rom.now ≤ 65280 }
     ensures core { IfOk result (λ machine. machine.core ≡ new_core rom.now) }
-    ensures devices { IfOk result (λ machine. StandFor machine.devices (new_state (clock_by script.clock) None)) }
+    ensures devices { IfOk result (λ machine. AreNew machine.devices script root) }
     ensures script { IfOk result (λ machine. machine.script ≡ script) }
 {
     let core = Core::new(alloc, rom)?;
     script.known();
-    let devices = Devices::new(alloc, None, clock_of(&script))?;
+    let devices = Devices::new(alloc, root, clock_of(&script))?;
     Ok(Machine {
         core,
         devices,

@@ -3,6 +3,8 @@ ghost use Rattle.std.specs.Prelude.{◌≡◌, ◌<◌, ◌++◌, length, IfOk, 
 ghost use Rattle.uxn_io.specs.Changes.{can_create};
 ghost use Rattle.uxn_io.specs.Faults.{Ledger, TheTree, counts};
 ghost use Rattle.uxn_io.specs.Room.{Leaves};
+ghost use Rattle.uxn_io.specs.Taking.{TreeTakes, TreeLeft};
+ghost use Rattle.uxn_cli.specs.Outcome.{creating};
 ghost use Rattle.uxn_cli.specs.Outputs.{paths_of};
 ghost use Rattle.uxn_cli.specs.Request.{HasApartOutputs, outputs_of};
 ghost use Rattle.uxn_cli.specs.Blame.{blame_in};
@@ -42,6 +44,10 @@ pub fn make_outputs<T: Tree>(alloc: Global, task: &Task, tree: &mut T) -> Result
     ensures ledger { Ledger (counts (T.faults tree.old) 0 0) (counts (T.faults tree.new) 0 0) (blame_in result) }
     ensures sure { 0 < (T.sure tree.old).files → blame_in result ≡ TheTree
         → IfSome (T.told tree.old) (λ nodes. None ≡ find (λ path. not (can_create nodes path)) (outputs_of task.now)) }
+    ensures takes { blame_in result ≡ TheTree
+        → IfSome (T.told tree.old) (λ nodes. TreeTakes (T.sure tree.old) nodes (creating (outputs_of task.now)) → ⊥) }
+    ensures left { OnOk result (IfSome (T.told tree.old) (λ nodes. TreeTakes (T.sure tree.old) nodes (creating (outputs_of task.now))
+        → TreeLeft (T.sure tree.old) (T.sure tree.new) nodes (creating (outputs_of task.now)))) }
 {
     let paths = task.outputs(alloc)?;
     let outputs = empty_outputs(alloc, &paths)?;

@@ -5,6 +5,8 @@ ghost use Rattle.uxn_io.specs.Changes.{can_create};
 ghost use Rattle.uxn_io.specs.Faults.{Counted};
 ghost use Rattle.uxn_io.specs.Files.{is_folder_at, has_parent};
 ghost use Rattle.uxn_io.specs.Room.{Leaves};
+ghost use Rattle.uxn_io.specs.Taking.{TreeTakes, TreeLeft};
+ghost use Rattle.uxn_cli.specs.Outcome.{creating};
 ghost use Rattle.uxn_cli.specs.World.{with_empty, with_bytes, CanMake, AreFiles, HasMadeFront, HasFilledFront, HasWrittenFront, with_texts, CanFill};
 ghost use Rattle.uxn_cli.specs.Outputs.{seen_texts, paths_of};
 
@@ -85,9 +87,9 @@ pub fn make_all<T: Tree>(tree: &mut T, outputs: &[Output]) -> Result<Option<Path
         (T.told tree.new ≡ option_map (with_empty (seen_texts outputs.now)) (T.told tree.old)) (λ path. (T.told tree.old ≡ None) × (T.told tree.new ≡ None))) }
     ensures err { OnErr result (HasMadeFront (T.told tree.old) (T.told tree.new) (seen_texts outputs.now)) }
     ensures ledger { Counted (T.faults tree.old) (T.faults tree.new) (is_err result) }
-    ensures sure { IfSome (T.told tree.old) (λ nodes. length outputs.now < (T.sure tree.old).files → IsOk result) }
-    ensures left { OnOk result (IfSome (T.told tree.old) (λ nodes. length outputs.now < (T.sure tree.old).files
-        → (0 < (T.sure tree.new).files) × ((T.sure tree.old).bytes ≤ (T.sure tree.new).bytes))) }
+    ensures sure { IfSome (T.told tree.old) (λ nodes. TreeTakes (T.sure tree.old) nodes (creating (paths_of outputs.now)) → IsOk result) }
+    ensures left { OnOk result (IfSome (T.told tree.old) (λ nodes. TreeTakes (T.sure tree.old) nodes (creating (paths_of outputs.now))
+        → TreeLeft (T.sure tree.old) (T.sure tree.new) nodes (creating (paths_of outputs.now)))) }
 {
     for output in outputs {
         if !tree.create(&output.path)? {

@@ -33,7 +33,7 @@ fn prepare<T: Tree>(alloc: Global, task: &Task, tree: &mut T) -> Result<Machine,
 {
     let program = load(alloc, task, tree)?;
     let script = accept_script(alloc, &task.script, tree)?;
-    Ok(new_machine(alloc, program.rom(), script)?)
+    Ok(new_machine(alloc, task.root, program.rom(), script)?)
 }
 
 /// Runs a source, or a ROM file, with a script.
@@ -52,7 +52,7 @@ pub fn play<T: Tree, O: Sink, E: Sink>(
     ensures ledger { Ledger (counts (T.faults tree.old) (O.faults out.old) (E.faults err.old))
         (counts (T.faults tree.new) (O.faults out.new) (E.faults err.new)) (blame_in result) }
     ensures kept { OnRefused result (err.new ≡ err.old) }
-    ensures sure_tree { IfSome (T.told tree.old) (λ nodes. TreeSuffices (verdict_on nodes (Ok task.now)) (T.sure tree.old) → blame_in result ≡ TheTree → ⊥) }
+    ensures sure_tree { IfSome (T.told tree.old) (λ nodes. TreeSuffices (verdict_on nodes (Ok task.now)) (T.sure tree.old) nodes → blame_in result ≡ TheTree → ⊥) }
     ensures sure_sinks { IfSome (T.told tree.old) (λ nodes. SinksSuffice (verdict_on nodes (Ok task.now)) (O.sure out.old) (E.sure err.old)
         → blame_in result ≡ ASink → ⊥) }
 {

@@ -1,15 +1,12 @@
 //! The run of a machine, and what is written after it.
-ghost use Rattle.std.specs.Prelude.{◌≡◌, ◌≢◌, ◌≤◌, ℕ, List, Option, None, IfOk, IfErr, OnOk, OnErr, IfSome, is_err};
+ghost use Rattle.std.specs.Prelude.{◌≡◌, ◌≤◌, ◌⊎◌, ℕ, List, Option, IfOk, IfErr, OnOk, OnErr, IfSome, IsSome, is_err};
 ghost use Rattle.uxn_io.specs.Faults.{Counted, Ledger, counts};
-ghost use Rattle.uxn_io.specs.Outside.{changed_by, IsCutOff};
 ghost use Rattle.uxn_opcodes.specs.Ports.{blame_of};
 ghost use Rattle.varvara_bus.specs.Bus.{FilesStay, IsFileWhereTold};
-ghost use Rattle.varvara_bus.specs.State.{StandFor, new_state};
 ghost use Rattle.vector_loop.specs.Outputs.{OutputsThere};
-ghost use Rattle.uxn_cli.specs.World.{world};
-ghost use Rattle.uxn_cli.specs.Job.{clock_by, trail_by, exit_in, text_at};
-ghost use Rattle.uxn_cli.specs.Outcome.{filling_all, reporting};
-ghost use Rattle.uxn_cli.specs.Prepared.{HasRun, WasShown, RunFiles, outputs_for};
+ghost use Rattle.uxn_cli.specs.Job.{trail_by, text_at};
+ghost use Rattle.uxn_cli.specs.Outcome.{filling_all};
+ghost use Rattle.uxn_cli.specs.Prepared.{around, AreNew, AtHome, TreeWasDone, TreeFellShort, FellShort, HasRun, HasFinished, WasShown, RunFiles, outputs_for, trail_for, reporting_for};
 
 use super::machine::Machine;
 use super::report::report;
@@ -42,7 +39,7 @@ pub struct Settings {
     pub budget: u32,
 }
 
-/// Runs a new machine with a script.
+/// Runs a new machine with a script. Memory is wanting only to the watcher, or where there is a root.
 pub fn run_machine<T: Tree, O: Sink, E: Sink, W: Watcher>(
     core: &mut Core,
     devices: &mut Devices,
@@ -53,18 +50,24 @@ pub fn run_machine<T: Tree, O: Sink, E: Sink, W: Watcher>(
     err: &mut E,
     watcher: &mut W,
 ) -> Result<Ended, Stop>
-    requires devices { StandFor devices.old (new_state (clock_by script.now.clock) None) }
+    requires devices { AreNew devices.old script.now devices.old.root }
     requires budget { 1 ≤ settings.now.budget }
-    requires outputs { OutputsThere settings.now.outputs (T.told tree.old) }
-    ensures ok { IfOk result (λ ended. HasRun (world (T.told tree.old) (O.told out.old) (E.told err.old))
-        (world (T.told tree.new) (O.told out.new) (E.told err.new)) (trail_by settings.now.budget settings.now.outputs script.now core.old) ended) }
-    ensures watcher { OnOk result (WasShown W.shown W.ended (W.held watcher.old) (trail_by settings.now.budget settings.now.outputs script.now core.old) (W.held watcher.new)) }
-    ensures files { OnOk result (FilesStay (T.told tree.old) (T.told tree.new)) }
-    ensures err { OnErr result (IsCutOff (world (T.told tree.old) (O.told out.old) (E.told err.old))
-        (world (T.told tree.new) (O.told out.new) (E.told err.new)) (trail_by settings.now.budget settings.now.outputs script.now core.old).changes) }
+    requires outputs { OutputsThere settings.now.outputs devices.old.root (T.told tree.old) }
+    ensures code { IfOk result (λ ended. ended.exit ≤ 127) }
+    ensures ok { AtHome devices.old.root (T.told tree.old) (λ home. IfOk result (λ ended. HasRun
+        (around (T.told tree.old) (T.sure tree.old) (O.told out.old) (O.sure out.old) (E.told err.old) (E.sure err.old))
+        (around (T.told tree.new) (T.sure tree.new) (O.told out.new) (O.sure out.new) (E.told err.new) (E.sure err.new))
+        (trail_by settings.now.budget settings.now.outputs script.now home core.old) ended)) }
+    ensures watcher { AtHome devices.old.root (T.told tree.old) (λ home. OnOk result (WasShown W.shown W.ended (W.held watcher.old)
+        (trail_by settings.now.budget settings.now.outputs script.now home core.old) (W.held watcher.new))) }
+    ensures files { OnOk result (FilesStay devices.old.root (T.told tree.old) (T.told tree.new)) }
+    ensures err { AtHome devices.old.root (T.told tree.old) (λ home. IfErr result (λ stop. FellShort
+        (around (T.told tree.old) (T.sure tree.old) (O.told out.old) (O.sure out.old) (E.told err.old) (E.sure err.old))
+        (around (T.told tree.new) (T.sure tree.new) (O.told out.new) (O.sure out.new) (E.told err.new) (E.sure err.new))
+        (trail_by settings.now.budget settings.now.outputs script.now home core.old).changes stop)) }
     ensures ledger { Ledger (counts (T.faults tree.old) (O.faults out.old) (E.faults err.old))
         (counts (T.faults tree.new) (O.faults out.new) (E.faults err.new)) (blame_of result) }
-    ensures memory { IfErr result (λ stop. stop ≡ Stop.NoMemory → W.may_refuse) }
+    ensures memory { IfErr result (λ stop. stop ≡ Stop.NoMemory → W.may_refuse ⊎ IsSome devices.old.root) }
 {
     let mut bus = Bus::new(devices, tree, out, err);
     match run_script(
@@ -86,11 +89,9 @@ pub fn run_machine<T: Tree, O: Sink, E: Sink, W: Watcher>(
 /// Writes a text to the end of a file, where one is asked for.
 pub fn write_text<T: Tree>(path: &Option<Path>, text: &[u8], tree: &mut T) -> Result<(), Failed>
     requires { IfSome path.now (IsFileWhereTold (T.told tree.old)) }
-    ensures ok { OnOk result ((out err : Option (List ℕ)) → world (T.told tree.new) out err
-        ≡ changed_by (world (T.told tree.old) out err) (filling_all (text_at path.now text.now))) }
-    ensures err { OnErr result ((out err : Option (List ℕ)) → IsCutOff (world (T.told tree.old) out err) (world (T.told tree.new) out err)
-        (filling_all (text_at path.now text.now))) }
-    ensures files { OnOk result (FilesStay (T.told tree.old) (T.told tree.new)) }
+    ensures ok { OnOk result (TreeWasDone (T.told tree.old) (T.told tree.new) (T.sure tree.old) (T.sure tree.new) (filling_all (text_at path.now text.now))) }
+    ensures err { OnErr result (TreeFellShort (T.told tree.old) (T.told tree.new) (T.sure tree.old) (T.sure tree.new) (filling_all (text_at path.now text.now))) }
+    ensures files { OnOk result ((root : Option (List ℕ)) → FilesStay root (T.told tree.old) (T.told tree.new)) }
     ensures ledger { Counted (T.faults tree.old) (T.faults tree.new) (is_err result) }
 {
     match path {
@@ -125,21 +126,24 @@ pub fn run_made<T: Tree, O: Sink, E: Sink, W: Watcher>(
     err: &mut E,
     watcher: &mut W,
 ) -> Result<u8, Stop>
-    requires devices { StandFor machine.devices (new_state (clock_by machine.script.clock) None) }
+    requires devices { AreNew machine.devices machine.script task.now.root }
     requires budget { 1 ≤ task.now.budget }
     requires files { RunFiles task.now (T.told tree.old) }
-    ensures status { IfOk result (λ status. status ≡ exit_in (trail_by task.now.budget (outputs_for task.now) machine.script machine.core).last) }
-    ensures ok { OnOk result (world (T.told tree.new) (O.told out.new) (E.told err.new)
-        ≡ changed_by (world (T.told tree.old) (O.told out.old) (E.told err.old))
-        (reporting task.now.report (trail_by task.now.budget (outputs_for task.now) machine.script machine.core))) }
-    ensures watcher { OnOk result (WasShown W.shown W.ended (W.held watcher.old) (trail_by task.now.budget (outputs_for task.now) machine.script machine.core) (W.held watcher.new)) }
-    ensures stay { OnOk result (FilesStay (T.told tree.old) (T.told tree.new)) }
-    ensures err { OnErr result (IsCutOff (world (T.told tree.old) (O.told out.old) (E.told err.old))
-        (world (T.told tree.new) (O.told out.new) (E.told err.new))
-        (reporting task.now.report (trail_by task.now.budget (outputs_for task.now) machine.script machine.core))) }
+    ensures code { IfOk result (λ status. status ≤ 127) }
+    ensures ok { AtHome task.now.root (T.told tree.old) (λ home. IfOk result (λ status. HasFinished
+        (around (T.told tree.old) (T.sure tree.old) (O.told out.old) (O.sure out.old) (E.told err.old) (E.sure err.old))
+        (around (T.told tree.new) (T.sure tree.new) (O.told out.new) (O.sure out.new) (E.told err.new) (E.sure err.new))
+        (trail_for task.now machine home) (reporting_for task.now machine home) status)) }
+    ensures watcher { AtHome task.now.root (T.told tree.old) (λ home. OnOk result (WasShown W.shown W.ended (W.held watcher.old)
+        (trail_for task.now machine home) (W.held watcher.new))) }
+    ensures stay { OnOk result (FilesStay task.now.root (T.told tree.old) (T.told tree.new)) }
+    ensures err { AtHome task.now.root (T.told tree.old) (λ home. IfErr result (λ stop. FellShort
+        (around (T.told tree.old) (T.sure tree.old) (O.told out.old) (O.sure out.old) (E.told err.old) (E.sure err.old))
+        (around (T.told tree.new) (T.sure tree.new) (O.told out.new) (O.sure out.new) (E.told err.new) (E.sure err.new))
+        (reporting_for task.now machine home) stop)) }
     ensures ledger { Ledger (counts (T.faults tree.old) (O.faults out.old) (E.faults err.old))
         (counts (T.faults tree.new) (O.faults out.new) (E.faults err.new)) (blame_of result) }
-    ensures memory { IfErr result (λ stop. stop ≡ Stop.NoMemory → W.may_refuse) }
+    ensures memory { IfErr result (λ stop. stop ≡ Stop.NoMemory → W.may_refuse ⊎ IsSome task.now.root) }
 {
     let Machine {
         mut core,

@@ -180,6 +180,7 @@ fn with_run_options<'a>(
 {
     let parser = with_switch(alloc, parser, "rom")?;
     let parser = with_option(alloc, parser, "script", false)?;
+    let parser = with_option(alloc, parser, "root", false)?;
     let parser = with_option(alloc, parser, "frames", false)?;
     let parser = with_option(alloc, parser, "samples", false)?;
     let parser = with_option(alloc, parser, "report", false)?;

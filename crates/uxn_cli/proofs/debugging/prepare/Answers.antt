@@ -2,7 +2,8 @@ use Rattle.std.proofs.Common.{◌≡◌, ◌∙◌, ap, rules}
 use Rattle.std.specs.Prelude.{Err, option_map}
 use Rattle.uxn_opcodes.specs.Rule.{new_core}
 use Rattle.uxn_cli.specs.Prepared.{rom_in_program}
-use Rattle.uxn_cli.proofs.ReadyLemmas.{seen-here, debug-unloaded, debug-ungiven, debug-unscripted, debug-uncommanded, debug-ready}
+use Rattle.uxn_cli.proofs.ReadyLemmas.{home, is-home, seen-here, debug-unloaded, debug-ungiven, debug-unscripted, debug-uncommanded, debug-ready}
+use Rattle.uxn_cli.proofs.RunLemmas.{debug-root}
 use Rattle.uxn_cli.proofs.SureLemmas.{leaves_same}
 use Rattle.uxn_cli.proofs.debugging.prepare.Goals as goal
 
@@ -43,8 +44,10 @@ returns-clause-prepares g c =
     let twice = c.in_ok-given.ensures.same ∙ once in
     record {
       rom = rom_in_program c.in_ok-program.program;
+      home = home c.args.task.now tree;
       core = c.in_ok-machine.ensures.core ∙ ap new_core c.rom.ensures;
       devices = rw c.in_ok-machine.ensures.script c.in_ok-machine.ensures.devices;
+      at_home = is-home c.args.task.now tree (debug-root c.args.task.now c.requires);
       sees = rw c.in_ok-machine.ensures.script
           (debug-ready c.args.task.now tree c.requires c.in_ok-program.program c.in_ok-program.ensures.loads
           (option_map (λ labels. labels.items) c.in_ok-given.given) (seen-here c.args.task.now tree _ _ _ _ once c.in_ok-given.ensures.given)

@@ -1,4 +1,4 @@
-use Rattle.std.proofs.Common.{◌≡◌, ◌∙◌, ◌++◌, ◌∷◌, [], ap, sym, take}
+use Rattle.std.proofs.Common.{◌∙◌, ◌++◌, ◌∷◌, [], ap, sym, take}
 use Rattle.std.proofs.lemmas.List.{take_more, take_all}
 use Rattle.uxn_cli.specs.Outputs.{paths_of}
 use Rattle.uxn_cli.proofs.making.empty_outputs.Goals as goal

@@ -1,8 +1,9 @@
-use Rattle.std.proofs.Common.{◌≡◌, take, drop, length}
+use Rattle.std.proofs.Common.{◌≡◌, take, drop}
 use Rattle.std.specs.Prelude.{IfSome, option_map}
 use Rattle.uxn_cli.specs.World.{with_empty, CanMake}
-use Rattle.uxn_cli.specs.Outputs.{seen_texts}
-use Rattle.uxn_cli.proofs.SureLemmas.{LeavesMade}
+use Rattle.uxn_cli.specs.Outcome.{creating}
+use Rattle.uxn_cli.specs.Outputs.{seen_texts, paths_of}
+use Rattle.uxn_cli.proofs.SureLemmas.{Continues}
 use Rattle.uxn_cli.proofs.outputs.make_all.Given as goal
 
 abbrev pub invariant-loop-output : goal.invariant-loop-output
@@ -10,5 +11,5 @@ invariant-loop-output g l = record {
   made : g.T.Tree.told l.tree ≡ option_map (with_empty (take l.output-index (seen_texts l.outputs))) (g.T.Tree.told l.fn.tree);
   can : IfSome (g.T.Tree.told l.tree) (CanMake (drop l.output-index (seen_texts l.outputs)));
   faults : g.T.Tree.faults l.tree ≡ g.T.Tree.faults l.fn.tree;
-  left : LeavesMade (g.T.Tree.told l.fn.tree) (length l.outputs) (g.T.Tree.sure l.fn.tree) (g.T.Tree.sure l.tree) l.output-index;
+  goes_on : Continues (g.T.Tree.told l.fn.tree) (g.T.Tree.told l.tree) (g.T.Tree.sure l.fn.tree) (g.T.Tree.sure l.tree) (creating (paths_of l.outputs)) (creating (paths_of (drop l.output-index l.outputs)));
 }

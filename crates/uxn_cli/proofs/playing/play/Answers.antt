@@ -1,10 +1,7 @@
-use Rattle.std.proofs.Common.{◌≡◌, rules}
+use Rattle.std.proofs.Common.{◌≡◌, inl, inr, rules}
 use Rattle.std.specs.Prelude.{None, Err}
-use Rattle.uxn_cli.specs.World.{world}
-use Rattle.uxn_cli.specs.Outcome.{reporting}
-use Rattle.uxn_cli.specs.Job.{trail_by}
-use Rattle.uxn_cli.specs.Prepared.{outputs_for}
-use Rattle.uxn_cli.proofs.RunLemmas.{unprepared, play-outputs, play-files, ready-unmade, ready-unmade-tree, ready-run, ready-cut, nothing-after, cut-before-nothing}
+use Rattle.uxn_cli.proofs.DoneLemmas.{done-last, short-last}
+use Rattle.uxn_cli.proofs.RunLemmas.{unprepared, play-outputs, play-root, play-files, ready-unmade, ready-unmade-tree, ready-run, ready-cut, ready-tree, ready-sinks}
 use Rattle.uxn_cli.proofs.playing.play.Goals as goal
 
 pub returns-in_err-machine-clause-performs : goal.returns-in_err-machine-clause-performs
@@ -22,18 +19,39 @@ pub returns-in_err-make_outputs-clause-sure_tree : goal.returns-in_err-make_outp
 returns-in_err-make_outputs-clause-sure_tree g c =
     let result : c.from_residual-in_err-make_outputs.result ≡ Err c.in_err-make_outputs.field-0.0 = search rules in
     rw result (ready-unmade-tree (g.T.Tree.told c.args.tree.now) c.args.task.now None c.in_ok-machine.machine c.in_ok-machine.ensures.prepares (play-outputs c.args.task.now c.requires.command)
-    _ c.in_ok-machine.ensures.same (g.T.Tree.told c.make_outputs.new.tree) _ _ _ c.in_ok-machine.ensures.left c.in_err-make_outputs.ensures.sure)
+    _ c.in_ok-machine.ensures.same (g.T.Tree.told c.make_outputs.new.tree) _ _ _ c.in_ok-machine.ensures.left c.in_err-make_outputs.ensures.sure c.in_err-make_outputs.ensures.takes)
 
 pub returns-in-Ok-clause-performs : goal.returns-in-Ok-clause-performs
 returns-in-Ok-clause-performs g c =
     ready-run (g.T.Tree.told c.args.tree.now) c.args.task.now None c.in_ok-machine.machine c.in_ok-machine.ensures.prepares (play-outputs c.args.task.now c.requires.command)
-    _ c.in_ok-machine.ensures.same (g.T.Tree.told c.make_outputs.new.tree) c.in_ok-make_outputs.ensures.makes (g.O.Sink.told c.args.out.now) (g.E.Sink.told c.args.err.now)
-    _ c.in-Ok.status c.in-Ok.ensures.status (nothing-after (world (g.T.Tree.told c.make_outputs.new.tree) (g.O.Sink.told c.args.out.now) (g.E.Sink.told c.args.err.now)) _
-    (reporting c.args.task.now.report (trail_by c.args.task.now.budget (outputs_for c.args.task.now) c.in_ok-machine.machine.script c.in_ok-machine.machine.core)) c.in-Ok.ensures.ok)
+    _ c.in_ok-machine.ensures.same (g.T.Tree.told c.make_outputs.new.tree) c.in_ok-make_outputs.ensures.makes c.requires.apart (play-root c.args.task.now c.requires.command)
+    (g.T.Tree.sure c.args.tree.now) _ _ c.in_ok-machine.ensures.left c.in_ok-make_outputs.ensures.left
+    (g.O.Sink.told c.args.out.now) (g.E.Sink.told c.args.err.now) (g.O.Sink.sure c.args.out.now) (g.E.Sink.sure c.args.err.now)
+    _ c.in-Ok.status c.in-Ok.ensures.code (λ home root files. (let ran = c.in-Ok.ensures.ok home root files in record { status = ran.status; done = done-last _ _ _ ran.done }))
 
 pub returns-in-Err-clause-performs : goal.returns-in-Err-clause-performs
 returns-in-Err-clause-performs g c =
     ready-cut (g.T.Tree.told c.args.tree.now) c.args.task.now None c.in_ok-machine.machine c.in_ok-machine.ensures.prepares (play-outputs c.args.task.now c.requires.command)
-    _ c.in_ok-machine.ensures.same (g.T.Tree.told c.make_outputs.new.tree) c.in_ok-make_outputs.ensures.makes (g.O.Sink.told c.args.out.now) (g.E.Sink.told c.args.err.now)
-    _ c.in-Err.stop (λ memory. absurd (c.in-Err.ensures.memory memory)) (cut-before-nothing (world (g.T.Tree.told c.make_outputs.new.tree) (g.O.Sink.told c.args.out.now) (g.E.Sink.told c.args.err.now)) _
-    (reporting c.args.task.now.report (trail_by c.args.task.now.budget (outputs_for c.args.task.now) c.in_ok-machine.machine.script c.in_ok-machine.machine.core)) c.in-Err.ensures.err)
+    _ c.in_ok-machine.ensures.same (g.T.Tree.told c.make_outputs.new.tree) c.in_ok-make_outputs.ensures.makes c.requires.apart (play-root c.args.task.now c.requires.command)
+    (g.T.Tree.sure c.args.tree.now) _ _ c.in_ok-machine.ensures.left c.in_ok-make_outputs.ensures.left
+    (g.O.Sink.told c.args.out.now) (g.E.Sink.told c.args.err.now) (g.O.Sink.sure c.args.out.now) (g.E.Sink.sure c.args.err.now)
+    _ c.in-Err.stop (λ memory. elim (c.in-Err.ensures.memory memory) [ inl refuses ↦ absurd refuses | inr root ↦ inr root ]) (λ home root files. short-last _ _ _ _ (c.in-Err.ensures.err home root files))
+
+pub returns-in-Err-clause-sure_tree : goal.returns-in-Err-clause-sure_tree
+returns-in-Err-clause-sure_tree g c =
+    ready-tree (g.T.Tree.told c.args.tree.now) c.args.task.now None c.in_ok-machine.machine c.in_ok-machine.ensures.prepares (play-outputs c.args.task.now c.requires.command)
+    _ c.in_ok-machine.ensures.same (g.T.Tree.told c.make_outputs.new.tree) c.in_ok-make_outputs.ensures.makes c.requires.apart (play-root c.args.task.now c.requires.command)
+    (g.T.Tree.sure c.args.tree.now) _ _ c.in_ok-machine.ensures.left c.in_ok-make_outputs.ensures.left
+    (g.O.Sink.told c.args.out.now) (g.E.Sink.told c.args.err.now) (g.O.Sink.sure c.args.out.now) (g.E.Sink.sure c.args.err.now)
+    _ c.in-Err.stop (λ home root files. short-last _ _ _ _ (c.in-Err.ensures.err home root files))
+
+pub returns-in-Err-clause-sure_sinks : goal.returns-in-Err-clause-sure_sinks
+returns-in-Err-clause-sure_sinks g c =
+    ready-sinks (g.T.Tree.told c.args.tree.now) c.args.task.now None c.in_ok-machine.machine c.in_ok-machine.ensures.prepares (play-outputs c.args.task.now c.requires.command)
+    _ c.in_ok-machine.ensures.same (g.T.Tree.told c.make_outputs.new.tree) c.in_ok-make_outputs.ensures.makes c.requires.apart (play-root c.args.task.now c.requires.command)
+    (g.T.Tree.sure c.args.tree.now) _ _ c.in_ok-machine.ensures.left c.in_ok-make_outputs.ensures.left
+    (g.O.Sink.told c.args.out.now) (g.E.Sink.told c.args.err.now) (g.O.Sink.sure c.args.out.now) (g.E.Sink.sure c.args.err.now)
+    _ c.in-Err.stop (λ home root files. short-last _ _ _ _ (c.in-Err.ensures.err home root files))
+
+pub run_made-requires-clause-files : goal.run_made-requires-clause-files
+run_made-requires-clause-files g c = play-files c.args.task.now _ _ c.in_ok-make_outputs.ensures.makes c.requires.apart c.requires.command

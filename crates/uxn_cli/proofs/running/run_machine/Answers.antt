@@ -1,34 +1,52 @@
-use Rattle.std.proofs.Common.{◌≡◌, ◌∙◌, ap, rules}
-use Rattle.std.specs.Prelude.{None}
+use Rattle.std.proofs.Common.{◌∙◌, ap, rules}
+use Rattle.std.specs.Prelude.{false}
+use Rattle.std.specs.FinMap as fin
 use Rattle.system_port.specs.DebugText.{exit_code_of}
-use Rattle.varvara_bus.specs.State.{StandFor, new_state}
 use Rattle.varvara_bus.specs.Bus.{BusStandsFor}
-use Rattle.uxn_cli.specs.Job.{clock_by, trail_by}
+use Rattle.uxn_cli.specs.Job.{devices_with, trail_by}
 use Rattle.uxn_cli.proofs.running.run_machine.Goals as goal
+
+pub run_script-requires-clause-frames : goal.run_script-requires-clause-frames
+run_script-requires-clause-frames g c = ap (λ devices. devices.time.frames) c.new-bus.ensures.devices_now ∙ (c.requires.devices fin.empty false).frames
 
 pub returns-in-Ok-clause-ok : goal.returns-in-Ok-clause-ok
 unfolding trail_by
-returns-in-Ok-clause-ok g c =
-    let start = new_state (clock_by c.args.script.now.clock) None in
-    let stands : BusStandsFor g.T.Tree.told c.new-bus.result start = record { devices = rw c.new-bus.ensures.devices_now c.requires.devices } in
+returns-in-Ok-clause-ok g c = λ home root files.
+    let start = devices_with c.args.script.now home in
+    let stands : BusStandsFor g.T.Tree.told c.new-bus.result start = record {
+      devices = rw (c.new-bus.ensures.devices_now, root) (c.requires.devices home.part home.parent);
+      files = rw c.new-bus.ensures.tree_now files;
+    } in
     let ends = c.in-Ok.ensures.ok.from start stands in
-    let w = ends.world in
+    let makes = ends.makes in
     let tree = c.new-bus.ensures.tree_now in
     let out = c.new-bus.ensures.out_now in
     let err = c.new-bus.ensures.err_now in
-    record { world = search (rules, w); exit = c.exit_code.ensures ∙ ap exit_code_of (c.stored.ensures.stored _ ends.devices); tally = ends.tally }
+    record {
+      done = record { world = (let w = makes.world in search (rules, w)); remains = (let r = makes.remains in search (rules, r)) };
+      exit = c.exit_code.ensures ∙ ap exit_code_of (c.stored.ensures.stored _ ends.devices);
+      tally = ends.tally;
+    }
 
 pub returns-in-Ok-clause-watcher : goal.returns-in-Ok-clause-watcher
 unfolding trail_by
-returns-in-Ok-clause-watcher g c =
-    let start = new_state (clock_by c.args.script.now.clock) None in
-    let stands : BusStandsFor g.T.Tree.told c.new-bus.result start = record { devices = rw c.new-bus.ensures.devices_now c.requires.devices } in
+returns-in-Ok-clause-watcher g c = λ home root files.
+    let start = devices_with c.args.script.now home in
+    let stands : BusStandsFor g.T.Tree.told c.new-bus.result start = record {
+      devices = rw (c.new-bus.ensures.devices_now, root) (c.requires.devices home.part home.parent);
+      files = rw c.new-bus.ensures.tree_now files;
+    } in
     (c.in-Ok.ensures.ok.from start stands).watcher
 
 pub returns-in-Err-clause-err : goal.returns-in-Err-clause-err
 unfolding trail_by
-returns-in-Err-clause-err g c =
-    let start = new_state (clock_by c.args.script.now.clock) None in
-    let stands : BusStandsFor g.T.Tree.told c.new-bus.result start = record { devices = rw c.new-bus.ensures.devices_now c.requires.devices } in
-    let cut = c.in-Err.ensures.err.from start stands in
-    search (rules, cut)
+returns-in-Err-clause-err g c = λ home root files.
+    let start = devices_with c.args.script.now home in
+    let stands : BusStandsFor g.T.Tree.told c.new-bus.result start = record {
+      devices = rw (c.new-bus.ensures.devices_now, root) (c.requires.devices home.part home.parent);
+      files = rw c.new-bus.ensures.tree_now files;
+    } in
+    let short = c.in-Err.ensures.err.from start stands in
+    let cut = short.cut in
+    let not_sure = short.not_sure in
+    record { cut = search (rules, cut); not_sure = search (rules, not_sure) }

@@ -1,26 +1,58 @@
-use Rattle.std.proofs.Common.{◌≡◌, ◌∙◌, ap, rules}
-use Rattle.std.specs.Prelude.{Err}
-use Rattle.uxn_io.specs.Outside.{cut-first}
-use Rattle.uxn_cli.specs.Job.{trail_by}
-use Rattle.uxn_cli.specs.Prepared.{outputs_for}
-use Rattle.uxn_cli.proofs.RunLemmas.{stays-if, reported, report-cut-after}
+use Rattle.std.proofs.Common.{◌≡◌, ◌∙◌, sym, subst, rules}
+use Rattle.std.specs.Prelude.{Err, false}
+use Rattle.std.specs.FinMap as fin
+use Rattle.uxn_opcodes.specs.declared.Stop.TheVariants.{TreeFault}
+use Rattle.uxn_cli.specs.Prepared.{AreNew, trail_for}
+use Rattle.uxn_cli.proofs.DoneLemmas.{short-first}
+use Rattle.uxn_cli.proofs.RunLemmas.{stays-if, stays-both, reported, report-cut-after}
 use Rattle.uxn_cli.proofs.running.run_made.Goals as goal
 
+pub run_machine-requires-clause-devices : goal.run_machine-requires-clause-devices
+run_machine-requires-clause-devices g c =
+    subst (AreNew c.args.machine.devices c.args.machine.script) (sym (c.requires.devices fin.empty false).root) c.requires.devices
+
+pub run_machine-requires-clause-outputs : goal.run_machine-requires-clause-outputs
+run_machine-requires-clause-outputs g c =
+    rw (c.settings_of-settings.ensures.outputs, (c.requires.devices fin.empty false).root) (record { frames = c.requires.files.frames; samples = c.requires.files.samples })
+
 pub returns-in_err-ended-clause-err : goal.returns-in_err-ended-clause-err
-returns-in_err-ended-clause-err g c =
+returns-in_err-ended-clause-err g c = λ home root files.
     let result : c.from_residual.result ≡ Err c.in_err-ended.field-0.0 = search rules in
-    rw result (cut-first _ _ (trail_by c.args.task.now.budget (outputs_for c.args.task.now) c.args.machine.script c.args.machine.core).changes _
-    (rw (c.settings_of-settings.ensures.outputs, c.settings_of-settings.ensures.budget) at c.in_err-ended.ensures.err))
+    let held = (c.requires.devices fin.empty false).root in
+    rw result (short-first _ _ (trail_for c.args.task.now c.args.machine home).changes _ _
+    (rw (c.settings_of-settings.ensures.outputs, c.settings_of-settings.ensures.budget) at (c.in_err-ended.ensures.err home (root ∙ sym held) files)))
+
+pub returns-in_err-ended-clause-memory : goal.returns-in_err-ended-clause-memory
+returns-in_err-ended-clause-memory g c =
+    let result : c.from_residual.result ≡ Err c.in_err-ended.field-0.0 = search rules in
+    let held = (c.requires.devices fin.empty false).root in
+    rw result (rw held at c.in_err-ended.ensures.memory)
 
 pub write_text-requires : goal.write_text-requires
-write_text-requires g c = stays-if c.args.task.now.report _ _ c.in_ok-ended.ensures.files c.requires.files.report
+write_text-requires g c =
+    let held = (c.requires.devices fin.empty false).root in
+    stays-if c.args.task.now.root c.args.task.now.report _ _ (rw held at c.in_ok-ended.ensures.files) c.requires.files.report
 
 pub returns-in-Ok-clause-ok : goal.returns-in-Ok-clause-ok
-returns-in-Ok-clause-ok g c =
-    reported _ _ _ c.args.task.now.report (trail_by c.args.task.now.budget (outputs_for c.args.task.now) c.args.machine.script c.args.machine.core) c.in_ok-ended.ended
-    (rw (c.settings_of-settings.ensures.outputs, c.settings_of-settings.ensures.budget) at c.in_ok-ended.ensures.ok) (rw (c.deref.ensures.0 ∙ c.report.ensures) at c.in-Ok.ensures.ok _ _)
+returns-in-Ok-clause-ok g c = λ home root files.
+    let held = (c.requires.devices fin.empty false).root in
+    reported _ _ _ c.args.task.now.report (trail_for c.args.task.now c.args.machine home) c.in_ok-ended.ended
+    (rw (c.settings_of-settings.ensures.outputs, c.settings_of-settings.ensures.budget) at (c.in_ok-ended.ensures.ok home (root ∙ sym held) files))
+    (rw (c.deref.ensures.0 ∙ c.report.ensures) at (c.in-Ok.ensures.ok (g.O.Sink.told c.run_machine.new.out) (g.E.Sink.told c.run_machine.new.err) (g.O.Sink.sure c.run_machine.new.out) (g.E.Sink.sure c.run_machine.new.err)))
+
+pub returns-in-Ok-clause-watcher : goal.returns-in-Ok-clause-watcher
+returns-in-Ok-clause-watcher g c = λ home root files.
+    let held = (c.requires.devices fin.empty false).root in
+    rw (c.settings_of-settings.ensures.outputs, c.settings_of-settings.ensures.budget) at (c.in_ok-ended.ensures.watcher home (root ∙ sym held) files)
+
+pub returns-in-Ok-clause-stay : goal.returns-in-Ok-clause-stay
+returns-in-Ok-clause-stay g c =
+    let held = (c.requires.devices fin.empty false).root in
+    stays-both c.args.task.now.root _ _ _ (rw held at c.in_ok-ended.ensures.files) (c.in-Ok.ensures.files c.args.task.now.root)
 
 pub returns-clause-err : goal.returns-clause-err
-returns-clause-err g c =
-    report-cut-after _ _ _ c.args.task.now.report (trail_by c.args.task.now.budget (outputs_for c.args.task.now) c.args.machine.script c.args.machine.core) c.in_ok-ended.ended
-    (rw (c.settings_of-settings.ensures.outputs, c.settings_of-settings.ensures.budget) at c.in_ok-ended.ensures.ok) (rw (c.deref.ensures.0 ∙ c.report.ensures) at c.in-Err.ensures.err _ _)
+returns-clause-err g c = λ home root files.
+    let held = (c.requires.devices fin.empty false).root in
+    report-cut-after _ _ _ c.args.task.now.report (trail_for c.args.task.now c.args.machine home) c.in_ok-ended.ended TreeFault
+    (rw (c.settings_of-settings.ensures.outputs, c.settings_of-settings.ensures.budget) at (c.in_ok-ended.ensures.ok home (root ∙ sym held) files))
+    (rw (c.deref.ensures.0 ∙ c.report.ensures) at (c.in-Err.ensures.err (g.O.Sink.told c.run_machine.new.out) (g.E.Sink.told c.run_machine.new.err) (g.O.Sink.sure c.run_machine.new.out) (g.E.Sink.sure c.run_machine.new.err)))

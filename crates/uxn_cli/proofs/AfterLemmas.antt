@@ -1,0 +1,138 @@
+-- What stands at a path after changes depends on what stood there before, and on nothing else.
+use Rattle.std.proofs.Common.{◌≡◌, ℕ, Bool, true, false, cond, List, [], ◌∷◌, ◌++◌, refl, ap, sym, ◌∙◌}
+use Rattle.std.specs.Prelude.{Option, Some, None, option_map, IfSome}
+use Rattle.std.specs.Ordering.{nat_cmp, eq_by_cmp}
+use Rattle.std.specs.Cmp.{eq_by_cmp_equiv}
+use Rattle.std.specs.Cmp.Lexicographic.{slice_cmp, nat_list_cmp_total}
+use Rattle.std.specs.FinMap as fin
+use Rattle.uxn_io.specs.Files.{Nodes, Node, File, bytes_of, bytes_at}
+use Rattle.std.specs.Option.{unwrap_or}
+use Rattle.file_ports.specs.RootPart.{is_in, below}
+use Rattle.file_ports.specs.PartLaws.{below-same, get_in}
+use Rattle.uxn_io.specs.Told.{extended}
+use Rattle.uxn_io.specs.Outside.{Change, ToOut, ToErr, Creates, ToFile, Removes, World, changed_files, changed, changed_by, files_by}
+use Rattle.varvara_bus.specs.Touching.{Each, each-append, each-map, told_at, same_path}
+use Rattle.uxn_cli.specs.World.{Text}
+use Rattle.uxn_cli.specs.Outcome.{creating, filling, filling_all}
+
+-- ---- files
+
+-- a node put at a path, and what stands elsewhere
+pub put-same : (path other : List ℕ) (m n : Nodes) (x y : Node) → (path ≡ other → x ≡ y) → fin.get m path ≡ fin.get n path → fin.get (fin.insert m other x) path ≡ fin.get (fin.insert n other y) path
+put-same path other m n x y here e =
+    fin.get-insert nat_list_cmp_total m other x path ∙ go (eq_by_cmp (slice_cmp nat_cmp) path other) refl ∙ sym (fin.get-insert nat_list_cmp_total n other y path)
+  where
+    go : (b : Bool) → eq_by_cmp (slice_cmp nat_cmp) path other ≡ b → cond b (Some x) (fin.get m path) ≡ cond b (Some y) (fin.get n path)
+    go true is = ap Some (here (same_path path other is))
+    go false is = e
+
+-- a file that is made there
+pub made-here : (path other : List ℕ) (m n : Nodes) → path ≡ other → fin.get (changed_files (Creates other) m) path ≡ fin.get (changed_files (Creates other) n) path
+made-here path other m n same = here m ∙ sym (here n)
+  where
+    here : (nodes : Nodes) → fin.get (fin.insert nodes other (File [])) path ≡ Some (File [])
+    here nodes =
+        ap (λ p. fin.get (fin.insert nodes other (File [])) p) same ∙ fin.get-insert nat_list_cmp_total nodes other (File []) other
+        ∙ ap (λ b. cond b (Some (File [])) (fin.get nodes other)) ((eq_by_cmp_equiv nat_list_cmp_total).refl other)
+
+taken-same : (path other : List ℕ) (m n : Nodes) → fin.get m path ≡ fin.get n path → fin.get (fin.remove m other) path ≡ fin.get (fin.remove n other) path
+taken-same path other m n e =
+    fin.get-remove nat_list_cmp_total m other path ∙ ap (cond (eq_by_cmp (slice_cmp nat_cmp) path other) None) e ∙ sym (fin.get-remove nat_list_cmp_total n other path)
+
+bytes-same : (path other byte : List ℕ) (m n : Nodes) → fin.get m path ≡ fin.get n path → path ≡ other → File (bytes_at m other ++ byte) ≡ File (bytes_at n other ++ byte)
+bytes-same path other byte m n e same = ap (λ o. File (unwrap_or (bytes_of o) [] ++ byte)) (rw same at e)
+
+pub same-one : (path : List ℕ) (m n : Nodes) (change : Change) → fin.get m path ≡ fin.get n path → fin.get (changed_files change m) path ≡ fin.get (changed_files change n) path
+same-one path m n (ToOut byte) e = e
+same-one path m n (ToErr byte) e = e
+same-one path m n (Creates other) e = put-same path other m n (File []) (File []) (λ same. refl) e
+same-one path m n (ToFile other byte) e =
+    put-same path other m n (File (bytes_at m other ++ byte ∷ [])) (File (bytes_at n other ++ byte ∷ [])) (bytes-same path other (byte ∷ []) m n e) e
+same-one path m n (Removes other) e = taken-same path other m n e
+
+-- the same for changes in order
+pub same-node : (path : List ℕ) (m n : Nodes) (changes : List Change) → fin.get m path ≡ fin.get n path → fin.get (files_by m changes) path ≡ fin.get (files_by n changes) path
+same-node path m n [] e = e
+same-node path m n (change ∷ changes) e = same-node path (changed_files change m) (changed_files change n) changes (same-one path m n change e)
+
+-- and for the root part
+pub same-below : (root : Option (List ℕ)) (m n : Nodes) → (IfSome root (λ r. (path : List ℕ) → is_in r path ≡ true → fin.get m path ≡ fin.get n path)) → below root m ≡ below root n
+same-below None m n e = refl
+same-below (Some root) m n e = below-same root m n e
+
+pub same-part : (root : Option (List ℕ)) (m n : Nodes) (changes : List Change) → below root m ≡ below root n → below root (files_by m changes) ≡ below root (files_by n changes)
+same-part None m n changes e = refl
+same-part (Some root) m n changes e =
+    below-same root (files_by m changes) (files_by n changes)
+    (λ path inside. same-node path m n changes (sym (get_in root m path inside) ∙ ap (λ part. fin.get part path) e ∙ get_in root n path inside))
+
+-- ---- worlds
+
+told-same : (path : List ℕ) (m n : Option Nodes) (change : Change) → told_at path m ≡ told_at path n → told_at path (option_map (changed_files change) m) ≡ told_at path (option_map (changed_files change) n)
+told-same path None None change e = refl
+told-same path (Some m) None change e = absurd cc
+told-same path None (Some n) change e = absurd cc
+told-same path (Some m) (Some n) change e = (let same : fin.get m path ≡ fin.get n path = cc in ap Some (same-one path m n change same))
+
+pub files-after : (path : List ℕ) (a b : World) (changes : List Change) → told_at path a.files ≡ told_at path b.files → told_at path (changed_by a changes).files ≡ told_at path (changed_by b changes).files
+files-after path a b [] e = e
+files-after path a b (ToOut byte ∷ changes) e = files-after path (changed a (ToOut byte)) (changed b (ToOut byte)) changes e
+files-after path a b (ToErr byte ∷ changes) e = files-after path (changed a (ToErr byte)) (changed b (ToErr byte)) changes e
+files-after path a b (Creates other ∷ changes) e = files-after path (changed a (Creates other)) (changed b (Creates other)) changes (told-same path a.files b.files (Creates other) e)
+files-after path a b (ToFile other byte ∷ changes) e =
+    files-after path (changed a (ToFile other byte)) (changed b (ToFile other byte)) changes (told-same path a.files b.files (ToFile other byte) e)
+files-after path a b (Removes other ∷ changes) e = files-after path (changed a (Removes other)) (changed b (Removes other)) changes (told-same path a.files b.files (Removes other) e)
+
+pub out-after : (a b : World) (changes : List Change) → a.out ≡ b.out → (changed_by a changes).out ≡ (changed_by b changes).out
+out-after a b [] e = e
+out-after a b (ToOut byte ∷ changes) e = out-after (changed a (ToOut byte)) (changed b (ToOut byte)) changes (ap (λ o. extended o (byte ∷ [])) e)
+out-after a b (ToErr byte ∷ changes) e = out-after (changed a (ToErr byte)) (changed b (ToErr byte)) changes e
+out-after a b (Creates other ∷ changes) e = out-after (changed a (Creates other)) (changed b (Creates other)) changes e
+out-after a b (ToFile other byte ∷ changes) e = out-after (changed a (ToFile other byte)) (changed b (ToFile other byte)) changes e
+out-after a b (Removes other ∷ changes) e = out-after (changed a (Removes other)) (changed b (Removes other)) changes e
+
+pub err-after : (a b : World) (changes : List Change) → a.err ≡ b.err → (changed_by a changes).err ≡ (changed_by b changes).err
+err-after a b [] e = e
+err-after a b (ToOut byte ∷ changes) e = err-after (changed a (ToOut byte)) (changed b (ToOut byte)) changes e
+err-after a b (ToErr byte ∷ changes) e = err-after (changed a (ToErr byte)) (changed b (ToErr byte)) changes (ap (λ o. extended o (byte ∷ [])) e)
+err-after a b (Creates other ∷ changes) e = err-after (changed a (Creates other)) (changed b (Creates other)) changes e
+err-after a b (ToFile other byte ∷ changes) e = err-after (changed a (ToFile other byte)) (changed b (ToFile other byte)) changes e
+err-after a b (Removes other ∷ changes) e = err-after (changed a (Removes other)) (changed b (Removes other)) changes e
+
+-- ---- changes of files put nothing on the outputs
+
+abbrev pub IsOfAFile : Change → Type 0
+IsOfAFile (ToOut byte) = ⊥
+IsOfAFile (ToErr byte) = ⊥
+IsOfAFile (Creates path) = Unit {0}
+IsOfAFile (ToFile path byte) = Unit {0}
+IsOfAFile (Removes path) = Unit {0}
+
+pub quiet : (world : World) (changes : List Change) → Each IsOfAFile changes → ((changed_by world changes).out ≡ world.out) × ((changed_by world changes).err ≡ world.err)
+quiet world [] all = (refl, refl)
+quiet world (ToOut byte ∷ changes) all = absurd all.0
+quiet world (ToErr byte ∷ changes) all = absurd all.0
+quiet world (Creates path ∷ changes) all = quiet (changed world (Creates path)) changes all.1
+quiet world (ToFile path byte ∷ changes) all = quiet (changed world (ToFile path byte)) changes all.1
+quiet world (Removes path ∷ changes) all = quiet (changed world (Removes path)) changes all.1
+
+pub creating-quiet : (paths : List (List ℕ)) → Each IsOfAFile (creating paths)
+creating-quiet paths = each-map IsOfAFile (λ path. Creates path) paths (λ path. tt)
+
+pub filling-quiet : (texts : List Text) → Each IsOfAFile (filling_all texts)
+filling-quiet [] = tt
+filling-quiet (text ∷ texts) = each-append IsOfAFile (filling text) (filling_all texts) (each-map IsOfAFile (λ byte. ToFile text.path byte) text.bytes (λ byte. tt)) (filling-quiet texts)
+
+-- ---- root parts
+
+pub if-some : {A : Type 0} (o : Option A) (P Q : A → Type 0) → ((x : A) → P x → Q x) → IfSome o P → IfSome o Q
+if-some None P Q f h = tt
+if-some (Some x) P Q f h = f x h
+
+pub parts-same : (told : Option Nodes) (root : Option (List ℕ)) (xs ys : List Change)
+    → IfSome root (λ r. (path : List ℕ) → is_in r path ≡ true → told_at path (option_map (λ n. files_by n xs) told) ≡ told_at path (option_map (λ n. files_by n ys) told))
+    → option_map (below root) (option_map (λ n. files_by n xs) told) ≡ option_map (below root) (option_map (λ n. files_by n ys) told)
+parts-same None root xs ys all = refl
+parts-same (Some nodes) root xs ys all =
+    ap Some (same-below root (files_by nodes xs) (files_by nodes ys)
+    (if-some root _ _ (λ r h path inside. (let told = h path inside in let same : fin.get (files_by nodes xs) path ≡ fin.get (files_by nodes ys) path = cc in same)) all))

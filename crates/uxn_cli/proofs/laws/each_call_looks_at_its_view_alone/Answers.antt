@@ -1,0 +1,6 @@
+use Rattle.uxn_cli.specs.Request.{request}
+use Rattle.uxn_cli.proofs.IsolationLemmas.{looks-at-view}
+use Rattle.uxn_cli.proofs.laws.each_call_looks_at_its_view_alone.Goals as goal
+
+pub returns : goal.returns
+returns c = λ words nodes other same. looks-at-view (request words) nodes other same
