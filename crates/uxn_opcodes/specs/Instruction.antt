@@ -1,7 +1,6 @@
 -- An instruction over any ports, as a relation by the rules of these ports (Uxntal opcode reference, Varvara device reference).
-use Rattle.std.specs.Prelude.{◌≡◌, ◌≢◌, ◌↔◌, ℕ, ◌+◌, ◌/◌, ◌%◌, ◌⊎◌, List, [], ◌∷◌}
+use Rattle.std.specs.Prelude.{◌≡◌, ◌≢◌, ℕ, ◌+◌, ◌/◌, ◌%◌, ◌⊎◌, List, [], ◌∷◌}
 use Rattle.std.specs.Prelude.{Result, Ok, Err}
-use Rattle.uxn_io.specs.Faults.{Counts, Ledger}
 use Rattle.uxn_opcodes.specs.declared.Core.{Core}
 use Rattle.uxn_opcodes.specs.declared.Stop.{Stop}
 use Rattle.uxn_opcodes.specs.declared.Turn.{Turn}
@@ -11,7 +10,7 @@ use Rattle.uxn_opcodes.specs.declared.operation.Width.TheVariants.{Byte, Short}
 use Rattle.uxn_opcodes.specs.declared.operation.Mode.{Mode}
 use Rattle.uxn_opcodes.specs.declared.rows.Access.{Access}
 use Rattle.uxn_opcodes.specs.declared.rows.Access.TheVariants.{Nothing, Read, Write}
-use Rattle.uxn_opcodes.specs.Ports.{Rules, blame_of}
+use Rattle.uxn_opcodes.specs.Ports.{Rules}
 use Rattle.uxn_opcodes.specs.Words.{pushed}
 use Rattle.uxn_opcodes.specs.Rule.{sides_of, core_of, opcode_at, past_opcode, begun}
 
@@ -69,10 +68,3 @@ Instruction rules core ports (Ok Ran) core_new ports_new =
     (opcode_at core ≢ 0) × Finishes rules (begun core).access (begun core).core ports core_new ports_new
 Instruction rules core ports (Err stop) core_new ports_new =
     (opcode_at core ≢ 0) × Stops rules (begun core).access (begun core).core ports stop core_new ports_new
-
--- an instruction, what its answer says, and who is to blame for how it ended
-pub record Turns {S : Type 0} (rules : Rules S) (faults : S → Counts)
-    (core : Core) (ports : S) (result : Result Turn Stop) (core_new : Core) (ports_new : S) : Type 0 where
-  pub instruction : Instruction rules core ports result core_new ports_new
-  pub broke : (result ≡ Ok Broke) ↔ (opcode_at core ≡ 0)
-  pub ledger : Ledger (faults ports) (faults ports_new) (blame_of result)

@@ -1,5 +1,5 @@
 -- One rule for short, return and keep mode in four moments, and the instructions with an immediate (Uxntal opcode reference).
-use Rattle.std.specs.Prelude.{ℕ, ◌+◌, ◌%◌, ◌==◌, Bool, true, false, if◌then◌else◌, List, [], Option, Some}
+use Rattle.std.specs.Prelude.{◌≡◌, ◌≢◌, ℕ, ◌+◌, ◌%◌, ◌==◌, Bool, true, false, if◌then◌else◌, List, [], Option, Some}
 use Rattle.std.specs.Prelude.{None, slice_index}
 use Rattle.uxn_memory.specs.Bytes.{zeros, short_at, with_bytes}
 use Rattle.uxn_stacks.specs.Cells.{Cells, new_ring, byte_below, lowered}
@@ -137,3 +137,9 @@ begun_by (Some op) code core = row_begun op (mode_of code) core
 -- an instruction other than BRK up to its port access
 unfoldable pub begun : Core → Begun
 begun core = begun_by (op_of (opcode_at core)) (opcode_at core) (past_opcode core)
+
+-- an instruction up to its port access: BRK has none
+unfoldable pub Begins : Core → Option Access → Core → Type 0
+Begins core None core_new = (opcode_at core ≡ 0) × (core_new ≡ past_opcode core)
+Begins core (Some access) core_new =
+    (opcode_at core ≢ 0) × ((core_new ≡ (begun core).core) × (access ≡ (begun core).access))

@@ -9,6 +9,7 @@ ghost use Rattle.uxn_opcodes.specs.Rule.{
   past_opcode,
   immediate,
   begun,
+  Begins,
   row_begun,
   jumped,
   jumped_if,
@@ -29,7 +30,6 @@ ghost use Rattle.uxn_opcodes.specs.Instruction.{
   Finishes,
   Stops,
   Instruction,
-  Turns,
 };
 
 mod operation;
@@ -292,40 +292,41 @@ fn finish<P: Ports>(core: &mut Core, ports: &mut P, access: Access) -> Result<()
     }
 }
 
-/// Runs the instruction of a code that is a constant, and so are its operation and its mode.
-#[tactic(auto, unfolding(crate::specs::Instruction::Instruction, crate::specs::Rule::begun))]
-fn run<const CODE: u8, P: Ports>(core: &mut Core, ports: &mut P) -> Result<Turn, Stop>
+/// Runs the instruction of a code that is a constant, and so are its operation and its mode: all but its port access,
+/// which is told. BRK has none.
+#[tactic(auto, unfolding(crate::specs::Rule::begun, crate::specs::Rule::Begins))]
+fn run<const CODE: u8>(core: &mut Core) -> Option<Access>
     requires { opcode_at core.old ≡ CODE }
-    ensures { Turns P.rules P.faults core.old ports.old result core.new ports.new }
+    ensures { Begins core.old result core.new }
 {
     if CODE == 0 {
         core.at = core.at.wrapping_add(1);
-        return Ok(Turn::Broke);
+        return None;
     }
     let mut at = core.at.wrapping_add(1);
     let access = begin::<CODE>(core, &mut at);
     core.at = at;
-    finish(core, ports, access)?;
-    Ok(Turn::Ran)
+    Some(access)
 }
 
 /// Runs the instruction of a code: each byte has an arm of its own.
 macro_rules! run_code {
-    ($code:expr, $core:expr, $ports:expr, $($byte:literal)*) => {
+    ($code:expr, $core:expr, $($byte:literal)*) => {
         match $code {
-            $($byte => run::<$byte, P>($core, $ports),)*
-            _ => run::<0xff, P>($core, $ports),
+            $($byte => run::<$byte>($core),)*
+            _ => run::<0xff>($core),
         }
     };
 }
 
-/// Runs the instruction of a code.
+/// Runs the instruction of a code, all but its port access. No ports stand here, and each arm lends one reference: the
+/// proof of so many arms is long, and the longer the more there is in each.
 #[inline(always)]
-fn run_any<P: Ports>(core: &mut Core, ports: &mut P, code: u8) -> Result<Turn, Stop>
+fn run_any(core: &mut Core, code: u8) -> Option<Access>
     requires { opcode_at core.old ≡ code }
-    ensures { Turns P.rules P.faults core.old ports.old result core.new ports.new }
+    ensures { Begins core.old result core.new }
 {
-    run_code!(code, core, ports,
+    run_code!(code, core,
         0x00 0x01 0x02 0x03 0x04 0x05 0x06 0x07 0x08 0x09 0x0a 0x0b 0x0c 0x0d 0x0e 0x0f
         0x10 0x11 0x12 0x13 0x14 0x15 0x16 0x17 0x18 0x19 0x1a 0x1b 0x1c 0x1d 0x1e 0x1f
         0x20 0x21 0x22 0x23 0x24 0x25 0x26 0x27 0x28 0x29 0x2a 0x2b 0x2c 0x2d 0x2e 0x2f
@@ -348,11 +349,16 @@ fn run_any<P: Ports>(core: &mut Core, ports: &mut P, code: u8) -> Result<Turn, S
 /// Runs the instruction at `core.at`. A stop comes exactly where a write to a port of this instruction gave it;
 /// a write that would follow is then not done. No memory is taken but what the ports take.
 #[inline(always)]
+#[tactic(auto, unfolding(crate::specs::Instruction::Instruction, crate::specs::Rule::Begins))]
 pub fn step<P: Ports>(core: &mut Core, ports: &mut P) -> Result<Turn, Stop>
     ensures instruction { Instruction P.rules core.old ports.old result core.new ports.new }
     ensures broke { (result ≡ Ok Turn.Broke) ↔ (opcode_at core.old ≡ 0) }
     ensures ledger { Ledger (P.faults ports.old) (P.faults ports.new) (blame_of result) }
 {
     let code = opcode(core);
-    run_any(core, ports, code)
+    let Some(access) = run_any(core, code) else {
+        return Ok(Turn::Broke);
+    };
+    finish(core, ports, access)?;
+    Ok(Turn::Ran)
 }
