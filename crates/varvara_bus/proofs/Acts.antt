@@ -1,5 +1,5 @@
 use Rattle.std.proofs.Common.{◌≡◌, true, false, ℕ, ◌+◌, ◌<◌, ◌≤◌, List, [], ◌∷◌, length, slice_index, slice_set, map, refl, ap, sym, ◌∙◌, arith}
-use Rattle.std.specs.Prelude.{Option, Some, None, IfSome, Result, Ok, Err, IsOk, OnOk, OnErr, IfErr, is_err}
+use Rattle.std.specs.Prelude.{◌==◌, if◌then◌else◌, Option, Some, None, IfSome, Result, Ok, Err, IsOk, OnOk, OnErr, IfErr, is_err}
 use Rattle.std.specs.Borrow.{MutBor}
 use Rattle.uxn_io.specs.declared.sinks.Failed.{Failed}
 use Rattle.uxn_opcodes.specs.declared.Stop.TheVariants.{TreeFault, SinkFault, NoMemory}
@@ -50,7 +50,7 @@ module _ {T O E : Type 0} (meaning : Meaning T O E) where
   -- a byte was stored in the port, and nothing else was done
   pub record Stored (before now : Bus T O E) (port byte : ℕ) : Type 0 where
     pub devices : (state : DeviceState) → BusStandsFor meaning.tree before state → BusStandsFor meaning.tree now (storing ((port, byte) ∷ []) state)
-    pub held : held now port ≡ byte
+    pub held : (other : ℕ) → held now other ≡ (if other == port then byte else held before other)
     pub files : (number : FileNumber) → file_held number now.devices.now ≡ file_held number before.devices.now
     pub tree : now.tree.now ≡ before.tree.now
     pub out : now.out.now ≡ before.out.now
@@ -258,7 +258,7 @@ module _ {T O E : Type 0} (meaning : Meaning T O E) where
     cut = λ state stands.
         let short = rw (effect-of action port byte state old is) at (acted.cut (storing ((port, byte) ∷ []) state) (stored.devices state stands)) in
         stops-later meaning before middle now stop [] (effect state old port byte).changes (stored-makes before middle port byte stored) short;
-    stored = ap (λ page. slice_index page port) acted.page ∙ stored.held;
+    stored = λ other. ap (λ page. slice_index page other) acted.page ∙ stored.held other;
     memory = λ wanted. rw stored.same.root at (acted.memory wanted);
     names = λ wanted.
         let wants = acted.names wanted in

@@ -1,5 +1,5 @@
 -- A bus: devices, a tree and two sinks that are lent to it, and its ports.
-use Rattle.std.specs.Prelude.{◌≡◌, ℕ, false, List, Option, Some, IfSome, IsSome, Err, slice_index}
+use Rattle.std.specs.Prelude.{◌≡◌, ℕ, ◌==◌, false, List, Option, Some, IfSome, IsSome, Err, slice_index, if◌then◌else◌}
 use Rattle.uxn_io.specs.Files.{Nodes, file_at}
 use Rattle.uxn_io.specs.Faults.{Counts, counts}
 use Rattle.uxn_io.specs.Outside.{Change, World, changed_by, IsCutOff}
@@ -151,11 +151,11 @@ module _ {T O E : Type 0} (meaning : Meaning T O E) where
     pub does : (state : DeviceState) → BusStandsFor meaning.tree before state → HasEffect before now new (effect state old port byte)
     pub same : SameBus meaning.tree before now
 
-  -- a write that stops has stored its byte, and made a front of its changes; memory is wanting only where there is a root
+  -- a write that stops has stored its byte and nothing else, and made a front of its changes; memory is wanting only where there is a root
   pub record Stopped (before : Bus T O E) (old : Core) (port byte : ℕ) (stop : Stop) (now : Bus T O E) (new : Core) : Type 0 where
     pub cut : (state : DeviceState) → BusStandsFor meaning.tree before state
         → StopsShort before now stop (effect state old port byte).changes
-    pub stored : held now port ≡ byte
+    pub stored : (other : ℕ) → held now other ≡ (if other == port then byte else held before other)
     pub memory : stop ≡ NoMemory → HasRoot before.devices.now
     pub names : stop ≡ NoMemory → WantsNames (action_of port) before.devices.now (meaning.tree before.tree.now)
     pub same : SameBus meaning.tree before now

@@ -1,5 +1,5 @@
 //! What the ports of the devices hold.
-ghost use Rattle.std.specs.Prelude.{◌≡◌, ℕ, Bool, ◌+◌, ◌*◌, ◌<◌, IfOk, [], ◌∷◌, slice_index, slice_set, pos, neg_ℤ, ◌≤ℤ◌};
+ghost use Rattle.std.specs.Prelude.{◌≡◌, ℕ, Bool, ◌+◌, ◌*◌, ◌<◌, ◌==◌, if◌then◌else◌, IfOk, [], ◌∷◌, slice_index, slice_set, pos, neg_ℤ, ◌≤ℤ◌};
 ghost use Rattle.console_port.specs.Console.{given};
 ghost use Rattle.input_ports.specs.Page.{with_stores, stores_of, stores_after};
 ghost use Rattle.input_ports.specs.Page.{short_stores};
@@ -71,7 +71,7 @@ pub(crate) fn stored(devices: &Devices, port: u8) -> u8
 pub(crate) fn store(devices: &mut Devices, port: u8, value: u8)
     ensures devices { devices.new ≡ record devices.old { page = slice_set devices.old.page port value } }
     ensures stands { (state : DeviceState) → StandFor devices.old state → StandFor devices.new (storing ((port, value) ∷ []) state) }
-    ensures held { slice_index devices.new.page port ≡ value }
+    ensures held { (other : ℕ) → slice_index devices.new.page other ≡ (if other == port then value else slice_index devices.old.page other) }
     ensures frames { devices.new.time.frames ≡ devices.old.time.frames }
     ensures clock { clock_of devices.new ≡ clock_of devices.old }
     ensures root { devices.new.root ≡ devices.old.root }
