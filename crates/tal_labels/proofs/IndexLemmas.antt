@@ -13,7 +13,7 @@ use Rattle.indexmap.specs.IndexMap.{IndexMap, insert_entry}
 use Rattle.indexmap.proofs.CallerLemmas.{insert_entry-new}
 use Rattle.tal_labels.specs.Index.{labels_in}
 use Rattle.tal_words.specs.declared.name.Label.{Label}
-use Rattle.tal_labels.specs.Labels.{address_named}
+use Rattle.tal_words.specs.Labels.{address_named}
 
 abbrev pub Index : Type 0
 Index = IndexMap (Vec ℕ) ℕ (BuildHasherDefault FoldHasher)

@@ -1,7 +1,6 @@
 -- Labels, their scopes and their full names (Uxntal syntax reference).
-use Rattle.std.specs.Prelude.{ℕ, List, [], ◌∷◌, drop, find, Option, Some, None, Result, Ok}
-use Rattle.std.specs.Option.{option_map, option_map_or}
-use Rattle.std.specs.Str.{bytes_eq}
+use Rattle.std.specs.Prelude.{ℕ, List, [], ◌∷◌, drop, Option, Some, None, Result, Ok}
+use Rattle.std.specs.Option.{option_map_or}
 use Rattle.tal_words.specs.declared.span.Expanded.{Expanded}
 use Rattle.tal_words.specs.declared.name.Label.{Label}
 use Rattle.tal_words.specs.declared.fault.FaultKind.{FaultKind}
@@ -45,7 +44,3 @@ module _ (source : List ℕ) where
   -- the labels in order of definition
   unfoldable pub labels_of : List Expanded → List Label
   labels_of words = collected labels_given [] words
-
--- the address of the label of a name
-abbrev pub address_named : List Label → List ℕ → Option ℕ
-address_named labels name = option_map (λ label. label.address) (find (λ label. bytes_eq name label.name) labels)

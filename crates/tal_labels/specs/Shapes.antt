@@ -50,7 +50,9 @@ module _ (source : List ℕ) where
   abbrev pub judged_shape : List Expanded → Expanded → List Expanded → Judged
   judged_shape before word after = record {
     origin = word.origin;
-    kinds = shape_kinds (form (expanded_text source word)) (expanded_text source word) (open_count before) (is_some (closing_distance after));
+    kinds =
+        shape_kinds (form (expanded_text source word)) (expanded_text source word) (open_count before)
+        (is_some (closing_distance after));
   }
 
   -- the index of the `}` that closes the lambda of an opener

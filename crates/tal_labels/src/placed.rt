@@ -43,7 +43,7 @@ impl Model for Placed {
 
 impl Placed {
     ghost use Rattle.tal_labels.specs.Index.{labels_in};
-    ghost use Rattle.tal_labels.specs.Labels.{address_named};
+    ghost use Rattle.tal_words.specs.Labels.{address_named};
 
     /// The words and the labels, which the index has by their names.
     pub(crate) fn new(

@@ -74,7 +74,8 @@ module _ (source : List ℕ) where
   abbrev pub body_after : List Word → Option (List Word)
   body_after [] = None
   body_after (brace ∷ words) =
-      if is_only 123 (word_text source brace) then option_map (λ count. take count words) (matching (map (word_text source) words)) else None
+      if is_only 123 (word_text source brace) then option_map (λ count. take count words) (matching (map (word_text source) words))
+    else None
 
   -- the body of the macro that a word defines, by the words after it
   abbrev pub body_defined : Word → List Word → Option (List Word)

@@ -15,7 +15,8 @@ pub record IsBody (source : List ℕ) (words after : List Word) (body : Body) : 
   pub within : body.to ≤ length words
 
 -- a head without a fault has a body and defines a macro, which is known after it
-pub record Defines (source : List ℕ) (words : List Word) (word : Word) (after : List Word) (old new : List Macro) (body : Body) : Type 0 where
+pub record Defines (source : List ℕ) (words : List Word) (word : Word) (after : List Word) (old new : List Macro) (body : Body)
+    : Type 0 where
   pub is_body : IsBody source words after body
   pub faultless : head_faults source word old (Some (body_words words body)) ≡ []
   pub known : new ≡ old ++ record { name = drop 1 (word_text source word); body = body_words words body } ∷ []

@@ -14,7 +14,8 @@ use Rattle.tal_words.specs.Braces.{opens}
 use Rattle.tal_labels.specs.declared.placed.PlacedWord.{PlacedWord}
 use Rattle.tal_words.specs.Order.{each}
 use Rattle.tal_words.specs.Source.{expanded_text}
-use Rattle.tal_labels.specs.Labels.{scope_after, address_named}
+use Rattle.tal_words.specs.Labels.{address_named}
+use Rattle.tal_labels.specs.Labels.{scope_after}
 
 -- what a reference names in a scope: an opener the address of the `}` that closes its lambda, and any other the address of the
 -- label of its full name

@@ -4,7 +4,7 @@ ghost use Rattle.std.specs.Prelude.{◌≡◌, ◌<◌, ◌≤◌, ◌^◌, IfOk
 ghost use Rattle.tal_words.specs.Faults.{least};
 ghost use Rattle.tal_words.specs.Forms.{is_near as is_near_target, reaches as reaches_target};
 ghost use Rattle.tal_words.specs.Names.{name_after_rune as name_of_reference, full_name as full_name_in};
-ghost use Rattle.tal_labels.specs.Labels.{address_named};
+ghost use Rattle.tal_words.specs.Labels.{address_named};
 ghost use Rattle.tal_rom.specs.Answers.{HasAddress};
 ghost use Rattle.tal_rom.specs.References.{target_in, reference_kinds};
 

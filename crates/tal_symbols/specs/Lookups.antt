@@ -1,7 +1,5 @@
--- Labels by their addresses and by their names (profile).
+-- Labels by their addresses (profile).
 use Rattle.std.specs.Prelude.{ℕ, max, Bool, true, ◌==◌, nat_le, nat_lt, List, [], ◌∷◌, filter, find, Option, Some, None}
-use Rattle.std.specs.Option.{option_map}
-use Rattle.std.specs.Str.{bytes_eq}
 use Rattle.tal_words.specs.declared.name.Label.{Label}
 
 -- the labels whose addresses are not above an address
@@ -24,7 +22,3 @@ nearest_label labels address = first_of_greatest (labels_up_to labels address)
 abbrev pub lies_below : Option Label → ℕ → Bool
 lies_below None address = true
 lies_below (Some label) address = nat_lt label.address address
-
--- the address of the first label of a name
-abbrev pub address_of_name : List Label → List ℕ → Option ℕ
-address_of_name labels name = option_map (λ label. label.address) (find (λ label. bytes_eq name label.name) labels)

@@ -2,7 +2,8 @@
 
 ghost use Rattle.std.specs.Prelude.{◌≡◌};
 ghost use Rattle.std.specs.Option.{option_copied};
-ghost use Rattle.tal_symbols.specs.Lookups.{nearest_label, lies_below, address_of_name};
+ghost use Rattle.tal_symbols.specs.Lookups.{nearest_label, lies_below};
+ghost use Rattle.tal_words.specs.Labels.{address_named};
 
 use tal_words::Label;
 
@@ -32,7 +33,7 @@ fn lies_below(found: Option<&Label>, address: u16) -> bool
 
 /// The address of the first label of a name. `None` exactly where no label has it.
 pub fn address_of(labels: &[Label], name: &[u8]) -> Option<u16>
-    ensures { result ≡ address_of_name labels.now name.now }
+    ensures { result ≡ address_named labels.now name.now }
 {
     for label in labels {
         if name == label.name.bytes() {

@@ -5,6 +5,7 @@ pub mod FirstFault
 pub mod Comments
 pub mod Opcodes
 pub mod Digits
+pub mod Labels
 pub mod Names
 pub mod Forms
 pub mod Braces

@@ -14,7 +14,8 @@ use Rattle.play_script.specs.declared.script.ScriptKind.{ScriptKind}
 use Rattle.uxn_debugger.specs.declared.command.CommandKind.{CommandKind}
 use Rattle.uxn_cli.specs.declared.task.Task.{Task}
 use Rattle.uxn_cli.specs.declared.refusal.Refusal.{Refusal}
-use Rattle.uxn_cli.specs.declared.refusal.Refusal.TheVariants.{NotUnderstood, NoPath, NoOutput, Missing, Faulty, LongRom, BadSymbols, BadScript, BadCommands}
+use Rattle.uxn_cli.specs.declared.refusal.Refusal.TheVariants.{NotUnderstood, NoPath, NoOutput, Missing, Faulty, LongRom}
+use Rattle.uxn_cli.specs.declared.refusal.Refusal.TheVariants.{BadSymbols, BadScript, BadCommands}
 use Rattle.uxn_cli.specs.Verdict.{Work, and_then, view_of, judged, outputs_of, root_by}
 use Rattle.uxn_cli.specs.Outcome.{outcome_of}
 
@@ -78,4 +79,5 @@ pub record IsAside (task : Task) (path : List ℕ) : Type 0 where
 -- every path but those of the outputs and those beneath the root has its old node
 abbrev pub KeepsOthers : Result Task Refusal → Option Nodes → Option Nodes → Type 0
 KeepsOthers asked before now =
-    (path : List ℕ) → IfOk asked (λ task. IsAside task path) → IfSome before (λ old. IfSome now (λ new. map.get new path ≡ map.get old path))
+    (path : List ℕ) → IfOk asked (λ task. IsAside task path)
+    → IfSome before (λ old. IfSome now (λ new. map.get new path ≡ map.get old path))

@@ -28,7 +28,8 @@ IsWritten asked path = IfOk asked (λ task. list_any (bytes_eq path) (outputs_of
 -- refusal the tree is as it was, and every other path has its old node
 pub record LooksAtItsView (asked : Result Task Refusal) (nodes other : Nodes) : Type 0 where
   pub verdict : verdict_on nodes asked ≡ verdict_on other asked
-  pub part : IfOk asked (λ task. below (root_by task.command task) (files_after asked nodes) ≡ below (root_by task.command task) (files_after asked other))
+  pub part : IfOk asked (λ task. below (root_by task.command task) (files_after asked nodes)
+      ≡ below (root_by task.command task) (files_after asked other))
   pub outputs : (work : Work) → verdict_on nodes asked ≡ Ok work → (path : List ℕ) → IsWritten asked path
       → map.get (files_after asked nodes) path ≡ map.get (files_after asked other) path
   pub refused : (refusal : Refusal) → verdict_on nodes asked ≡ Err refusal → files_after asked nodes ≡ nodes

@@ -6,7 +6,8 @@ use Rattle.tal_symbols.specs.Answers.{symbol_kind_name}
 use Rattle.play_script.specs.Kinds.{kind_name as script_kind_name}
 use Rattle.uxn_debugger.specs.Kinds.{kind_name as command_kind_name}
 use Rattle.uxn_cli.specs.declared.refusal.Refusal.{Refusal}
-use Rattle.uxn_cli.specs.declared.refusal.Refusal.TheVariants.{NotUnderstood, NoPath, NoOutput, Missing, Faulty, LongRom, BadSymbols, BadScript, BadCommands}
+use Rattle.uxn_cli.specs.declared.refusal.Refusal.TheVariants.{NotUnderstood, NoPath, NoOutput, Missing, Faulty, LongRom}
+use Rattle.uxn_cli.specs.declared.refusal.Refusal.TheVariants.{BadSymbols, BadScript, BadCommands}
 
 abbrev pub status_of : Refusal → ℕ
 status_of NotUnderstood = 128

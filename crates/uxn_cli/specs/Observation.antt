@@ -24,7 +24,8 @@ watched job debugging = record job { debug = Some debugging }
 
 -- the file of the log is made, the run is made, and the log is written
 abbrev pub with_log : Job → Debugging → List Change
-with_log job debugging = creating (option_to_list debugging.log) ++ (running (unwatched job) ++ filling_all (log_by (Some debugging) (trail_of job)))
+with_log job debugging =
+    creating (option_to_list debugging.log) ++ (running (unwatched job) ++ filling_all (log_by (Some debugging) (trail_of job)))
 
 pub record OnlyWatches : Type 0 where
   pub status : (job : Job) (debugging : Debugging) → exit_of (watched job debugging) ≡ exit_of (unwatched job)
@@ -67,4 +68,5 @@ pub record IsOutcomeButLog (asked : Result Task Refusal) (o : Outcome) (before n
 -- where `debug` comes to its run, it gives what `play` gives with the same items, but for the log
 pub record ShowsWhatPlayDoes (nodes : Nodes) (asked other : Result Task Refusal) (work : Work) : Type 0 where
   pub run : ComeToOneRun (Ok work) (verdict_on nodes other)
-  pub given : (before : World) → IsOutcomeButLog asked (outcome_of (verdict_on nodes other)) before (changed_by before (outcome_of (Ok work)).changes) (outcome_of (Ok work)).status
+  pub given : (before : World) → IsOutcomeButLog asked (outcome_of (verdict_on nodes other)) before
+      (changed_by before (outcome_of (Ok work)).changes) (outcome_of (Ok work)).status

@@ -1,5 +1,6 @@
 -- What a run has before it begins: the inputs that were seen, and a new machine.
-use Rattle.std.specs.Prelude.{◌≡◌, ◌≢◌, ◌⊎◌, ℕ, Bool, true, not, find, unwrap_or, option_map, List, [], ◌++◌, Option, None, Some, Result, Ok, Err, IfSome}
+use Rattle.std.specs.Prelude.{◌≡◌, ◌≢◌, ◌⊎◌, ℕ, Bool, true, not, find, unwrap_or, option_map, List, [], ◌++◌}
+use Rattle.std.specs.Prelude.{Option, None, Some, Result, Ok, Err, IfSome}
 use Rattle.std.specs.List.{list_any}
 use Rattle.std.specs.Str.{bytes_eq}
 use Rattle.uxn_io.specs.declared.trees.FileBytes.{FileBytes}
@@ -32,14 +33,16 @@ use Rattle.uxn_cli.specs.declared.refusal.Refusal.{Refusal}
 use Rattle.uxn_cli.specs.declared.refusal.Refusal.TheVariants.{NoOutput}
 use Rattle.uxn_cli.specs.declared.refusal.Halt.{Halt}
 use Rattle.uxn_cli.specs.declared.refusal.Halt.TheVariants.{Refused, Stopped}
-use Rattle.uxn_cli.specs.Verdict.{View, Work, Run, file_seen, symbols_seen, script_seen, commands_seen, part_seen, parent_seen, program_in, own_labels, debugging, job_of, work_of}
+use Rattle.uxn_cli.specs.Verdict.{View, Work, Run, file_seen, symbols_seen, script_seen, commands_seen, part_seen, parent_seen}
+use Rattle.uxn_cli.specs.Verdict.{program_in, own_labels, debugging, job_of, work_of}
 use Rattle.uxn_cli.specs.World.{world}
 use Rattle.uxn_cli.specs.Job.{Debugging, Home, no_home, home_in, clock_by, outputs_by, trail_by, exit_in, log_by}
 use Rattle.uxn_cli.specs.Outcome.{creating, filling_all, reporting}
 use Rattle.uxn_cli.specs.Blame.{blame_of}
 
 -- what was seen of an input, and what it says
-pub record Sees {A : Type 0} (tree : Option Nodes) (seen_in : Nodes → FileBytes) (said : FileBytes → Result A Refusal) (says : Result A Refusal) : Type 0 where
+pub record Sees {A : Type 0} (tree : Option Nodes) (seen_in : Nodes → FileBytes) (said : FileBytes → Result A Refusal)
+    (says : Result A Refusal) : Type 0 where
   pub file : FileBytes
   pub seen : IfSome tree (λ nodes. file ≡ seen_in nodes)
   pub said_so : said file ≡ says
@@ -142,11 +145,13 @@ pub record FellShort (before now : Around) (changes : List Change) (stop : Stop)
 -- the same where nothing was put on the outputs
 abbrev pub TreeWasDone : Option Nodes → Option Nodes → Room → Room → List Change → Type 0
 TreeWasDone tree now room left changes =
-    (out err : Option (List ℕ)) (out_sure err_sure : ℕ) → WasDone (around tree room out out_sure err err_sure) (around now left out out_sure err err_sure) changes
+    (out err : Option (List ℕ)) (out_sure err_sure : ℕ)
+    → WasDone (around tree room out out_sure err err_sure) (around now left out out_sure err err_sure) changes
 
 abbrev pub TreeFellShort : Option Nodes → Option Nodes → Room → Room → List Change → Type 0
 TreeFellShort tree now room left changes =
-    (out err : Option (List ℕ)) (out_sure err_sure : ℕ) → FellShort (around tree room out out_sure err err_sure) (around now left out out_sure err err_sure) changes TreeFault
+    (out err : Option (List ℕ)) (out_sure err_sure : ℕ)
+    → FellShort (around tree room out out_sure err err_sure) (around now left out out_sure err err_sure) changes TreeFault
 
 -- outputs that were made, and all of them are files now
 pub record Made (paths : List (List ℕ)) (tree now : Option Nodes) : Type 0 where

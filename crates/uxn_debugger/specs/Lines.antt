@@ -7,7 +7,7 @@ use Rattle.std.specs.Str.{bytes_eq}
 use Rattle.play_script.specs.Values.{begins_with, number_within}
 use Rattle.tal_words.specs.declared.name.Label.{Label}
 use Rattle.tal_words.specs.Digits.{is_short_number, number_of}
-use Rattle.tal_symbols.specs.Lookups.{address_of_name}
+use Rattle.tal_words.specs.Labels.{address_named}
 use Rattle.uxn_debugger.specs.declared.command.DebugCommand.{DebugCommand}
 use Rattle.uxn_debugger.specs.declared.command.DebugCommand.TheVariants.{Break, Delete, Run, Step, Stacks, Mem, PortPage, Here}
 use Rattle.uxn_debugger.specs.declared.command.CommandKind.{CommandKind}
@@ -27,7 +27,7 @@ made make (Err kind) = Err kind
 unfoldable pub address_in : List Label → List ℕ → Judged ℕ
 address_in labels word =
     if is_short_number word then Ok (number_of word)
-    else if begins_with 64 word && nat_lt 1 (length word) then ok_or (address_of_name labels (drop 1 word)) NoSuchLabel
+    else if begins_with 64 word && nat_lt 1 (length word) then ok_or (address_named labels (drop 1 word)) NoSuchLabel
     else Err BadValue
 
 -- how many bytes of memory from an address on; a label is looked up where both values are of their form and range

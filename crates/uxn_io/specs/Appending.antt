@@ -16,19 +16,23 @@ same_key path = (eq_by_cmp_equiv nat_list_cmp_total).refl path
 
 -- the node that was just put
 pub get_put : (nodes : Nodes) (path : List ℕ) (node : Node) → nodes_map.get (nodes_map.insert nodes path node) path ≡ Some node
-get_put nodes path node = nodes_map.get-insert nat_list_cmp_total nodes path node path ∙ ap (λ (b : Bool). cond b (Some node) (nodes_map.get nodes path)) (same_key path)
+get_put nodes path node =
+    nodes_map.get-insert nat_list_cmp_total nodes path node path
+    ∙ ap (λ (b : Bool). cond b (Some node) (nodes_map.get nodes path)) (same_key path)
 
 shadowed : {A : Type 0} (b : Bool) (x y z : A) → cond b x (cond b y z) ≡ cond b x z
 shadowed true x y z = refl
 shadowed false x y z = refl
 
 -- to put a node twice is to put the later
-pub put_again : (nodes : Nodes) (path : List ℕ) (first node : Node) → nodes_map.insert (nodes_map.insert nodes path first) path node ≡ nodes_map.insert nodes path node
+pub put_again : (nodes : Nodes) (path : List ℕ) (first node : Node)
+    → nodes_map.insert (nodes_map.insert nodes path first) path node ≡ nodes_map.insert nodes path node
 put_again nodes path first node =
     nodes_map.same_map nat_list_cmp_total (nodes_map.slice_cmp-IsAntisymmetric nodes_map.nat_cmp-IsAntisymmetric) _ _
     (λ q.
     nodes_map.get-insert nat_list_cmp_total (nodes_map.insert nodes path first) path node q
-    ∙ ap (λ (z : Option Node). cond (eq_by_cmp (slice_cmp nat_cmp) q path) (Some node) z) (nodes_map.get-insert nat_list_cmp_total nodes path first q)
+    ∙ ap (λ (z : Option Node). cond (eq_by_cmp (slice_cmp nat_cmp) q path) (Some node) z)
+        (nodes_map.get-insert nat_list_cmp_total nodes path first q)
     ∙ shadowed (eq_by_cmp (slice_cmp nat_cmp) q path) (Some node) (Some first) (nodes_map.get nodes q)
     ∙ sym (nodes_map.get-insert nat_list_cmp_total nodes path node q))
 
@@ -36,15 +40,18 @@ pub bytes_put : (nodes : Nodes) (path bytes : List ℕ) → bytes_at (nodes_map.
 bytes_put nodes path bytes = ap (λ (node : Option Node). unwrap_or (bytes_of node) []) (get_put nodes path (File bytes))
 
 -- to append twice is to append both
-pub appended_both : (nodes : Nodes) (path xs ys : List ℕ) → with_appended path ys (with_appended path xs nodes) ≡ with_appended path (xs ++ ys) nodes
+pub appended_both : (nodes : Nodes) (path xs ys : List ℕ)
+    → with_appended path ys (with_appended path xs nodes) ≡ with_appended path (xs ++ ys) nodes
 appended_both nodes path [] ys = refl
 appended_both nodes path (x ∷ xs) [] = ap (λ (z : List ℕ). with_appended path z nodes) (sym (append-nil (x ∷ xs)))
 appended_both nodes path (x ∷ xs) (y ∷ ys) =
-    ap (λ (z : List ℕ). nodes_map.insert (nodes_map.insert nodes path (File (bytes_at nodes path ++ x ∷ xs))) path (File (z ++ y ∷ ys))) (bytes_put nodes path (bytes_at nodes path ++ x ∷ xs))
+    ap (λ (z : List ℕ). nodes_map.insert (nodes_map.insert nodes path (File (bytes_at nodes path ++ x ∷ xs))) path (File (z ++ y ∷ ys)))
+        (bytes_put nodes path (bytes_at nodes path ++ x ∷ xs))
     ∙ put_again nodes path _ _
     ∙ ap (λ (z : List ℕ). nodes_map.insert nodes path (File z)) (append_assoc (bytes_at nodes path) (x ∷ xs) (y ∷ ys))
 
-pub appended_told : (told : Option Nodes) (path xs ys : List ℕ) → option_map (with_appended path ys) (option_map (with_appended path xs) told) ≡ option_map (with_appended path (xs ++ ys)) told
+pub appended_told : (told : Option Nodes) (path xs ys : List ℕ)
+    → option_map (with_appended path ys) (option_map (with_appended path xs) told) ≡ option_map (with_appended path (xs ++ ys)) told
 appended_told None path xs ys = refl
 appended_told (Some nodes) path xs ys = ap (λ (z : Nodes). Some z) (appended_both nodes path xs ys)
 
@@ -57,7 +64,8 @@ pub changed_by-file : (world : World) (path text : List ℕ) → changed_by worl
     ≡ record world { files = option_map (with_appended path text) world.files }
 changed_by-file world path [] = ap (λ told. record world { files = told }) (sym (appended-nothing path world.files))
 changed_by-file world path (byte ∷ text) =
-    changed_by-file (changed world (ToFile path byte)) path text ∙ ap (λ told. record world { files = told }) (appended_told world.files path (byte ∷ []) text)
+    changed_by-file (changed world (ToFile path byte)) path text
+    ∙ ap (λ told. record world { files = told }) (appended_told world.files path (byte ∷ []) text)
 
 -- a front of a text was appended to a file
 pub cut-file : (world : World) (now : Option Nodes) (path text : List ℕ) → HasAppendedFront path world.files now text

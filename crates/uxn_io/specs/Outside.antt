@@ -55,7 +55,8 @@ pub record IsCutOff (before now : World) (changes : List Change) : Type 0 where
   pub left : now ≡ changed_by before made
 
 -- changes after changes
-pub changed_by-append : (world : World) (first more : List Change) → changed_by world (first ++ more) ≡ changed_by (changed_by world first) more
+pub changed_by-append : (world : World) (first more : List Change)
+    → changed_by world (first ++ more) ≡ changed_by (changed_by world first) more
 changed_by-append world [] more = refl
 changed_by-append world (change ∷ first) more = changed_by-append (changed world change) first more
 
@@ -69,16 +70,20 @@ extended-extended None first more = refl
 extended-extended (Some bytes) first more = ap (λ b. Some b) (append_assoc bytes first more)
 
 -- a text put on the error output, byte after byte
-pub changed_by-err : (world : World) (text : List ℕ) → changed_by world (map (λ byte. ToErr byte) text) ≡ record world { err = extended world.err text }
+pub changed_by-err : (world : World) (text : List ℕ)
+    → changed_by world (map (λ byte. ToErr byte) text) ≡ record world { err = extended world.err text }
 changed_by-err world [] = ap (λ told. record world { err = told }) (sym (extended-nothing world.err))
 changed_by-err world (byte ∷ text) =
-    changed_by-err (changed world (ToErr byte)) text ∙ ap (λ told. record world { err = told }) (extended-extended world.err (byte ∷ []) text)
+    changed_by-err (changed world (ToErr byte)) text
+    ∙ ap (λ told. record world { err = told }) (extended-extended world.err (byte ∷ []) text)
 
 -- the same for the standard output
-pub changed_by-out : (world : World) (text : List ℕ) → changed_by world (map (λ byte. ToOut byte) text) ≡ record world { out = extended world.out text }
+pub changed_by-out : (world : World) (text : List ℕ)
+    → changed_by world (map (λ byte. ToOut byte) text) ≡ record world { out = extended world.out text }
 changed_by-out world [] = ap (λ told. record world { out = told }) (sym (extended-nothing world.out))
 changed_by-out world (byte ∷ text) =
-    changed_by-out (changed world (ToOut byte)) text ∙ ap (λ told. record world { out = told }) (extended-extended world.out (byte ∷ []) text)
+    changed_by-out (changed world (ToOut byte)) text
+    ∙ ap (λ told. record world { out = told }) (extended-extended world.out (byte ∷ []) text)
 
 -- what was cut off in a part is cut off in what begins with that part
 pub cut-first : (before now : World) (first more : List Change) → IsCutOff before now first → IsCutOff before now (first ++ more)
@@ -90,7 +95,8 @@ cut-first before now first more cut = record {
 }
 
 -- what was cut off in a part that came after changes that were made is cut off in both together
-pub cut-later : (before middle now : World) (first more : List Change) → middle ≡ changed_by before first → IsCutOff middle now more → IsCutOff before now (first ++ more)
+pub cut-later : (before middle now : World) (first more : List Change)
+    → middle ≡ changed_by before first → IsCutOff middle now more → IsCutOff before now (first ++ more)
 cut-later before middle now first more done cut = record {
   made = first ++ cut.made;
   rest = cut.rest;
@@ -103,7 +109,8 @@ pub cut-here : (before now : World) (first more : List Change) → now ≡ chang
 cut-here before now first more done = record { made = first; rest = more; parts = refl; left = done }
 
 -- a front of a text was put on the error output
-pub cut-err : (world : World) (now : Option (List ℕ)) (text : List ℕ) → HasTakenFront world.err now text → IsCutOff world (record world { err = now }) (map (λ byte. ToErr byte) text)
+pub cut-err : (world : World) (now : Option (List ℕ)) (text : List ℕ)
+    → HasTakenFront world.err now text → IsCutOff world (record world { err = now }) (map (λ byte. ToErr byte) text)
 cut-err world now text front = record {
   made = map (λ byte. ToErr byte) (take front.count text);
   rest = map (λ byte. ToErr byte) (drop front.count text);

@@ -60,7 +60,9 @@ emptied held =
 
 abbrev pub grown : List ℕ → List ℕ × HeldNode → List ℕ × HeldNode
 grown more held =
-    (held.0, record { folder = held.1.folder; bytes = record { list = held.1.bytes.list ++ more; spare = held.1.bytes.spare - length more } })
+    (held.0, record {
+      folder = held.1.folder; bytes = record { list = held.1.bytes.list ++ more; spare = held.1.bytes.spare - length more }
+    })
 
 -- where a path stands, or the place where it would
 abbrev pub next : Result ℕ ℕ → Result ℕ ℕ

@@ -105,7 +105,8 @@ err-append [] more = omega arith
 err-append (change ∷ first) more = let later = err-append first more in omega (arith, later)
 
 -- what a tree takes it takes a front of
-pub takes-first : (room : Room) (nodes : Nodes) (first more : List Change) → TreeTakes room nodes (first ++ more) → TreeTakes room nodes first
+pub takes-first : (room : Room) (nodes : Nodes) (first more : List Change)
+    → TreeTakes room nodes (first ++ more) → TreeTakes room nodes first
 takes-first room nodes first more takes = record {
   files = λ front rest is. takes.files front (rest ++ more) (ap (λ changes. changes ++ more) is ∙ append_assoc front rest more);
   bytes = λ front rest path byte is.
@@ -113,8 +114,8 @@ takes-first room nodes first more takes = record {
 }
 
 -- and, where so much is left after that front, the rest
-pub takes-later : (room now : Room) (nodes : Nodes) (first more : List Change) → TreeTakes room nodes (first ++ more) → TreeLeft room now nodes first
-    → TreeTakes now (files_by nodes first) more
+pub takes-later : (room now : Room) (nodes : Nodes) (first more : List Change)
+    → TreeTakes room nodes (first ++ more) → TreeLeft room now nodes first → TreeTakes now (files_by nodes first) more
 takes-later room now nodes first more takes left = record {
   files = λ front rest is.
       let whole = takes.files (first ++ front) rest (ap (λ changes. first ++ changes) is ∙ sym (append_assoc first front rest)) in
@@ -125,8 +126,8 @@ takes-later room now nodes first more takes left = record {
       omega (arith, rw (files_by-append nodes first front) at whole, left.bytes);
 }
 
-pub left-both : (a b c : Room) (nodes : Nodes) (first more : List Change) → TreeLeft a b nodes first → TreeLeft b c (files_by nodes first) more
-    → TreeLeft a c nodes (first ++ more)
+pub left-both : (a b c : Room) (nodes : Nodes) (first more : List Change)
+    → TreeLeft a b nodes first → TreeLeft b c (files_by nodes first) more → TreeLeft a c nodes (first ++ more)
 left-both a b c nodes first more p q = record {
   files = omega (arith, p.files, q.files, made-append nodes first more, gone-append first more);
   bytes = omega (arith, p.bytes, q.bytes);
@@ -155,9 +156,11 @@ told-by (Some nodes) [] world is = is
 told-by None (change ∷ changes) world is =
     told-by None changes (changed world change) (one-told world change ∙ ap (option_map (changed_files change)) is)
 told-by (Some nodes) (change ∷ changes) world is =
-    told-by (Some (changed_files change nodes)) changes (changed world change) (one-told world change ∙ ap (option_map (changed_files change)) is)
+    told-by (Some (changed_files change nodes)) changes (changed world change)
+        (one-told world change ∙ ap (option_map (changed_files change)) is)
 
-pub files-told : (world : World) (changes : List Change) → (changed_by world changes).files ≡ option_map (λ nodes. files_by nodes changes) world.files
+pub files-told : (world : World) (changes : List Change)
+    → (changed_by world changes).files ≡ option_map (λ nodes. files_by nodes changes) world.files
 files-told world changes = told-by world.files changes world refl
 
 -- nothing was done

@@ -14,7 +14,7 @@ use Rattle.uxn_io.specs.Room.{Room, Leaves}
 use Rattle.uxn_io.specs.Taking.{TreeTakes, TreeLeft, takes-later, files_made, files_gone, bytes_out, bytes_err}
 use Rattle.file_ports.specs.RootPart.{below, parent_is_folder, is_in_part}
 use Rattle.file_ports.specs.PartLaws.{files_by-file}
-use Rattle.file_ports.specs.ActLaws.{below-outside}
+use Rattle.file_ports.specs.OutsideLaws.{below-appended, parent-appended}
 use Rattle.varvara_bus.specs.State.{HasFiles}
 use Rattle.varvara_bus.specs.Bus.{IsFileWhereTold, IsOutside, FilesStay}
 use Rattle.varvara_bus.specs.Touching.{same_path}
@@ -43,57 +43,13 @@ pub front-stays : (root : Option (List ℕ)) (before now : Option Nodes) (path p
     → FilesStay root before now
 front-stays root before now path piece front = rw front.told (appended-stays root before path (take front.count piece))
 
--- bytes appended to a file outside the root part leave that as it was
-not_in : (root : Option (List ℕ)) (path : List ℕ) → IsOutside root path → is_in_part root (Some path) ≡ false
-not_in None path outside = outside
-not_in (Some root) path outside = outside
-
-bytes-below : (root : Option (List ℕ)) (path text : List ℕ) (nodes : Nodes) → IsOutside root path
-    → below root (files_by nodes (map (λ byte. ToFile path byte) text)) ≡ below root nodes
-bytes-below root path [] nodes outside = refl
-bytes-below root path (byte ∷ text) nodes outside =
-    bytes-below root path text (changed_files (ToFile path byte) nodes) outside ∙ below-outside root (ToFile path byte) nodes (not_in root path outside)
-
-appended-below : (root : Option (List ℕ)) (path text : List ℕ) (nodes : Nodes) → IsOutside root path
-    → below root (with_appended path text nodes) ≡ below root nodes
-appended-below root path text nodes outside = ap (below root) (sym (files_by-file nodes path text)) ∙ bytes-below root path text nodes outside
-
--- a file that gets bytes is no folder before or after
-no_folder : (node : Option Node) → IsSome (bytes_of node) → is_folder node ≡ false
-no_folder None there = refl
-no_folder (Some (File bytes)) there = refl
-no_folder (Some Folder) there = cc
-
-folder_or : (b : Bool) (bytes : List ℕ) (there : Option Node) → (b ≡ true → is_folder there ≡ false)
-    → is_folder (cond b (Some (File bytes)) there) ≡ is_folder there
-folder_or true bytes there other = sym (other refl)
-folder_or false bytes there other = refl
-
-folder_still : (nodes : Nodes) (path text q : List ℕ) → IsSome (file_at nodes path)
-    → is_folder (nodes_map.get (with_appended path text nodes) q) ≡ is_folder (nodes_map.get nodes q)
-folder_still nodes path [] q there = refl
-folder_still nodes path (byte ∷ text) q there =
-    ap is_folder (nodes_map.get-insert nat_list_cmp_total nodes path (File (bytes_at nodes path ++ byte ∷ text)) q)
-    ∙ folder_or (eq_by_cmp (slice_cmp nat_cmp) q path) (bytes_at nodes path ++ byte ∷ text) (nodes_map.get nodes q)
-    (λ same. ap (λ p. is_folder (nodes_map.get nodes p)) (same_path q path same) ∙ no_folder (nodes_map.get nodes path) there)
-
-parent_still : (nodes : Nodes) (path text : List ℕ) (parent : Option (List ℕ)) → IsSome (file_at nodes path)
-    → is_folder_at (with_appended path text nodes) parent ≡ is_folder_at nodes parent
-parent_still nodes path text None there = refl
-parent_still nodes path text (Some q) there = folder_still nodes path text q there
-
-appended-parent : (root : Option (List ℕ)) (path text : List ℕ) (nodes : Nodes) → IsSome (file_at nodes path)
-    → parent_is_folder root (with_appended path text nodes) ≡ parent_is_folder root nodes
-appended-parent None path text nodes there = refl
-appended-parent (Some root) path text nodes there = parent_still nodes path text (parent_of root) there
-
--- so a state has the same files then
+-- a state has the same files where bytes are appended to a file outside the root part
 pub appended-files : (told now : Option Nodes) (path text : List ℕ) (own root : Option (List ℕ)) (part : Nodes) (parent : Bool)
     → now ≡ option_map (with_appended path text) told → IsFileWhereTold told path → IsOutside own path → own ≡ root
     → HasFiles told root part parent → HasFiles now root part parent
 appended-files None now path text own root part parent is there outside same has = rw is has
 appended-files (Some nodes) now path text own root part parent is there outside same has =
-    rw is (has.0 ∙ sym (appended-below root path text nodes (rw same at outside)), has.1 ∙ sym (appended-parent root path text nodes there))
+    rw is (has.0 ∙ sym (below-appended root path text nodes (rw same at outside)), has.1 ∙ sym (parent-appended root path text nodes there))
 
 -- ---- what is sure
 

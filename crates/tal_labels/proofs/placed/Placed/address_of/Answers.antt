@@ -1,5 +1,5 @@
 use Rattle.std.proofs.Common.{ap, ◌∙◌}
-use Rattle.tal_labels.specs.Labels.{address_named}
+use Rattle.tal_words.specs.Labels.{address_named}
 use Rattle.tal_labels.proofs.IndexLemmas.{lookup-named}
 use Rattle.tal_labels.proofs.placed.Placed.address_of.Goals as goal
 
