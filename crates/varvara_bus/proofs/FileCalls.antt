@@ -25,6 +25,7 @@ use Rattle.varvara_bus.specs.declared.ports.FileNumber.TheVariants.{First, Secon
 use Rattle.varvara_bus.specs.State.{DeviceState, StandFor, HasFiles, storing}
 use Rattle.varvara_bus.specs.FileActs.{file_base, file_in, with_file, file_action, file_outcome}
 use Rattle.varvara_bus.specs.Bus.{FilesStay, file_held}
+use Rattle.varvara_bus.specs.Laws.{stand-part, held-file}
 use Rattle.varvara_bus.specs.FileCalls.{action_asked, Performed, FilesDone, FilesCut, FileActed, FileStopped}
 
 -- what a call did to a file device, memory and a tree, by its action beneath a root
@@ -261,31 +262,11 @@ stays_acting action root device memory (Some nodes) now room room_now (Err stop)
 
 -- ---- the devices of a machine
 
-held_is : (number : FileNumber) (devices : Devices) (state : DeviceState) → StandFor devices state → file_held number devices ≡ file_in number state
-held_is First devices state stands = stands.files.first
-held_is Second devices state stands = stands.files.second
-
 -- devices stand for a state whatever its part of the tree
 with_part : (number : FileNumber) (devices : Devices) (device : FileState) (state : DeviceState) (part : Nodes)
     → StandFor devices (with_file number device state) → StandFor devices (with_file number device (record state { part = part }))
-with_part First devices device state part stands = record {
-  page = stands.page;
-  screen = stands.screen;
-  voices = stands.voices;
-  files = stands.files;
-  frames = stands.frames;
-  clock = stands.clock;
-  root = stands.root;
-}
-with_part Second devices device state part stands = record {
-  page = stands.page;
-  screen = stands.screen;
-  voices = stands.voices;
-  files = stands.files;
-  frames = stands.frames;
-  clock = stands.clock;
-  root = stands.root;
-}
+with_part First devices device state part stands = stand-part devices (with_file First device state) part stands
+with_part Second devices device state part stands = stand-part devices (with_file Second device state) part stands
 
 abbrev value_of : Result ℕ FileStop → ℕ
 value_of (Ok value) = value
@@ -341,7 +322,7 @@ file_done request number part devices middle after state memory before now room 
     let outcome = file_outcome number part state memory in
     let done : Performed outcome state.root state.part state.parent before now room room_now (Ok success) (file_held number middle) memory_now =
     done_at request number part devices.root (file_held number devices) state memory before now room room_now (Ok success) (file_held number middle) memory_now
-    stands.root (held_is number devices state stands) is has performed in
+    stands.root (held-file number devices state stands) is has performed in
     record {
       memory = done.answers.memory;
       devices = rw (← ap value_of done.answers.success)
@@ -360,4 +341,4 @@ pub file_stopped : (request : Request) (number : FileNumber) (part : FileAct) (d
 file_stopped request number part devices state memory before now room stop is stands has cut =
     cut_stopped (file_outcome number part state memory).changes before now room stop
     (cut_at request number part devices.root (file_held number devices) state memory before now room (has_failed {T = ℕ} (Err stop))
-    stands.root (held_is number devices state stands) is has cut)
+    stands.root (held-file number devices state stands) is has cut)

@@ -130,11 +130,11 @@ module _ {T O E : Type 0} (meaning : Meaning T O E) where
   }
 
   -- since a bus stood so, its devices became these, and these changes were made
-  record StandsSince (start now : Bus T O E) (so_far : Devised) : Type 0 where
-    devices : BusStandsFor meaning.tree now so_far.devices
-    makes : Makes meaning start now so_far.changes
+  pub record StandsSince (start now : Bus T O E) (so_far : Devised) : Type 0 where
+    pub devices : BusStandsFor meaning.tree now so_far.devices
+    pub makes : Makes meaning start now so_far.changes
 
-  carries : (start : Bus T O E) → Carries (bus_rules meaning) (StandsSince start) varvara
+  pub carries : (start : Bus T O E) → Carries (bus_rules meaning) (StandsSince start) varvara
   carries start = record {
     reading = λ now so_far core port value stands reads. reads so_far.devices stands.devices;
     writing = λ now so_far core port byte after core_after stands wrote.
@@ -148,7 +148,7 @@ module _ {T O E : Type 0} (meaning : Meaning T O E) where
         };
   }
 
-  starts : (start : Bus T O E) (devices : DeviceState) → BusStandsFor meaning.tree start devices
+  pub starts : (start : Bus T O E) (devices : DeviceState) → BusStandsFor meaning.tree start devices
       → StandsSince start start (record { devices = devices; changes = [] })
   starts start devices stands = record { devices = stands; makes = makes-none start }
 
@@ -173,7 +173,7 @@ module _ {T O E : Type 0} (meaning : Meaning T O E) where
       let at = carried before core core_new now turn devices stands ran in
       record { core = at.same_core; devices = at.same_ports.devices; makes = at.same_ports.makes }
 
-  goes-on : (core core_new : Core) (before now : Bus T O E) (stop : Stop)
+  pub goes-on : (core core_new : Core) (before now : Bus T O E) (stop : Stop)
       → Instruction (bus_rules meaning) core before (Err stop) core_new now → opcode_at core ≢ 0
   unfolding Instruction
   goes-on core core_new before now stop stopped = stopped.0

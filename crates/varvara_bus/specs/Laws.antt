@@ -12,7 +12,7 @@ use Rattle.input_ports.specs.Page.{with_bits, without_bits, stores_of, stores_af
 use Rattle.std.specs.FinMap as nodes_map
 use Rattle.uxn_io.specs.declared.trees.Kind.TheVariants.{File as FileOf}
 use Rattle.uxn_io.specs.Files.{Node, Nodes, File, Folder, bytes_of, kind_of, kind_at}
-use Rattle.varvara_bus.specs.Bus.{IsFileWhereTold}
+use Rattle.varvara_bus.specs.Bus.{IsFileWhereTold, file_held}
 use Rattle.file_ports.specs.Device.{Suits}
 use Rattle.varvara_bus.specs.declared.devices.Devices.{Devices}
 use Rattle.varvara_bus.specs.History.{Store, at_first, stored}
@@ -29,6 +29,9 @@ use Rattle.audio_mixer.specs.Sounds.{Sound, position_of, output_of}
 use Rattle.audio_mixer.specs.Voices.{StandsFor as MixerStandsFor}
 use Rattle.audio_mixer.specs.Laws.{same_position, same_output}
 use Rattle.varvara_bus.specs.State.{DeviceState, storing, StandFor}
+use Rattle.varvara_bus.specs.declared.ports.FileNumber.{FileNumber}
+use Rattle.varvara_bus.specs.declared.ports.FileNumber.TheVariants.{First as FirstFile, Second as SecondFile}
+use Rattle.varvara_bus.specs.FileActs.{file_in}
 use Rattle.varvara_bus.specs.Voices.{number_of, voice_byte}
 use Rattle.varvara_bus.specs.Reads.{source_of, byte_of, size_byte, shown_by, read_from, read_of}
 
@@ -63,6 +66,30 @@ stand-suited devices state one other stands = record {
   clock = stands.clock;
   root = stands.root;
 }
+
+-- nor what lies in the root part
+pub stand-part : (devices : Devices) (state : DeviceState) (part : Nodes) → StandFor devices state
+    → StandFor devices (record state { part = part })
+stand-part devices state part stands = record {
+  page = stands.page;
+  screen = stands.screen;
+  voices = stands.voices;
+  files = stands.files;
+  frames = stands.frames;
+  clock = stands.clock;
+  root = stands.root;
+}
+
+-- the file devices that are held are those of the state, and suit its root
+pub held-file : (number : FileNumber) (devices : Devices) (state : DeviceState) → StandFor devices state
+    → file_held number devices ≡ file_in number state
+held-file FirstFile devices state stands = stands.files.first
+held-file SecondFile devices state stands = stands.files.second
+
+pub suits-file : (number : FileNumber) (devices : Devices) (state : DeviceState) → StandFor devices state
+    → Suits state.root (file_in number state)
+suits-file FirstFile devices state stands = stands.files.first_suits
+suits-file SecondFile devices state stands = stands.files.second_suits
 
 -- every store goes to a port
 abbrev pub AreAtPorts : List Store → Type 0

@@ -9,4 +9,5 @@ pub mod FileCalls
 pub mod Laws
 pub mod Model
 pub mod InstructionLaws
+pub mod Folders
 pub mod Touching

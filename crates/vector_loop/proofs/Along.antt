@@ -1,4 +1,4 @@
-use Rattle.std.proofs.Common.{◌≡◌, ◌≢◌, ℕ, List, ◌++◌, refl, ap, sym, ◌∙◌, arith}
+use Rattle.std.proofs.Common.{◌≡◌, ◌≢◌, ℕ, List, [], ◌∷◌, ◌++◌, ◌⊎◌, inl, inr, refl, ap, sym, ◌∙◌, arith}
 use Rattle.std.proofs.lemmas.List.FromFn.{get_or-map-range_with_len, length-map-range_with_len}
 use Rattle.std.specs.Prelude.{Option, Ok, Err}
 use Rattle.uxn_io.specs.Files.{Nodes}
@@ -15,10 +15,12 @@ use Rattle.varvara_bus.specs.State.{DeviceState}
 use Rattle.varvara_bus.specs.Reads.{read_of}
 use Rattle.varvara_bus.specs.Bus.{BusStandsFor, Reads, Meaning, Makes, StopsShort, world_of, bus_rules}
 use Rattle.varvara_bus.specs.InstructionLaws.{makes-none, makes-both, stops-first, stops-later, instruction-done, instruction-cut}
+use Rattle.varvara_bus.specs.Folders.{instruction-names}
 use Rattle.vector_loop.specs.declared.tally.Tally.{Tally}
 use Rattle.vector_loop.specs.declared.watch.Moment.{Moment}
 use Rattle.vector_loop.specs.State.{State, counting_instruction}
 use Rattle.vector_loop.specs.Trail.{Trail, stays, followed_by}
+use Rattle.vector_loop.specs.Folders.{takes-first, takes-later}
 use Rattle.vector_loop.specs.Vector.{instruction}
 use Rattle.vector_loop.specs.Watch.{IsPage, ports_read, shown_all}
 use Rattle.vector_loop.specs.Follows.{Running, running, state_of, Follows, FallsShort, FollowsFrom, FallsShortFrom}
@@ -35,6 +37,11 @@ is_page told_tree bus state stands = record {
       ∙ sym (get_or-map-range_with_len (read_of state.devices state.core) 0 256 port port 0 within (omega arith));
 }
 
+-- the one, or what the other gives
+or-else : {A B C : Type 0} → (B → C) → A ⊎ B → A ⊎ C
+or-else f (inl a) = inl a
+or-else f (inr b) = inr (f b)
+
 module _ {T O E : Type 0} (meaning : Meaning T O E) where
   -- where memory was wanting to the watcher all was made so far, and nothing of what is to come
   pub stops-here : (before now : Bus T O E) (first more : List Change) → Makes meaning before now first
@@ -46,16 +53,28 @@ module _ {T O E : Type 0} (meaning : Meaning T O E) where
 
 module _ {T O E W : Type 0} (meaning : Meaning T O E) where
   -- not all of the part, whatever would follow it
-  pub short-first : (before now : Running T O E W) (stop : Stop) (first : Trail) (rest : State → Trail) → FallsShort meaning before now stop first
-      → FallsShort meaning before now stop (followed_by first rest)
-  short-first before now stop first rest short = stops-first meaning before.bus now.bus stop first.changes (rest first.last).changes short
+  pub short-first : {refuses : Type 0} (before now : Running T O E W) (stop : Stop) (first : Trail) (rest : State → Trail)
+      → FallsShort meaning refuses before now stop first → FallsShort meaning refuses before now stop (followed_by first rest)
+  short-first before now stop first rest short = record {
+    made = stops-first meaning before.bus now.bus stop first.changes (rest first.last).changes short.made;
+    names = λ wanted. or-else (takes-first first rest) (short.names wanted);
+  }
 
   -- not all of one instruction
-  pub short-instruction : (now : Running T O E W) (core_new : Core) (bus_new : Bus T O E) (tally_new : Tally) (watcher_new : W) (stop : Stop)
+  pub short-instruction : {refuses : Type 0} (now : Running T O E W) (core_new : Core) (bus_new : Bus T O E) (tally_new : Tally) (watcher_new : W) (stop : Stop)
       → Instruction (bus_rules meaning) now.core now.bus (Err stop) core_new bus_new
-      → FallsShortFrom meaning now (running core_new bus_new tally_new watcher_new) stop instruction
+      → FallsShortFrom meaning refuses now (running core_new bus_new tally_new watcher_new) stop instruction
   short-instruction now core_new bus_new tally_new watcher_new stop stopped = record {
-    from = λ devices stands. instruction-cut meaning now.core core_new now.bus bus_new stop devices stands stopped;
+    from = λ devices stands. record {
+      made = instruction-cut meaning now.core core_new now.bus bus_new stop devices stands stopped;
+      names = λ wanted. inr (record {
+        before = [];
+        moment = state_of now devices;
+        after = [];
+        in_order = refl;
+        takes = instruction-names meaning now.core core_new now.bus bus_new devices stands (rw wanted at stopped);
+      });
+    };
   }
 
 module _ {T O E W H : Type 0} (meaning : Meaning T O E) (held : W → H) (shown : H → Core → List ℕ → Moment → H) where
@@ -86,12 +105,15 @@ module _ {T O E W H : Type 0} (meaning : Meaning T O E) (held : W → H) (shown 
       }
 
   -- a part, and then not all of what follows it
-  pub short-later : (before middle now : Running T O E W) (stop : Stop) (first : Trail) (rest : State → Trail)
-      → Follows meaning held shown before middle first → FallsShortFrom meaning middle now stop rest
-      → FallsShort meaning before now stop (followed_by first rest)
+  pub short-later : {refuses : Type 0} (before middle now : Running T O E W) (stop : Stop) (first : Trail) (rest : State → Trail)
+      → Follows meaning held shown before middle first → FallsShortFrom meaning refuses middle now stop rest
+      → FallsShort meaning refuses before now stop (followed_by first rest)
   short-later before middle now stop first rest one more =
       let then = rw (reached before middle first one) at (more.from first.last.devices one.devices) in
-      stops-later meaning before.bus middle.bus now.bus stop first.changes (rest first.last).changes one.makes then
+      record {
+        made = stops-later meaning before.bus middle.bus now.bus stop first.changes (rest first.last).changes one.makes then.made;
+        names = λ wanted. or-else (takes-later first rest) (then.names wanted);
+      }
 
   -- one instruction, before which the watcher was shown the machine
   pub follows-instruction : (now : Running T O E W) (core_new : Core) (bus_new : Bus T O E) (watcher_new : W) (turn : Turn)

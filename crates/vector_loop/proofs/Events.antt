@@ -99,25 +99,28 @@ module _ {T O E W : Type 0} (meaning : Meaning T O E) where
     pub others : ChangesDevices before.bus middle.bus
     pub watcher : middle.watcher ≡ before.watcher
 
-  pub short-prepared : (before middle now : Running T O E W) (stop : Stop) (prepare : State → State) (part : State → Trail)
-      → Prepared before middle prepare → FallsShortFrom meaning middle now stop part
-      → FallsShortFrom meaning before now stop (λ state. part (prepare state))
+  pub short-prepared : {refuses : Type 0} (before middle now : Running T O E W) (stop : Stop) (prepare : State → State) (part : State → Trail)
+      → Prepared before middle prepare → FallsShortFrom meaning refuses middle now stop part
+      → FallsShortFrom meaning refuses before now stop (λ state. part (prepare state))
   short-prepared before middle now stop prepare part prepared short = record {
     from = λ devices stands.
         let then = rw (prepared.state devices) at (short.from (prepare (state_of before devices)).devices (prepared.devices devices stands)) in
-        stops-later meaning before.bus middle.bus now.bus stop [] (part (prepare (state_of before devices))).changes
-        (makes-nothing meaning before.bus middle.bus prepared.others) then;
+        record {
+          made = stops-later meaning before.bus middle.bus now.bus stop [] (part (prepare (state_of before devices))).changes
+              (makes-nothing meaning before.bus middle.bus prepared.others) then.made;
+          names = then.names;
+        };
   }
 
   -- the same under another name
-  pub short-as : (before now : Running T O E W) (stop : Stop) (part other : State → Trail)
+  pub short-as : {refuses : Type 0} (before now : Running T O E W) (stop : Stop) (part other : State → Trail)
       → ((devices : DeviceState) → BusStandsFor meaning.tree before.bus devices → part (state_of before devices) ≡ other (state_of before devices))
-      → FallsShortFrom meaning before now stop other → FallsShortFrom meaning before now stop part
+      → FallsShortFrom meaning refuses before now stop other → FallsShortFrom meaning refuses before now stop part
   short-as before now stop part other same short = record { from = λ devices stands. rw (same devices stands) (short.from devices stands) }
 
   -- not all of a part, whatever would follow it
-  pub short-at-first : (before now : Running T O E W) (stop : Stop) (part rest : State → Trail) → FallsShortFrom meaning before now stop part
-      → FallsShortFrom meaning before now stop (λ state. followed_by (part state) rest)
+  pub short-at-first : {refuses : Type 0} (before now : Running T O E W) (stop : Stop) (part rest : State → Trail) → FallsShortFrom meaning refuses before now stop part
+      → FallsShortFrom meaning refuses before now stop (λ state. followed_by (part state) rest)
   short-at-first before now stop part rest one = record {
     from = λ devices stands. short-first meaning before now stop (part (state_of before devices)) rest (one.from devices stands);
   }
@@ -132,19 +135,19 @@ module _ {T O E W : Type 0} (meaning : Meaning T O E) where
     watcher = refl;
   }
 
-  pub short-given : (core : Core) (bus : Bus T O E) (tally : Tally) (watcher : W) (now : Running T O E W) (stop : Stop) (budget : ℕ) (outputs : Outputs)
+  pub short-given : {refuses : Type 0} (core : Core) (bus : Bus T O E) (tally : Tally) (watcher : W) (now : Running T O E W) (stop : Stop) (budget : ℕ) (outputs : Outputs)
       (event : Event)
-      → FallsShortFrom meaning (running core bus (counting_event event tally) watcher) now stop (happens budget outputs event)
-      → FallsShortFrom meaning (running core bus tally watcher) now stop (give budget outputs event)
+      → FallsShortFrom meaning refuses (running core bus (counting_event event tally) watcher) now stop (happens budget outputs event)
+      → FallsShortFrom meaning refuses (running core bus tally watcher) now stop (give budget outputs event)
   short-given core bus tally watcher now stop budget outputs event short =
       short-as (running core bus tally watcher) now stop (give budget outputs event) (λ s. happens budget outputs event (with_counted event s))
       (λ devices stands. give-is budget outputs event (state_of (running core bus tally watcher) devices))
       (short-prepared (running core bus tally watcher) (running core bus (counting_event event tally) watcher) now stop (with_counted event)
       (happens budget outputs event) (counted core bus tally watcher event) short)
 
-  pub short-device : (before now : Running T O E W) (stop : Stop) (budget : ℕ) (input : Input)
-      → FallsShortFrom meaning before now stop (λ s. vector_in budget (vector_of input) (applying input s))
-      → FallsShortFrom meaning before now stop (device budget input)
+  pub short-device : {refuses : Type 0} (before now : Running T O E W) (stop : Stop) (budget : ℕ) (input : Input)
+      → FallsShortFrom meaning refuses before now stop (λ s. vector_in budget (vector_of input) (applying input s))
+      → FallsShortFrom meaning refuses before now stop (device budget input)
   short-device before now stop budget input one =
       short-as before now stop (device budget input) (λ s. followed_by (vector_in budget (vector_of input) (applying input s)) (settling input))
       (λ devices stands. device-is budget input (state_of before devices))
@@ -200,8 +203,8 @@ module _ {T O E W H : Type 0} (meaning : Meaning T O E) (held : W → H) (shown 
   }
 
   -- a part, and then not all of another
-  pub short-then : (before middle now : Running T O E W) (stop : Stop) (part rest : State → Trail) → FollowsFrom meaning held shown before middle part
-      → FallsShortFrom meaning middle now stop rest → FallsShortFrom meaning before now stop (λ state. followed_by (part state) rest)
+  pub short-then : {refuses : Type 0} (before middle now : Running T O E W) (stop : Stop) (part rest : State → Trail) → FollowsFrom meaning held shown before middle part
+      → FallsShortFrom meaning refuses middle now stop rest → FallsShortFrom meaning refuses before now stop (λ state. followed_by (part state) rest)
   short-then before middle now stop part rest one more = record {
     from = λ devices stands. short-later meaning held shown before middle now stop (part (state_of before devices)) rest (one.from devices stands) more;
   }

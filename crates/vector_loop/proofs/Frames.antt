@@ -102,7 +102,12 @@ module _ {T O E W H : Type 0} (telling : Telling T O E W H) where
       → CutShort telling.meaning telling.tree_faults telling.out_faults telling.err_faults before now changes stop
       → Stopped telling (running core before tally watcher) (running core now tally watcher) (λ s. makes (changes s.devices) s) 0 0 budget stop
   stopped-made core before now tally watcher changes budget stop cut = record {
-    short = record { from = λ devices stands. cut.cut devices stands };
+    short = record {
+      from = λ devices stands. record {
+        made = cut.cut devices stands;
+        names = λ wanted. absurd (no-memory stop cut.fault wanted);
+      };
+    };
     ledger = cut.ledger;
     memory = λ wanted. absurd (no-memory stop cut.fault wanted);
     grown = grown-none tally budget;

@@ -1,4 +1,4 @@
-use Rattle.std.proofs.Common.{◌≡◌, ◌≢◌, ℕ, zero, suc, ◌+◌, ◌*◌, ◌^◌, ◌<◌, ◌≤◌, ◌⊎◌, get_or, add-one, length-drop, length-append, false, List, [], ◌∷◌, ◌++◌, length, drop, refl, ap, sym, ◌∙◌, arith}
+use Rattle.std.proofs.Common.{◌≡◌, ◌≢◌, ℕ, zero, suc, ◌+◌, ◌*◌, ◌^◌, ◌<◌, ◌≤◌, ◌⊎◌, inl, get_or, add-one, length-drop, length-append, false, List, [], ◌∷◌, ◌++◌, length, drop, refl, ap, sym, ◌∙◌, arith}
 use Rattle.std.proofs.lemmas.List.{append-nil, get_or-map, length-map}
 use Rattle.std.proofs.lemmas.List.Sums.{sum_by-cons}
 use Rattle.std.specs.List.{sum_by}
@@ -533,15 +533,24 @@ module _ {T O E W H : Type 0} (telling : Telling T O E W H) where
         };
   }
 
-  pub short-of_all : (before now other : Running T O E W) (part : State → Trail) → other.bus ≡ now.bus
-      → FollowsFrom telling.meaning telling.held telling.shown before now part → FallsShortFrom telling.meaning before other NoMemory part
-  short-of_all before now other part same follows = record {
+  pub short-of_all : (before now other : Running T O E W) (part : State → Trail) → other.bus ≡ now.bus → telling.may_refuse
+      → FollowsFrom telling.meaning telling.held telling.shown before now part
+      → FallsShortFrom telling.meaning telling.may_refuse before other NoMemory part
+  short-of_all before now other part same refused follows = record {
     from = λ devices stands.
         let f = follows.from devices stands in
         let changes = (part (state_of before devices)).changes in
-        rw same (rw (append-nil changes) at (stops-here telling.meaning before.bus now.bus changes [] f.makes));
+        record {
+          made = rw same (rw (append-nil changes) at (stops-here telling.meaning before.bus now.bus changes [] f.makes));
+          names = λ wanted. inl refused;
+        };
   }
 
   pub short-elsewhere : (before now other : Running T O E W) (stop : Stop) (part : State → Trail) → other.bus ≡ now.bus
-      → FallsShortFrom telling.meaning before now stop part → FallsShortFrom telling.meaning before other stop part
-  short-elsewhere before now other stop part same short = record { from = λ devices stands. rw same (short.from devices stands) }
+      → FallsShortFrom telling.meaning telling.may_refuse before now stop part
+      → FallsShortFrom telling.meaning telling.may_refuse before other stop part
+  short-elsewhere before now other stop part same short = record {
+    from = λ devices stands.
+        let then = short.from devices stands in
+        record { made = rw same then.made; names = then.names };
+  }

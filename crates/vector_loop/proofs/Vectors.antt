@@ -1,4 +1,4 @@
-use Rattle.std.proofs.Common.{◌≡◌, ◌≢◌, ℕ, zero, suc, true, false, cond, List, refl, ap, sym, ◌∙◌, arith}
+use Rattle.std.proofs.Common.{◌≡◌, ◌≢◌, ℕ, zero, suc, true, false, cond, List, inl, refl, ap, sym, ◌∙◌, arith}
 use Rattle.std.proofs.lemmas.Bool.Decides.{nat_tests}
 use Rattle.std.specs.Prelude.{Option, Ok, Err, ◌==◌, ◌||◌}
 use Rattle.uxn_io.specs.Files.{Nodes}
@@ -146,10 +146,10 @@ module _ {T O E W H : Type 0} (meaning : Meaning T O E) (held : W → H) (shown 
       let so_far = along.from devices stands in
       sym so_far.ends ∙ breaks-zero so_far.done.last
 
-  pub stop-short : (before now : Running T O E W) (budget left : ℕ) (core_new : Core) (bus_new : Bus T O E) (tally_new : Tally) (watcher_new : W) (stop : Stop)
+  pub stop-short : {refuses : Type 0} (before now : Running T O E W) (budget left : ℕ) (core_new : Core) (bus_new : Bus T O E) (tally_new : Tally) (watcher_new : W) (stop : Stop)
       → Along before now budget (suc left)
       → Instruction (bus_rules meaning) now.core now.bus (Err stop) core_new bus_new → opcode_at now.core ≢ 0
-      → FallsShortFrom meaning before (running core_new bus_new tally_new watcher_new) stop (instructions budget)
+      → FallsShortFrom meaning refuses before (running core_new bus_new tally_new watcher_new) stop (instructions budget)
   stop-short before now budget left core_new bus_new tally_new watcher_new stop along stopped goes_on = record {
     from = λ devices stands.
         let so_far = along.from devices stands in
@@ -162,13 +162,17 @@ module _ {T O E W H : Type 0} (meaning : Meaning T O E) (held : W → H) (shown 
         }));
   }
 
-  pub refused-short : (before now : Running T O E W) (budget left : ℕ) (tally_new : Tally) (watcher_new : W) → Along before now budget left
-      → FallsShortFrom meaning before (running now.core now.bus tally_new watcher_new) NoMemory (instructions budget)
-  refused-short before now budget left tally_new watcher_new along = record {
+  pub refused-short : {refuses : Type 0} (before now : Running T O E W) (budget left : ℕ) (tally_new : Tally) (watcher_new : W)
+      → Along before now budget left → refuses
+      → FallsShortFrom meaning refuses before (running now.core now.bus tally_new watcher_new) NoMemory (instructions budget)
+  refused-short before now budget left tally_new watcher_new along refused = record {
     from = λ devices stands.
         let so_far = along.from devices stands in
         let whole : instructions budget (state_of before devices) ≡ followed_by so_far.done (instructions left) = sym so_far.whole in
-        rw whole (stops-here meaning before.bus now.bus so_far.done.changes (instructions left so_far.done.last).changes so_far.follows.makes);
+        rw whole (record {
+          made = stops-here meaning before.bus now.bus so_far.done.changes (instructions left so_far.done.last).changes so_far.follows.makes;
+          names = λ wanted. inl refused;
+        });
   }
 
   -- what begins at an address is a vector
@@ -185,11 +189,15 @@ module _ {T O E W H : Type 0} (meaning : Meaning T O E) (held : W → H) (shown 
   }
 
 module _ {T O E W : Type 0} (meaning : Meaning T O E) where
-  pub vector-short : (core : Core) (bus : Bus T O E) (tally : Tally) (watcher : W) (now : Running T O E W) (stop : Stop) (budget at : ℕ)
-      → FallsShortFrom meaning (running (record core { at = at }) bus (counting_vector tally) watcher) now stop (instructions budget)
-      → FallsShortFrom meaning (running core bus tally watcher) now stop (vector budget at)
+  pub vector-short : {refuses : Type 0} (core : Core) (bus : Bus T O E) (tally : Tally) (watcher : W) (now : Running T O E W) (stop : Stop) (budget at : ℕ)
+      → FallsShortFrom meaning refuses (running (record core { at = at }) bus (counting_vector tally) watcher) now stop (instructions budget)
+      → FallsShortFrom meaning refuses (running core bus tally watcher) now stop (vector budget at)
   unfolding vector
-  vector-short core bus tally watcher now stop budget at short = record { from = λ devices stands. short.from devices stands }
+  vector-short core bus tally watcher now stop budget at short = record {
+    from = λ devices stands.
+        let then = short.from devices stands in
+        record { made = then.made; names = then.names };
+  }
 
 module _ {T O E W : Type 0} (told_tree : T → Option Nodes) where
   pub broke-is : (core : Core) (bus : Bus T O E) (tally : Tally) (watcher : W) (budget at : ℕ)

@@ -51,7 +51,7 @@ module _ {T O E W H : Type 0} (telling : Telling T O E W H) where
 
   -- a part stopped: a front of it was done, and who is to blame counted a fault
   pub record Stopped (before now : Running T O E W) (part : State → Trail) (begun given budget : ℕ) (stop : Stop) : Type 0 where
-    pub short : FallsShortFrom telling.meaning before now stop part
+    pub short : FallsShortFrom telling.meaning telling.may_refuse before now stop part
     pub ledger : Ledger (faults_of before.bus) (faults_of now.bus) (blame_of {T = Unit {0}} (Err stop))
     pub memory : stop ≡ NoMemory → telling.may_refuse ⊎ HasRoot before.bus.devices.now
     pub grown : HasGrown before.tally now.tally begun given budget

@@ -1,7 +1,8 @@
 -- What it is for a machine, its bus, a tally and a watcher to follow a trail.
-use Rattle.std.specs.Prelude.{◌≡◌, ℕ, ◌+◌, ◌*◌, ◌≤◌, List}
+use Rattle.std.specs.Prelude.{◌≡◌, ℕ, ◌+◌, ◌*◌, ◌≤◌, ◌⊎◌, List}
 use Rattle.uxn_opcodes.specs.declared.Core.{Core}
 use Rattle.uxn_opcodes.specs.declared.Stop.{Stop}
+use Rattle.uxn_opcodes.specs.declared.Stop.TheVariants.{NoMemory}
 use Rattle.varvara_bus.specs.declared.bus.Bus.{Bus}
 use Rattle.varvara_bus.specs.State.{DeviceState}
 use Rattle.varvara_bus.specs.Bus.{BusStandsFor, Meaning, Makes, StopsShort}
@@ -9,6 +10,7 @@ use Rattle.vector_loop.specs.declared.tally.Tally.{Tally}
 use Rattle.vector_loop.specs.declared.watch.Moment.{Moment}
 use Rattle.vector_loop.specs.State.{State}
 use Rattle.vector_loop.specs.Trail.{Trail}
+use Rattle.vector_loop.specs.Folders.{TakesNames}
 use Rattle.vector_loop.specs.Watch.{ports_read, moment_of, shown_all}
 
 -- what takes part in a run
@@ -44,10 +46,12 @@ pub record HasRoom (limit : ℕ) (tally : Tally) (begun given budget : ℕ) : Ty
   pub frames : tally.frames + given ≤ limit
   pub shots : tally.shots + given ≤ limit
 
-module _ {T O E W : Type 0} (meaning : Meaning T O E) where
-  -- not all of a trail was done: a front of its changes is made, and whoever is to blame for the stop did not surely take all of them
-  abbrev pub FallsShort : Running T O E W → Running T O E W → Stop → Trail → Type 0
-  FallsShort before now stop trail = StopsShort meaning before.bus now.bus stop trail.changes
+module _ {T O E W : Type 0} (meaning : Meaning T O E) (refuses : Type 0) where
+  -- not all of a trail was done: a front of its changes is made, and whoever is to blame for the stop did not surely take all of
+  -- them; memory was wanting only to a watcher that may refuse, or where the trail takes the names of a folder
+  pub record FallsShort (before now : Running T O E W) (stop : Stop) (trail : Trail) : Type 0 where
+    pub made : StopsShort meaning before.bus now.bus stop trail.changes
+    pub names : stop ≡ NoMemory → refuses ⊎ TakesNames trail
 
   -- the same from each state that the bus stood for
   pub record FallsShortFrom (before now : Running T O E W) (stop : Stop) (part : State → Trail) : Type 0 where

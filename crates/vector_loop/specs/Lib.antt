@@ -1,5 +1,6 @@
 pub mod State
 pub mod Trail
+pub mod Folders
 pub mod Vector
 pub mod Watch
 pub mod Follows

@@ -47,7 +47,7 @@ pub(crate) fn run_vector_in<'a, T: Tree, O: Sink, E: Sink, W: Watcher>(
     requires cuts { tally.old.cuts ≤ 2 ^ 62 }
     ensures ok { OnOk result (FollowsFrom (meaning_of T.told O.told E.told T.sure O.sure E.sure) W.held W.shown
         (running core.old bus.old tally.old watcher.old) (running core.new bus.new tally.new watcher.new) (vector_in budget port)) }
-    ensures err { IfErr result (λ stop. FallsShortFrom (meaning_of T.told O.told E.told T.sure O.sure E.sure)
+    ensures err { IfErr result (λ stop. FallsShortFrom (meaning_of T.told O.told E.told T.sure O.sure E.sure) W.may_refuse
         (running core.old bus.old tally.old watcher.old) (running core.new bus.new tally.new watcher.new) stop (vector_in budget port)) }
     ensures grown { HasGrown tally.old tally.new 1 0 budget }
     ensures ledger { Ledger (bus_faults T.faults O.faults E.faults bus.old) (bus_faults T.faults O.faults E.faults bus.new) (blame_of result) }
@@ -80,7 +80,7 @@ pub(crate) fn give_console<'a, T: Tree, O: Sink, E: Sink, W: Watcher>(
     requires cuts { tally.old.cuts ≤ 2 ^ 62 }
     ensures ok { OnOk result (FollowsFrom (meaning_of T.told O.told E.told T.sure O.sure E.sure) W.held W.shown
         (running core.old bus.old tally.old watcher.old) (running core.new bus.new tally.new watcher.new) (console budget byte kind)) }
-    ensures err { IfErr result (λ stop. FallsShortFrom (meaning_of T.told O.told E.told T.sure O.sure E.sure)
+    ensures err { IfErr result (λ stop. FallsShortFrom (meaning_of T.told O.told E.told T.sure O.sure E.sure) W.may_refuse
         (running core.old bus.old tally.old watcher.old) (running core.new bus.new tally.new watcher.new) stop (console budget byte kind)) }
     ensures grown { HasGrown tally.old tally.new 1 0 budget }
     ensures ledger { Ledger (bus_faults T.faults O.faults E.faults bus.old) (bus_faults T.faults O.faults E.faults bus.new) (blame_of result) }
@@ -109,7 +109,7 @@ fn give_device<'a, T: Tree, O: Sink, E: Sink, W: Watcher>(
     requires cuts { tally.old.cuts ≤ 2 ^ 62 }
     ensures ok { OnOk result (FollowsFrom (meaning_of T.told O.told E.told T.sure O.sure E.sure) W.held W.shown
         (running core.old bus.old tally.old watcher.old) (running core.new bus.new tally.new watcher.new) (device budget input.now)) }
-    ensures err { IfErr result (λ stop. FallsShortFrom (meaning_of T.told O.told E.told T.sure O.sure E.sure)
+    ensures err { IfErr result (λ stop. FallsShortFrom (meaning_of T.told O.told E.told T.sure O.sure E.sure) W.may_refuse
         (running core.old bus.old tally.old watcher.old) (running core.new bus.new tally.new watcher.new) stop (device budget input.now)) }
     ensures grown { HasGrown tally.old tally.new 1 0 budget }
     ensures ledger { Ledger (bus_faults T.faults O.faults E.faults bus.old) (bus_faults T.faults O.faults E.faults bus.new) (blame_of result) }
@@ -152,7 +152,7 @@ pub fn run_event<'a, T: Tree, O: Sink, E: Sink, W: Watcher>(
     // From each state that the bus stood for, all of the event was done, or a front of what it does.
     ensures ok { OnOk result (FollowsFrom (meaning_of T.told O.told E.told T.sure O.sure E.sure) W.held W.shown
         (running core.old bus.old tally.old watcher.old) (running core.new bus.new tally.new watcher.new) (give budget outputs.now event.now)) }
-    ensures err { IfErr result (λ stop. FallsShortFrom (meaning_of T.told O.told E.told T.sure O.sure E.sure)
+    ensures err { IfErr result (λ stop. FallsShortFrom (meaning_of T.told O.told E.told T.sure O.sure E.sure) W.may_refuse
         (running core.old bus.old tally.old watcher.old) (running core.new bus.new tally.new watcher.new) stop (give budget outputs.now event.now)) }
     ensures grown { HasGrown tally.old tally.new 5 1 budget }
 

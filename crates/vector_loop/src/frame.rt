@@ -157,7 +157,7 @@ pub(crate) fn give_frame<'a, T: Tree, O: Sink, E: Sink, W: Watcher>(
     requires room { HasRoom (2 ^ 62) tally.old 5 0 budget }
     ensures ok { OnOk result (FollowsFrom (meaning_of T.told O.told E.told T.sure O.sure E.sure) W.held W.shown
         (running core.old bus.old tally.old watcher.old) (running core.new bus.new tally.new watcher.new) (frame budget outputs.now)) }
-    ensures err { IfErr result (λ stop. FallsShortFrom (meaning_of T.told O.told E.told T.sure O.sure E.sure)
+    ensures err { IfErr result (λ stop. FallsShortFrom (meaning_of T.told O.told E.told T.sure O.sure E.sure) W.may_refuse
         (running core.old bus.old tally.old watcher.old) (running core.new bus.new tally.new watcher.new) stop (frame budget outputs.now)) }
     ensures grown { HasGrown tally.old tally.new 5 0 budget }
     ensures ledger { Ledger (bus_faults T.faults O.faults E.faults bus.old) (bus_faults T.faults O.faults E.faults bus.new) (blame_of result) }

@@ -214,7 +214,7 @@ pub fn run_script<'a, T: Tree, O: Sink, E: Sink, W: Watcher>(
     // From each state that the bus stood for, all of the run was done, or a front of what it does.
     ensures ok { IfOk result (λ tally. EndsFrom (meaning_of T.told O.told E.told T.sure O.sure E.sure) W.held W.shown W.ended
         (running core.old bus.old new_tally watcher.old) (running core.new bus.new tally watcher.new) (run budget outputs.now script.now)) }
-    ensures err { IfErr result (λ stop. FallsShortFrom (meaning_of T.told O.told E.told T.sure O.sure E.sure)
+    ensures err { IfErr result (λ stop. FallsShortFrom (meaning_of T.told O.told E.told T.sure O.sure E.sure) W.may_refuse
         (running core.old bus.old new_tally watcher.old) (running core.new bus.new new_tally watcher.new) stop (run budget outputs.now script.now)) }
 
     // A fault comes only where its count rose; memory is wanting only to the watcher or where there is a root.

@@ -42,7 +42,7 @@ fn run_instructions<'a, T: Tree, O: Sink, E: Sink, W: Watcher>(
         → (devices : DeviceState) → BusStandsFor T.told bus.old devices
         → breaks budget (state_of (running core.old bus.old before watcher.old) devices) ≡ false }
     ensures err { IfErr result (λ stop. (before : Tally) → before.instructions ≡ start
-        → FallsShortFrom (meaning_of T.told O.told E.told T.sure O.sure E.sure) (running core.old bus.old before watcher.old)
+        → FallsShortFrom (meaning_of T.told O.told E.told T.sure O.sure E.sure) W.may_refuse (running core.old bus.old before watcher.old)
         (running core.new bus.new before watcher.new) stop (instructions budget)) }
     ensures ledger { Ledger (bus_faults T.faults O.faults E.faults bus.old) (bus_faults T.faults O.faults E.faults bus.new) (blame_of result) }
     ensures memory { IfErr result (λ stop. stop ≡ Stop.NoMemory → W.may_refuse ⊎ HasRoot bus.old.devices.now) }
@@ -88,7 +88,7 @@ pub fn run_vector<'a, T: Tree, O: Sink, E: Sink, W: Watcher>(
         (running core.old bus.old tally.old watcher.old) (running core.new bus.new tally.new watcher.new) (vector budget at)) }
     ensures end { IfOk result (λ end. (devices : DeviceState) → BusStandsFor T.told bus.old devices
         → end ≡ vector_end budget at (state_of (running core.old bus.old tally.old watcher.old) devices)) }
-    ensures err { IfErr result (λ stop. FallsShortFrom (meaning_of T.told O.told E.told T.sure O.sure E.sure)
+    ensures err { IfErr result (λ stop. FallsShortFrom (meaning_of T.told O.told E.told T.sure O.sure E.sure) W.may_refuse
         (running core.old bus.old tally.old watcher.old) (running core.new bus.new tally.new watcher.new) stop (vector budget at)) }
     ensures grown { HasGrown tally.old tally.new 1 0 budget }
 

@@ -64,7 +64,7 @@ returns-in-Err-give_events-clause-err g c =
 
 pub returns-in_default-clause-err : goal.returns-in_default-clause-err
 returns-in_default-clause-err g c =
-    short-of_all (telling_of (meaning_of g.T.Tree.told g.O.Sink.told g.E.Sink.told g.T.Tree.sure g.O.Sink.sure g.E.Sink.sure) g.T.Tree.faults g.O.Sink.faults g.E.Sink.faults g.W.Watcher.held g.W.Watcher.shown g.W.Watcher.may_refuse) _ _ _ _ refl
+    short-of_all (telling_of (meaning_of g.T.Tree.told g.O.Sink.told g.E.Sink.told g.T.Tree.sure g.O.Sink.sure g.E.Sink.sure) g.T.Tree.faults g.O.Sink.faults g.E.Sink.faults g.W.Watcher.held g.W.Watcher.shown g.W.Watcher.may_refuse) _ _ _ _ refl c.in_default.ensures.err
     (run-done _ _ _ _ _ c.args.budget c.args.outputs.now c.args.script.now 1 0 (length (arguments_given c.args.script.now.arguments)) 0 (length c.args.script.now.events * 5) (length c.args.script.now.events)
     (done-prepared _ _ _ _ _ _ _ (with_stored (made_ready c.args.script.now.arguments)) (vector c.args.budget 0x0100) 1 0 c.args.budget
     (record { devices = rw c.args-2.ensures at c.make_ready.ensures.devices; state = λ devices. refl; others = c.make_ready.ensures.others; watcher = refl })

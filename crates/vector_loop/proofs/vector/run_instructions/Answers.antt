@@ -29,7 +29,7 @@ loop-core-preserved g c =
     }
 
 pub returns-in_default-clause-err : goal.returns-in_default-clause-err
-returns-in_default-clause-err g c before started = refused-short _ _ _ _ _ _ _ _ _ (c.loop-core.invariant.along before started)
+returns-in_default-clause-err g c before started = refused-short _ _ _ _ _ _ _ _ _ (c.loop-core.invariant.along before started) c.in_default.ensures.err
 
 pub returns-in-Ok-Broke-clause-broke : goal.returns-in-Ok-Broke-clause-broke
 returns-in-Ok-Broke-clause-broke g c before started =

@@ -1,0 +1,96 @@
+-- Which instructions take the names of a folder: the one work of a machine's ports that takes memory.
+use Rattle.std.specs.Prelude.{◌≡◌, ◌≢◌, ℕ, Bool, true, false, List, [], ◌∷◌, ◌++◌, Option, Some, None, is_some, IsTrue, IfSome, Err, refl}
+use Rattle.std.proofs.Common.{ap, sym, ◌∙◌}
+use Rattle.uxn_io.specs.Files.{Nodes, kind_at}
+use Rattle.uxn_io.specs.declared.trees.Kind.{Kind}
+use Rattle.uxn_io.specs.declared.trees.Kind.TheVariants.{Folder}
+use Rattle.file_ports.specs.Device.{FileState, suits, Suits}
+use Rattle.file_ports.specs.RootPart.{below}
+use Rattle.file_ports.specs.PartLaws.{seen-same}
+use Rattle.file_ports.specs.ActLaws.{rootless}
+use Rattle.uxn_opcodes.specs.declared.Core.{Core}
+use Rattle.uxn_opcodes.specs.declared.Stop.TheVariants.{NoMemory}
+use Rattle.uxn_opcodes.specs.Rule.{opcode_at, begun}
+use Rattle.uxn_opcodes.specs.Instruction.{Instruction}
+use Rattle.uxn_opcodes.specs.Model.{writes_in, written_by, carried-stopped}
+use Rattle.varvara_bus.specs.declared.bus.Bus.{Bus}
+use Rattle.varvara_bus.specs.declared.devices.Devices.{Devices}
+use Rattle.varvara_bus.specs.declared.ports.Action.{Action}
+use Rattle.varvara_bus.specs.declared.ports.Action.TheVariants.{ActsOnFile}
+use Rattle.varvara_bus.specs.declared.ports.FileNumber.{FileNumber}
+use Rattle.varvara_bus.specs.declared.ports.FileAct.TheVariants.{Read}
+use Rattle.varvara_bus.specs.State.{DeviceState, StandFor, HasFiles}
+use Rattle.varvara_bus.specs.FileActs.{file_in}
+use Rattle.varvara_bus.specs.Effect.{action_of}
+use Rattle.varvara_bus.specs.Model.{varvara}
+use Rattle.varvara_bus.specs.Bus.{Meaning, BusStandsFor, WantsFolder, WantsNames, bus_rules}
+use Rattle.varvara_bus.specs.Laws.{held-file, suits-file}
+use Rattle.varvara_bus.specs.InstructionLaws.{StandsSince, carries, starts, goes-on}
+
+-- an action takes the names of a folder where a file device reads that is not reading yet, and whose path is a folder's
+pub record TakesNames (action : Action) (devices : DeviceState) : Type 0 where
+  pub number : FileNumber
+  pub reads : action ≡ ActsOnFile number Read
+  pub folder : WantsFolder (file_in number devices) (Some devices.part)
+
+-- the devices once an instruction has made some of its writes
+abbrev pub devices_after : List (ℕ × ℕ) → DeviceState → Core → DeviceState
+devices_after writes devices core =
+    (written_by varvara writes (record { core = (begun core).core; ports = record { devices = devices; changes = [] } })).ports.devices
+
+-- an instruction takes the names of a folder where one of its writes does, once those before it were made
+pub record InstructionTakesNames (devices : DeviceState) (core : Core) : Type 0 where
+  pub before : List (ℕ × ℕ)
+  pub port : ℕ
+  pub byte : ℕ
+  pub after : List (ℕ × ℕ)
+  pub goes_on : opcode_at core ≢ 0
+  pub in_order : writes_in (begun core).access ≡ before ++ (port, byte) ∷ after
+  pub takes : TakesNames (action_of port) (devices_after before devices core)
+
+-- a path of the root part is a folder there where it is one in the tree
+folder-in : (root path : Option (List ℕ)) (nodes : Nodes) → IsTrue (suits root path)
+    → IfSome path (λ p. kind_at nodes p ≡ Folder) → IfSome path (λ p. kind_at (below root nodes) p ≡ Folder)
+folder-in root None nodes in_root is = tt
+folder-in None (Some path) nodes in_root is = cc
+folder-in (Some root) (Some path) nodes in_root is = ap (λ seen. seen.kind) (seen-same root path nodes in_root) ∙ is
+
+-- so memory is wanting for the names that are seen in the root part
+wants-in : (root : Option (List ℕ)) (part : Nodes) (parent : Bool) (device : FileState) (told : Option Nodes) → Suits root device
+    → HasFiles told root part parent → WantsFolder device told → WantsFolder device (Some part)
+wants-in root part parent device None in_root has wants =
+    let none = rootless device (rw has.0 at in_root) in
+    let no : false ≡ true = sym (ap is_some none) ∙ wants.named in
+    cc
+wants-in root part parent device (Some nodes) in_root has wants = record {
+  named = wants.named;
+  names = record { looks = wants.names.looks; folder = rw has.0 (folder-in root device.path nodes in_root wants.names.folder) };
+}
+
+takes-in : (action : Action) (held : Devices) (told : Option Nodes) (devices : DeviceState) → StandFor held devices
+    → HasFiles told devices.root devices.part devices.parent → WantsNames action held told → TakesNames action devices
+takes-in action held told devices stands has wants = record {
+  number = wants.number;
+  reads = wants.reads;
+  folder = wants-in devices.root devices.part devices.parent (file_in wants.number devices) told
+      (suits-file wants.number held devices stands) has (rw (held-file wants.number held devices stands) at wants.folder);
+}
+
+module _ {T O E : Type 0} (meaning : Meaning T O E) where
+  -- an instruction for which memory was wanting takes the names of a folder, in each state that the bus stood for
+  pub instruction-names : (core core_new : Core) (before now : Bus T O E) (devices : DeviceState)
+      → BusStandsFor meaning.tree before devices → Instruction (bus_rules meaning) core before (Err NoMemory) core_new now
+      → InstructionTakesNames devices core
+  instruction-names core core_new before now devices stands stopped =
+      let at = carried-stopped (bus_rules meaning) (StandsSince meaning before) varvara (carries meaning before) core before
+      (record { devices = devices; changes = [] }) NoMemory core_new now (starts meaning before devices stands) stopped in
+      record {
+        before = at.before;
+        port = at.port;
+        byte = at.byte;
+        after = at.after;
+        goes_on = goes-on meaning core core_new before now NoMemory stopped;
+        in_order = at.in_order;
+        takes = takes-in (action_of at.port) at.ports.devices.now (meaning.tree at.ports.tree.now)
+            (devices_after at.before devices core) at.same_ports.devices.devices at.same_ports.devices.files (at.stops.names refl);
+      }
