@@ -141,7 +141,7 @@ module _ (task : Task) (asm : task.command ≡ Assemble) (tree : Option Nodes) (
     is_cut apart looked front = record {
       found = Ok (Write (texts_of task source));
       judges = judges_asm None looked;
-      may = tt;
+      may = inl tt;
       front = inl (record { cut = written-cut out err (texts_of task source) tree now (can_here apart looked) (rw (← texts) front); short = λ text. absurd text });
     }
 

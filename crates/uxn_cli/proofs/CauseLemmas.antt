@@ -28,7 +28,7 @@ use Rattle.varvara_bus.specs.History.{stored}
 use Rattle.uxn_cli.specs.Job.{Job, trail_of}
 use Rattle.uxn_cli.specs.Verdict.{and_then, View, Work, Run, Write, Print, view_of, source_by, source_in, rom_in, labels_by, labels_at, labels_in, given_in, debug_labels, commands_from, commands_in, script_from, script_in, home_by, job_of, program_in, texts_of, work_of, made_by, judged, verdict}
 use Rattle.uxn_cli.specs.Outcome.{outcome_of}
-use Rattle.uxn_cli.specs.Answer.{IsUntold, IsViewOf, Judges, HasOutcome, HasEnded, EndsEarly, Answers}
+use Rattle.uxn_cli.specs.Answer.{IsUntold, IsViewOf, Judges, HasOutcome, HasEnded, EndsEarly, IsCut, MayStop, Answers}
 use Rattle.uxn_cli.specs.Causes.{IsEarly, IsExactly, verdict_on, IsIllegal, IsPathless, IsMissing, IsFaulty, IsUnfit, IsBadScript, IsBadCommands, IsBlocked, EndsWith, PutsLine}
 use Rattle.tal_symbols.specs.Reading.{symbols_in}
 use Rattle.tal_listing.specs.Disassembly.{disassembly}
@@ -338,6 +338,30 @@ module _ (asked : Result Task Refusal) (before now : World) (answer : ℕ) where
           ]
         ]
       ]
+
+-- where memory was wanting all is as it was, or the verdict is of a run in which it may be wanting
+wanting_cut : (asked : Result Task Refusal) (before now : World) (nodes : Nodes) (stop : Stop) → before.files ≡ Some nodes → early_status stop ≡ 138
+    → IsCut asked before now stop → (now ≡ before) ⊎ MayStop (verdict_on nodes asked) NoMemory
+wanting_cut asked before now nodes TreeFault told is cut = absurd (omega (arith, is))
+wanting_cut asked before now nodes SinkFault told is cut = absurd (omega (arith, is))
+wanting_cut asked before now nodes NoMemory told is (inl same) = inl same
+wanting_cut asked before now nodes NoMemory told is (inr cut) = elim cut.may [
+  | inl may ↦ inr (subst (λ found. MayStop found NoMemory) (told_verdict nodes asked cut.found (subst (λ t. Judges asked t cut.found) told cut.judges)) may)
+  | inr untold ↦ absurd (subst (λ t. IsUntold t cut.found) told untold)
+]
+
+pub wanting : (asked : Result Task Refusal) (before now : World) (answer : ℕ) → Answers asked before now answer
+    → IfSome before.files (λ nodes. answer ≡ 138 → (now ≡ before) ⊎ MayStop (verdict_on nodes asked) NoMemory)
+wanting asked before now answer answers = go before.files refl answers
+  where
+    go : (tree : Option Nodes) → before.files ≡ tree → Answers asked before now answer
+        → IfSome tree (λ nodes. answer ≡ 138 → (now ≡ before) ⊎ MayStop (verdict_on nodes asked) NoMemory)
+    go None told answered = tt
+    go (Some nodes) told (inl ended) = λ is. elim ended.has [
+      | inl has ↦ absurd (let status = has.status in let small = is_small ended.found in omega (arith, is, status, small))
+      | inr untold ↦ absurd (let code = untold.1 in omega (arith, is, code))
+    ]
+    go (Some nodes) told (inr early) = λ is. wanting_cut asked before now nodes early.stop told (sym early.status ∙ is) early.stands
 
 -- who is to blame for a status
 pub blame-ended : (answer : ℕ) → answer ≤ 135 → blame_at answer ≡ Nobody

@@ -43,7 +43,8 @@ use Rattle.uxn_cli.specs.Lines.{line_of}
 use Rattle.uxn_cli.specs.Causes.{verdict_on}
 use Rattle.uxn_cli.specs.Room.{TakesFor, TreeSuffices, SinksSuffice}
 use Rattle.uxn_cli.specs.Verdict.{and_then, Work, Run, blocked_seen, job_of, inputs_by, outputs_of, made_by, work_of}
-use Rattle.uxn_cli.specs.Answer.{Judges, HasEnded, HasFront, HasCut, IsCut, IsUntold, MayStop, Performs}
+use Rattle.vector_loop.specs.Folders.{TakesNames}
+use Rattle.uxn_cli.specs.Answer.{Judges, HasEnded, HasFront, HasCut, IsCut, IsUntold, ListsFolder, MayStop, Performs}
 use Rattle.uxn_cli.specs.Prepared.{Around, around, WasDone, FellShort, TreeWasDone, AtHome, HasFinished, IsHomeOf, trail_for, SeesWork, IsReady, Unready, Made, HalfMade, Blocked, MakesOutputs, HasRun, WasShown, RunFiles, outputs_for}
 use Rattle.uxn_cli.proofs.ApartLemmas.{no_clash-fewer, makes_all, made_files}
 use Rattle.uxn_cli.proofs.AssemblingLemmas.{seen_paths}
@@ -311,7 +312,7 @@ module _ (task : Task) (tree : Option Nodes) where
     half_made new out err half = record {
       found = Ok (Run job);
       judges = judges_run half.looked;
-      may = tt;
+      may = inl tt;
       front = inl (record {
         cut = cut-first (world tree out err) (world new out err) (creating (outputs_in job)) _ (rw (ap creating outs) at (half.cut out err));
         short = λ text. absurd text;
@@ -358,18 +359,18 @@ module _ (task : Task) (tree : Option Nodes) where
       unfolding running
       is_short now stop short = short-later entry ready now (creating (outputs_in job)) rest stop begun short
 
-      pub is_cut_run : (now : Around) (stop : Stop) → (stop ≡ NoMemory → IsSome job.debug ⊎ IsSome job.home.root) → FellShort ready now rest stop → IsCut (Ok task) (world tree out err) now.world stop
+      pub is_cut_run : (now : Around) (stop : Stop) → (stop ≡ NoMemory → IsSome job.debug ⊎ ListsFolder job) → FellShort ready now rest stop → IsCut (Ok task) (world tree out err) now.world stop
       is_cut_run now stop memory short = cut_run stop (may stop memory) (inl (record { cut = (is_short now stop short).cut; short = λ text. absurd text }))
         where
-          may : (stop : Stop) → (stop ≡ NoMemory → IsSome job.debug ⊎ IsSome job.home.root) → MayStop (Ok (Run job)) stop
+          may : (stop : Stop) → (stop ≡ NoMemory → IsSome job.debug ⊎ ListsFolder job) → MayStop (Ok (Run job)) stop
           may TreeFault memory = tt
           may SinkFault memory = tt
           may NoMemory memory = memory refl
 
           cut_run : (stop : Stop) → MayStop (Ok (Run job)) stop → HasFront (Ok (Run job)) (world tree out err) now.world ⊎ IsUntold tree (Ok (Run job)) → IsCut (Ok task) (world tree out err) now.world stop
-          cut_run TreeFault may front = inr (record { found = Ok (Run job); judges = judges_run looked; may = may; front = front })
-          cut_run SinkFault may front = record { found = Ok (Run job); judges = judges_run looked; may = may; front = front }
-          cut_run NoMemory may front = inr (record { found = Ok (Run job); judges = judges_run looked; may = may; front = front })
+          cut_run TreeFault may front = inr (record { found = Ok (Run job); judges = judges_run looked; may = inl may; front = front })
+          cut_run SinkFault may front = record { found = Ok (Run job); judges = judges_run looked; may = inl may; front = front }
+          cut_run NoMemory may front = inr (record { found = Ok (Run job); judges = judges_run looked; may = inl may; front = front })
 
     -- beneath a root in a tree that tells nothing no more is said
     pub is_untold_run : IfSome tree (λ nodes. None ≡ find (λ path. not (can_create nodes path)) (outputs_of task)) → IsUntold tree (Ok (Run job)) → (before now : World) (answer : ℕ) → before.files ≡ tree
@@ -381,21 +382,30 @@ module _ (task : Task) (tree : Option Nodes) where
     }
 
     pub is_untold_cut : IfSome tree (λ nodes. None ≡ find (λ path. not (can_create nodes path)) (outputs_of task)) → IsUntold tree (Ok (Run job)) → (before now : World) (stop : Stop) → before.files ≡ tree
-        → (stop ≡ NoMemory → IsSome job.debug ⊎ IsSome job.home.root) → IsCut (Ok task) before now stop
-    is_untold_cut looked untold before now stop same memory = go stop memory
+        → IsCut (Ok task) before now stop
+    is_untold_cut looked untold before now stop same = go stop
       where
-        cut : (stop : Stop) → MayStop (Ok (Run job)) stop → HasCut (Ok task) before now stop
-        cut stop may = record {
+        not_told : IsUntold before.files (Ok (Run job))
+        not_told = subst (λ t. IsUntold t (Ok (Run job))) (sym same) untold
+
+        cut : (stop : Stop) → HasCut (Ok task) before now stop
+        cut stop = record {
           found = Ok (Run job);
           judges = subst (λ t. Judges (Ok task) t (Ok (Run job))) (sym same) (judges_run looked);
-          may = may;
-          front = inr (subst (λ t. IsUntold t (Ok (Run job))) (sym same) untold);
+          may = inr not_told;
+          front = inr not_told;
         }
 
-        go : (stop : Stop) → (stop ≡ NoMemory → IsSome job.debug ⊎ IsSome job.home.root) → IsCut (Ok task) before now stop
-        go TreeFault memory = inr (cut TreeFault tt)
-        go SinkFault memory = cut SinkFault tt
-        go NoMemory memory = inr (cut NoMemory (memory refl))
+        go : (stop : Stop) → IsCut (Ok task) before now stop
+        go TreeFault = inr (cut TreeFault)
+        go SinkFault = cut SinkFault
+        go NoMemory = inr (cut NoMemory)
+
+-- memory was wanting to the debugger, or where there is a root and a run beneath it takes the names of a folder
+lists : (job : Job) → IsSome job.debug ⊎ IsSome job.home.root → IsSome job.debug ⊎ TakesNames (trail_of job) → IsSome job.debug ⊎ ListsFolder job
+lists job (inl watched) takes = inl watched
+lists job (inr root) (inl watched) = inl watched
+lists job (inr root) (inr takes) = inr (record { root = root; takes = takes })
 
 -- the folder of a program's own files once the outputs were made
 home-files : (tree made : Option Nodes) (task : Task) (home : Home) (out err : Option (List ℕ)) → IsHomeOf tree task home → HasApartOutputs task → root_by task.command task ≡ task.root
@@ -472,12 +482,15 @@ module _ (tree : Option Nodes) (task : Task) (debug : Option Debugging) (machine
         memory-root stop memory e = rw ready.at_home.root (memory e)
 
         pub ready-cut : (now : Around) (stop : Stop) → (stop ≡ NoMemory → IsSome debug ⊎ IsSome task.root)
+            → AtHome task.root new (λ h. stop ≡ NoMemory → IsSome debug ⊎ TakesNames (trail_for task machine h))
             → AtHome task.root new (λ h. FellShort from_ready now (behind (trail_for task machine h)) stop) → IsCut (Ok task) (world tree out err) now.world stop
-        ready-cut now stop memory short = elim home [
+        ready-cut now stop memory names short = elim home [
           | inl files ↦
-              is_cut_run task tree ready-job ready.sees outs new ready-made.looked start left ready-begins out err out_sure err_sure now stop (memory-root stop memory)
+              is_cut_run task tree ready-job ready.sees outs new ready-made.looked start left ready-begins out err out_sure err_sure now stop
+              (λ wanted. lists ready-job (memory-root stop memory wanted)
+              (subst (λ t. IsSome debug ⊎ TakesNames t) ready-trail (names ready.home ready.at_home.root files wanted)))
               (subst (λ t. FellShort from_ready now (behind t) stop) ready-trail (short ready.home ready.at_home.root files))
-          | inr none ↦ is_untold_cut task tree ready-job ready.sees outs ready-made.looked (untold none) (world tree out err) now.world stop refl (memory-root stop memory)
+          | inr none ↦ is_untold_cut task tree ready-job ready.sees outs ready-made.looked (untold none) (world tree out err) now.world stop refl
         ]
 
         -- where the tree and the sinks suffice they are not to blame

@@ -143,7 +143,7 @@ print_done asked view text tree new_tree out err new_out (Err halt) e is_view sa
     rw (is, same) (record {
       found = Ok (Print text);
       judges = record { view = view; seen = is_view; judged = e };
-      may = tt;
+      may = inl tt;
       front = inl (record { cut = cut.cut; short = λ text. cut.short });
     })
 
@@ -164,6 +164,6 @@ refusal_ends asked before tree out err new_err refusal (Err SinkFault) r ok stop
     let cut = line-cut tree out err new_err (line_of refusal) stops in
     let P : World → Type 0 = λ w. IsCutText w (world tree out new_err) (map (λ byte. ToErr byte) (line_of refusal)) in
     let from = subst P r.same cut in
-    record { found = Err refusal; judges = r.judges; may = tt; front = inl (record { cut = from.cut; short = λ text. from.short }) }
+    record { found = Err refusal; judges = r.judges; may = inl tt; front = inl (record { cut = from.cut; short = λ text. from.short }) }
 refusal_ends asked before tree out err new_err refusal (Err NoMemory) r ok stops = inl (ap (λ e. world tree out e) stops ∙ r.same)
 refusal_ends asked before tree out err new_err refusal (Err TreeFault) r ok stops = absurd stops

@@ -4,6 +4,7 @@ use Rattle.uxn_io.specs.Files.{Nodes}
 use Rattle.uxn_io.specs.Outside.{World, changed_by, IsCutOff}
 use Rattle.uxn_opcodes.specs.declared.Stop.{Stop}
 use Rattle.uxn_opcodes.specs.declared.Stop.TheVariants.{TreeFault, SinkFault, NoMemory}
+use Rattle.vector_loop.specs.Folders.{TakesNames}
 use Rattle.uxn_cli.specs.declared.task.Task.{Task}
 use Rattle.uxn_cli.specs.declared.refusal.Refusal.{Refusal}
 use Rattle.uxn_cli.specs.declared.refusal.Halt.{Halt}
@@ -12,6 +13,7 @@ use Rattle.uxn_cli.specs.Blame.{early_status}
 use Rattle.uxn_cli.specs.Verdict.{View, Work, Run, Write, Print, verdict}
 use Rattle.uxn_cli.specs.Verdict.{file_seen, symbols_seen, script_seen, commands_seen, part_seen, parent_seen, blocked_seen}
 use Rattle.uxn_cli.specs.Outcome.{Outcome, outcome_of}
+use Rattle.uxn_cli.specs.Job.{Job, trail_of}
 
 -- the status and all that stands outside are those of an outcome
 pub record HasOutcome (o : Outcome) (before now : World) (answer : ℕ) : Type 0 where
@@ -56,13 +58,18 @@ pub record IsRefused (asked : Result Task Refusal) (before now : World) (refusal
   pub judges : Judges asked before.files (Err refusal)
   pub same : now ≡ before
 
+-- a run takes the names of a folder, at or beneath its root
+pub record ListsFolder (job : Job) : Type 0 where
+  pub root : IsSome job.home.root
+  pub takes : TakesNames (trail_of job)
+
 -- what may stop a call in the middle of its changes: a sink where bytes are put on one, the tree where files are written, and
--- want of memory where a debugger watches a run, or a run may list a folder
+-- want of memory where a debugger watches a run, or a run lists a folder
 abbrev pub MayStop : Result Work Refusal → Stop → Type 0
 MayStop (Err refusal) SinkFault = Unit {0}
 MayStop (Ok (Run job)) TreeFault = Unit {0}
 MayStop (Ok (Run job)) SinkFault = Unit {0}
-MayStop (Ok (Run job)) NoMemory = IsSome job.debug ⊎ IsSome job.home.root
+MayStop (Ok (Run job)) NoMemory = IsSome job.debug ⊎ ListsFolder job
 MayStop (Ok (Write texts)) TreeFault = Unit {0}
 MayStop (Ok (Print text)) SinkFault = Unit {0}
 MayStop _ _ = ⊥
@@ -81,7 +88,7 @@ pub record HasFront (found : Result Work Refusal) (before now : World) : Type 0 
 pub record HasCut (asked : Result Task Refusal) (before now : World) (stop : Stop) : Type 0 where
   pub found : Result Work Refusal
   pub judges : Judges asked before.files found
-  pub may : MayStop found stop
+  pub may : MayStop found stop ⊎ IsUntold before.files found
   pub front : HasFront found before now ⊎ IsUntold before.files found
 
 -- what stands after a call that ended early: all is as it was, or a front of what was to be done was done

@@ -5,7 +5,7 @@ ghost use Rattle.uxn_cli.specs.World.{world};
 ghost use Rattle.uxn_cli.specs.Request.{request, HasApartOutputs};
 ghost use Rattle.uxn_cli.specs.Verdict.{Work};
 ghost use Rattle.uxn_cli.specs.Follows.{Follows};
-ghost use Rattle.uxn_cli.specs.Answer.{Performs, Ends, Answers};
+ghost use Rattle.uxn_cli.specs.Answer.{Performs, Ends, MayStop, Answers};
 ghost use Rattle.uxn_cli.specs.Blame.{blame_in, blame_by, blame_at, early_status, OnRefused};
 ghost use Rattle.uxn_cli.specs.Room.{TreeSuffices, SinksSuffice};
 ghost use Rattle.uxn_cli.specs.Causes.{IsEarly, IsExactly, verdict_on, IsIllegal, IsPathless, IsMissing, IsFaulty, IsUnfit, IsBadScript, IsBadCommands, IsBlocked, EndsWith, KeepsOthers, PutsLine};
@@ -184,6 +184,11 @@ pub fn uxn<T: Tree, O: Sink, E: Sink>(
     ensures complete { IfSome (T.told tree.old) (λ nodes. (work : Work) → verdict_on nodes (request (map string_bytes words.now)) ≡ Ok work
         → (Rose (T.faults tree.old) (T.faults tree.new) → ⊥) → (Rose (O.faults out.old) (O.faults out.new) → ⊥)
         → (Rose (E.faults err.old) (E.faults err.new) → ⊥) → (result ≡ (outcome_of (Ok work)).status) ⊎ (result ≡ 138)) }
+
+    // Where memory was wanting all is as it was, but where a debugger watches the run or it takes the names of a folder.
+    ensures wanting { IfSome (T.told tree.old) (λ nodes. result ≡ 138
+        → (world (T.told tree.new) (O.told out.new) (E.told err.new) ≡ world (T.told tree.old) (O.told out.old) (E.told err.old))
+        ⊎ MayStop (verdict_on nodes (request (map string_bytes words.now))) Stop.NoMemory) }
 
     // Where `debug` comes to its run it gives, but for its log, what `play` gives with the same items.
     ensures watched { IfSome (T.told tree.old) (λ nodes. (others : List (List ℕ)) (work : Work) → HaveSameItems (map string_bytes words.now) others

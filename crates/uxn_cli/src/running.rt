@@ -3,6 +3,7 @@ ghost use Rattle.std.specs.Prelude.{◌≡◌, ◌≤◌, ◌⊎◌, ℕ, List, 
 ghost use Rattle.uxn_io.specs.Faults.{Counted, Ledger, counts};
 ghost use Rattle.uxn_opcodes.specs.Ports.{blame_of};
 ghost use Rattle.varvara_bus.specs.Bus.{FilesStay, IsFileWhereTold};
+ghost use Rattle.vector_loop.specs.Folders.{TakesNames};
 ghost use Rattle.vector_loop.specs.Outputs.{OutputsThere};
 ghost use Rattle.uxn_cli.specs.Job.{trail_by, text_at};
 ghost use Rattle.uxn_cli.specs.Outcome.{filling_all};
@@ -39,7 +40,8 @@ pub struct Settings {
     pub budget: u32,
 }
 
-/// Runs a new machine with a script. Memory is wanting only to the watcher, or where there is a root.
+/// Runs a new machine with a script. Memory is wanting only to the watcher, or where the run takes the names of a
+/// folder beneath a root.
 pub fn run_machine<T: Tree, O: Sink, E: Sink, W: Watcher>(
     core: &mut Core,
     devices: &mut Devices,
@@ -68,6 +70,8 @@ pub fn run_machine<T: Tree, O: Sink, E: Sink, W: Watcher>(
     ensures ledger { Ledger (counts (T.faults tree.old) (O.faults out.old) (E.faults err.old))
         (counts (T.faults tree.new) (O.faults out.new) (E.faults err.new)) (blame_of result) }
     ensures memory { IfErr result (λ stop. stop ≡ Stop.NoMemory → W.may_refuse ⊎ IsSome devices.old.root) }
+    ensures names { AtHome devices.old.root (T.told tree.old) (λ home. IfErr result (λ stop. stop ≡ Stop.NoMemory
+        → W.may_refuse ⊎ TakesNames (trail_by settings.now.budget settings.now.outputs script.now home core.old))) }
 {
     let mut bus = Bus::new(devices, tree, out, err);
     match run_script(
@@ -144,6 +148,8 @@ pub fn run_made<T: Tree, O: Sink, E: Sink, W: Watcher>(
     ensures ledger { Ledger (counts (T.faults tree.old) (O.faults out.old) (E.faults err.old))
         (counts (T.faults tree.new) (O.faults out.new) (E.faults err.new)) (blame_of result) }
     ensures memory { IfErr result (λ stop. stop ≡ Stop.NoMemory → W.may_refuse ⊎ IsSome task.now.root) }
+    ensures names { AtHome task.now.root (T.told tree.old) (λ home. IfErr result (λ stop. stop ≡ Stop.NoMemory
+        → W.may_refuse ⊎ TakesNames (trail_for task.now machine home))) }
 {
     let Machine {
         mut core,

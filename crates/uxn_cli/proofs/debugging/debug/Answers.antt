@@ -35,7 +35,7 @@ returns-in-Err-clause-performs g c =
     _ c.in_ok-session.ensures.same (g.T.Tree.told c.make_outputs.new.tree) c.in_ok-make_outputs.ensures.makes c.requires.apart (debug-root c.args.task.now c.requires.command)
     (g.T.Tree.sure c.args.tree.now) _ _ c.in_ok-session.ensures.left c.in_ok-make_outputs.ensures.left
     (g.O.Sink.told c.args.out.now) (g.E.Sink.told c.args.err.now) (g.O.Sink.sure c.args.out.now) (g.E.Sink.sure c.args.err.now)
-    _ c.in-Err.stop (λ memory. inl refl) (c.in-Err.ensures.err)
+    _ c.in-Err.stop (λ memory. inl refl) (λ home root files memory. inl refl) (c.in-Err.ensures.err)
 
 pub returns-in-Err-clause-sure_tree : goal.returns-in-Err-clause-sure_tree
 returns-in-Err-clause-sure_tree g c =

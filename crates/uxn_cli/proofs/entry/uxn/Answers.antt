@@ -1,4 +1,4 @@
-use Rattle.uxn_cli.proofs.CauseLemmas.{exactly_illegal, exactly_pathless, exactly_missing, exactly_faulty, exactly_unfit, exactly_script, exactly_commands, exactly_blocked, exactly_accepted, is_untouched, is_quiet, puts_line, completes, tree-rose, sink-rose}
+use Rattle.uxn_cli.proofs.CauseLemmas.{exactly_illegal, exactly_pathless, exactly_missing, exactly_faulty, exactly_unfit, exactly_script, exactly_commands, exactly_blocked, exactly_accepted, is_untouched, is_quiet, puts_line, completes, wanting, tree-rose, sink-rose}
 use Rattle.uxn_io.specs.Faults.{Rose}
 use Rattle.uxn_cli.proofs.OthersLemmas.{keeps_others}
 use Rattle.uxn_cli.proofs.ObservationLemmas.{call-shows}
@@ -47,6 +47,9 @@ pub returns-clause-complete : goal.returns-clause-complete
 returns-clause-complete g c =
     completes _ _ _ _ (Rose (g.T.Tree.faults c.args.tree.now) (g.T.Tree.faults c.status_of.new.tree)) (Rose (g.O.Sink.faults c.args.out.now) (g.O.Sink.faults c.status_of.new.out))
     (Rose (g.E.Sink.faults c.args.err.now) (g.E.Sink.faults c.status_of.new.err)) c.status_of.ensures.outcome (tree-rose _ _ _ c.status_of.ensures.ledger) (sink-rose _ _ _ c.status_of.ensures.ledger)
+
+pub returns-clause-wanting : goal.returns-clause-wanting
+returns-clause-wanting g c = wanting _ _ _ _ c.status_of.ensures.outcome
 
 pub returns-clause-watched : goal.returns-clause-watched
 returns-clause-watched g c = call-shows _ _ _ _ c.status_of.ensures.outcome

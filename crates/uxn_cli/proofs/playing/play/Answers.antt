@@ -35,7 +35,9 @@ returns-in-Err-clause-performs g c =
     _ c.in_ok-machine.ensures.same (g.T.Tree.told c.make_outputs.new.tree) c.in_ok-make_outputs.ensures.makes c.requires.apart (play-root c.args.task.now c.requires.command)
     (g.T.Tree.sure c.args.tree.now) _ _ c.in_ok-machine.ensures.left c.in_ok-make_outputs.ensures.left
     (g.O.Sink.told c.args.out.now) (g.E.Sink.told c.args.err.now) (g.O.Sink.sure c.args.out.now) (g.E.Sink.sure c.args.err.now)
-    _ c.in-Err.stop (λ memory. elim (c.in-Err.ensures.memory memory) [ inl refuses ↦ absurd refuses | inr root ↦ inr root ]) (λ home root files. short-last _ _ _ _ (c.in-Err.ensures.err home root files))
+    _ c.in-Err.stop (λ memory. elim (c.in-Err.ensures.memory memory) [ inl refuses ↦ absurd refuses | inr root ↦ inr root ])
+    (λ home root files memory. elim (c.in-Err.ensures.names home root files memory) [ inl refuses ↦ absurd refuses | inr takes ↦ inr takes ])
+    (λ home root files. short-last _ _ _ _ (c.in-Err.ensures.err home root files))
 
 pub returns-in-Err-clause-sure_tree : goal.returns-in-Err-clause-sure_tree
 returns-in-Err-clause-sure_tree g c =

@@ -46,7 +46,17 @@ returns-in-Err-clause-err g c = λ home root files.
       devices = rw (c.new-bus.ensures.devices_now, root) (c.requires.devices home.part home.parent);
       files = rw c.new-bus.ensures.tree_now files;
     } in
-    let short = c.in-Err.ensures.err.from start stands in
+    let short = (c.in-Err.ensures.err.from start stands).made in
     let cut = short.cut in
     let not_sure = short.not_sure in
     record { cut = search (rules, cut); not_sure = search (rules, not_sure) }
+
+pub returns-in-Err-clause-names : goal.returns-in-Err-clause-names
+unfolding trail_by
+returns-in-Err-clause-names g c = λ home root files.
+    let start = devices_with c.args.script.now home in
+    let stands : BusStandsFor g.T.Tree.told c.new-bus.result start = record {
+      devices = rw (c.new-bus.ensures.devices_now, root) (c.requires.devices home.part home.parent);
+      files = rw c.new-bus.ensures.tree_now files;
+    } in
+    (c.in-Err.ensures.err.from start stands).names

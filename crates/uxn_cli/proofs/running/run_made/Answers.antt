@@ -28,6 +28,13 @@ returns-in_err-ended-clause-memory g c =
     let held = (c.requires.devices fin.empty false).root in
     rw result (rw held at c.in_err-ended.ensures.memory)
 
+pub returns-in_err-ended-clause-names : goal.returns-in_err-ended-clause-names
+returns-in_err-ended-clause-names g c = λ home root files.
+    let result : c.from_residual.result ≡ Err c.in_err-ended.field-0.0 = search rules in
+    let held = (c.requires.devices fin.empty false).root in
+    rw result (rw (c.settings_of-settings.ensures.outputs, c.settings_of-settings.ensures.budget) at
+    (c.in_err-ended.ensures.names home (root ∙ sym held) files))
+
 pub write_text-requires : goal.write_text-requires
 write_text-requires g c =
     let held = (c.requires.devices fin.empty false).root in
