@@ -79,9 +79,9 @@ kept_pairs zero memory sounds = refl
 kept_pairs (suc count) memory sounds =
     map-append short_of (pairs count memory sounds) (mixed memory left_of sounds count ∷ mixed memory right_of sounds count ∷ [])
     ∙ ap (λ front. front ++ short_of (mixed memory left_of sounds count) ∷ short_of (mixed memory right_of sounds count) ∷ [])
-        (kept_pairs count memory sounds)
+    (kept_pairs count memory sounds)
     ∙ ap (λ left. pairs count memory sounds ++ left ∷ short_of (mixed memory right_of sounds count) ∷ [])
-        (kept_mixed memory left_of sounds count)
+    (kept_mixed memory left_of sounds count)
     ∙ ap (λ right. pairs count memory sounds ++ mixed memory left_of sounds count ∷ right ∷ []) (kept_mixed memory right_of sounds count)
 
 -- the samples of a frame are signed shorts

@@ -1,4 +1,4 @@
-use Rattle.std.proofs.Common.{◌≡◌, ℕ, ◌+◌, Bool, true, false, List, [], ◌∷◌, ◌++◌, length, Option, Some, None, Ok, cond, refl, ◌∙◌, ap, arith}
+use Rattle.std.proofs.Common.{◌≡◌, ℕ, ◌+◌, Bool, true, false, List, [], ◌∷◌, ◌++◌, length, Some, None, Ok, cond, refl, ◌∙◌, ap, arith}
 use Rattle.std.specs.Prelude.{is_some, unwrap_or}
 use Rattle.tal_words.specs.declared.span.Expanded.{Expanded}
 use Rattle.tal_words.specs.declared.form.Form.{Form}
@@ -7,7 +7,6 @@ use Rattle.tal_words.specs.Forms.{form}
 use Rattle.tal_words.specs.Order.{or_earlier}
 use Rattle.tal_words.specs.Source.{expanded_text}
 use Rattle.tal_labels.specs.Places.{pad_value, moves, last_pad, moved_since_pad, address_after, first_address}
-use Rattle.tal_labels.specs.Labels.{label_name, last_label}
 use Rattle.tal_labels.specs.Answers.{next_address}
 use Rattle.tal_words.proofs.OrderLemmas.{last_of-more}
 

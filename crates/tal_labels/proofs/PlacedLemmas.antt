@@ -1,4 +1,4 @@
-use Rattle.std.proofs.Common.{◌≡◌, ℕ, zero, suc, ◌+◌, ◌-◌, ◌^◌, ◌<◌, ◌≤◌, Bool, true, false, List, [], ◌∷◌, ◌++◌, length, take, drop, get_or, map, Option, Some, None, Ok, Err, cond, ◌&&◌, refl, sym, ◌∙◌, ap, arith, append_assoc, append-nil, length-drop}
+use Rattle.std.proofs.Common.{◌≡◌, ℕ, zero, suc, ◌+◌, ◌-◌, ◌^◌, ◌<◌, ◌≤◌, Bool, true, false, List, [], ◌∷◌, ◌++◌, length, take, drop, get_or, map, Option, Some, None, Ok, Err, cond, ◌&&◌, refl, sym, ◌∙◌, ap, arith, append_assoc, length-drop}
 use Rattle.std.specs.Prelude.{◌==◌, IfSome}
 use Rattle.std.specs.Option.{option_map}
 use Rattle.std.proofs.Math.Seq.{take-add}
@@ -6,12 +6,11 @@ use Rattle.std.proofs.lemmas.Bool.{eqb-true, and_parts}
 use Rattle.std.proofs.lemmas.List.{take_more, get_or-map, length-map, get_or-drop}
 use Rattle.tal_words.specs.declared.span.Expanded.{Expanded}
 use Rattle.tal_words.specs.declared.fault.Fault.{Fault}
-use Rattle.tal_words.specs.declared.fault.FaultKind.{FaultKind}
 use Rattle.tal_words.specs.declared.fault.AsmStop.{AsmStop}
 use Rattle.tal_words.specs.declared.fault.AsmStop.TheVariants.{Refused, NoMemory}
 use Rattle.tal_words.specs.declared.form.Form.{Form}
 use Rattle.tal_words.specs.declared.form.Form.TheVariants.{LambdaEnd}
-use Rattle.tal_words.specs.Faults.{Judged, least, phase_fault, fault_or, or_later, Gives}
+use Rattle.tal_words.specs.Faults.{Judged, least, or_later, Gives}
 use Rattle.tal_words.specs.Forms.{form, size}
 use Rattle.tal_words.specs.Braces.{opens, closes, matching_after, one_if}
 use Rattle.tal_labels.specs.declared.placed.PlacedWord.{PlacedWord}
@@ -22,7 +21,7 @@ use Rattle.tal_labels.specs.Labels.{defined_name, scope_after, labels_of}
 use Rattle.tal_labels.specs.Shapes.{closing_distance, shape_fault}
 use Rattle.tal_labels.specs.Placing.{is_mark_form, formed_marks, formed_size, is_defined, ends_above, place_kinds, judged_place, placing_fault, place_fault, lambda_address, placed_with, placed_given, placed_of}
 use Rattle.tal_words.proofs.PassLemmas.{none-at, given-more, given-all}
-use Rattle.tal_words.proofs.OrderLemmas.{collected-step, collected-end, get_or-each, length-each, no_word}
+use Rattle.tal_words.proofs.OrderLemmas.{get_or-each, length-each, no_word}
 use Rattle.tal_labels.proofs.LayingLemmas.{IsWellPlaced, well_placed, place_read, length-addresses_of}
 
 pub unfaulted : (source : List ℕ) (words : List Expanded) → placing_fault source words ≡ None → (k : ℕ) → k < length words → least (judged_place source (take k words) (get_or words k no_word) (drop (k + 1) words)).kinds ≡ None

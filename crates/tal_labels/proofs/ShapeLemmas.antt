@@ -1,12 +1,12 @@
 use Rattle.std.proofs.Common.{◌≡◌, ℕ, ◌+◌, ◌<◌, ◌≤◌, Bool, true, false, not, List, [], ◌∷◌, ◌++◌, length, take, drop, get_or, map, length-take, Option, Some, None, Result, Ok, Err, cond, refl, sym, ◌∙◌, ap, arith}
-use Rattle.std.specs.Prelude.{is_some, fold, ◌&&◌, ◌==◌}
+use Rattle.std.specs.Prelude.{is_some, ◌&&◌, ◌==◌}
 use Rattle.std.specs.Option.{option_map}
 use Rattle.std.proofs.lemmas.List.{take_more, take_all, get_or-map, length-map, map-append}
 use Rattle.tal_words.specs.declared.span.Expanded.{Expanded}
 use Rattle.tal_words.specs.declared.fault.FaultKind.{FaultKind}
 use Rattle.tal_words.specs.declared.form.Form.{Form}
 use Rattle.tal_words.specs.declared.fault.FaultKind.TheVariants.{StrayBrace, OpenBrace}
-use Rattle.tal_words.specs.Faults.{Judged, when, least, fault_at, phase_fault, fault_or}
+use Rattle.tal_words.specs.Faults.{when, least, fault_at, phase_fault}
 use Rattle.tal_words.specs.Forms.{form}
 use Rattle.tal_words.specs.Braces.{opens, closes}
 use Rattle.tal_words.specs.Order.{each}
@@ -14,7 +14,7 @@ use Rattle.tal_words.specs.Source.{expanded_text}
 use Rattle.tal_labels.specs.Shapes.{shape_kinds, open_after, open_count, closer_of, closers_of, closing_distance, judged_shape, shape_fault}
 use Rattle.std.proofs.lemmas.List.Sums.{fold-append}
 use Rattle.tal_words.proofs.PassLemmas.{fault-here, fault-later}
-use Rattle.tal_words.proofs.OrderLemmas.{each-step, each-end, get_or-each, length-each, no_word}
+use Rattle.tal_words.proofs.OrderLemmas.{each-end, get_or-each, length-each, no_word}
 
 -- by the closer of a word as by the `}` itself
 pub shape_kinds-closer : (f : Result Form FaultKind) (text : List ℕ) (depth at : ℕ) (o : Option ℕ) → shape_kinds f text depth (is_some (cond (opens text) (option_map (λ between. at + 1 + between) o) None)) ≡ shape_kinds f text depth (is_some o)

@@ -1,5 +1,5 @@
 -- What is wrong with words by themselves and with their braces (profile: the kinds).
-use Rattle.std.specs.Prelude.{◌≡◌, true, Some, ℕ, ◌+◌, ◌-◌, ◌==◌, Bool, false, not, ◌&&◌, List, []}
+use Rattle.std.specs.Prelude.{Some, ℕ, ◌+◌, ◌-◌, ◌==◌, Bool, false, not, ◌&&◌, List, []}
 use Rattle.std.specs.Prelude.{◌∷◌, ◌++◌, length, map, fold, Option, None, is_some, Result, Ok, Err, if◌then◌else◌}
 use Rattle.std.specs.Option.{option_map}
 use Rattle.std.specs.List.{list_any}

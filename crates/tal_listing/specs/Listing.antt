@@ -41,5 +41,5 @@ listing_of source program = text_of_lines (map (word_line source program.rom) (w
 pub record HoldsItsWords (source : List ℕ) : Type 0 where
   pub each : (k : ℕ) (word : PlacedWord) (piece : Piece) → k < length (layout source).words
       → memory_bytes (rom_of source) (slice_index_or (layout source).words k word).address
-          (slice_index_or (layout source).words k word).size
+      (slice_index_or (layout source).words k word).size
       ≡ (slice_index_or (pieces_of source (layout source).labels (layout source).words) k piece).bytes

@@ -75,7 +75,7 @@ module _ (source : List ℕ) where
   body_after [] = None
   body_after (brace ∷ words) =
       if is_only 123 (word_text source brace) then option_map (λ count. take count words) (matching (map (word_text source) words))
-    else None
+      else None
 
   -- the body of the macro that a word defines, by the words after it
   abbrev pub body_defined : Word → List Word → Option (List Word)

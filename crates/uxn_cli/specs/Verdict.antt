@@ -231,7 +231,7 @@ work_of Debug task view =
     and_then (script_in task.script view.script) (λ script.
     and_then (commands_in (debug_labels given task.rom view.file) task.commands view.commands) (λ commands.
     Ok (Run (job_of task (home_by task.root view.part view.parent) rom script
-        (Some (debugging task commands (debug_labels given task.rom view.file)))))))))
+    (Some (debugging task commands (debug_labels given task.rom view.file)))))))))
 work_of Assemble task view = and_then (source_in task.file view.file) (λ source. Ok (Write (texts_of task source)))
 work_of Disassemble task view =
     and_then (rom_in task.file view.file) (λ rom.

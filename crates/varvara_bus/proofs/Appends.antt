@@ -5,19 +5,15 @@ use Rattle.std.specs.Ordering.{nat_cmp, eq_by_cmp}
 use Rattle.std.specs.Cmp.Lexicographic.{slice_cmp, nat_list_cmp_total}
 use Rattle.std.specs.FinMap as nodes_map
 use Rattle.std.proofs.lemmas.List.{length-append}
-use Rattle.uxn_io.specs.PathText.{parent_of}
-use Rattle.uxn_io.specs.Files.{Node, File, Folder, Nodes, bytes_of, bytes_at, file_at, is_folder, is_folder_at}
+use Rattle.uxn_io.specs.Files.{Node, File, Nodes, bytes_of, bytes_at}
 use Rattle.uxn_io.specs.Changes.{with_appended, HasAppendedFront}
-use Rattle.uxn_io.specs.Outside.{ToFile, World, changed_by, changed_files, files_by}
+use Rattle.uxn_io.specs.Outside.{ToFile, World, changed_by, changed_files}
 use Rattle.uxn_io.specs.Appending.{changed_by-file, bytes_put}
 use Rattle.uxn_io.specs.Room.{Room, Leaves}
 use Rattle.uxn_io.specs.Taking.{TreeTakes, TreeLeft, takes-later, files_made, files_gone, bytes_out, bytes_err}
-use Rattle.file_ports.specs.RootPart.{below, parent_is_folder, is_in_part}
-use Rattle.file_ports.specs.PartLaws.{files_by-file}
 use Rattle.file_ports.specs.OutsideLaws.{below-appended, parent-appended}
 use Rattle.varvara_bus.specs.State.{HasFiles}
 use Rattle.varvara_bus.specs.Bus.{IsFileWhereTold, IsOutside, FilesStay}
-use Rattle.varvara_bus.specs.Touching.{same_path}
 
 -- a text appended to a file
 pub file_made : (world : World) (path text : List ℕ) (now : Option Nodes) → now ≡ option_map (with_appended path text) world.files

@@ -4,7 +4,7 @@ use Rattle.std.proofs.lemmas.Result.{err_from_is_err_and}
 use Rattle.tal_words.specs.declared.form.Form.{Form}
 use Rattle.tal_words.specs.declared.name.Label.{Label}
 use Rattle.tal_labels.specs.declared.placed.PlacedWord.{PlacedWord}
-use Rattle.tal_labels.specs.Placing.{Layout, LieApart}
+use Rattle.tal_labels.specs.Placing.{Layout}
 use Rattle.tal_labels.specs.Index.{labels_in}
 use Rattle.tal_labels.proofs.IndexLemmas.{Index}
 use Rattle.tal_labels.proofs.ShapeLemmas.{formed}
