@@ -157,7 +157,7 @@ told-by None (change ∷ changes) world is =
     told-by None changes (changed world change) (one-told world change ∙ ap (option_map (changed_files change)) is)
 told-by (Some nodes) (change ∷ changes) world is =
     told-by (Some (changed_files change nodes)) changes (changed world change)
-        (one-told world change ∙ ap (option_map (changed_files change)) is)
+    (one-told world change ∙ ap (option_map (changed_files change)) is)
 
 pub files-told : (world : World) (changes : List Change)
     → (changed_by world changes).files ≡ option_map (λ nodes. files_by nodes changes) world.files
