@@ -1,8 +1,7 @@
 -- Which changes a tree and two sinks surely take, and what they surely take afterwards (profile).
 use Rattle.std.specs.Prelude.{◌≡◌, ℕ, ◌+◌, ◌<◌, ◌≤◌, List, [], ◌∷◌, ◌++◌, length, Option, Some, None, IfSome, refl}
 use Rattle.std.specs.Option.{option_map}
-use Rattle.std.proofs.Common.{ap, sym, subst, ◌∙◌, append_assoc, arith}
-use Rattle.std.proofs.lemmas.List.{append-nil}
+use Rattle.std.proofs.Common.{ap, sym, ◌∙◌, append_assoc, arith}
 use Rattle.uxn_io.specs.Files.{Nodes, bytes_at}
 use Rattle.uxn_io.specs.Changes.{new_files}
 use Rattle.uxn_io.specs.Faults.{Blame, Nobody, TheTree, ASink}
