@@ -32,7 +32,7 @@ put_again nodes path first node =
     (λ q.
     nodes_map.get-insert nat_list_cmp_total (nodes_map.insert nodes path first) path node q
     ∙ ap (λ (z : Option Node). cond (eq_by_cmp (slice_cmp nat_cmp) q path) (Some node) z)
-        (nodes_map.get-insert nat_list_cmp_total nodes path first q)
+    (nodes_map.get-insert nat_list_cmp_total nodes path first q)
     ∙ shadowed (eq_by_cmp (slice_cmp nat_cmp) q path) (Some node) (Some first) (nodes_map.get nodes q)
     ∙ sym (nodes_map.get-insert nat_list_cmp_total nodes path node q))
 
@@ -46,7 +46,7 @@ appended_both nodes path [] ys = refl
 appended_both nodes path (x ∷ xs) [] = ap (λ (z : List ℕ). with_appended path z nodes) (sym (append-nil (x ∷ xs)))
 appended_both nodes path (x ∷ xs) (y ∷ ys) =
     ap (λ (z : List ℕ). nodes_map.insert (nodes_map.insert nodes path (File (bytes_at nodes path ++ x ∷ xs))) path (File (z ++ y ∷ ys)))
-        (bytes_put nodes path (bytes_at nodes path ++ x ∷ xs))
+    (bytes_put nodes path (bytes_at nodes path ++ x ∷ xs))
     ∙ put_again nodes path _ _
     ∙ ap (λ (z : List ℕ). nodes_map.insert nodes path (File z)) (append_assoc (bytes_at nodes path) (x ∷ xs) (y ∷ ys))
 

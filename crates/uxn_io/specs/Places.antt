@@ -59,10 +59,13 @@ emptied held =
     (held.0, record { folder = held.1.folder; bytes = record { list = []; spare = held.1.bytes.spare + length held.1.bytes.list } })
 
 abbrev pub grown : List ℕ → List ℕ × HeldNode → List ℕ × HeldNode
-grown more held =
-    (held.0, record {
-      folder = held.1.folder; bytes = record { list = held.1.bytes.list ++ more; spare = held.1.bytes.spare - length more }
-    })
+grown more held = (
+  held.0,
+  record {
+    folder = held.1.folder;
+    bytes = record { list = held.1.bytes.list ++ more; spare = held.1.bytes.spare - length more };
+  },
+)
 
 -- where a path stands, or the place where it would
 abbrev pub next : Result ℕ ℕ → Result ℕ ℕ

@@ -1,8 +1,7 @@
 -- Which changes a tree and two sinks surely take, and what they surely take afterwards (profile).
 use Rattle.std.specs.Prelude.{◌≡◌, ℕ, ◌+◌, ◌<◌, ◌≤◌, List, [], ◌∷◌, ◌++◌, length, Option, Some, None, IfSome, refl}
 use Rattle.std.specs.Option.{option_map}
-use Rattle.std.proofs.Common.{ap, sym, subst, ◌∙◌, append_assoc, arith}
-use Rattle.std.proofs.lemmas.List.{append-nil}
+use Rattle.std.proofs.Common.{ap, sym, ◌∙◌, append_assoc, arith}
 use Rattle.uxn_io.specs.Files.{Nodes, bytes_at}
 use Rattle.uxn_io.specs.Changes.{new_files}
 use Rattle.uxn_io.specs.Faults.{Blame, Nobody, TheTree, ASink}
@@ -157,7 +156,7 @@ told-by None (change ∷ changes) world is =
     told-by None changes (changed world change) (one-told world change ∙ ap (option_map (changed_files change)) is)
 told-by (Some nodes) (change ∷ changes) world is =
     told-by (Some (changed_files change nodes)) changes (changed world change)
-        (one-told world change ∙ ap (option_map (changed_files change)) is)
+    (one-told world change ∙ ap (option_map (changed_files change)) is)
 
 pub files-told : (world : World) (changes : List Change)
     → (changed_by world changes).files ≡ option_map (λ nodes. files_by nodes changes) world.files

@@ -1,126 +1,159 @@
 use super::*;
 use std::alloc::Global;
+use std::process::Abort;
 use std::test::Fail;
 
-fn path(text: &[u8]) -> Result<Path, Fail> {
-    Ok(Path::read(text)?)
+/// Texts, each with the fault of reading it as a path, if it has one.
+static TEXTS: [(&[u8], Option<PathFault>); 19] = [
+    (b"a.tal", None),
+    (b"...", None),
+    (b".a/b..", None),
+    (b"\xc3\xa9/\xe2\x82\xac ~", None),
+    (b"a/b/c/d/e/f/g/h/i/j/k/l/m/n/o/p", None),
+    (&[b'a'; 255], None),
+    (b"", Some(PathFault::Empty)),
+    (b"/a", Some(PathFault::BadComponent)),
+    (b"a/", Some(PathFault::BadComponent)),
+    (b"a//b", Some(PathFault::BadComponent)),
+    (b"a/./b", Some(PathFault::BadComponent)),
+    (b"../x.tal", Some(PathFault::BadComponent)),
+    (b"a\\b", Some(PathFault::BadComponent)),
+    (b"a\x1fb", Some(PathFault::BadComponent)),
+    (b"\x7f", Some(PathFault::BadComponent)),
+    (b"\xc0\xaf", Some(PathFault::BadComponent)),
+    (
+        b"a/b/c/d/e/f/g/h/i/j/k/l/m/n/o/p/q",
+        Some(PathFault::TooLong),
+    ),
+    (&[b'a'; 256], Some(PathFault::TooLong)),
+    (&[b'/'; 256], Some(PathFault::BadComponent)),
+];
+
+/// Says whether a text is read as a path of just its bytes, or gives this fault.
+fn reads_as(text: &[u8], fault: Option<PathFault>) -> bool {
+    match Path::read(text) {
+        Ok(path) => fault.is_none() && path.bytes() == text,
+        Err(found) => fault == Some(found),
+    }
 }
 
 #[test]
-fn reads_paths_up_to_their_limits(rt: HostRuntime) -> Result<(), Fail> {
-    let sixteen = b"a/b/c/d/e/f/g/h/i/j/k/l/m/n/o/p";
-    let seventeen = b"a/b/c/d/e/f/g/h/i/j/k/l/m/n/o/p/q";
-    for text in [
-        b"a.tal".as_slice(),
-        b"...".as_slice(),
-        b".a/b..".as_slice(),
-        b"\xc3\xa9/\xe2\x82\xac ~".as_slice(),
-        sixteen.as_slice(),
-        [b'a'; 255].as_slice(),
-    ] {
-        assert_eq!(rt; path(text)?.bytes(), text);
+fn reads_paths_up_to_their_limits(rt: HostRuntime) {
+    for (text, fault) in &TEXTS {
+        assert!(rt; reads_as(text, *fault), "at {text:?}");
     }
-    for (text, fault) in [
-        (b"".as_slice(), PathFault::Empty),
-        (b"/a".as_slice(), PathFault::BadComponent),
-        (b"a/".as_slice(), PathFault::BadComponent),
-        (b"a//b".as_slice(), PathFault::BadComponent),
-        (b"a/./b".as_slice(), PathFault::BadComponent),
-        (b"../x.tal".as_slice(), PathFault::BadComponent),
-        (b"a\\b".as_slice(), PathFault::BadComponent),
-        (b"a\x1fb".as_slice(), PathFault::BadComponent),
-        (b"\x7f".as_slice(), PathFault::BadComponent),
-        (b"\xc0\xaf".as_slice(), PathFault::BadComponent),
-        (seventeen.as_slice(), PathFault::TooLong),
-        ([b'a'; 256].as_slice(), PathFault::TooLong),
-        ([b'/'; 256].as_slice(), PathFault::BadComponent),
-    ] {
-        assert_eq!(rt; Path::read(text), Err(fault), "at {text:?}");
+}
+
+/// Says whether the path that was found has this text; no text stands for no path.
+fn has_text(found: Option<Path>, text: &[u8]) -> bool {
+    match found {
+        Some(path) => path.bytes() == text,
+        None => text.is_empty(),
     }
-    Ok(())
+}
+
+/// Paths, each with another, the path that they join to, and whether the first is under the other.
+static PAIRS: [(&[u8], &[u8], &[u8], bool); 6] = [
+    (b"a/b", b"c", b"a/b/c", false),
+    (b"a/b/c/d/e/f/g/h", b"1/2/3/4/5/6/7/8/9", b"", false),
+    (b"a/b/c", b"a", b"a/b/c/a", true),
+    (b"a", b"a", b"a/a", false),
+    (b"ab/c", b"a", b"ab/c/a", false),
+    (b"a", b"a/b", b"a/a/b", false),
+];
+
+/// Says whether two paths join so, and whether the first is under the other so.
+fn pair_up(one: &[u8], other: &[u8], joined: &[u8], under: bool) -> Result<bool, PathFault> {
+    let (one, other) = (Path::read(one)?, Path::read(other)?);
+    Ok(has_text(one.join(&other), joined) && one.is_under(&other) == under)
+}
+
+/// Says whether a path has this parent, or none.
+fn has_parent(text: &[u8], parent: &[u8]) -> Result<bool, PathFault> {
+    Ok(has_text(Path::read(text)?.parent(), parent))
 }
 
 #[test]
-fn joins_and_parts_paths(rt: HostRuntime) -> Result<(), Fail> {
-    let nine = path(b"1/2/3/4/5/6/7/8/9")?;
-    assert_eq!(rt; path(b"a/b")?.join(&path(b"c")?), Some(path(b"a/b/c")?));
-    assert_eq!(rt; path(b"a/b/c/d/e/f/g/h")?.join(&nine), None);
-    assert_eq!(rt; path(b"a/b/c")?.parent(), Some(path(b"a/b")?));
-    assert_eq!(rt; path(b"a.tal")?.parent(), None);
-    for (text, other, want) in [
-        (b"a/b/c".as_slice(), b"a".as_slice(), true),
-        (b"a".as_slice(), b"a".as_slice(), false),
-        (b"ab/c".as_slice(), b"a".as_slice(), false),
-        (b"a".as_slice(), b"a/b".as_slice(), false),
-    ] {
-        assert_eq!(rt; path(text)?.is_under(&path(other)?), want, "{text:?}");
+fn joins_and_parts_paths(rt: HostRuntime) {
+    for (one, other, joined, under) in &PAIRS {
+        assert!(rt;
+            pair_up(one, other, joined, *under) == Ok(true),
+            "{one:?}, {other:?}"
+        );
     }
-    Ok(())
+    assert!(rt; has_parent(b"a/b/c", b"a/b") == Ok(true));
+    assert!(rt; has_parent(b"a.tal", b"") == Ok(true));
 }
+
+/// Numbers, each with its decimal digits.
+static NUMBERS: [(u64, &[u8]); 3] = [
+    (0, b"0"),
+    (1024, b"1024"),
+    (u64::MAX, b"18446744073709551615"),
+];
 
 #[test]
 fn prints_numbers(rt: HostRuntime) {
-    assert_eq!(rt; hex_byte(0xa4), *b"a4");
-    assert_eq!(rt; hex_short(0x0b0f), *b"0b0f");
-    for (value, want) in [
-        (0, b"0".as_slice()),
-        (1024, b"1024".as_slice()),
-        (u64::MAX, b"18446744073709551615".as_slice()),
-    ] {
-        assert_eq!(rt; decimal(value).as_slice(), want);
+    assert!(rt; hex_byte(0xa4) == *b"a4");
+    assert!(rt; hex_short(0x0b0f) == *b"0b0f");
+    for (value, text) in &NUMBERS {
+        assert!(rt; decimal(*value).as_slice() == *text, "at {value}");
     }
 }
+
+/// Pieces that are put one after the other, each with the answer.
+static PUTS: [(&[u8], Result<usize, Failed>); 5] = [
+    (b"ab", Ok(2)),
+    (b"cd", Err(Failed)),
+    (b"cdef", Ok(3)),
+    (b"", Err(Failed)),
+    (b"", Ok(0)),
+];
 
 #[test]
 fn sinks_take_what_fits_and_fail_by_number(rt: HostRuntime) -> Result<(), Fail> {
     let mut sink = MemSink::new(rt.alloc(), 5, &[1, 3])?;
-    assert_eq!(rt; sink.put(b"ab"), Ok(2));
-    assert_eq!(rt; sink.put(b"cd"), Err(Failed));
-    assert_eq!(rt; sink.put(b"cdef"), Ok(3));
-    assert_eq!(rt; sink.put(b""), Err(Failed));
-    assert_eq!(rt; sink.put(b""), Ok(0));
-    assert_eq!(rt; put_all(&mut sink, b"f"), Err(Failed));
-    assert_eq!(rt; sink.bytes(), b"abcde".as_slice());
-    Ok(())
-}
-
-fn node(rt: &HostRuntime, folder: bool, bytes: &[u8]) -> Result<Node, Fail> {
-    let bytes = Bytes::new(rt.alloc(), bytes)?;
-    Ok(Node { folder, bytes })
-}
-
-/// A file `a`, a folder `d` with a file `d/z` in it, places for two files more, and five bytes in each.
-fn tree(rt: &HostRuntime, fails: &[(TreeCall, u32)]) -> Result<MemTree, Fail> {
-    let nodes = [
-        (path(b"d/z")?, node(rt, false, b"")?),
-        (path(b"d")?, node(rt, true, b"")?),
-        (path(b"a")?, node(rt, false, b"hello")?),
-    ];
-    if !MemTree::can_hold(&nodes, 5) {
-        return Err(Fail::from(Failed));
+    for (piece, answer) in &PUTS {
+        assert!(rt; sink.put(piece) == *answer, "at {piece:?}");
     }
-    Ok(MemTree::new(rt.alloc(), &nodes, 2, 5, fails)?)
+    assert!(rt; put_all(&mut sink, b"f") == Err(Failed));
+    assert!(rt; sink.bytes() == b"abcde".as_slice());
+    Ok(())
 }
 
-#[test]
-fn trees_tell_and_read_what_they_hold(rt: HostRuntime) -> Result<(), Fail> {
-    let mut tree = tree(&rt, &[(TreeCall::Kind, 2), (TreeCall::Read, 1)])?;
-    let a = path(b"a")?;
-    assert_eq!(rt; tree.kind(&path(b"d")?), Ok(Kind::Folder));
-    assert_eq!(rt; tree.kind(&path(b"a/x")?), Ok(Kind::Missing));
-    assert_eq!(rt; tree.kind(&a), Err(Failed));
-    assert_eq!(rt; tree.kind(&a), Ok(Kind::File(5)));
-    let mut into = *b"....";
-    assert_eq!(rt; tree.read(&a, 3, &mut into), Ok(2));
-    assert_eq!(rt; into, *b"lo..");
-    assert_eq!(rt; tree.read(&a, 0, &mut into), Err(Failed));
-    assert_eq!(rt; tree.read(&a, 5, &mut into), Ok(0));
-    assert_eq!(rt;
-        tree.node(&a).map(|node| node.bytes.as_slice()),
-        Some(b"hello".as_slice())
-    );
-    assert_eq!(rt; tree.node(&path(b"b")?).is_none(), true);
-    Ok(())
+/// The nodes at these paths, each with whether it is a folder, and its bytes.
+fn nodes(alloc: Global, rows: &[(&[u8], bool, &[u8])]) -> Result<Vec<(Path, Node)>, Fail> {
+    let mut nodes = Vec::new(alloc);
+    for (text, folder, bytes) in rows {
+        let bytes = Bytes::new(alloc, bytes)?;
+        let folder = *folder;
+        nodes.push((Path::read(text)?, Node { folder, bytes }))?;
+    }
+    Ok(nodes)
+}
+
+/// A file `a`, and a folder `d` with a file `d/z` in it.
+static NODES: [(&[u8], bool, &[u8]); 3] = [
+    (b"d/z", false, b""),
+    (b"d", true, b""),
+    (b"a", false, b"hello"),
+];
+
+/// What a tree is asked, with the answer.
+enum Call<'a> {
+    Kind(Result<Kind, Failed>),
+    /// A read of four bytes from a place on, and what they are then.
+    Read(u64, Result<usize, Failed>, [u8; 4]),
+    Create(Result<bool, Failed>),
+    Append(&'a [u8], Result<usize, Failed>),
+    AppendWhole(&'a [u8], Result<(), Failed>),
+    Remove(Result<bool, Failed>),
+    /// The names in a folder, and whether they are just these.
+    Names(&'a [(&'a [u8], Kind)], Result<bool, NamesStop>),
+    /// A file read up to a limit: its length, or its length in place of its bytes.
+    ReadFile(u32, Result<Result<u64, u64>, ReadStop>),
+    /// The bytes of the node, without a call.
+    Holds(Option<&'a [u8]>),
 }
 
 /// Appends to a file.
@@ -150,57 +183,31 @@ fn names<T: Tree>(alloc: Global, tree: &mut T, path: &Path) -> Result<Vec<Entry>
     }
 }
 
-#[test]
-fn trees_change_within_their_room(rt: HostRuntime) -> Result<(), Fail> {
-    let mut tree = tree(
-        &rt,
-        &[
-            (TreeCall::Append, 3),
-            (TreeCall::Remove, 1),
-            (TreeCall::Names, 1),
-        ],
-    )?;
-    let (a, d, new) = (path(b"a")?, path(b"d")?, path(b"d/b")?);
-    assert_eq!(rt; tree.create(&d), Ok(false));
-    assert_eq!(rt; tree.create(&path(b"a/x")?), Ok(false));
-    assert_eq!(rt; tree.create(&new), Ok(true));
-    assert_eq!(rt; append_whole(&mut tree, &new, b"abc"), Ok(()));
-    assert_eq!(rt; append(&mut tree, &new, b"def"), Ok(2));
-    assert_eq!(rt; append(&mut tree, &new, b"f"), Err(Failed));
-    assert_eq!(rt; append(&mut tree, &new, b""), Err(Failed));
-    assert_eq!(rt; tree.create(&path(b"c")?), Ok(true));
-    assert_eq!(rt; tree.create(&path(b"e")?), Err(Failed));
-    assert_eq!(rt; tree.create(&a), Ok(true));
-    assert_eq!(rt; append_whole(&mut tree, &a, b"abcdef"), Err(Failed));
-    assert_eq!(rt;
-        tree.node(&a).map(|node| node.bytes.as_slice()),
-        Some(b"abcde".as_slice())
-    );
-    let found = names(rt.alloc(), &mut tree, &d)?;
-    assert_eq!(rt; found.len(), 2);
-    let wanted = [(path(b"b")?, Kind::File(5)), (path(b"z")?, Kind::File(0))];
-    for (entry, want) in found.iter().zip(wanted.iter()) {
-        assert_eq!(rt; (entry.name, entry.kind), *want);
+/// Says whether a folder has just these children.
+fn lists(
+    alloc: Global,
+    tree: &mut MemTree,
+    folder: &Path,
+    children: &[(&[u8], Kind)],
+) -> Result<bool, NamesStop> {
+    let found = names(alloc, tree, folder)?;
+    let mut same = found.len() == children.len();
+    for (entry, (name, kind)) in found.iter().zip(children.iter()) {
+        same = same && entry.name.bytes() == *name && entry.kind == *kind;
     }
-    assert_eq!(rt; names(rt.alloc(), &mut tree, &d).is_err(), true);
-    assert_eq!(rt; tree.remove(&d), Ok(false));
-    assert_eq!(rt; tree.remove(&new), Err(Failed));
-    assert_eq!(rt; tree.remove(&new), Ok(true));
-    assert_eq!(rt; tree.kind(&new), Ok(Kind::Missing));
-    assert_eq!(rt; tree.create(&path(b"e")?), Ok(true));
-    Ok(())
+    Ok(same)
 }
 
-#[test]
-fn trees_hold_only_sound_nodes(rt: HostRuntime) -> Result<(), Fail> {
-    let (a, b) = (path(b"a")?, path(b"a/b")?);
-    let file = || node(&rt, false, b"ab");
-    assert_eq!(rt; MemTree::can_hold(&[(a, file()?)], 1), false);
-    assert_eq!(rt; MemTree::can_hold(&[(b, file()?)], 2), false);
-    assert_eq!(rt; MemTree::can_hold(&[(b, file()?), (a, file()?)], 2), false);
-    assert_eq!(rt; MemTree::can_hold(&[(a, file()?), (a, file()?)], 2), false);
-    assert_eq!(rt; MemTree::can_hold(&[(a, node(&rt, true, b"x")?)], 2), false);
-    Ok(())
+/// Says whether a read of four bytes answers so, and leaves these bytes.
+fn reads(
+    tree: &mut MemTree,
+    path: &Path,
+    from: u64,
+    answer: &Result<usize, Failed>,
+    bytes: &[u8; 4],
+) -> bool {
+    let mut into = *b"....";
+    tree.read(path, from, &mut into) == *answer && into == *bytes
 }
 
 /// The length of a file that was found, or its length in place of it.
@@ -212,25 +219,146 @@ fn length_of(read: Result<FileBytes, ReadStop>) -> Result<Result<u64, u64>, Read
     }
 }
 
-#[test]
-fn whole_files_are_read_up_to_the_limit(rt: HostRuntime) -> Result<(), Fail> {
-    let a = path(b"a")?;
-    let nodes = [(a, node(&rt, false, [7; 9000].as_slice())?)];
-    assert!(rt; MemTree::can_hold(&nodes, 9000));
-    let fails = [(TreeCall::Kind, 2), (TreeCall::Read, 4)];
-    let mut tree = MemTree::new(rt.alloc(), &nodes, 0, 9000, &fails)?;
-    for (limit, want) in [
-        (9000, Ok(Ok(9000))),
-        (8999, Ok(Err(9000))),
-        (9000, Err(ReadStop::Failed)),
-        (9000, Err(ReadStop::Failed)),
-    ] {
-        assert_eq!(rt;
-            length_of(read_file(rt.alloc(), &mut tree, &a, limit)),
-            want
+/// Says whether a tree has a node with these bytes, or none.
+fn holds(tree: &MemTree, path: &Path, bytes: Option<&[u8]>) -> bool {
+    match tree.node(path) {
+        Some(node) => bytes == Some(node.bytes.as_slice()),
+        None => bytes.is_none(),
+    }
+}
+
+/// Says whether a tree answers a call at a path so.
+fn answers(
+    alloc: Global,
+    tree: &mut MemTree,
+    text: &[u8],
+    call: &Call<'_>,
+) -> Result<bool, PathFault> {
+    let path = Path::read(text)?;
+    Ok(match call {
+        Call::Kind(answer) => tree.kind(&path) == *answer,
+        Call::Read(from, answer, bytes) => reads(tree, &path, *from, answer, bytes),
+        Call::Create(answer) => tree.create(&path) == *answer,
+        Call::Append(piece, answer) => append(tree, &path, piece) == *answer,
+        Call::AppendWhole(piece, answer) => append_whole(tree, &path, piece) == *answer,
+        Call::Remove(answer) => tree.remove(&path) == *answer,
+        Call::Names(children, answer) => lists(alloc, tree, &path, children) == *answer,
+        Call::ReadFile(limit, answer) => length_of(read_file(alloc, tree, &path, *limit))
+            == *answer,
+        Call::Holds(bytes) => holds(tree, &path, *bytes),
+    })
+}
+
+/// Makes a tree of these nodes, with places for two files more, room for so many bytes in each, and calls
+/// that fail, and then makes calls of it, one after the other.
+fn ask(
+    rt: &impl Abort,
+    alloc: Global,
+    rows: &[(&[u8], bool, &[u8])],
+    room: usize,
+    fails: &[(TreeCall, u32)],
+    calls: &[(&[u8], Call<'_>)],
+) -> Result<(), Fail> {
+    let nodes = nodes(alloc, rows)?;
+    assert!(rt; MemTree::can_hold(&nodes, room));
+    let mut tree = MemTree::new(alloc, &nodes, 2, room, fails)?;
+    for (text, call) in calls {
+        assert!(rt;
+            answers(alloc, &mut tree, text, call) == Ok(true),
+            "at {text:?}"
         );
     }
     Ok(())
+}
+
+/// Questions to a tree of `NODES`.
+static QUESTIONS: [(&[u8], Call<'static>); 9] = [
+    (b"d", Call::Kind(Ok(Kind::Folder))),
+    (b"a/x", Call::Kind(Ok(Kind::Missing))),
+    (b"a", Call::Kind(Err(Failed))),
+    (b"a", Call::Kind(Ok(Kind::File(5)))),
+    (b"a", Call::Read(3, Ok(2), *b"lo..")),
+    (b"a", Call::Read(0, Err(Failed), *b"....")),
+    (b"a", Call::Read(5, Ok(0), *b"....")),
+    (b"a", Call::Holds(Some(b"hello"))),
+    (b"b", Call::Holds(None)),
+];
+
+#[test]
+fn trees_tell_and_read_what_they_hold(rt: HostRuntime) -> Result<(), Fail> {
+    let fails = [(TreeCall::Kind, 2), (TreeCall::Read, 1)];
+    ask(&rt, rt.alloc(), &NODES, 5, &fails, &QUESTIONS)
+}
+
+/// Changes of a tree of `NODES`, and what it holds then.
+static CHANGES: [(&[u8], Call<'static>); 19] = [
+    (b"d", Call::Create(Ok(false))),
+    (b"a/x", Call::Create(Ok(false))),
+    (b"d/b", Call::Create(Ok(true))),
+    (b"d/b", Call::AppendWhole(b"abc", Ok(()))),
+    (b"d/b", Call::Append(b"def", Ok(2))),
+    (b"d/b", Call::Append(b"f", Err(Failed))),
+    (b"d/b", Call::Append(b"", Err(Failed))),
+    (b"c", Call::Create(Ok(true))),
+    (b"e", Call::Create(Err(Failed))),
+    (b"a", Call::Create(Ok(true))),
+    (b"a", Call::AppendWhole(b"abcdef", Err(Failed))),
+    (b"a", Call::Holds(Some(b"abcde"))),
+    (
+        b"d",
+        Call::Names(&[(b"b", Kind::File(5)), (b"z", Kind::File(0))], Ok(true)),
+    ),
+    (b"d", Call::Names(&[], Err(NamesStop::Failed))),
+    (b"d", Call::Remove(Ok(false))),
+    (b"d/b", Call::Remove(Err(Failed))),
+    (b"d/b", Call::Remove(Ok(true))),
+    (b"d/b", Call::Kind(Ok(Kind::Missing))),
+    (b"e", Call::Create(Ok(true))),
+];
+
+#[test]
+fn trees_change_within_their_room(rt: HostRuntime) -> Result<(), Fail> {
+    let fails = [
+        (TreeCall::Append, 3),
+        (TreeCall::Remove, 1),
+        (TreeCall::Names, 1),
+    ];
+    ask(&rt, rt.alloc(), &NODES, 5, &fails, &CHANGES)
+}
+
+/// Lists of nodes, each with the room of a file, that no tree can hold.
+static UNSOUND: [(&[(&[u8], bool, &[u8])], usize); 5] = [
+    (&[(b"a", false, b"ab")], 1),
+    (&[(b"a/b", false, b"ab")], 2),
+    (&[(b"a/b", false, b"ab"), (b"a", false, b"ab")], 2),
+    (&[(b"a", false, b"ab"), (b"a", false, b"ab")], 2),
+    (&[(b"a", true, b"x")], 2),
+];
+
+#[test]
+fn trees_hold_only_sound_nodes(rt: HostRuntime) -> Result<(), Fail> {
+    for (rows, room) in &UNSOUND {
+        let nodes = nodes(rt.alloc(), rows)?;
+        assert!(rt; !MemTree::can_hold(&nodes, *room));
+    }
+    Ok(())
+}
+
+/// A file `a` of 9000 bytes.
+static LARGE: [(&[u8], bool, &[u8]); 1] = [(b"a", false, &[7; 9000])];
+
+/// Reads of that file with a limit.
+static LIMITS: [(&[u8], Call<'static>); 4] = [
+    (b"a", Call::ReadFile(9000, Ok(Ok(9000)))),
+    (b"a", Call::ReadFile(8999, Ok(Err(9000)))),
+    (b"a", Call::ReadFile(9000, Err(ReadStop::Failed))),
+    (b"a", Call::ReadFile(9000, Err(ReadStop::Failed))),
+];
+
+#[test]
+fn whole_files_are_read_up_to_the_limit(rt: HostRuntime) -> Result<(), Fail> {
+    let fails = [(TreeCall::Kind, 2), (TreeCall::Read, 4)];
+    ask(&rt, rt.alloc(), &LARGE, 9000, &fails, &LIMITS)
 }
 
 /// A tree that tells nothing, says that files are short, and always has more bytes.
@@ -274,7 +402,7 @@ impl Tree for Endless {
 
 #[test]
 fn a_file_longer_than_it_was_said_is_too_long(rt: HostRuntime) -> Result<(), Fail> {
-    let read = read_file(rt.alloc(), &mut Endless, &path(b"a")?, 10000);
-    assert_eq!(rt; length_of(read), Ok(Err(10001)));
+    let read = read_file(rt.alloc(), &mut Endless, &Path::read(b"a")?, 10000);
+    assert!(rt; length_of(read) == Ok(Err(10001)));
     Ok(())
 }
