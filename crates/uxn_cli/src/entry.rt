@@ -139,8 +139,8 @@ fn status_of<T: Tree, O: Sink, E: Sink>(
 /// else: 128 for words that are not legal, 129 for a word that is no path, 130 for an input that is no file, 131
 /// for a source with a fault, 132 for a script and 133 for commands with a faulty line, 134 for a ROM of more than
 /// 65,280 bytes or a faulty symbol file, 135 for an output that clashes or cannot be made. The call ends early with
-/// 136 where the tree failed, with 137 where a sink failed, and with 138 where memory is wanting. In a `play` without
-/// a root memory is wanting only before anything was done.
+/// 136 where the tree failed, with 137 where a sink failed, and with 138 where memory is wanting: in a `play` only before
+/// anything was done, or as its program lists a folder.
 pub fn uxn<T: Tree, O: Sink, E: Sink>(
     alloc: Global,
     words: &[String],

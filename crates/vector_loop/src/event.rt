@@ -156,7 +156,8 @@ pub fn run_event<'a, T: Tree, O: Sink, E: Sink, W: Watcher>(
         (running core.old bus.old tally.old watcher.old) (running core.new bus.new tally.new watcher.new) stop (give budget outputs.now event.now)) }
     ensures grown { HasGrown tally.old tally.new 5 1 budget }
 
-    // A fault comes only where its count rose; memory is wanting only to the watcher or where there is a root.
+    // A fault comes only where its count rose; memory is wanting only to the watcher, or beneath a root where the event takes
+    // the names of a folder.
     ensures ledger { Ledger (bus_faults T.faults O.faults E.faults bus.old) (bus_faults T.faults O.faults E.faults bus.new) (blame_of result) }
     ensures memory { IfErr result (λ stop. stop ≡ Stop.NoMemory → W.may_refuse ⊎ HasRoot bus.old.devices.now) }
     ensures lent { SameLent bus.old bus.new }

@@ -217,7 +217,8 @@ pub fn run_script<'a, T: Tree, O: Sink, E: Sink, W: Watcher>(
     ensures err { IfErr result (λ stop. FallsShortFrom (meaning_of T.told O.told E.told T.sure O.sure E.sure) W.may_refuse
         (running core.old bus.old new_tally watcher.old) (running core.new bus.new new_tally watcher.new) stop (run budget outputs.now script.now)) }
 
-    // A fault comes only where its count rose; memory is wanting only to the watcher or where there is a root.
+    // A fault comes only where its count rose; memory is wanting only to the watcher, or beneath a root where the run takes
+    // the names of a folder.
     ensures ledger { Ledger (bus_faults T.faults O.faults E.faults bus.old) (bus_faults T.faults O.faults E.faults bus.new) (blame_of result) }
     ensures memory { IfErr result (λ stop. stop ≡ Stop.NoMemory → W.may_refuse ⊎ HasRoot bus.old.devices.now) }
     ensures lent { SameLent bus.old bus.new }
