@@ -1,7 +1,8 @@
 //! A file device.
-ghost use Rattle.std.specs.Prelude.{◌≡◌, ℕ, ◌+◌, ◌≤◌, List, None, Err, OnOk, OnErr};
+ghost use Rattle.std.specs.Prelude.{◌≡◌, ℕ, ◌+◌, ◌<◌, ◌≤◌, List, false, None, Err, OnOk, OnErr};
 ghost use Rattle.std.specs.Option.{option_copied};
 ghost use Rattle.uxn_io.specs.Faults.{Counted};
+ghost use Rattle.uxn_io.specs.Room.{Leaves};
 ghost use Rattle.file_ports.specs.Device.{idle_at, Suits};
 ghost use Rattle.file_ports.specs.Names.{path_named};
 ghost use Rattle.file_ports.specs.Actions.{Read, Write, Stat, Delete, count_from};
@@ -82,6 +83,8 @@ impl FileDevice {
         ensures stopped { OnErr result (self.new ≡ idle_at self.old.path) }
         ensures path { self.new.path ≡ self.old.path }
         ensures ledger { Counted (T.faults tree.old) (T.faults tree.new) (has_failed result) }
+        ensures asked { 0 < (T.sure tree.old).files → has_failed result ≡ false }
+        ensures kept { has_failed result ≡ false → Leaves (T.sure tree.old) (T.sure tree.new) 0 0 }
         ensures sure { TakesSurely (Read at length) self.old memory.old (T.told tree.old) (T.sure tree.old) (has_failed result) }
         ensures left { LeavesSurely (Read at length) self.old memory.old (T.told tree.old) (T.sure tree.old) (T.sure tree.new) (has_failed result) }
     {
@@ -150,6 +153,8 @@ impl FileDevice {
         ensures stopped { OnErr result (memory.new ≡ memory.old) }
         ensures device { self.new ≡ self.old }
         ensures ledger { Counted (T.faults tree.old) (T.faults tree.new) (has_failed result) }
+        ensures asked { 0 < (T.sure tree.old).files → has_failed result ≡ false }
+        ensures kept { has_failed result ≡ false → Leaves (T.sure tree.old) (T.sure tree.new) 0 0 }
         ensures sure { TakesSurely (Stat at length) self.old memory.old (T.told tree.old) (T.sure tree.old) (has_failed result) }
         ensures left { LeavesSurely (Stat at length) self.old memory.old (T.told tree.old) (T.sure tree.old) (T.sure tree.new) (has_failed result) }
     {
@@ -172,6 +177,8 @@ impl FileDevice {
         ensures stopped { OnErr result (self.new ≡ idle_at self.old.path) }
         ensures path { self.new.path ≡ self.old.path }
         ensures ledger { Counted (T.faults tree.old) (T.faults tree.new) (has_failed result) }
+        ensures asked { 0 < (T.sure tree.old).files → has_failed result ≡ false }
+        ensures kept { has_failed result ≡ false → Leaves (T.sure tree.old) (T.sure tree.new) 0 0 }
         ensures sure { (memory : List ℕ) → TakesSurely Delete self.old memory (T.told tree.old) (T.sure tree.old) (has_failed result) }
         ensures left { (memory : List ℕ) → LeavesSurely Delete self.old memory (T.told tree.old) (T.sure tree.old) (T.sure tree.new) (has_failed result) }
     {
