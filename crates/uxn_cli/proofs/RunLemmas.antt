@@ -15,7 +15,10 @@ use Rattle.uxn_io.specs.Faults.{TheTree, ASink}
 use Rattle.uxn_io.specs.Taking.{TreeTakes, TreeLeft, SinkTakes, sure, WasNotSure, bytes_out, bytes_err, files-told, takes-first}
 use Rattle.uxn_opcodes.specs.declared.Stop.{Stop}
 use Rattle.uxn_opcodes.specs.declared.Stop.TheVariants.{TreeFault, SinkFault, NoMemory}
-use Rattle.varvara_bus.specs.Bus.{FilesStay, IsFileWhereTold}
+use Rattle.varvara_bus.specs.declared.bus.Bus.{Bus}
+use Rattle.varvara_bus.specs.declared.devices.Devices.{Devices}
+use Rattle.varvara_bus.specs.Bus.{BusStandsFor, FilesStay, IsFileWhereTold}
+use Rattle.play_script.specs.Scripts.{ScriptView}
 use Rattle.varvara_bus.specs.State.{HasFiles}
 use Rattle.varvara_bus.proofs.Appends.{appended-stays}
 use Rattle.vector_loop.specs.Outputs.{IsOutput}
@@ -36,7 +39,7 @@ use Rattle.uxn_cli.specs.declared.refusal.Halt.TheVariants.{Refused, Stopped}
 use Rattle.uxn_cli.specs.World.{world, Text, with_empty, with_bytes, CanMake, AreFiles, HasMadeFront}
 use Rattle.uxn_cli.specs.Outputs.{seen_texts, paths_of}
 use Rattle.uxn_cli.specs.Blame.{blame_of}
-use Rattle.uxn_cli.specs.Job.{Debugging, Job, Home, no_home, home_in, outputs_in, trail_by, trail_of, exit_in, text_at, report_text, shown_of, log_text, log_by}
+use Rattle.uxn_cli.specs.Job.{Debugging, Job, Home, no_home, home_in, devices_with, outputs_in, trail_by, trail_of, exit_in, text_at, report_text, shown_of, log_text, log_by}
 use Rattle.uxn_cli.specs.Outcome.{creating, filling_all, reporting, running}
 use Rattle.uxn_cli.specs.Request.{root_by, run_outputs, HasApartOutputs}
 use Rattle.uxn_cli.specs.Lines.{line_of}
@@ -45,7 +48,7 @@ use Rattle.uxn_cli.specs.Room.{TakesFor, TreeSuffices, SinksSuffice}
 use Rattle.uxn_cli.specs.Verdict.{and_then, Work, Run, blocked_seen, job_of, inputs_by, outputs_of, made_by, work_of}
 use Rattle.vector_loop.specs.Folders.{TakesNames}
 use Rattle.uxn_cli.specs.Answer.{Judges, HasEnded, HasFront, HasCut, IsCut, IsUntold, ListsFolder, MayStop, Performs}
-use Rattle.uxn_cli.specs.Prepared.{Around, around, WasDone, FellShort, TreeWasDone, AtHome, HasFinished, IsHomeOf, trail_for, SeesWork, IsReady, Unready, Made, HalfMade, Blocked, MakesOutputs, HasRun, WasShown, RunFiles, outputs_for}
+use Rattle.uxn_cli.specs.Prepared.{AreNew, Around, around, WasDone, FellShort, TreeWasDone, AtHome, HasFinished, IsHomeOf, trail_for, SeesWork, IsReady, Unready, Made, HalfMade, Blocked, MakesOutputs, HasRun, WasShown, RunFiles, outputs_for}
 use Rattle.uxn_cli.proofs.ApartLemmas.{no_clash-fewer, makes_all, made_files}
 use Rattle.uxn_cli.proofs.AssemblingLemmas.{seen_paths}
 use Rattle.uxn_cli.proofs.CauseLemmas.{told_verdict}
@@ -400,6 +403,15 @@ module _ (task : Task) (tree : Option Nodes) where
         go TreeFault = inr (cut TreeFault)
         go SinkFault = cut SinkFault
         go NoMemory = inr (cut NoMemory)
+
+-- a bus over new devices and a tree stands for the start of a run
+pub at-start : {T O E : Type 0} (told_tree : T → Option Nodes) (bus : Bus T O E) (devices : Devices) (tree : T) (script : ScriptView) (home : Home)
+    → bus.devices.now ≡ devices → bus.tree.now ≡ tree → home.root ≡ devices.root → AreNew devices script devices.root
+    → HasFiles (told_tree tree) home.root home.part home.parent → BusStandsFor told_tree bus (devices_with script home)
+at-start told_tree bus devices tree script home held lent root new files = record {
+  devices = rw (held, root) (new home.part home.parent);
+  files = rw lent files;
+}
 
 -- memory was wanting to the debugger, or where there is a root and a run beneath it takes the names of a folder
 lists : (job : Job) → IsSome job.debug ⊎ IsSome job.home.root → IsSome job.debug ⊎ TakesNames (trail_of job) → IsSome job.debug ⊎ ListsFolder job

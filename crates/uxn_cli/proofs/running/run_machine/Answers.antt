@@ -2,8 +2,8 @@ use Rattle.std.proofs.Common.{◌∙◌, ap, rules}
 use Rattle.std.specs.Prelude.{false}
 use Rattle.std.specs.FinMap as fin
 use Rattle.system_port.specs.DebugText.{exit_code_of}
-use Rattle.varvara_bus.specs.Bus.{BusStandsFor}
 use Rattle.uxn_cli.specs.Job.{devices_with, trail_by}
+use Rattle.uxn_cli.proofs.RunLemmas.{at-start}
 use Rattle.uxn_cli.proofs.running.run_machine.Goals as goal
 
 pub run_script-requires-clause-frames : goal.run_script-requires-clause-frames
@@ -13,10 +13,8 @@ pub returns-in-Ok-clause-ok : goal.returns-in-Ok-clause-ok
 unfolding trail_by
 returns-in-Ok-clause-ok g c = λ home root files.
     let start = devices_with c.args.script.now home in
-    let stands : BusStandsFor g.T.Tree.told c.new-bus.result start = record {
-      devices = rw (c.new-bus.ensures.devices_now, root) (c.requires.devices home.part home.parent);
-      files = rw c.new-bus.ensures.tree_now files;
-    } in
+    let stands = at-start g.T.Tree.told c.new-bus.result c.args.devices.now c.args.tree.now c.args.script.now home
+    c.new-bus.ensures.devices_now c.new-bus.ensures.tree_now root c.requires.devices files in
     let ends = c.in-Ok.ensures.ok.from start stands in
     let makes = ends.makes in
     let tree = c.new-bus.ensures.tree_now in
@@ -32,20 +30,16 @@ pub returns-in-Ok-clause-watcher : goal.returns-in-Ok-clause-watcher
 unfolding trail_by
 returns-in-Ok-clause-watcher g c = λ home root files.
     let start = devices_with c.args.script.now home in
-    let stands : BusStandsFor g.T.Tree.told c.new-bus.result start = record {
-      devices = rw (c.new-bus.ensures.devices_now, root) (c.requires.devices home.part home.parent);
-      files = rw c.new-bus.ensures.tree_now files;
-    } in
+    let stands = at-start g.T.Tree.told c.new-bus.result c.args.devices.now c.args.tree.now c.args.script.now home
+    c.new-bus.ensures.devices_now c.new-bus.ensures.tree_now root c.requires.devices files in
     (c.in-Ok.ensures.ok.from start stands).watcher
 
 pub returns-in-Err-clause-err : goal.returns-in-Err-clause-err
 unfolding trail_by
 returns-in-Err-clause-err g c = λ home root files.
     let start = devices_with c.args.script.now home in
-    let stands : BusStandsFor g.T.Tree.told c.new-bus.result start = record {
-      devices = rw (c.new-bus.ensures.devices_now, root) (c.requires.devices home.part home.parent);
-      files = rw c.new-bus.ensures.tree_now files;
-    } in
+    let stands = at-start g.T.Tree.told c.new-bus.result c.args.devices.now c.args.tree.now c.args.script.now home
+    c.new-bus.ensures.devices_now c.new-bus.ensures.tree_now root c.requires.devices files in
     let short = (c.in-Err.ensures.err.from start stands).made in
     let cut = short.cut in
     let not_sure = short.not_sure in
@@ -55,8 +49,6 @@ pub returns-in-Err-clause-names : goal.returns-in-Err-clause-names
 unfolding trail_by
 returns-in-Err-clause-names g c = λ home root files.
     let start = devices_with c.args.script.now home in
-    let stands : BusStandsFor g.T.Tree.told c.new-bus.result start = record {
-      devices = rw (c.new-bus.ensures.devices_now, root) (c.requires.devices home.part home.parent);
-      files = rw c.new-bus.ensures.tree_now files;
-    } in
+    let stands = at-start g.T.Tree.told c.new-bus.result c.args.devices.now c.args.tree.now c.args.script.now home
+    c.new-bus.ensures.devices_now c.new-bus.ensures.tree_now root c.requires.devices files in
     (c.in-Err.ensures.err.from start stands).names
