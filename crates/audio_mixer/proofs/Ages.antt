@@ -36,10 +36,6 @@ pub wrapped-once : (note : Start) (x : ℕ) → is_repeating note ≡ false → 
 unfolding wrapped
 wrapped-once note x h = rw h refl
 
-pub wrapped-round : (note : Start) (x : ℕ) → is_repeating note ≡ true → wrapped note x ≡ x % length_of note
-unfolding wrapped
-wrapped-round note x h = rw h refl
-
 pub wrapped-small : (note : Start) (x : ℕ) → x < length_of note → wrapped note x ≡ x
 unfolding wrapped
 wrapped-small note x h = elim (is_repeating note) as (λ b. (cond_place b (length_of note) x) ≡ x) [ true ↦ mod-eq_of_lt h | false ↦ refl ]

@@ -1,5 +1,4 @@
 pub mod Divisions
-pub mod Bounds
 pub mod Ages
 pub mod Overs
 pub mod Frames

@@ -37,9 +37,6 @@ cut-by action device memory (Some nodes) now front = λ root suits.
     let P : Outcome → Type 0 = λ o. HasMadeFront o.changes nodes now in
     subst P (sym (outcome-same action root nodes device memory suits)) (front root)
 
-seen_some : (path : List ℕ) (was : Option (List ℕ)) (nodes : Nodes) → was ≡ Some path → option_map (seen_of nodes) was ≡ Some (seen_of nodes path)
-seen_some path was nodes e = ap (option_map (seen_of nodes)) e
-
 -- a read that gave a piece
 piece_given : (at count : ℕ) (path : List ℕ) (mode now_mode mode_after : Mode) (memory memory_now : List ℕ) (nodes : Nodes) (now : Option Nodes) (taken : ℕ) → now ≡ Some nodes
     → now_mode ≡ reading mode (seen_of nodes path)

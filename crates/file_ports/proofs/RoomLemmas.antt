@@ -11,10 +11,9 @@ use Rattle.uxn_io.specs.Outside.{Change, Creates, ToFile, Removes, files_by}
 use Rattle.uxn_io.specs.Taking.{TreeTakes, TreeLeft, files_made, files_gone, takes-first, takes-later, left-both}
 use Rattle.file_ports.specs.declared.mode.Mode.{Mode}
 use Rattle.file_ports.specs.Device.{FileState, Suits, is_writing}
-use Rattle.file_ports.specs.Actions.{FileAction, Outcome, Name, Read, Write, Stat, Delete, seen_in, seen_of, is_file, begun, adds, acts, count_from}
+use Rattle.file_ports.specs.Actions.{FileAction, Outcome, Read, Write, Stat, Delete, seen_in, seen_of, is_file, begun, adds, acts, count_from}
 use Rattle.file_ports.specs.Answers.{TakesSurely, LeavesSurely, Adds, and_then, outcome_of}
 use Rattle.file_ports.specs.PartLaws.{outcome-same}
-use Rattle.file_ports.specs.ActLaws.{act-nowhere}
 use Rattle.file_ports.proofs.ActLemmas.{file_seen}
 use Rattle.file_ports.proofs.WriteLemmas.{chosen}
 
@@ -60,13 +59,6 @@ stats_none : (at length : ℕ) (root : Option (List ℕ)) (part : Nodes) (parent
 stats_none at length root part parent device memory None = refl
 stats_none at length root part parent device memory (Some path) = refl
 
-nowhere_none : (action : FileAction) (root : Option (List ℕ)) (device : FileState) (memory : List ℕ) → (acts action root device memory None).changes ≡ []
-nowhere_none (Name at) root device memory = refl
-nowhere_none (Read at length) root device memory = refl
-nowhere_none (Write at length keep) root device memory = refl
-nowhere_none (Stat at length) root device memory = refl
-nowhere_none Delete root device memory = refl
-
 pub leaves_read : (at length : ℕ) (device : FileState) (memory : List ℕ) (told : Option Nodes) (before now : Room) (failed : Bool)
     → (failed ≡ false → Leaves before now 0 0) → LeavesSurely (Read at length) device memory told before now failed
 leaves_read at length device memory told before now failed left =
@@ -76,14 +68,6 @@ pub leaves_stat : (at length : ℕ) (device : FileState) (memory : List ℕ) (to
     → (failed ≡ false → Leaves before now 0 0) → LeavesSurely (Stat at length) device memory told before now failed
 leaves_stat at length device memory told before now failed left =
     leaves_quiet (Stat at length) device memory told before now failed (λ root nodes. stats_none at length root _ _ device memory device.path) left
-
--- and so does one of a device without a path
-pub leaves_nowhere : (action : FileAction) (device : FileState) (memory : List ℕ) (told : Option Nodes) (room : Room) (failed : Bool)
-    → device.path ≡ None → LeavesSurely action device memory told room room failed
-leaves_nowhere action device memory told room failed e =
-    leaves_quiet action device memory told room room failed
-    (λ root nodes. ap (λ (o : Outcome). o.changes) (act-nowhere action root _ _ device memory e) ∙ nowhere_none action root device memory)
-    (λ ok. record { files = λ some. omega arith; bytes = λ some. omega arith })
 
 -- what a device at a path does
 at_path : (action : FileAction) (root : Option (List ℕ)) (nodes : Nodes) (path : List ℕ) (device : FileState) (memory : List ℕ) → Suits root device

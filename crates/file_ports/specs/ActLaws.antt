@@ -8,18 +8,13 @@ use Rattle.uxn_io.specs.PathText.{parent_of}
 use Rattle.uxn_io.specs.Files.{Nodes, is_folder, is_folder_at}
 use Rattle.uxn_io.specs.Outside.{Change, ToOut, ToErr, Creates, ToFile, Removes, World, changed_files, changed, changed_by}
 use Rattle.uxn_io.specs.Outside.{files_by, IsCutOff}
-use Rattle.file_ports.specs.RootPart.{is_in, below, parent_is_folder, path_changed, is_in_part, IsIn, LieIn}
+use Rattle.file_ports.specs.RootPart.{is_in, parent_is_folder, path_changed, is_in_part, IsIn, LieIn}
 use Rattle.file_ports.specs.Device.{FileState, idle_at, suits, Suits, is_writing}
 use Rattle.file_ports.specs.Actions.{FileAction, Outcome, Name, Read, Write, Stat, Delete, is_file, begun, adds, quiet, acts}
 use Rattle.file_ports.specs.Actions.{act, seen_in, count_from}
 use Rattle.file_ports.specs.Answers.{HasMadeFront}
 use Rattle.file_ports.specs.Beneath.{LiesIn, is_in-Decides, parent_outside}
-use Rattle.file_ports.specs.PartLaws.{below-same, changed_elsewhere, named-suits}
-
--- changes that lie in the root part one after the other
-lie-append : (root : Option (List ℕ)) (first more : List Change) → LieIn root first → LieIn root more → LieIn root (first ++ more)
-lie-append root [] more a b = b
-lie-append root (change ∷ first) more a b = (a.0, lie-append root first more a.1 b)
+use Rattle.file_ports.specs.PartLaws.{changed_elsewhere, named-suits}
 
 pub lie-front : (root : Option (List ℕ)) (first more : List Change) → LieIn root (first ++ more) → LieIn root first
 lie-front root [] more lie = tt
@@ -147,14 +142,6 @@ pub parent-kept : (root : Option (List ℕ)) (changes : List Change) (nodes : No
     → parent_is_folder root (files_by nodes changes) ≡ parent_is_folder root nodes
 parent-kept None changes nodes lie = refl
 parent-kept (Some root) changes nodes lie = parent_same root (parent_of root) changes nodes refl lie
-
--- a change outside the root part leaves it as it was
-pub below-outside : (root : Option (List ℕ)) (change : Change) (nodes : Nodes) → is_in_part root (path_changed change) ≡ false
-    → below root (changed_files change nodes) ≡ below root nodes
-below-outside None change nodes out = refl
-below-outside (Some root) change nodes out =
-    below-same root (changed_files change nodes) nodes
-    (λ q inside. changed_elsewhere change q nodes (λ e. let no : false ≡ true = sym out ∙ ap (is_in_part (Some root)) e ∙ inside in cc))
 
 -- changes of files as changes of a world
 no_output : (root : Option (List ℕ)) → IsTrue (is_in_part root None) → ⊥

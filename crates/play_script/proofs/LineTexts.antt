@@ -3,7 +3,7 @@ use Rattle.std.proofs.Common.{◌≡◌, ℕ, ◌+◌, ◌<◌, List, [], ◌∷
 use Rattle.std.specs.Prelude.{codes}
 use Rattle.std.specs.List.{flat_map, join_with_byte, sum_by}
 use Rattle.std.proofs.lemmas.List.{length-map}
-use Rattle.std.proofs.lemmas.List.Concat.{flat_map-append, length-flat_map}
+use Rattle.std.proofs.lemmas.List.Concat.{flat_map-append}
 use Rattle.std.proofs.lemmas.List.Folds.{flat_map-map}
 use Rattle.uxn_io.specs.ByteList.{ByteList}
 use Rattle.play_script.specs.Held.{bytes_in}
@@ -48,15 +48,6 @@ unfolding plain_text plain_lines
 plain_parts script =
     rw (flat_map-append line_text (argument_words script.arguments) (map event_words script.events), event_lines script.events)
     (append_assoc (line_text (clock_words script.clock)) (flat_map line_text (argument_words script.arguments)) _)
-
--- as many events as bytes
-same_sums : (texts : List (List ℕ)) → sum_by (λ text. length (map Input text)) texts ≡ sum_by length texts
-same_sums [] = refl
-same_sums (text ∷ texts) =
-    omega (arith, sum_by-cons (λ each. length (map Input each)) text texts, sum_by-cons (length {A = ℕ}) text texts, same_sums texts, length-map text Input)
-
-pub inputs_length : (texts : List (List ℕ)) → length (inputs_of texts) ≡ sum_by length texts
-inputs_length texts = length-flat_map (λ text. map Input text) texts ∙ same_sums texts
 
 -- the same of texts that are held
 pub held_inputs_length : (held : List ByteList) → length (inputs_of (bytes_in held)) ≡ sum_by (λ text. length text.list) held

@@ -1,11 +1,10 @@
 -- One place is coloured.
 use Rattle.std.proofs.Common.{◌≡◌, ℕ, ◌+◌, ◌*◌, ◌<◌, inl, inr, List, length, slice_index, slice_set, unwrap_or, Some, None, sym, ap, ◌∙◌, arith}
-use Rattle.std.proofs.lemmas.List.{get_or-set_same, get_or-set_other, length-set}
-use Rattle.std.proofs.lemmas.List.Elements.{All-set}
+use Rattle.std.proofs.lemmas.List.{get_or-set_same, get_or-set_other}
 use Rattle.std.proofs.lemmas.Bool.{cases_eq}
 use Rattle.std.proofs.lemmas.Bool.Decides.{nat_tests}
 use Rattle.screen_layers.specs.Drawings.{dot, painted}
-use Rattle.screen_layers.specs.Layers.{IsPlane, PaintedOver, pixel_at}
+use Rattle.screen_layers.specs.Layers.{PaintedOver, pixel_at}
 
 dot-hit : (at_x at_y colour x y : ℕ) → x ≡ at_x → y ≡ at_y → painted (dot at_x at_y colour) x y ≡ Some colour
 unfolding painted
@@ -28,9 +27,3 @@ dot-painted pixels at_x at_y colour place size in_x in_y place_is x y x_in y_in 
           get_or-set_other pixels place (y * 2047 + x) colour 0 ne
           ∙ sym (ap (λ o. unwrap_or o (pixel_at pixels x y)) (dot-miss at_x at_y colour x y (λ e f. ne (omega arith))))
     ]
-
-pub plane-set : (pixels : List ℕ) (place colour : ℕ) → IsPlane pixels → colour < 4 → IsPlane (slice_set pixels place colour)
-plane-set pixels place colour plane fits = record {
-  size = length-set pixels place colour ∙ plane.size;
-  colours = All-set (λ c. c < 4) pixels place colour fits plane.colours;
-}

@@ -1,5 +1,5 @@
 -- What one more drawing does to the pictures that a screen stands for.
-use Rattle.std.proofs.Common.{◌≡◌, ℕ, ◌+◌, ◌*◌, ◌<◌, ◌≤◌, true, false, ◌&&◌, nat_le, nat_lt, List, [], ◌∷◌, if◌then◌else◌, Some, None, unwrap_or, slice_index, refl, sym, ap, ◌∙◌, subst, arith}
+use Rattle.std.proofs.Common.{◌≡◌, ℕ, ◌<◌, ◌≤◌, true, false, ◌&&◌, nat_le, nat_lt, List, [], ◌∷◌, if◌then◌else◌, Some, None, unwrap_or, refl, sym, ap, ◌∙◌, subst, arith}
 use Rattle.std.proofs.lemmas.Bool.Decides.{nat_tests}
 use Rattle.screen_layers.specs.declared.control.Layer.{Layer}
 use Rattle.screen_layers.specs.declared.control.Layer.TheVariants.{Background, Foreground}
@@ -85,18 +85,6 @@ drawn-filled width height x y control e = rw e refl
 pub drawn-dotted : (width height x y control : ℕ) → fills control ≡ false → drawn_by_pixel width height x y control ≡ dotted x y control
 unfolding drawn_by_pixel
 drawn-dotted width height x y control e = rw e refl
-
-blank-pixels : (screen : Layers) → ((k : ℕ) → slice_index screen.background k ≡ 0) → ((k : ℕ) → slice_index screen.foreground k ≡ 0)
-    → (layer : Layer) (x y : ℕ) → pixel_at (pixels_of screen layer) x y ≡ 0
-blank-pixels screen background foreground Background x y = background (y * 2047 + x)
-blank-pixels screen background foreground Foreground x y = foreground (y * 2047 + x)
-
--- a screen whose pixels are 0 stands for nothing drawn
-pub stands-blank : (screen : Layers) (width height : ℕ) → screen.width ≡ width → screen.height ≡ height
-    → ((k : ℕ) → slice_index screen.background k ≡ 0) → ((k : ℕ) → slice_index screen.foreground k ≡ 0)
-    → StandsFor screen (record { width = width; height = height; drawings = [] })
-stands-blank screen width height width_is height_is background foreground =
-    record { width = width_is; height = height_is; pixels = λ layer x y _ _. blank-pixels screen background foreground layer x y }
 
 -- the picture after a write to pixel
 pub stands-after : (before after : Layers) (drawing : Drawing) (x y control : ℕ) (picture : Picture)

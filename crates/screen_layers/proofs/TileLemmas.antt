@@ -43,11 +43,6 @@ rows-other : (at_x at_y : ℕ) (bytes : List ℕ) (flip_x flip_y : Bool) (blend 
 rows-other at_x at_y bytes flip_x flip_y blend row x y ne =
     ap (λ t. if t then row_of at_x bytes flip_x flip_y blend x (distance at_y y) else None) (same-test (distance at_y y) row ne)
 
-pub rows-start : (pixels : List ℕ) (width height at_x at_y : ℕ) (bytes : List ℕ) (flip_x flip_y : Bool) (blend : ℕ)
-    → RowsPainted pixels pixels width height at_x at_y bytes flip_x flip_y blend 0
-rows-start pixels width height at_x at_y bytes flip_x flip_y blend x y in_x in_y =
-    sym (ap (λ o. unwrap_or o (pixel_at pixels x y)) (rows-none at_x at_y bytes flip_x flip_y blend 0 x y (omega arith)))
-
 pub rows-end : (before after : List ℕ) (width height at_x at_y : ℕ) (bytes : List ℕ) (flip_x flip_y : Bool) (blend : ℕ)
     → RowsPainted before after width height at_x at_y bytes flip_x flip_y blend 8
     → PaintedOver before after width height (tile at_x at_y bytes flip_x flip_y blend)

@@ -1,5 +1,5 @@
 -- The expansion port: what the record at an address does to memory (Varvara device reference: System/expansion).
-use Rattle.std.specs.Prelude.{ℕ, zero, ◌+◌, ◌%◌, ◌==◌, List, if◌then◌else◌, slice_index}
+use Rattle.std.specs.Prelude.{ℕ, ◌+◌, ◌%◌, ◌==◌, List, if◌then◌else◌, slice_index}
 use Rattle.uxn_memory.specs.Bytes.{short_at, filled, copied_up, copied_down}
 use Rattle.system_port.specs.declared.expansions.Place.{Place}
 use Rattle.system_port.specs.declared.expansions.Record.{Record}

@@ -1,14 +1,14 @@
 -- Chains of labels, one label at a time, and the lines of a chain.
-use Rattle.std.proofs.Common.{◌≡◌, ◌≢◌, ℕ, zero, suc, ◌+◌, ◌-◌, ◌<◌, ◌≤◌, true, false, List, [], ◌∷◌, ◌++◌, length, drop, get_or, set, replicate, map, inl, inr, refl, ap, sym, subst, ◌∙◌, arith, append_assoc, append-nil, get_or-set_same, get_or-set_other}
+use Rattle.std.proofs.Common.{◌≡◌, ◌≢◌, ℕ, zero, suc, ◌+◌, ◌-◌, ◌<◌, ◌≤◌, true, false, List, [], ◌∷◌, ◌++◌, length, drop, get_or, set, replicate, inl, inr, refl, ap, sym, subst, ◌∙◌, arith, append_assoc, append-nil, get_or-set_same, get_or-set_other}
 use Rattle.std.specs.Prelude.{◌==◌, codes}
 use Rattle.std.specs.List.{flat_map, range_with_len}
 use Rattle.std.proofs.lemmas.Bool.{cases_eq, eq-eqb, ne_eqb}
-use Rattle.std.proofs.lemmas.List.{drop_more, drop_all, get_or-replicate, length-replicate, length-set, get_or_default}
+use Rattle.std.proofs.lemmas.List.{drop_more, get_or-replicate, length-replicate, length-set, get_or_default}
 use Rattle.std.proofs.lemmas.List.Concat.{flat_map-append}
 use Rattle.tal_words.specs.declared.name.Label.{Label}
 use Rattle.tal_listing.specs.Texts.{text_of_lines}
-use Rattle.tal_listing.specs.LabelChains.{labels_of_address, IsNext, AreChained}
-use Rattle.tal_listing.specs.Disassembly.{label_line, label_lines, immediate_left, immediate_length, lines_at, begins_instruction, instruction_line, rom_start, disassembly, disassembly_lines}
+use Rattle.tal_listing.specs.LabelChains.{IsNext, AreChained}
+use Rattle.tal_listing.specs.Disassembly.{label_lines, immediate_left, immediate_length, lines_at, begins_instruction, instruction_line, rom_start, disassembly, disassembly_lines}
 
 -- behind the last label no chain has begun
 pub chained_start : (labels : List Label) (first next : List ℕ) (count : ℕ) → count ≡ 65536 → first ≡ replicate count (length labels)
@@ -82,41 +82,6 @@ pub record LinesLeft (labels : List Label) (address : ℕ) (before now : List �
   pub text : now ++ text_of_lines (label_lines (drop place labels) address) ≡ before ++ text_of_lines (label_lines labels address)
   pub within : place ≤ length labels
   pub found : (d : Label) → place < length labels → (get_or labels place d).address ≡ address
-
-pub lines_start : (labels : List Label) (address place : ℕ) (text : List ℕ) → IsNext labels address 0 place → LinesLeft labels address text text place
-lines_start labels address place text is = record {
-  text = ap (λ (found : List Label). text ++ text_of_lines (map label_line found)) (sym is.skipped);
-  within = is.within;
-  found = is.found;
-}
-
-pub lines_more : (labels : List Label) (address : ℕ) (before now more : List ℕ) (place next : ℕ) (label : Label) → place < length labels
-    → LinesLeft labels address before now place → label ≡ get_or labels place label → more ≡ now ++ (label_line label ++ 10 ∷ [])
-    → ((d : Label) → IsNext labels (get_or labels place d).address (place + 1) next) → LinesLeft labels address before more next
-lines_more labels address before now more place next label within left is_label added follows =
-    let here : label.address ≡ address = ap (λ (l : Label). l.address) is_label ∙ left.found label within in
-    let same : (label.address == address) ≡ true = eq-eqb label.address address here in
-    let P : ℕ → Type 0 = λ a. IsNext labels a (place + 1) next in
-    let is : IsNext labels address (place + 1) next = subst P (left.found label within) (follows label) in
-    let step : drop place labels ≡ label ∷ drop (place + 1) labels =
-    drop_more labels place label within ∙ ap (λ (l : Label). l ∷ drop (place + 1) labels) (sym is_label) in
-    let split : labels_of_address address (drop place labels) ≡ label ∷ labels_of_address address (drop next labels) =
-    ap (labels_of_address address) step ∙ rw same (ap (λ (found : List Label). label ∷ found) is.skipped) in
-    record {
-      text =
-          ap (λ (text : List ℕ). text ++ text_of_lines (label_lines (drop next labels) address)) added
-          ∙ append_assoc now (label_line label ++ 10 ∷ []) (text_of_lines (label_lines (drop next labels) address))
-          ∙ ap (λ (found : List Label). now ++ text_of_lines (map label_line found)) (sym split)
-          ∙ left.text;
-      within = is.within;
-      found = is.found;
-    }
-
-pub lines_end : (labels : List Label) (address : ℕ) (before now : List ℕ) (place : ℕ) → length labels ≤ place → LinesLeft labels address before now place
-    → now ≡ before ++ text_of_lines (label_lines labels address)
-lines_end labels address before now place past left =
-    let none = drop_all place labels past in
-    sym (append-nil now) ∙ ap (λ (rest : List Label). now ++ text_of_lines (label_lines rest address)) (sym none) ∙ left.text
 
 -- the offsets up to one more
 range_more : (from count : ℕ) → range_with_len from (count + 1) ≡ range_with_len from count ++ (from + count) ∷ []

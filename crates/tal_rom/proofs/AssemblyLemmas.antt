@@ -1,30 +1,25 @@
 -- The phases of a source.
-use Rattle.std.proofs.Common.{◌≡◌, ℕ, ◌+◌, ◌<◌, ◌≤◌, Bool, true, false, List, [], ◌∷◌, length, take, drop, get_or, Option, Some, None, Err, refl, sym, ◌∙◌, ap, arith}
+use Rattle.std.proofs.Common.{◌≡◌, ℕ, ◌+◌, ◌<◌, ◌≤◌, Bool, true, false, List, [], length, take, drop, get_or, Option, Some, None, Err, refl, sym, ◌∙◌, ap, arith}
 use Rattle.std.specs.Prelude.{nat_le, nat_lt}
-use Rattle.std.proofs.lemmas.Bool.{lt-ltb, leb-true, ltb-true, and_parts}
+use Rattle.std.proofs.lemmas.Bool.{leb-true, ltb-true, and_parts}
 use Rattle.tal_words.specs.declared.fault.Fault.{Fault}
 use Rattle.tal_words.specs.declared.fault.AsmStop.{AsmStop}
 use Rattle.tal_words.specs.declared.fault.AsmStop.TheVariants.{Refused, NoMemory}
 use Rattle.tal_words.specs.declared.name.Label.{Label}
 use Rattle.tal_words.specs.Source.{expanded_text}
 use Rattle.tal_words.specs.Faults.{Gives, or_later}
-use Rattle.tal_words.specs.Comments.{word_fault, long_source}
+use Rattle.tal_words.specs.Comments.{word_fault}
 use Rattle.tal_words.proofs.FormLemmas.{length-encoded}
 use Rattle.tal_words.proofs.OrderLemmas.{get_or-each}
 use Rattle.tal_macros.specs.Expansion.{expanded_of, expansion_fault}
 use Rattle.tal_labels.specs.declared.placed.PlacedWord.{PlacedWord}
-use Rattle.tal_labels.specs.Placing.{LieApart, place_fault, layout_of}
+use Rattle.tal_labels.specs.Placing.{LieApart, place_fault}
 use Rattle.tal_labels.proofs.CallerLemmas.{place_fault-none, lie_apart}
-use Rattle.tal_rom.specs.References.{reference_fault, target_of}
+use Rattle.tal_rom.specs.References.{reference_fault}
 use Rattle.tal_rom.specs.Rom.{Piece, covers, piece_given, pieces_of}
 use Rattle.tal_rom.specs.Answers.{CoverOnce}
 use Rattle.tal_rom.specs.Assembly.{first_fault, layout, IsAssembled}
 use Rattle.tal_rom.proofs.Laying.{no_placed_word}
-
--- a source over its limit is refused before all else
-pub long_source_refused : (source : List ℕ) → 4194304 < length source → first_fault source ≡ Some long_source
-unfolding first_fault word_fault
-long_source_refused source long = rw (lt-ltb 4194304 (length source) long) refl
 
 -- a pass that stops with a fault stops with that of the source, where that is the source's
 pub stopped : {X Y : Type 0} (view : X → Y) (value : Y) (source : List ℕ) (stop : AsmStop) (fault : Option Fault)

@@ -3,7 +3,7 @@ use Rattle.std.proofs.Common.{◌≡◌, ℕ, ◌+◌, ◌*◌, ◌/◌, ◌%◌
 use Rattle.std.specs.Prelude.{not, ◌&&◌, ◌==◌, nat_lt}
 use Rattle.std.specs.List.{list_any}
 use Rattle.std.proofs.lemmas.Bool.{cases_Bool, le-ltb, lt-ltb, and_from, not_from_false}
-use Rattle.std.proofs.lemmas.List.{take-append-drop, nil_from_length, length_push, get_or-append-add}
+use Rattle.std.proofs.lemmas.List.{take-append-drop, length_push, get_or-append-add}
 use Rattle.std.proofs.lemmas.List.Concat.{flat_map-append}
 use Rattle.std.proofs.lemmas.List.Folds.{list_all-append}
 use Rattle.tal_words.specs.declared.name.Label.{Label}
@@ -22,9 +22,6 @@ pub record ReadsOn (bytes rest : List ℕ) (labels : List Label) : Type 0 where
   pub parts : bytes ≡ symbol_file labels ++ rest
   pub readable : are_readable labels ≡ true
   pub count : length labels + length rest ≤ length bytes
-
-pub reads_start : (bytes : List ℕ) → ReadsOn bytes bytes []
-reads_start bytes = record { refusal = refl; all = refl; parts = refl; readable = refl; count = omega arith }
 
 named_readable : (name : List ℕ) → bad_name name ≡ None → (nat_lt 0 (length name) && not (list_any is_blank name)) ≡ true
 named_readable [] e = cc
@@ -104,17 +101,6 @@ reads_stop bytes rest labels kind reads some fault = (
     fault = sym (same_fault rest) ∙ fault;
   },
 )
-
--- all entries
-pub reads_end : (bytes rest : List ℕ) (labels : List Label) → ReadsOn bytes rest labels → length rest ≡ 0
-    → (first_refusal 0 (entries bytes) ≡ None) × (map label_of_entry (entries bytes) ≡ labels) × (are_readable labels ≡ true) × (symbol_file labels ≡ bytes)
-reads_end bytes rest labels reads end =
-    let none = nil_from_length rest end in (
-      reads.refusal ∙ ap (λ (text : List ℕ). first_refusal (length labels) (entries text)) none,
-      reads.all ∙ ap (λ (text : List ℕ). labels ++ map label_of_entry (entries text)) none ∙ append-nil labels,
-      reads.readable,
-      sym (reads.parts ∙ ap (λ (text : List ℕ). symbol_file labels ++ text) none ∙ append-nil (symbol_file labels)),
-    )
 
 -- no entry is too long
 not_long : (rest : List ℕ) → entry_fault rest ≡ Some Long → ⊥

@@ -11,8 +11,7 @@ use Rattle.uxn_cli.specs.declared.words.Command.TheVariants.{Play, Debug, Assemb
 use Rattle.uxn_cli.specs.declared.task.Task.{Task}
 use Rattle.uxn_cli.specs.declared.refusal.Refusal.{Refusal}
 use Rattle.uxn_cli.specs.declared.refusal.Refusal.TheVariants.{NotUnderstood, NoPath, NoOutput, Missing, Faulty, LongRom, BadSymbols, BadScript, BadCommands}
-use Rattle.std.proofs.lemmas.Bool.Decides.{nat_tests}
-use Rattle.uxn_io.specs.Faults.{Counts, Rose, Ledger, TreeRose, OutRose, ErrRose, Nobody, TheTree, ASink}
+use Rattle.uxn_io.specs.Faults.{Counts, Rose, Ledger, TreeRose, OutRose, ErrRose, TheTree, ASink}
 use Rattle.uxn_opcodes.specs.declared.Stop.{Stop}
 use Rattle.uxn_cli.specs.Blame.{blame_of, blame_at, early_status}
 use Rattle.uxn_cli.specs.Lines.{text_of, line_of, status_of}
@@ -362,10 +361,6 @@ wanting asked before now answer answers = go before.files refl answers
       | inr untold ↦ absurd (let code = untold.1 in omega (arith, is, code))
     ]
     go (Some nodes) told (inr early) = λ is. wanting_cut asked before now nodes early.stop told (sym early.status ∙ is) early.stands
-
--- who is to blame for a status
-pub blame-ended : (answer : ℕ) → answer ≤ 135 → blame_at answer ≡ Nobody
-blame-ended answer small = grind (arith, nat_tests)
 
 pub tree-blamed : (stop : Stop) → early_status stop ≡ 136 → blame_of stop ≡ TheTree
 tree-blamed TreeFault e = refl

@@ -1,4 +1,3 @@
-pub mod Growth
 pub mod ArgumentLemmas
 pub mod LineLemmas
 pub mod WordLemmas

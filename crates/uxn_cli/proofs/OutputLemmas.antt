@@ -1,10 +1,10 @@
-use Rattle.std.proofs.Common.{◌≡◌, ℕ, suc, ◌+◌, ◌<◌, ◌≤◌, Bool, true, false, true≢false, cond, List, [], ◌∷◌, map, take, drop, length, get_or, refl, ap, sym, ◌∙◌, subst, inl, inr, arith, add-one, drop-cons, drop_of_length-le}
-use Rattle.std.specs.Prelude.{Option, Some, None, IsSome, IfSome, ◌⊎◌, option_map, find}
+use Rattle.std.proofs.Common.{◌≡◌, ℕ, suc, ◌+◌, ◌<◌, Bool, true, false, true≢false, cond, List, [], ◌∷◌, map, take, drop, length, get_or, refl, ap, sym, ◌∙◌, subst, inl, inr, arith, add-one, drop-cons}
+use Rattle.std.specs.Prelude.{Option, Some, None, IsSome, IfSome, ◌⊎◌, option_map}
 use Rattle.std.specs.FinMap as fin
 use Rattle.std.specs.Cmp.{IsTotalOrder}
 use Rattle.std.specs.Cmp.Lexicographic.{slice_cmp, nat_list_cmp_total}
 use Rattle.std.specs.Ordering.{nat_cmp, eq_by_cmp}
-use Rattle.std.proofs.lemmas.List.{get_or-map, length-map, map-append, take_all}
+use Rattle.std.proofs.lemmas.List.{get_or-map, length-map, map-append}
 use Rattle.std.proofs.lemmas.List.Sums.{fold_more}
 use Rattle.std.proofs.lemmas.List.Elements.{All-get_or, All-weaker}
 use Rattle.std.proofs.lemmas.Option.{slice_get-get_or}
@@ -12,24 +12,12 @@ use Rattle.uxn_io.specs.Changes.{can_create, with_created, with_appended, HasApp
 use Rattle.uxn_io.specs.Files.{Nodes, Node, File, bytes_of, file_at}
 use Rattle.uxn_cli.specs.declared.outputs.Output.{Output}
 use Rattle.uxn_cli.specs.World.{Text, with_empty, with_bytes, CanMake, AreFiles, HasMadeFront, HasFilledFront}
-use Rattle.uxn_cli.specs.Outputs.{seen_text, seen_texts, paths_of}
+use Rattle.uxn_cli.specs.Outputs.{seen_text, seen_texts}
 
 -- the elements of a list from a place on, through a function
 pub map_at : {X Y : Type 0} (f : X → Y) (xs : List X) (at : ℕ) (x : X) → at < length xs → x ≡ get_or xs at x → map f (drop at xs) ≡ f x ∷ map f (drop (at + 1) xs)
 map_at f xs at x lt is =
     ap (map f) (drop-cons xs at x lt) ∙ ap (λ y. f y ∷ map f (drop (suc at) xs)) (sym is) ∙ ap (λ n. f x ∷ map f (drop n xs)) (sym (add-one at))
-
--- a search goes on
-pub find_on : (p : List ℕ → Bool) (outputs : List Output) (at : ℕ) (output : Output) → at < length outputs → output ≡ get_or outputs at output → p output.path ≡ false
-    → find p (paths_of (drop (at + 1) outputs)) ≡ find p (paths_of (drop at outputs))
-find_on p outputs at output lt is miss = sym (ap (find p) (map_at (λ o. o.path) outputs at output lt is) ∙ ap (λ b. cond b (Some output.path) (find p (paths_of (drop (at + 1) outputs)))) miss)
-
-pub find_here : (p : List ℕ → Bool) (outputs : List Output) (at : ℕ) (output : Output) → at < length outputs → output ≡ get_or outputs at output → p output.path ≡ true
-    → find p (paths_of (drop at outputs)) ≡ Some output.path
-find_here p outputs at output lt is hit = ap (find p) (map_at (λ o. o.path) outputs at output lt is) ∙ ap (λ b. cond b (Some output.path) (find p (paths_of (drop (at + 1) outputs)))) hit
-
-pub find_end : (p : List ℕ → Bool) (outputs : List Output) (at : ℕ) → length outputs ≤ at → find p (paths_of (drop at outputs)) ≡ None
-find_end p outputs at past = ap (λ os. find p (paths_of os)) (drop_of_length-le outputs past)
 
 module _ (outputs : List Output) (at : ℕ) (output : Output) (lt : at < length outputs) (is : output ≡ get_or outputs at output) where
   abbrev texts : List Text
@@ -129,19 +117,8 @@ keep_files texts path bytes None new e files = rw e tt
 keep_files texts path bytes (Some nodes) new e files =
     rw e (All-weaker (λ (t : Text). IsSome (file_at nodes t.path)) (λ (t : Text). IsSome (file_at (with_appended path bytes nodes) t.path)) (λ t h. appended-file nodes path t.path bytes h) texts files)
 
--- all files
-pub all_made : (texts : List Text) (at : ℕ) (before now : Option Nodes) → length texts ≤ at → now ≡ option_map (with_empty (take at texts)) before → now ≡ option_map (with_empty texts) before
-all_made texts at before now past e = e ∙ ap (λ ts. option_map (with_empty ts) before) (take_all at texts past)
-
-pub all_filled : (texts : List Text) (at : ℕ) (before now : Option Nodes) → length texts ≤ at → now ≡ option_map (with_bytes (take at texts)) before → now ≡ option_map (with_bytes texts) before
-all_filled texts at before now past e = e ∙ ap (λ ts. option_map (with_bytes ts) before) (take_all at texts past)
-
 pub none_made : (texts : List Text) (before : Option Nodes) → before ≡ option_map (with_empty (take 0 texts)) before
 none_made texts None = refl
 none_made texts (Some nodes) = refl
-
-pub none_filled : (texts : List Text) (before : Option Nodes) → before ≡ option_map (with_bytes (take 0 texts)) before
-none_filled texts None = refl
-none_filled texts (Some nodes) = refl
 
 pub ruleset pushed = (map-append)

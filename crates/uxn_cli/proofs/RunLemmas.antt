@@ -85,10 +85,6 @@ pub stays-if : (root file : Option (List ℕ)) (before now : Option Nodes) → F
 stays-if root None before now f there = tt
 stays-if root (Some path) before now f there = f.stays path there.outside there.file
 
-pub files-if : (root file : Option (List ℕ)) (tree : Option Nodes) → IfSome file (IsOutput root tree) → IfSome file (IsFileWhereTold tree)
-files-if root None tree there = tt
-files-if root (Some path) tree there = there.file
-
 -- a run and its report
 same-report : (trail : Trail) (ended : Ended) → ended.exit ≡ exit_in trail.last → ended.tally ≡ trail.last.tally → report_text ended.exit ended.tally ≡ report_text (exit_in trail.last) trail.last.tally
 same-report trail ended exit tally = ap (λ e. report_text e ended.tally) exit ∙ ap (λ t. report_text (exit_in trail.last) t) tally
@@ -135,11 +131,6 @@ cut-after before middle now trail changes file text last status stop same ran sh
     short-later before middle now changes (filling_all (text_at file last)) stop ran.done (subst (λ t. FellShort middle now (filling_all (text_at file t)) stop) same short)
 
 -- ---- what is sure
-
--- where the tree suffices it is read without a fault
-pub reads-surely : (tree : Option Nodes) (asked : Result Task Refusal) (start : Room) (P : Type 0) → (0 < start.files → P) → IfSome tree (λ nodes. TreeSuffices (verdict_on nodes asked) start nodes → P)
-reads-surely None asked start P f = tt
-reads-surely (Some nodes) asked start P f = λ s. f s.some
 
 -- a refusal's line is surely put
 pub refused-surely : (tree : Option Nodes) (asked : Result Task Refusal) (refusal : Refusal) (out err : ℕ) (P : Type 0) → Judges asked tree (Err refusal) → (length (line_of refusal) < err → P)

@@ -63,10 +63,6 @@ abbrev pub Continues : Option Nodes → Option Nodes → Room → Room → List 
 Continues before now start here all rest =
     IfSome before (λ nodes. TreeTakes start nodes all → IfSome now (λ there. TreeTakes here there rest × ((last : Room) → TreeLeft here last there rest → TreeLeft start last nodes all)))
 
-pub continues-start : (told : Option Nodes) (start : Room) (all : List Change) → Continues told told start start all all
-continues-start None start all = tt
-continues-start (Some nodes) start all = λ takes. (takes, λ last left. left)
-
 module _ (path : List ℕ) (all rest : List Change) (start here : Room) where
   -- one file more is made
   pub continues-more : (before now made : Option Nodes) (new : Room) → made ≡ option_map (with_created path) now → IfSome now (λ there. can_create there path ≡ true)

@@ -46,10 +46,6 @@ then_ok : (said : Result Work Refusal) → and_then said (made_by None) ≡ said
 then_ok (Ok work) = refl
 then_ok (Err refusal) = refl
 
-then_then : {A B C : Type 0} (said : Result A Refusal) (f : A → Result B Refusal) (g : B → Result C Refusal) → and_then (and_then said f) g ≡ and_then said (λ a. and_then (f a) g)
-then_then (Ok a) f g = refl
-then_then (Err refusal) f g = refl
-
 -- a call that failed before anything was done: it is refused, or memory was wanting
 pub step_failed : {A : Type 0} (seen : A → Work) (asked : Result Task Refusal) (view : View) (tree new_tree : Option Nodes) (out err : Option (List ℕ)) (halt : Halt)
     → Follows seen (Err halt) (verdict asked view) → IsViewFor tree asked view → new_tree ≡ tree → Performs asked (world tree out err) (world new_tree out err) (Err halt)

@@ -60,9 +60,6 @@ IsBadCommands verdict = (number : ℕ) × (kind : CommandKind) × (verdict ≡ E
 abbrev pub IsBlocked : {A : Type 0} → Result A Refusal → Type 0
 IsBlocked verdict = (path : List ℕ) × (verdict ≡ Err (NoOutput path))
 
-abbrev pub IsAccepted : {A : Type 0} → Result A Refusal → Type 0
-IsAccepted {A} verdict = (work : A) × (verdict ≡ Ok work)
-
 -- what is accepted ends with this exit code
 abbrev pub EndsWith : ℕ → Result Work Refusal → Type 0
 EndsWith code verdict = (work : Work) × (verdict ≡ Ok work) × ((outcome_of (Ok work)).status ≡ code)

@@ -31,12 +31,6 @@ drop_next xs i x more is = sym (drop-drop 1 i xs) ∙ ap (λ ys. drop 1 ys) is
 within : {A : Type 0} (xs : List A) (i : ℕ) (x : A) (more : List A) → drop i xs ≡ x ∷ more → i < length xs
 within xs i x more is = omega (arith, length-drop i xs, ap length is)
 
-drop_past : {A : Type 0} (xs : List A) (i : ℕ) → length xs ≤ i → drop i xs ≡ []
-drop_past [] zero past = refl
-drop_past [] (suc i) past = refl
-drop_past (y ∷ ys) zero past = absurd (omega arith)
-drop_past (y ∷ ys) (suc i) past = drop_past ys i (omega arith)
-
 -- the first place that passes is the first, or one further on
 first_passes : {A : Type 0} (p : A → Bool) (x : A) (xs : List A) → p x ≡ true → position_or_len p (x ∷ xs) ≡ 0
 first_passes p x xs awaited = ap (λ b. cond (not b) (1 + position_or_len p xs) 0) awaited

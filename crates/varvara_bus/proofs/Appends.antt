@@ -57,14 +57,6 @@ none-gone : (path text : List ℕ) → files_gone (map (λ byte. ToFile path byt
 none-gone path [] = refl
 none-gone path (byte ∷ text) = let later = none-gone path text in omega (arith, later)
 
-none-out : (path text : List ℕ) → bytes_out (map (λ byte. ToFile path byte) text) ≡ 0
-none-out path [] = refl
-none-out path (byte ∷ text) = let later = none-out path text in omega (arith, later)
-
-none-err : (path text : List ℕ) → bytes_err (map (λ byte. ToFile path byte) text) ≡ 0
-none-err path [] = refl
-none-err path (byte ∷ text) = let later = none-err path text in omega (arith, later)
-
 -- where a text is surely taken the file has room for it
 takes-text : (room : Room) (nodes : Nodes) (path text : List ℕ) → TreeTakes room nodes (map (λ byte. ToFile path byte) text) → 0 < length text
     → length (bytes_at nodes path) + length text ≤ room.bytes

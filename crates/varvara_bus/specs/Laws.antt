@@ -1,5 +1,5 @@
 -- What one more store changes: the port that it goes to, and no other; and what new devices hold.
-use Rattle.std.specs.Prelude.{◌≡◌, ℕ, ◌/◌, ◌%◌, ◌<◌, ◌==◌, List, [], ◌∷◌, Option}
+use Rattle.std.specs.Prelude.{◌≡◌, ℕ, ◌<◌, ◌==◌, List, [], ◌∷◌, Option}
 use Rattle.std.specs.Prelude.{Some, None, IfSome, IsSome, length, replicate, slice_index, slice_set, refl, if◌then◌else◌}
 use Rattle.std.proofs.Common.{ap, sym, ◌∙◌, arith, inl, inr, lit<}
 use Rattle.std.proofs.lemmas.Bool.{cases_lt}
@@ -16,24 +16,10 @@ use Rattle.varvara_bus.specs.Bus.{IsFileWhereTold, file_held}
 use Rattle.file_ports.specs.Device.{Suits}
 use Rattle.varvara_bus.specs.declared.devices.Devices.{Devices}
 use Rattle.varvara_bus.specs.History.{Store, at_first, stored}
-use Rattle.uxn_opcodes.specs.declared.Core.{Core}
-use Rattle.varvara_bus.specs.declared.ports.Source.{Source}
-use Rattle.varvara_bus.specs.declared.ports.Source.TheVariants.{Stored, WorkingPointer, ReturnPointer, ScreenSize, VoiceShows}
-use Rattle.varvara_bus.specs.declared.ports.Source.TheVariants.{Shows, Zero}
-use Rattle.varvara_bus.specs.declared.ports.Voice.{Voice}
-use Rattle.varvara_bus.specs.declared.ports.Voice.TheVariants.{First, Second, Third, Fourth}
-use Rattle.varvara_bus.specs.declared.ports.VoicePart.{VoicePart}
-use Rattle.varvara_bus.specs.declared.ports.VoicePart.TheVariants.{PositionHigh, PositionLow, Output}
-use Rattle.audio_mixer.specs.declared.mixer.Mixer.{Mixer}
-use Rattle.audio_mixer.specs.Sounds.{Sound, position_of, output_of}
-use Rattle.audio_mixer.specs.Voices.{StandsFor as MixerStandsFor}
-use Rattle.audio_mixer.specs.Laws.{same_position, same_output}
 use Rattle.varvara_bus.specs.State.{DeviceState, storing, StandFor}
 use Rattle.varvara_bus.specs.declared.ports.FileNumber.{FileNumber}
 use Rattle.varvara_bus.specs.declared.ports.FileNumber.TheVariants.{First as FirstFile, Second as SecondFile}
 use Rattle.varvara_bus.specs.FileActs.{file_in}
-use Rattle.varvara_bus.specs.Voices.{number_of, voice_byte}
-use Rattle.varvara_bus.specs.Reads.{source_of, byte_of, size_byte, shown_by, read_from, read_of}
 
 -- a byte set at a place is found there, and all else as before
 pub found : (page : List ℕ) (place byte port : ℕ) → place < length page
@@ -179,47 +165,6 @@ pub first_page : (page : List ℕ) → page ≡ slice_set (slice_set (slice_set 
     → (port : ℕ) → slice_index page port ≡ at_first port
 first_page page is port =
     ap (λ p. slice_index p port) is ∙ page-with_size (replicate 256 0) (length-replicate {A = ℕ} 256 0) (zero-page 256) port
-
--- whatever four voices are said to sound, they show the same
-same_place : (mixer : Mixer) (a b : ℕ → Sound) (voice : Voice) → MixerStandsFor mixer a → MixerStandsFor mixer b
-    → position_of (a (number_of voice)) ≡ position_of (b (number_of voice))
-same_place mixer a b First s t = same_position mixer.first (a 0) (b 0) s.first t.first
-same_place mixer a b Second s t = same_position mixer.second (a 1) (b 1) s.second t.second
-same_place mixer a b Third s t = same_position mixer.third (a 2) (b 2) s.third t.third
-same_place mixer a b Fourth s t = same_position mixer.fourth (a 3) (b 3) s.fourth t.fourth
-
-same_level : (mixer : Mixer) (a b : ℕ → Sound) (voice : Voice) → MixerStandsFor mixer a → MixerStandsFor mixer b
-    → output_of (a (number_of voice)) ≡ output_of (b (number_of voice))
-same_level mixer a b First s t = same_output mixer.first (a 0) (b 0) s.first t.first
-same_level mixer a b Second s t = same_output mixer.second (a 1) (b 1) s.second t.second
-same_level mixer a b Third s t = same_output mixer.third (a 2) (b 2) s.third t.third
-same_level mixer a b Fourth s t = same_output mixer.fourth (a 3) (b 3) s.fourth t.fourth
-
-same_shown : (mixer : Mixer) (a b : ℕ → Sound) (voice : Voice) (part : VoicePart) → MixerStandsFor mixer a → MixerStandsFor mixer b
-    → voice_byte part (a (number_of voice)) ≡ voice_byte part (b (number_of voice))
-same_shown mixer a b voice PositionHigh s t = ap (λ place. place / 256) (same_place mixer a b voice s t)
-same_shown mixer a b voice PositionLow s t = ap (λ place. place % 256) (same_place mixer a b voice s t)
-same_shown mixer a b voice Output s t = same_level mixer a b voice s t
-
--- whatever states devices stand for, their ports read the same in each
-same_from : (source : Source) (devices : Devices) (a b : DeviceState) (core : Core) (port : ℕ) → StandFor devices a
-    → StandFor devices b → read_from source a core port ≡ read_from source b core port
-same_from Stored devices a b core port s t = sym (s.page port) ∙ t.page port
-same_from WorkingPointer devices a b core port s t = refl
-same_from ReturnPointer devices a b core port s t = refl
-same_from (ScreenSize part) devices a b core port s t =
-    ap (λ width. size_byte part width a.picture.height) (sym s.screen.width ∙ t.screen.width)
-    ∙ ap (λ height. size_byte part b.picture.width height) (sym s.screen.height ∙ t.screen.height)
-same_from (VoiceShows voice part) devices a b core port s t = same_shown devices.mixer a.sounds b.sounds voice part s.voices t.voices
-same_from (Shows part) devices a b core port s t =
-    ap (λ clock. byte_of part (shown_by clock a.frames)) (sym s.clock ∙ t.clock)
-    ∙ ap (λ frames. byte_of part (shown_by b.clock frames)) (sym s.frames ∙ t.frames)
-same_from Zero devices a b core port s t = refl
-
-pub same_reads : (devices : Devices) (a b : DeviceState) (core : Core) (port : ℕ) → StandFor devices a → StandFor devices b
-    → read_of a core port ≡ read_of b core port
-unfolding read_of
-same_reads devices a b core port s t = same_from (source_of port) devices a b core port s t
 
 -- where a tree told of a file, a file is there
 file_there : (node : Option Node) (size : ℕ) → FileOf size ≡ kind_of node → IsSome (bytes_of node)

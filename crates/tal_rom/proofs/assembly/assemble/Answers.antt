@@ -3,7 +3,6 @@ use Rattle.std.proofs.lemmas.Result.{err_from_is_err_and}
 use Rattle.std.specs.Global.{Vec}
 use Rattle.tal_words.specs.declared.span.Word.{Word}
 use Rattle.tal_words.specs.declared.span.Expanded.{Expanded}
-use Rattle.tal_words.specs.Comments.{words_of}
 use Rattle.tal_macros.specs.Expansion.{expanded_of}
 use Rattle.tal_labels.specs.Placing.{Layout, layout_of, place_fault}
 use Rattle.tal_rom.specs.References.{reference_fault}
