@@ -99,80 +99,74 @@ static FAULTS: [(&str, u32, ScriptKind); 46] = [
     ),
 ];
 
-// The line and the fault of a text, or the plain text of its script.
-fn answer(alloc: Global, text: &str) -> Result<Vec<u8>, (u32, Option<ScriptKind>)> {
-    let script = match read_script(alloc, text.as_bytes()) {
-        Ok(script) => script,
-        Err(ScriptStop::Refused { line, kind }) => return Err((line, Some(kind))),
-        Err(ScriptStop::NoMemory) => return Err((0, None)),
-    };
-    match print_script(alloc, &script) {
-        Ok(plain) => Ok(plain),
-        Err(_) => Err((0, None)),
+/// Says whether a text is read as a script whose plain text is this.
+fn prints_as(alloc: Global, text: &str, plain: &str) -> bool {
+    match read_script(alloc, text.as_bytes()) {
+        Ok(script) => match print_script(alloc, &script) {
+            Ok(printed) => printed.as_slice() == plain.as_bytes(),
+            Err(_) => false,
+        },
+        Err(_) => false,
     }
 }
 
-// The line and the fault of two texts one after the other, or how many events there are.
-fn count(alloc: Global, text: &[u8]) -> Result<usize, (u32, Option<ScriptKind>)> {
+/// Says whether a text is refused at this line, for this fault.
+fn is_refused(alloc: Global, text: &[u8], at: u32, fault: ScriptKind) -> bool {
     match read_script(alloc, text) {
-        Ok(script) => Ok(script.events().len()),
-        Err(ScriptStop::Refused { line, kind }) => Err((line, Some(kind))),
-        Err(ScriptStop::NoMemory) => Err((0, None)),
+        Err(ScriptStop::Refused { line, kind }) => line == at && kind == fault,
+        _ => false,
+    }
+}
+
+/// Says whether a text is read as a script of so many events.
+fn has_events(alloc: Global, text: &[u8], count: usize) -> bool {
+    match read_script(alloc, text) {
+        Ok(script) => script.events().len() == count,
+        Err(_) => false,
     }
 }
 
 #[test]
 fn each_line_is_read_and_printed(rt: HostRuntime) {
     for (text, plain) in &SCRIPTS {
-        match answer(rt.alloc(), *text) {
-            Ok(printed) => assert_eq!(rt; printed.as_slice(), (*plain).as_bytes()),
-            Err((line, _)) => assert_eq!(rt; line, u32::MAX),
-        }
+        assert!(rt; prints_as(rt.alloc(), text, plain), "at {text}");
     }
 }
 
 #[test]
 fn the_first_fault_of_the_first_faulty_line_is_found(rt: HostRuntime) {
     for (text, line, kind) in &FAULTS {
-        match answer(rt.alloc(), *text) {
-            Ok(_) => assert_eq!(rt; *line, u32::MAX),
-            Err(found) => assert_eq!(rt; found, (*line, Some(*kind))),
-        }
+        assert!(rt;
+            is_refused(rt.alloc(), text.as_bytes(), *line, *kind),
+            "at {text}"
+        );
+    }
+}
+
+// Texts around the limit of a million events, with their first faulty lines.
+static PAST: [(&[u8], u32, ScriptKind); 3] = [
+    (b"frame 1000000\nframe", 2, ScriptKind::ManyEvents),
+    (
+        b"shot\nframe 999998\ninput \"ab\nend",
+        3,
+        ScriptKind::ManyEvents,
+    ),
+    (b"frame 1000000\nargs \"a", 2, ScriptKind::Late),
+];
+
+#[test]
+fn a_million_events_are_the_most(rt: HostRuntime) {
+    assert!(rt; has_events(rt.alloc(), b"frame 1000000\ninput \"", 1_000_000));
+    for (text, line, kind) in &PAST {
+        assert!(rt; is_refused(rt.alloc(), text, *line, *kind), "at {text:?}");
     }
 }
 
 #[test]
-fn a_million_events_are_the_most(rt: HostRuntime) {
-    let alloc = rt.alloc();
-    assert_eq!(rt;
-        count(alloc, b"frame 1000000\ninput \"".as_slice()),
-        Ok(1_000_000)
-    );
-    let more = Some(ScriptKind::ManyEvents);
-    assert_eq!(rt;
-        count(alloc, b"frame 1000000\nframe".as_slice()),
-        Err((2, more))
-    );
-    assert_eq!(rt;
-        count(alloc, b"shot\nframe 999998\ninput \"ab\nend".as_slice()),
-        Err((3, more))
-    );
-    let late = Some(ScriptKind::Late);
-    assert_eq!(rt;
-        count(alloc, b"frame 1000000\nargs \"a".as_slice()),
-        Err((2, late))
-    );
-}
-
-#[test]
 fn a_script_has_4194304_bytes_at_most(rt: HostRuntime) -> Result<(), AllocError> {
-    let alloc = rt.alloc();
-    let mut text = vec![in alloc; b' '; 4_194_304]?;
-    assert_eq!(rt; count(alloc, text.as_slice()), Ok(0));
+    let mut text = vec![in rt.alloc(); b' '; 4_194_304]?;
+    assert!(rt; has_events(rt.alloc(), &text, 0));
     text.push(b' ')?;
-    assert_eq!(rt;
-        count(alloc, text.as_slice()),
-        Err((1, Some(ScriptKind::LongScript)))
-    );
+    assert!(rt; is_refused(rt.alloc(), &text, 1, ScriptKind::LongScript));
     Ok(())
 }

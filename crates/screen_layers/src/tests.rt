@@ -3,238 +3,290 @@
 
 use super::*;
 use std::process::Abort;
-use std::test::Fail;
 
 /// Colours that show the value of a pixel.
-const VALUES: Palette = Palette {
+static VALUES: Palette = Palette {
     colours: [[0, 0, 0], [1, 1, 1], [2, 2, 2], [3, 3, 3]],
 };
 
-/// The value that is shown at a place.
-fn shown_at(rt: &impl Abort, screen: &Screen, x: usize, y: u16) -> u8 {
-    assert!(rt; x < 2047);
-    assert!(rt; y < screen.height());
+/// Says whether a screen shows this value at a place that lies on it.
+fn shows(screen: &Screen, x: usize, y: u16, value: u8) -> bool {
+    if x >= 2047 || y >= screen.height() {
+        return false;
+    }
     let mut row = [0; 6141];
     screen.picture_row(y, &VALUES, &mut row);
-    row[3 * x]
+    row[3 * x] == value
 }
 
-#[test]
-fn sizes_are_had_or_refused(rt: HostRuntime) -> Result<(), Fail> {
-    let mut screen = Screen::new(rt.alloc())?;
-    assert_eq!(rt; (screen.width(), screen.height()), (512, 320));
-    screen.pixel(3, 5, 0x00, 0x02);
-    for (width, height) in [(7, 320), (512, 2048), (512, 320), (0, 8)] {
-        assert!(rt; !screen.resize(width, height));
-        assert_eq!(rt; (screen.width(), screen.height()), (512, 320));
-    }
-    assert_eq!(rt; shown_at(&rt, &screen, 3, 5), 2);
-    assert!(rt; screen.resize(2047, 8));
-    assert_eq!(rt; (screen.width(), screen.height()), (2047, 8));
-    assert_eq!(rt; shown_at(&rt, &screen, 3, 5), 0);
-    screen.pixel(2046, 7, 0x00, 0x01);
-    assert_eq!(rt; shown_at(&rt, &screen, 2046, 7), 1);
-    Ok(())
-}
-
-#[test]
-fn pixels_and_fills(rt: HostRuntime) -> Result<(), Fail> {
-    let mut screen = Screen::new(rt.alloc())?;
-    assert_eq!(rt; screen.pixel(2, 1, 0x00, 0xc1), (2, 1));
-    for (x, y, want) in [(2, 1, 1), (511, 319, 1), (1, 1, 0), (2, 0, 0)] {
-        assert_eq!(rt; shown_at(&rt, &screen, x, y), want, "at {x} {y}");
-    }
-    assert_eq!(rt; screen.pixel(2, 1, 0x03, 0xf2), (2, 1));
-    for (x, y, want) in [(0, 0, 2), (1, 0, 2), (2, 0, 0), (0, 1, 0)] {
-        assert_eq!(rt; shown_at(&rt, &screen, x, y), want, "at {x} {y}");
-    }
-    assert_eq!(rt; screen.pixel(0xffff, 0, 0x03, 0x01), (0, 1));
-    assert_eq!(rt; screen.pixel(9, 0, 0x01, 0x03), (10, 0));
-    assert_eq!(rt; shown_at(&rt, &screen, 9, 0), 3);
-    Ok(())
-}
-
-/// For each blend, the pixels that the values 0 to 3 leave over a background of 2.
-const BLENDED: [[u8; 4]; 16] = [
-    [2, 0, 1, 2],
-    [0, 1, 2, 3],
-    [0, 2, 3, 1],
-    [0, 3, 1, 2],
-    [1, 0, 1, 2],
-    [2, 1, 2, 3],
-    [1, 2, 3, 1],
-    [1, 3, 1, 2],
-    [2, 0, 1, 2],
-    [2, 1, 2, 3],
-    [2, 2, 3, 1],
-    [2, 3, 1, 2],
-    [3, 0, 1, 2],
-    [3, 1, 2, 3],
-    [3, 2, 3, 1],
-    [2, 3, 1, 2],
-];
-
-#[test]
-fn each_blend_has_its_colours(rt: HostRuntime) -> Result<(), Fail> {
-    let mut memory = Memory::new(rt.alloc())?;
-    memory.set(0x0000, 0x50);
-    memory.set(0x0008, 0x30);
-    let mut screen = Screen::new(rt.alloc())?;
-    for blend in 0..16 {
-        screen.pixel(0, 0, 0x00, 0x82);
-        screen.sprite(&memory, 0, 0, 0x0000, 0x00, 0x80 + blend);
-        for x in 0..4 {
-            let want = BLENDED[usize::from(blend)][x];
-            assert_eq!(rt;
-                shown_at(&rt, &screen, x, 0),
-                want,
-                "blend {blend} value {x}"
-            );
-        }
-    }
-    Ok(())
-}
-
-/// A sprite at 16 and 16, whose first tile has its top left pixel and whose second has its top right one.
-#[derive(Clone, Copy)]
-struct Case {
-    auto: u8,
-    flips: u8,
-    moved: (u16, u16, u16),
-    pixels: [(usize, u16); 2],
-}
-
-const CASES: [Case; 8] = [
-    Case {
-        auto: 0x17,
-        flips: 0x00,
-        moved: (0x18, 0x18, 0x110),
-        pixels: [(16, 16), (31, 24)],
-    },
-    Case {
-        auto: 0x17,
-        flips: 0x10,
-        moved: (0x08, 0x18, 0x110),
-        pixels: [(23, 16), (8, 24)],
-    },
-    Case {
-        auto: 0x17,
-        flips: 0x20,
-        moved: (0x18, 0x08, 0x110),
-        pixels: [(16, 23), (31, 15)],
-    },
-    Case {
-        auto: 0x17,
-        flips: 0x30,
-        moved: (0x08, 0x08, 0x110),
-        pixels: [(23, 23), (8, 15)],
-    },
-    Case {
-        auto: 0x15,
-        flips: 0x00,
-        moved: (0x18, 0x10, 0x110),
-        pixels: [(16, 16), (23, 24)],
-    },
-    Case {
-        auto: 0x16,
-        flips: 0x30,
-        moved: (0x10, 0x08, 0x110),
-        pixels: [(23, 23), (8, 23)],
-    },
-    Case {
-        auto: 0x13,
-        flips: 0x10,
-        moved: (0x08, 0x18, 0x100),
-        pixels: [(23, 16), (15, 24)],
-    },
-    Case {
-        auto: 0x04,
-        flips: 0x20,
-        moved: (0x10, 0x10, 0x108),
-        pixels: [(16, 23), (16, 23)],
-    },
-];
-
-#[test]
-fn flips_and_auto_move_tiles(rt: HostRuntime) -> Result<(), Fail> {
-    let mut memory = Memory::new(rt.alloc())?;
-    memory.set(0x0100, 0x80);
-    memory.set(0x0108, 0x01);
-    for case in CASES {
-        let mut screen = Screen::new(rt.alloc())?;
-        let moved = screen.sprite(&memory, 16, 16, 0x0100, case.auto, 0x41 + case.flips % 0x40);
-        assert_eq!(rt; (moved.x, moved.y, moved.addr), case.moved);
-        for (x, y) in case.pixels {
-            assert_eq!(rt; shown_at(&rt, &screen, x, y), 1, "at {x} {y}");
-        }
-    }
-    Ok(())
-}
-
-#[test]
-fn coordinates_and_addresses_wrap(rt: HostRuntime) -> Result<(), Fail> {
-    let mut memory = Memory::new(rt.alloc())?;
-    memory.set(0xfff8, 0xf0);
-    memory.set(0x0000, 0x30);
-    let mut screen = Screen::new(rt.alloc())?;
+/// Says whether a sprite of this control leaves these values over a background of 2.
+fn blends(screen: &mut Screen, memory: &Memory, control: u8, values: &[u8; 4]) -> bool {
     screen.pixel(0, 0, 0x00, 0x82);
-    let moved = screen.sprite(&memory, 0xfffc, 0x0000, 0xfff8, 0x35, 0x91);
-    assert_eq!(rt; (moved.x, moved.y, moved.addr), (0xfff4, 0x0000, 0x0038));
-    for (x, want) in [3, 3, 1, 1, 2].into_iter().enumerate() {
-        assert_eq!(rt; shown_at(&rt, &screen, x, 0), want, "at {x}");
+    screen.sprite(memory, 0, 0, 0x0000, 0x00, control);
+    let mut same = true;
+    for (x, value) in values.iter().enumerate() {
+        same = same && shows(screen, x, 0, *value);
     }
-    for (x, y, want) in [(0, 1, 0), (3, 31, 0), (0, 32, 2), (4, 31, 2), (511, 0, 2)] {
-        assert_eq!(rt; shown_at(&rt, &screen, x, y), want, "at {x} {y}");
-    }
-    Ok(())
+    same
 }
 
-/// The rows of the picture of 8 by 8 that the test below draws, by the numbers of their colours.
-const ROWS: [[usize; 8]; 8] = [
-    [2, 2, 2, 0, 0, 3, 3, 3],
-    [2, 2, 2, 0, 0, 2, 0, 2],
-    [0, 0, 0, 0, 0, 1, 1, 1],
-    [0, 0, 1, 1, 1, 1, 1, 0],
-    [0, 0, 1, 1, 1, 1, 0, 3],
-    [0, 0, 1, 1, 1, 1, 1, 1],
-    [1, 0, 1, 1, 1, 1, 1, 1],
-    [0, 1, 1, 1, 1, 1, 1, 3],
-];
-
-/// The bytes of its four colours.
-const COLOURS: [[u8; 3]; 4] = [
+/// The bytes of the four colours of the picture.
+static COLOURS: [[u8; 3]; 4] = [
     [0xff, 0x00, 0x00],
     [0x00, 0xff, 0x00],
     [0x11, 0x33, 0x55],
     [0x22, 0x44, 0x66],
 ];
 
-#[test]
-fn a_whole_picture(rt: HostRuntime) -> Result<(), Fail> {
-    let mut memory = Memory::new(rt.alloc())?;
-    memory.put(0x0100, &[0x81, 0x42, 0x24, 0x18, 0xff, 0x0f, 0x33, 0x55]);
-    memory.put(0x0108, &[0xc0, 0x30, 0x0c, 0x03, 0xaa, 0xf0, 0xcc, 0x99]);
-    let mut screen = Screen::new(rt.alloc())?;
-    assert!(rt; screen.resize(8, 8));
-    screen.pixel(2, 3, 0x00, 0x81);
-    screen.pixel(3, 2, 0x03, 0xb2);
-    screen.sprite(&memory, 0x0005, 0xfffd, 0x0100, 0x07, 0x8c);
-    screen.sprite(&memory, 0xfffe, 0x0004, 0x0100, 0x12, 0x55);
-    screen.pixel(7, 7, 0x02, 0x43);
+/// Says whether a row of the picture has just these colours.
+fn has_row(screen: &Screen, y: u16, colours: &[usize; 8]) -> bool {
+    if y >= screen.height() {
+        return false;
+    }
     let palette = Palette::of(&[0xf0, 0x12, 0x0f, 0x34, 0x00, 0x56]);
     let mut row = [9; 6141];
-    for y in 0..8 {
-        assert!(rt; y < screen.height());
-        assert_eq!(rt; screen.picture_row(y, &palette, &mut row), 24);
-        for x in 0..8 {
-            let want = COLOURS[ROWS[usize::from(y)][x] % 4];
-            assert_eq!(rt;
-                [row[3 * x], row[3 * x + 1], row[3 * x + 2]],
-                want,
-                "at {x} {y}"
-            );
+    let mut same = screen.picture_row(y, &palette, &mut row) == 24 && row[24] == 9;
+    for x in 0..8 {
+        let pixel = [row[3 * x], row[3 * x + 1], row[3 * x + 2]];
+        same = same && pixel == COLOURS[colours[x] % 4];
+    }
+    same
+}
+
+/// What is asked of a screen, with the answer.
+enum Call {
+    Size(u16, u16),
+    Resize(u16, u16, bool),
+    /// A pixel at x and y, with auto and control, which leaves x and y so.
+    Pixel(u16, u16, u8, u8, (u16, u16)),
+    /// A sprite at x and y of the bytes at an address, with auto and control, which leaves the three so.
+    Sprite(u16, u16, u16, u8, u8, (u16, u16, u16)),
+    /// The value that is shown at a place.
+    Shows(usize, u16, u8),
+    /// The control of a sprite at the address 0, and what its first four pixels show over a background of 2.
+    Blend(u8, [u8; 4]),
+    /// The pixels of a row of the picture of 8 by 8, by the numbers of their colours.
+    Row(u16, [usize; 8]),
+}
+
+/// Says whether a screen answers a call so.
+fn answers(screen: &mut Screen, memory: &Memory, call: &Call) -> bool {
+    match call {
+        Call::Size(width, height) => screen.width() == *width && screen.height() == *height,
+        Call::Resize(width, height, answer) => screen.resize(*width, *height) == *answer,
+        Call::Pixel(x, y, auto, control, moved) => screen.pixel(*x, *y, *auto, *control) == *moved,
+        Call::Sprite(x, y, addr, auto, control, moved) => {
+            let left = screen.sprite(memory, *x, *y, *addr, *auto, *control);
+            (left.x, left.y, left.addr) == *moved
         }
-        assert_eq!(rt; row[24], 9);
+        Call::Shows(x, y, value) => shows(screen, *x, *y, *value),
+        Call::Blend(control, values) => blends(screen, memory, *control, values),
+        Call::Row(y, colours) => has_row(screen, *y, colours),
+    }
+}
+
+/// Makes a memory with these bytes, and a screen, and then makes calls of the screen, one after the other.
+fn ask(
+    rt: &impl Abort,
+    alloc: Global,
+    bytes: &[(u16, u8)],
+    calls: &[Call],
+) -> Result<(), AllocError> {
+    let mut memory = Memory::new(alloc)?;
+    for (at, byte) in bytes {
+        memory.set(*at, *byte);
+    }
+    let mut screen = Screen::new(alloc)?;
+    for (at, call) in calls.iter().enumerate() {
+        assert!(rt; answers(&mut screen, &memory, call), "at call {at}");
     }
     Ok(())
+}
+
+/// Sizes that are asked for.
+static SIZES: [Call; 16] = [
+    Call::Size(512, 320),
+    Call::Pixel(3, 5, 0x00, 0x02, (3, 5)),
+    Call::Resize(7, 320, false),
+    Call::Size(512, 320),
+    Call::Resize(512, 2048, false),
+    Call::Size(512, 320),
+    Call::Resize(512, 320, false),
+    Call::Size(512, 320),
+    Call::Resize(0, 8, false),
+    Call::Size(512, 320),
+    Call::Shows(3, 5, 2),
+    Call::Resize(2047, 8, true),
+    Call::Size(2047, 8),
+    Call::Shows(3, 5, 0),
+    Call::Pixel(2046, 7, 0x00, 0x01, (2046, 7)),
+    Call::Shows(2046, 7, 1),
+];
+
+#[test]
+fn sizes_are_had_or_refused(rt: HostRuntime) -> Result<(), AllocError> {
+    ask(&rt, rt.alloc(), &[], &SIZES)
+}
+
+/// Fills and pixels.
+static PIXELS: [Call; 13] = [
+    Call::Pixel(2, 1, 0x00, 0xc1, (2, 1)),
+    Call::Shows(2, 1, 1),
+    Call::Shows(511, 319, 1),
+    Call::Shows(1, 1, 0),
+    Call::Shows(2, 0, 0),
+    Call::Pixel(2, 1, 0x03, 0xf2, (2, 1)),
+    Call::Shows(0, 0, 2),
+    Call::Shows(1, 0, 2),
+    Call::Shows(2, 0, 0),
+    Call::Shows(0, 1, 0),
+    Call::Pixel(0xffff, 0, 0x03, 0x01, (0, 1)),
+    Call::Pixel(9, 0, 0x01, 0x03, (10, 0)),
+    Call::Shows(9, 0, 3),
+];
+
+#[test]
+fn pixels_and_fills(rt: HostRuntime) -> Result<(), AllocError> {
+    ask(&rt, rt.alloc(), &[], &PIXELS)
+}
+
+/// Each blend of a tile whose first four pixels have the values 0 to 3.
+static BLENDED: [Call; 16] = [
+    Call::Blend(0x80, [2, 0, 1, 2]),
+    Call::Blend(0x81, [0, 1, 2, 3]),
+    Call::Blend(0x82, [0, 2, 3, 1]),
+    Call::Blend(0x83, [0, 3, 1, 2]),
+    Call::Blend(0x84, [1, 0, 1, 2]),
+    Call::Blend(0x85, [2, 1, 2, 3]),
+    Call::Blend(0x86, [1, 2, 3, 1]),
+    Call::Blend(0x87, [1, 3, 1, 2]),
+    Call::Blend(0x88, [2, 0, 1, 2]),
+    Call::Blend(0x89, [2, 1, 2, 3]),
+    Call::Blend(0x8a, [2, 2, 3, 1]),
+    Call::Blend(0x8b, [2, 3, 1, 2]),
+    Call::Blend(0x8c, [3, 0, 1, 2]),
+    Call::Blend(0x8d, [3, 1, 2, 3]),
+    Call::Blend(0x8e, [3, 2, 3, 1]),
+    Call::Blend(0x8f, [2, 3, 1, 2]),
+];
+
+#[test]
+fn each_blend_has_its_colours(rt: HostRuntime) -> Result<(), AllocError> {
+    ask(&rt, rt.alloc(), &[(0x0000, 0x50), (0x0008, 0x30)], &BLENDED)
+}
+
+/// Sprites at 16 and 16, whose first tile has its top left pixel and whose second has its top right one.
+static MOVED: [[Call; 3]; 8] = [
+    [
+        Call::Sprite(16, 16, 0x0100, 0x17, 0x41, (0x18, 0x18, 0x110)),
+        Call::Shows(16, 16, 1),
+        Call::Shows(31, 24, 1),
+    ],
+    [
+        Call::Sprite(16, 16, 0x0100, 0x17, 0x51, (0x08, 0x18, 0x110)),
+        Call::Shows(23, 16, 1),
+        Call::Shows(8, 24, 1),
+    ],
+    [
+        Call::Sprite(16, 16, 0x0100, 0x17, 0x61, (0x18, 0x08, 0x110)),
+        Call::Shows(16, 23, 1),
+        Call::Shows(31, 15, 1),
+    ],
+    [
+        Call::Sprite(16, 16, 0x0100, 0x17, 0x71, (0x08, 0x08, 0x110)),
+        Call::Shows(23, 23, 1),
+        Call::Shows(8, 15, 1),
+    ],
+    [
+        Call::Sprite(16, 16, 0x0100, 0x15, 0x41, (0x18, 0x10, 0x110)),
+        Call::Shows(16, 16, 1),
+        Call::Shows(23, 24, 1),
+    ],
+    [
+        Call::Sprite(16, 16, 0x0100, 0x16, 0x71, (0x10, 0x08, 0x110)),
+        Call::Shows(23, 23, 1),
+        Call::Shows(8, 23, 1),
+    ],
+    [
+        Call::Sprite(16, 16, 0x0100, 0x13, 0x51, (0x08, 0x18, 0x100)),
+        Call::Shows(23, 16, 1),
+        Call::Shows(15, 24, 1),
+    ],
+    [
+        Call::Sprite(16, 16, 0x0100, 0x04, 0x61, (0x10, 0x10, 0x108)),
+        Call::Shows(16, 23, 1),
+        Call::Shows(16, 23, 1),
+    ],
+];
+
+#[test]
+fn flips_and_auto_move_tiles(rt: HostRuntime) -> Result<(), AllocError> {
+    for calls in &MOVED {
+        ask(&rt, rt.alloc(), &[(0x0100, 0x80), (0x0108, 0x01)], calls)?;
+    }
+    Ok(())
+}
+
+/// A sprite across the left side of a screen and the end of the memory.
+static WRAPPED: [Call; 12] = [
+    Call::Pixel(0, 0, 0x00, 0x82, (0, 0)),
+    Call::Sprite(0xfffc, 0x0000, 0xfff8, 0x35, 0x91, (0xfff4, 0x0000, 0x0038)),
+    Call::Shows(0, 0, 3),
+    Call::Shows(1, 0, 3),
+    Call::Shows(2, 0, 1),
+    Call::Shows(3, 0, 1),
+    Call::Shows(4, 0, 2),
+    Call::Shows(0, 1, 0),
+    Call::Shows(3, 31, 0),
+    Call::Shows(0, 32, 2),
+    Call::Shows(4, 31, 2),
+    Call::Shows(511, 0, 2),
+];
+
+#[test]
+fn coordinates_and_addresses_wrap(rt: HostRuntime) -> Result<(), AllocError> {
+    ask(&rt, rt.alloc(), &[(0xfff8, 0xf0), (0x0000, 0x30)], &WRAPPED)
+}
+
+/// The bytes that the picture is drawn from.
+static DRAWN: [(u16, u8); 16] = [
+    (0x0100, 0x81),
+    (0x0101, 0x42),
+    (0x0102, 0x24),
+    (0x0103, 0x18),
+    (0x0104, 0xff),
+    (0x0105, 0x0f),
+    (0x0106, 0x33),
+    (0x0107, 0x55),
+    (0x0108, 0xc0),
+    (0x0109, 0x30),
+    (0x010a, 0x0c),
+    (0x010b, 0x03),
+    (0x010c, 0xaa),
+    (0x010d, 0xf0),
+    (0x010e, 0xcc),
+    (0x010f, 0x99),
+];
+
+/// A picture of 8 by 8, and its rows.
+static PICTURE: [Call; 14] = [
+    Call::Resize(8, 8, true),
+    Call::Pixel(2, 3, 0x00, 0x81, (2, 3)),
+    Call::Pixel(3, 2, 0x03, 0xb2, (3, 2)),
+    Call::Sprite(0x0005, 0xfffd, 0x0100, 0x07, 0x8c, (0x000d, 0x0005, 0x0110)),
+    Call::Sprite(0xfffe, 0x0004, 0x0100, 0x12, 0x55, (0xfffe, 0x000c, 0x0100)),
+    Call::Pixel(7, 7, 0x02, 0x43, (7, 8)),
+    Call::Row(0, [2, 2, 2, 0, 0, 3, 3, 3]),
+    Call::Row(1, [2, 2, 2, 0, 0, 2, 0, 2]),
+    Call::Row(2, [0, 0, 0, 0, 0, 1, 1, 1]),
+    Call::Row(3, [0, 0, 1, 1, 1, 1, 1, 0]),
+    Call::Row(4, [0, 0, 1, 1, 1, 1, 0, 3]),
+    Call::Row(5, [0, 0, 1, 1, 1, 1, 1, 1]),
+    Call::Row(6, [1, 0, 1, 1, 1, 1, 1, 1]),
+    Call::Row(7, [0, 1, 1, 1, 1, 1, 1, 3]),
+];
+
+#[test]
+fn a_whole_picture(rt: HostRuntime) -> Result<(), AllocError> {
+    ask(&rt, rt.alloc(), &DRAWN, &PICTURE)
 }

@@ -2,118 +2,154 @@
 
 use crate::{AsmStop, Fault, FaultKind, assemble};
 use std::alloc::{AllocError, Global};
-use std::process::Abort;
-use std::test::Fail;
-use tal_labels::{Placed, place};
+use tal_labels::place;
 use tal_macros::expand;
 use tal_words::words;
 
-fn expect_rom(rt: &impl Abort, alloc: Global, source: &[u8], rom: &[u8]) {
+/// Sources, each with its ROM.
+static SOURCES: [(&[u8], &[u8]); 8] = [
+    (
+        b"|0100 LIT \"A #18 DEO BRK",
+        &[0x80, 0x41, 0x80, 0x18, 0x17],
+    ),
+    (b"", &[]),
+    (
+        b"#12 #3456 789a \"text [ LIT2k ] ADD2kr",
+        &[
+            0x80, 0x12, 0xa0, 0x34, 0x56, 0x78, 0x9a, 0x74, 0x65, 0x78, 0x74, 0xa0, 0xf8,
+        ],
+    ),
+    (b"|0102 01 |0105 02 $1 |0000 [", &[0, 0, 1, 0, 0, 2]),
+    (
+        b"@x =x _x -x .x ,x ;x !x ?x x",
+        &[
+            0x01, 0x00, 0xfc, 0x00, 0x80, 0x00, 0x80, 0xf7, 0xa0, 0x01, 0x00, 0x40, 0xff, 0xf2,
+            0x20, 0xff, 0xef, 0x60, 0xff, 0xec,
+        ],
+    ),
+    (
+        b"{ \"hi $1 } STH2r",
+        &[0x60, 0x00, 0x03, 0x68, 0x69, 0x00, 0x6f],
+    ),
+    (
+        b";{ { } INC ?{ 61 } } 62",
+        &[
+            0xa0, 0x01, 0x0b, 0x60, 0x00, 0x00, 0x01, 0x20, 0x00, 0x01, 0x61, 0x62,
+        ],
+    ),
+    (
+        b"|10 @Console &vector $2 &read $1 &pad $4 &type $1 &write $1 &error $1 |100 @on-reset ( -> ) ;text print-text BRK @print-text ( str* -- ) LDAk .Console/write DEO INC2 LDAk ?print-text POP2 JMP2r @text \"Hello $1",
+        &[
+            0xa0, 0x01, 0x12, 0x60, 0x00, 0x01, 0x00, 0x94, 0x80, 0x18, 0x17, 0x21, 0x94, 0x20,
+            0xff, 0xf7, 0x22, 0x6c, 0x48, 0x65, 0x6c, 0x6c, 0x6f,
+        ],
+    ),
+];
+
+/// The fault of a source that is too long.
+static LONG: Fault = Fault {
+    at: 0,
+    line: 1,
+    column: 1,
+    kind: FaultKind::LongSource,
+};
+
+/// Says whether a source has this ROM, or, where there is none, is refused as too long.
+fn has_rom(alloc: Global, source: &[u8], rom: Option<&[u8]>) -> bool {
     match assemble(alloc, source) {
-        Ok(assembly) => assert_eq!(rt; assembly.rom(), rom),
-        Err(stop) => panic!(rt; "{stop:?}"),
+        Ok(assembly) => rom == Some(assembly.rom()),
+        Err(AsmStop::Refused(found)) => rom.is_none() && found == LONG,
+        Err(AsmStop::NoMemory) => false,
     }
 }
 
 #[test]
-fn sources_give_their_bytes(rt: HostRuntime) -> Result<(), Fail> {
-    let rows: [(&[u8], &[u8]); 8] = [
-        (
-            b"|0100 LIT \"A #18 DEO BRK",
-            &[0x80, 0x41, 0x80, 0x18, 0x17],
-        ),
-        (b"", &[]),
-        (
-            b"#12 #3456 789a \"text [ LIT2k ] ADD2kr",
-            &[
-                0x80, 0x12, 0xa0, 0x34, 0x56, 0x78, 0x9a, 0x74, 0x65, 0x78, 0x74, 0xa0, 0xf8,
-            ],
-        ),
-        (b"|0102 01 |0105 02 $1 |0000 [", &[0, 0, 1, 0, 0, 2]),
-        (
-            b"@x =x _x -x .x ,x ;x !x ?x x",
-            &[
-                0x01, 0x00, 0xfc, 0x00, 0x80, 0x00, 0x80, 0xf7, 0xa0, 0x01, 0x00, 0x40, 0xff, 0xf2,
-                0x20, 0xff, 0xef, 0x60, 0xff, 0xec,
-            ],
-        ),
-        (
-            b"{ \"hi $1 } STH2r",
-            &[0x60, 0x00, 0x03, 0x68, 0x69, 0x00, 0x6f],
-        ),
-        (
-            b";{ { } INC ?{ 61 } } 62",
-            &[
-                0xa0, 0x01, 0x0b, 0x60, 0x00, 0x00, 0x01, 0x20, 0x00, 0x01, 0x61, 0x62,
-            ],
-        ),
-        (
-            b"|10 @Console &vector $2 &read $1 &pad $4 &type $1 &write $1 &error $1 |100 @on-reset ( -> ) ;text print-text BRK @print-text ( str* -- ) LDAk .Console/write DEO INC2 LDAk ?print-text POP2 JMP2r @text \"Hello $1",
-            &[
-                0xa0, 0x01, 0x12, 0x60, 0x00, 0x01, 0x00, 0x94, 0x80, 0x18, 0x17, 0x21, 0x94, 0x20,
-                0xff, 0xf7, 0x22, 0x6c, 0x48, 0x65, 0x6c, 0x6c, 0x6f,
-            ],
-        ),
-    ];
-    for (source, rom) in rows {
-        expect_rom(&rt, rt.alloc(), source, rom);
+fn sources_give_their_bytes(rt: HostRuntime) {
+    for (source, rom) in &SOURCES {
+        assert!(rt; has_rom(rt.alloc(), source, Some(rom)), "at {source:?}");
     }
-    Ok(())
 }
 
-#[test]
-fn assemblies_tell_labels_and_places(rt: HostRuntime) -> Result<(), Fail> {
-    let assembly = assemble(rt.alloc(), b"%m { 01 02 }\n@a/b m &c ?{ }")?;
-    assert_eq!(rt; assembly.labels().len(), 2);
-    assert_eq!(rt; assembly.labels()[1].name.bytes(), b"a/c".as_slice());
-    assert_eq!(rt; assembly.labels()[1].address, 258);
-    assert_eq!(rt; assembly.places().len(), 6);
-    assert_eq!(rt; assembly.places()[2].address, 257);
-    assert_eq!(rt; assembly.places()[4].lambda, Some(261));
-    Ok(())
-}
-
-/// The words of a source with their addresses, by the three passes alone.
-fn placed(alloc: Global, source: &[u8]) -> Result<Placed, AsmStop> {
-    let words = words(alloc, source)?;
-    let expanded = expand(alloc, source, &words)?;
-    place(alloc, source, &expanded)
-}
-
-#[test]
-fn passes_need_no_more_than_the_ones_before_promise(rt: HostRuntime) -> Result<(), Fail> {
-    let placed = placed(rt.alloc(), b"%m { 01 } m @x m")?;
-    assert_eq!(rt; placed.address_of(b"x"), Some(0x0101));
-    Ok(())
-}
-
-/// A source of this piece, so many times.
-fn repeated(alloc: Global, piece: &[u8], times: u32) -> Result<Vec<u8>, AllocError> {
-    let mut source = Vec::new(alloc);
-    for _ in 0..times {
-        source.extend_from_slice(piece)?;
+/// Says whether a source of two labels and six words is assembled, the second label with its name, and
+/// that label and two of the words with their places.
+fn tells_labels_and_places(alloc: Global) -> bool {
+    match assemble(alloc, b"%m { 01 02 }\n@a/b m &c ?{ }") {
+        Ok(assembly) => {
+            let (labels, places) = (assembly.labels(), assembly.places());
+            labels.len() == 2
+                && labels[1].name.bytes() == b"a/c".as_slice()
+                && labels[1].address == 258
+                && places.len() == 6
+                && places[2].address == 257
+                && places[4].lambda == Some(261)
+        }
+        Err(_) => false,
     }
-    Ok(source)
 }
 
 #[test]
-fn memory_and_sources_have_an_end(rt: HostRuntime) -> Result<(), Fail> {
-    let mut last = repeated(rt.alloc(), &[0], 65_279)?;
-    last.push(1)?;
-    expect_rom(&rt, rt.alloc(), b"|ffff 01", &last);
-    let mut source = repeated(rt.alloc(), b" ", 4_194_302)?;
-    source.extend_from_slice(b"ff")?;
-    expect_rom(&rt, rt.alloc(), &source, &[0xff]);
-    source.push(b' ')?;
-    let long = Fault {
-        at: 0,
-        line: 1,
-        column: 1,
-        kind: FaultKind::LongSource,
+fn assemblies_tell_labels_and_places(rt: HostRuntime) {
+    assert!(rt; tells_labels_and_places(rt.alloc()));
+}
+
+/// The address of the label x of a source, by the three passes alone.
+fn address_of_x(alloc: Global, source: &[u8]) -> Option<u16> {
+    let Ok(words) = words(alloc, source) else {
+        return None;
     };
-    match assemble(rt.alloc(), &source) {
-        Err(AsmStop::Refused(found)) => assert_eq!(rt; found, long),
-        _ => panic!(rt; "the source is not refused"),
+    let Ok(expanded) = expand(alloc, source, &words) else {
+        return None;
+    };
+    match place(alloc, source, &expanded) {
+        Ok(placed) => placed.address_of(b"x"),
+        Err(_) => None,
     }
-    Ok(())
+}
+
+#[test]
+fn passes_need_no_more_than_the_ones_before_promise(rt: HostRuntime) {
+    assert!(rt; address_of_x(rt.alloc(), b"%m { 01 } m @x m") == Some(0x0101));
+}
+
+/// A byte, so many times, and then these.
+fn padded(alloc: Global, byte: u8, times: usize, last: &[u8]) -> Result<Vec<u8>, AllocError> {
+    let mut bytes = vec![in alloc; byte; times]?;
+    bytes.extend_from_slice(last)?;
+    Ok(bytes)
+}
+
+/// Sources of so many spaces before a word, each with its ROM, so many zeros before the last byte, or with
+/// none where it is refused as too long.
+static ENDS: [(usize, &[u8], usize, Option<u8>); 3] = [
+    (0, b"|ffff 01", 65_279, Some(1)),
+    (4_194_302, b"ff", 0, Some(0xff)),
+    (4_194_302, b"ff ", 0, None),
+];
+
+/// Says whether such a source has this ROM.
+fn has_end(
+    alloc: Global,
+    spaces: usize,
+    word: &[u8],
+    zeros: usize,
+    last: Option<u8>,
+) -> Result<bool, AllocError> {
+    let source = padded(alloc, b' ', spaces, word)?;
+    match last {
+        Some(last) => {
+            let rom = padded(alloc, 0, zeros, &[last])?;
+            Ok(has_rom(alloc, &source, Some(&rom)))
+        }
+        None => Ok(has_rom(alloc, &source, None)),
+    }
+}
+
+#[test]
+fn memory_and_sources_have_an_end(rt: HostRuntime) {
+    for (spaces, word, zeros, last) in &ENDS {
+        assert!(rt;
+            has_end(rt.alloc(), *spaces, word, *zeros, *last) == Ok(true),
+            "at {word:?}"
+        );
+    }
 }
