@@ -1,10 +1,8 @@
 //! Sessions with the logs that they print, faults of commands, and the limits.
 
 use super::*;
-use play_script::read_script;
+use play_script::{Script, read_script};
 use std::alloc::{AllocError, Global};
-use std::process::Abort;
-use std::test::Fail;
 use tal_symbols::{Label, Name};
 use uxn_io::{MemSink, MemTree};
 use uxn_opcodes::Core;
@@ -26,7 +24,7 @@ type Session = (
     &'static [u8],
 );
 
-const SESSIONS: [Session; 10] = [
+static SESSIONS: [Session; 10] = [
     (
         PUTS,
         b"",
@@ -104,51 +102,85 @@ fn labels(alloc: Global) -> Result<Vec<Label>, AllocError> {
     Ok(labels)
 }
 
-// What a program puts under a debugger.
-fn put_under(
-    rt: &impl Abort,
-    alloc: Global,
-    rom: &[u8],
-    script: &[u8],
-    debugger: &mut Debugger<'_>,
-) -> Result<Vec<u8>, Fail> {
-    let script = read_script(alloc, script)?;
+// What stands around a program.
+#[derive(Drop)]
+struct Around {
+    devices: Devices,
+    tree: MemTree,
+    out: MemSink,
+    err: MemSink,
+}
+
+// Devices with no root, a tree with nothing in it, and room for 100 bytes on the console.
+fn new_around(alloc: Global) -> Result<Around, AllocError> {
     let clock = Clock {
         seconds: 0,
         offset: 0,
     };
+    Ok(Around {
+        devices: Devices::new(alloc, None, clock)?,
+        tree: MemTree::new(alloc, &[], 0, 0, &[])?,
+        out: MemSink::new(alloc, 100, &[])?,
+        err: MemSink::new(alloc, 0, &[])?,
+    })
+}
+
+// Whether a run under a debugger ends without a fault, and puts these bytes.
+fn puts(
+    mut around: Around,
+    mut core: Core,
+    script: &Script,
+    put: &[u8],
+    debugger: &mut Debugger<'_>,
+) -> bool {
     let outputs = Outputs {
         frames: None,
         samples: None,
     };
-    let mut devices = Devices::new(alloc, None, clock)?;
-    let mut tree = MemTree::new(alloc, &[], 0, 0, &[])?;
-    let mut out = MemSink::new(alloc, 100, &[])?;
-    let mut err = MemSink::new(alloc, 0, &[])?;
-    let mut bus = Bus::new(&mut devices, &mut tree, &mut out, &mut err);
-    assert!(rt; rom.len() < 100);
-    assert!(rt; bus.frames() == 0);
-    let mut core = Core::new(alloc, rom)?;
-    let ran = run_script(&mut core, &mut bus, &script, &outputs, 1000, debugger);
-    assert!(rt; ran.is_ok());
-    Ok(Vec::from_slice(alloc, out.bytes())?)
+    let mut bus = Bus::new(
+        &mut around.devices,
+        &mut around.tree,
+        &mut around.out,
+        &mut around.err,
+    );
+    bus.frames() == 0
+        && run_script(&mut core, &mut bus, script, &outputs, 1000, debugger).is_ok()
+        && around.out.bytes() == put
+}
+
+// Whether a program of fewer than 100 bytes puts what it is to put, and its debugger prints its log.
+fn agrees(alloc: Global, labels: &[Label], session: &Session) -> Result<bool, AllocError> {
+    let (rom, script, put, text, log) = *session;
+    if rom.len() >= 100 {
+        return Ok(false);
+    }
+    let Ok(script) = read_script(alloc, script) else {
+        return Ok(false);
+    };
+    let Ok(commands) = read_commands(alloc, text, labels) else {
+        return Ok(false);
+    };
+    let around = new_around(alloc)?;
+    let core = Core::new(alloc, rom)?;
+    let mut debugger = Debugger::new(alloc, commands, labels);
+    Ok(puts(around, core, &script, put, &mut debugger) && debugger.log() == log)
 }
 
 #[test]
-fn sessions_print_their_logs(rt: HostRuntime) -> Result<(), Fail> {
+fn sessions_print_their_logs(rt: HostRuntime) -> Result<(), AllocError> {
     let labels = labels(rt.alloc())?;
-    for (rom, script, put, text, log) in &SESSIONS {
-        let commands = read_commands(rt.alloc(), text, &labels)?;
-        let mut debugger = Debugger::new(rt.alloc(), commands, &labels);
-        let bytes = put_under(&rt, rt.alloc(), rom, script, &mut debugger)?;
-        assert_eq!(rt; bytes.as_slice(), *put);
-        assert_eq!(rt; debugger.log(), *log, "{text:?}");
+    for session in &SESSIONS {
+        assert!(rt;
+            agrees(rt.alloc(), &labels, session) == Ok(true),
+            "at {:?}",
+            session.3
+        );
     }
     Ok(())
 }
 
 /// Texts with their first faulty lines.
-const FAULTS: [(&[u8], u32, CommandKind); 31] = [
+static FAULTS: [(&[u8], u32, CommandKind); 31] = [
     (b"break @nowhere", 1, CommandKind::NoSuchLabel),
     (b"go", 1, CommandKind::Unknown),
     (b"Run", 1, CommandKind::Unknown),
@@ -182,60 +214,74 @@ const FAULTS: [(&[u8], u32, CommandKind); 31] = [
     (b"run\r\ndelete @V\ngo", 2, CommandKind::NoSuchLabel),
 ];
 
-// The line and the fault of a text, or how many commands there are.
-fn count(alloc: Global, text: &[u8]) -> Result<usize, (u32, Option<CommandKind>)> {
-    let labels = match labels(alloc) {
-        Ok(labels) => labels,
-        Err(_) => return Err((0, None)),
-    };
+// How many commands there are in a text, or its first faulty line and the fault there.
+type Counted = Result<usize, (u32, CommandKind)>;
+
+// Counts the commands of a text.
+fn count(alloc: Global, text: &[u8]) -> Result<Counted, AllocError> {
+    let labels = labels(alloc)?;
     match read_commands(alloc, text, &labels) {
-        Ok(commands) => Ok(commands.len()),
-        Err(CommandStop::Refused { line, kind }) => Err((line, Some(kind))),
-        Err(CommandStop::NoMemory) => Err((0, None)),
+        Ok(commands) => Ok(Ok(commands.len())),
+        Err(CommandStop::Refused { line, kind }) => Ok(Err((line, kind))),
+        Err(CommandStop::NoMemory) => Err(AllocError),
     }
 }
 
 #[test]
 fn the_first_fault_of_the_first_faulty_line_is_found(rt: HostRuntime) {
     for (text, line, kind) in &FAULTS {
-        assert_eq!(rt;
-            count(rt.alloc(), text),
-            Err((*line, Some(*kind))),
-            "{text:?}"
+        assert!(rt;
+            count(rt.alloc(), text) == Ok(Err((*line, *kind))),
+            "at {text:?}"
+        );
+    }
+}
+
+// Counts the commands of a text that has a piece 65,536 times, and then a last piece.
+fn count_many(alloc: Global, piece: &[u8], last: &[u8]) -> Result<Counted, AllocError> {
+    let mut text = Vec::new(alloc);
+    for _ in 0..65_536 {
+        text.extend_from_slice(piece)?;
+    }
+    text.extend_from_slice(last)?;
+    count(alloc, &text)
+}
+
+/// What stands behind 65,536 commands, with the answer.
+static MANY: [(&[u8], Result<Counted, AllocError>); 3] = [
+    (b"", Ok(Ok(65_536))),
+    (b"#\nrun 1", Ok(Err((65_538, CommandKind::Extra)))),
+    (b"#\nrun", Ok(Err((65_538, CommandKind::ManyCommands)))),
+];
+
+#[test]
+fn there_are_65536_commands_at_most(rt: HostRuntime) {
+    for (last, answer) in &MANY {
+        assert!(rt;
+            count_many(rt.alloc(), b"run\n", last) == *answer,
+            "at {last:?}"
+        );
+    }
+}
+
+/// What stands behind 4,194,304 spaces, with the answer.
+static LONG: [(&[u8], Result<Counted, AllocError>); 2] = [
+    (b"", Ok(Ok(0))),
+    (b" ", Ok(Err((1, CommandKind::LongCommands)))),
+];
+
+#[test]
+fn commands_have_4194304_bytes_at_most(rt: HostRuntime) {
+    for (last, answer) in &LONG {
+        assert!(rt;
+            count_many(rt.alloc(), &[b' '; 64], last) == *answer,
+            "at {last:?}"
         );
     }
 }
 
 #[test]
-fn there_are_65536_commands_at_most(rt: HostRuntime) -> Result<(), AllocError> {
-    let alloc = rt.alloc();
-    let mut text = Vec::new(alloc);
-    for _ in 0..65_536 {
-        text.extend_from_slice(b"run\n")?;
-    }
-    assert_eq!(rt; count(alloc, text.as_slice()), Ok(65_536));
-    text.extend_from_slice(b"#\nrun 1")?;
-    let extra = Some(CommandKind::Extra);
-    assert_eq!(rt; count(alloc, text.as_slice()), Err((65_538, extra)));
-    text.truncate(text.len() - 2);
-    let many = Some(CommandKind::ManyCommands);
-    assert_eq!(rt; count(alloc, text.as_slice()), Err((65_538, many)));
-    Ok(())
-}
-
-#[test]
-fn commands_have_4194304_bytes_at_most(rt: HostRuntime) -> Result<(), AllocError> {
-    let alloc = rt.alloc();
-    let mut text = vec![in alloc; b' '; 4_194_304]?;
-    assert_eq!(rt; count(alloc, text.as_slice()), Ok(0));
-    text.push(b' ')?;
-    let long = Some(CommandKind::LongCommands);
-    assert_eq!(rt; count(alloc, text.as_slice()), Err((1, long)));
-    Ok(())
-}
-
-#[test]
 fn kinds_have_the_names_that_are_printed(rt: HostRuntime) {
-    assert_eq!(rt; CommandKind::Unknown.name(), "Unknown");
-    assert_eq!(rt; CommandKind::NoSuchLabel.name(), "NoSuchLabel");
+    assert!(rt; CommandKind::Unknown.name() == "Unknown");
+    assert!(rt; CommandKind::NoSuchLabel.name() == "NoSuchLabel");
 }
