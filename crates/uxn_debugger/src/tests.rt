@@ -3,6 +3,7 @@
 use super::*;
 use play_script::{Script, read_script};
 use std::alloc::{AllocError, Global};
+use std::process::Abort;
 use tal_symbols::{Label, Name};
 use uxn_io::{MemSink, MemTree};
 use uxn_opcodes::Core;
@@ -102,120 +103,136 @@ fn labels(alloc: Global) -> Result<Vec<Label>, AllocError> {
     Ok(labels)
 }
 
-// What stands around a program.
-#[derive(Drop)]
-struct Around {
-    devices: Devices,
-    tree: MemTree,
-    out: MemSink,
-    err: MemSink,
-}
-
-// Devices with no root, a tree with nothing in it, and room for 100 bytes on the console.
-fn new_around(alloc: Global) -> Result<Around, AllocError> {
-    let clock = Clock {
-        seconds: 0,
-        offset: 0,
-    };
-    Ok(Around {
-        devices: Devices::new(alloc, None, clock)?,
-        tree: MemTree::new(alloc, &[], 0, 0, &[])?,
-        out: MemSink::new(alloc, 100, &[])?,
-        err: MemSink::new(alloc, 0, &[])?,
-    })
-}
-
-// Whether a run under a debugger ends without a fault, and puts these bytes.
+// Whether a run ends without a fault, and puts these bytes on a console with room for 100.
 fn puts(
-    mut around: Around,
-    mut core: Core,
-    script: &Script,
+    alloc: Global,
     put: &[u8],
+    (core, devices, tree): (&mut Core, &mut Devices, &mut MemTree),
+    script: &Script,
     debugger: &mut Debugger<'_>,
 ) -> bool {
+    let Ok(mut out) = MemSink::new(alloc, 100, &[]) else {
+        return false;
+    };
+    let Ok(mut err) = MemSink::new(alloc, 0, &[]) else {
+        return false;
+    };
     let outputs = Outputs {
         frames: None,
         samples: None,
     };
-    let mut bus = Bus::new(
-        &mut around.devices,
-        &mut around.tree,
-        &mut around.out,
-        &mut around.err,
-    );
+    let mut bus = Bus::new(devices, tree, &mut out, &mut err);
     bus.frames() == 0
-        && run_script(&mut core, &mut bus, script, &outputs, 1000, debugger).is_ok()
-        && around.out.bytes() == put
+        && run_script(core, &mut bus, script, &outputs, 1000, debugger).is_ok()
+        && out.bytes() == put
 }
 
-// Whether a program of fewer than 100 bytes puts what it is to put, and its debugger prints its log.
-fn agrees(alloc: Global, labels: &[Label], session: &Session) -> Result<bool, AllocError> {
-    let (rom, script, put, text, log) = *session;
+// The same of a run on new devices over a tree with nothing in it.
+fn puts_from_new(
+    alloc: Global,
+    put: &[u8],
+    core: &mut Core,
+    script: &Script,
+    debugger: &mut Debugger<'_>,
+) -> bool {
+    let clock = Clock {
+        seconds: 0,
+        offset: 0,
+    };
+    let Ok(mut tree) = MemTree::new(alloc, &[], 0, 0, &[]) else {
+        return false;
+    };
+    let Ok(mut devices) = Devices::new(alloc, None, clock) else {
+        return false;
+    };
+    puts(
+        alloc,
+        put,
+        (core, &mut devices, &mut tree),
+        script,
+        debugger,
+    )
+}
+
+// The same of a run of a program of fewer than 100 bytes with a script.
+fn program_puts(
+    alloc: Global,
+    rom: &[u8],
+    script: &[u8],
+    put: &[u8],
+    debugger: &mut Debugger<'_>,
+) -> bool {
     if rom.len() >= 100 {
-        return Ok(false);
+        return false;
     }
     let Ok(script) = read_script(alloc, script) else {
-        return Ok(false);
+        return false;
     };
+    let Ok(mut core) = Core::new(alloc, rom) else {
+        return false;
+    };
+    puts_from_new(alloc, put, &mut core, &script, debugger)
+}
+
+// Whether the program of a session puts what it is to put, and its debugger prints the log.
+fn agrees(alloc: Global, labels: &[Label], session: &Session) -> bool {
+    let (rom, script, put, text, log) = *session;
     let Ok(commands) = read_commands(alloc, text, labels) else {
-        return Ok(false);
+        return false;
     };
-    let around = new_around(alloc)?;
-    let core = Core::new(alloc, rom)?;
     let mut debugger = Debugger::new(alloc, commands, labels);
-    Ok(puts(around, core, &script, put, &mut debugger) && debugger.log() == log)
+    program_puts(alloc, rom, script, put, &mut debugger) && debugger.log() == log
 }
 
 #[test]
 fn sessions_print_their_logs(rt: HostRuntime) -> Result<(), AllocError> {
     let labels = labels(rt.alloc())?;
     for session in &SESSIONS {
-        assert!(rt;
-            agrees(rt.alloc(), &labels, session) == Ok(true),
-            "at {:?}",
-            session.3
-        );
+        assert!(rt; agrees(rt.alloc(), &labels, session), "at {:?}", session.3);
     }
     Ok(())
 }
 
-/// Texts with their first faulty lines.
-static FAULTS: [(&[u8], u32, CommandKind); 31] = [
-    (b"break @nowhere", 1, CommandKind::NoSuchLabel),
-    (b"go", 1, CommandKind::Unknown),
-    (b"Run", 1, CommandKind::Unknown),
-    (b"back 1", 1, CommandKind::Unknown),
-    (b"\n# run\nruns 1 2 3", 3, CommandKind::Unknown),
-    (b"break", 1, CommandKind::Missing),
-    (b"delete \t", 1, CommandKind::Missing),
-    (b"step", 1, CommandKind::Missing),
-    (b"mem", 1, CommandKind::Missing),
-    (b"run\nmem 100", 2, CommandKind::Missing),
-    (b"run 1", 1, CommandKind::Extra),
-    (b"where 0100", 1, CommandKind::Extra),
-    (b"stacks #", 1, CommandKind::Extra),
-    (b"ports 10", 1, CommandKind::Extra),
-    (b"break x y", 1, CommandKind::Extra),
-    (b"delete @v 1", 1, CommandKind::Extra),
-    (b"step 0 0", 1, CommandKind::Extra),
-    (b"mem x 0 1", 1, CommandKind::Extra),
-    (b"break 100", 1, CommandKind::BadValue),
-    (b"break 00FF", 1, CommandKind::BadValue),
-    (b"delete #0100", 1, CommandKind::BadValue),
-    (b"break @", 1, CommandKind::BadValue),
-    (b"step 0", 1, CommandKind::BadValue),
-    (b"step 01", 1, CommandKind::BadValue),
-    (b"step 4294967296", 1, CommandKind::BadValue),
-    (b"mem 0100 0", 1, CommandKind::BadValue),
-    (b"mem 0100 257", 1, CommandKind::BadValue),
-    (b"mem @nowhere 0", 1, CommandKind::BadValue),
-    (b"mem 100 1", 1, CommandKind::BadValue),
-    (b"mem @nowhere 1", 1, CommandKind::NoSuchLabel),
-    (b"run\r\ndelete @V\ngo", 2, CommandKind::NoSuchLabel),
-];
-
 // How many commands there are in a text, or its first faulty line and the fault there.
 type Counted = Result<usize, (u32, CommandKind)>;
+
+/// Texts, each with its first faulty line and the fault there.
+static FAULTS: [(&[u8], Result<Counted, AllocError>); 31] = [
+    (b"break @nowhere", Ok(Err((1, CommandKind::NoSuchLabel)))),
+    (b"go", Ok(Err((1, CommandKind::Unknown)))),
+    (b"Run", Ok(Err((1, CommandKind::Unknown)))),
+    (b"back 1", Ok(Err((1, CommandKind::Unknown)))),
+    (b"\n# run\nruns 1 2 3", Ok(Err((3, CommandKind::Unknown)))),
+    (b"break", Ok(Err((1, CommandKind::Missing)))),
+    (b"delete \t", Ok(Err((1, CommandKind::Missing)))),
+    (b"step", Ok(Err((1, CommandKind::Missing)))),
+    (b"mem", Ok(Err((1, CommandKind::Missing)))),
+    (b"run\nmem 100", Ok(Err((2, CommandKind::Missing)))),
+    (b"run 1", Ok(Err((1, CommandKind::Extra)))),
+    (b"where 0100", Ok(Err((1, CommandKind::Extra)))),
+    (b"stacks #", Ok(Err((1, CommandKind::Extra)))),
+    (b"ports 10", Ok(Err((1, CommandKind::Extra)))),
+    (b"break x y", Ok(Err((1, CommandKind::Extra)))),
+    (b"delete @v 1", Ok(Err((1, CommandKind::Extra)))),
+    (b"step 0 0", Ok(Err((1, CommandKind::Extra)))),
+    (b"mem x 0 1", Ok(Err((1, CommandKind::Extra)))),
+    (b"break 100", Ok(Err((1, CommandKind::BadValue)))),
+    (b"break 00FF", Ok(Err((1, CommandKind::BadValue)))),
+    (b"delete #0100", Ok(Err((1, CommandKind::BadValue)))),
+    (b"break @", Ok(Err((1, CommandKind::BadValue)))),
+    (b"step 0", Ok(Err((1, CommandKind::BadValue)))),
+    (b"step 01", Ok(Err((1, CommandKind::BadValue)))),
+    (b"step 4294967296", Ok(Err((1, CommandKind::BadValue)))),
+    (b"mem 0100 0", Ok(Err((1, CommandKind::BadValue)))),
+    (b"mem 0100 257", Ok(Err((1, CommandKind::BadValue)))),
+    (b"mem @nowhere 0", Ok(Err((1, CommandKind::BadValue)))),
+    (b"mem 100 1", Ok(Err((1, CommandKind::BadValue)))),
+    (b"mem @nowhere 1", Ok(Err((1, CommandKind::NoSuchLabel)))),
+    (
+        b"run\r\ndelete @V\ngo",
+        Ok(Err((2, CommandKind::NoSuchLabel))),
+    ),
+];
 
 // Counts the commands of a text.
 fn count(alloc: Global, text: &[u8]) -> Result<Counted, AllocError> {
@@ -227,24 +244,40 @@ fn count(alloc: Global, text: &[u8]) -> Result<Counted, AllocError> {
     }
 }
 
-#[test]
-fn the_first_fault_of_the_first_faulty_line_is_found(rt: HostRuntime) {
-    for (text, line, kind) in &FAULTS {
-        assert!(rt;
-            count(rt.alloc(), text) == Ok(Err((*line, *kind))),
-            "at {text:?}"
-        );
-    }
-}
-
-// Counts the commands of a text that has a piece 65,536 times, and then a last piece.
-fn count_many(alloc: Global, piece: &[u8], last: &[u8]) -> Result<Counted, AllocError> {
+// Counts the commands of a text that has a piece so many times, and then a last piece.
+fn count_behind(
+    alloc: Global,
+    times: u32,
+    piece: &[u8],
+    last: &[u8],
+) -> Result<Counted, AllocError> {
     let mut text = Vec::new(alloc);
-    for _ in 0..65_536 {
+    for _ in 0..times {
         text.extend_from_slice(piece)?;
     }
     text.extend_from_slice(last)?;
     count(alloc, &text)
+}
+
+// Counts the commands of texts that begin with a piece so many times, and then have these last pieces.
+fn count_all(
+    rt: &impl Abort,
+    alloc: Global,
+    times: u32,
+    piece: &[u8],
+    rows: &[(&[u8], Result<Counted, AllocError>)],
+) {
+    for (last, answer) in rows {
+        assert!(rt;
+            count_behind(alloc, times, piece, last) == *answer,
+            "at {last:?}"
+        );
+    }
+}
+
+#[test]
+fn the_first_fault_of_the_first_faulty_line_is_found(rt: HostRuntime) {
+    count_all(&rt, rt.alloc(), 0, b"", &FAULTS);
 }
 
 /// What stands behind 65,536 commands, with the answer.
@@ -256,12 +289,7 @@ static MANY: [(&[u8], Result<Counted, AllocError>); 3] = [
 
 #[test]
 fn there_are_65536_commands_at_most(rt: HostRuntime) {
-    for (last, answer) in &MANY {
-        assert!(rt;
-            count_many(rt.alloc(), b"run\n", last) == *answer,
-            "at {last:?}"
-        );
-    }
+    count_all(&rt, rt.alloc(), 65_536, b"run\n", &MANY);
 }
 
 /// What stands behind 4,194,304 spaces, with the answer.
@@ -272,12 +300,7 @@ static LONG: [(&[u8], Result<Counted, AllocError>); 2] = [
 
 #[test]
 fn commands_have_4194304_bytes_at_most(rt: HostRuntime) {
-    for (last, answer) in &LONG {
-        assert!(rt;
-            count_many(rt.alloc(), &[b' '; 64], last) == *answer,
-            "at {last:?}"
-        );
-    }
+    count_all(&rt, rt.alloc(), 4_194_304, b" ", &LONG);
 }
 
 #[test]
