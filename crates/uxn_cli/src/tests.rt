@@ -1,229 +1,317 @@
 use super::*;
+use std::alloc::{AllocError, Global};
 use std::process::Abort;
-use std::test::Fail;
 use uxn_io::{Bytes, MemSink, MemTree, Node, Path, TreeCall};
 
-/// What a call gave.
-#[derive(Drop)]
-struct Given {
-    status: u8,
-    tree: MemTree,
-    out: MemSink,
-    err: MemSink,
-}
-
 /// The calls that fail, and the room of the error output.
-#[derive(Clone, Copy)]
-struct Faults<'a> {
-    tree: &'a [(TreeCall, u32)],
-    out: &'a [u32],
-    err: &'a [u32],
+struct Faults {
+    tree: &'static [(TreeCall, u32)],
+    out: &'static [u32],
+    err: &'static [u32],
     err_room: usize,
 }
 
 /// No call fails.
-const NONE: Faults<'static> = Faults {
+const NONE: Faults = Faults {
     tree: &[],
     out: &[],
     err: &[],
     err_room: 100,
 };
 
-/// A file or a folder at a path of one component.
-fn node<R: AllocGlobal + Abort>(
-    rt: &R,
-    name: &[u8],
-    folder: bool,
-    bytes: &[u8],
-) -> Result<(Path, Node), Fail> {
-    let bytes = Bytes::new(rt.alloc(), bytes)?;
-    Ok((Path::read(name)?, Node { folder, bytes }))
+/// The words of a call and the bytes of the file a.tal, and what the call gives: its status, the bytes on both
+/// outputs, and the file o, where it is there afterwards.
+struct Call {
+    words: &'static [&'static str],
+    file: &'static [u8],
+    faults: Faults,
+    status: u8,
+    out: &'static [u8],
+    err: &'static [u8],
+    made: Option<&'static [u8]>,
 }
 
-/// Calls over a tree that has the file a.tal and the folder d.
-fn call<R: AllocGlobal + Abort>(
-    rt: &R,
-    words: &[&str],
-    file: &[u8],
-    faults: Faults<'_>,
-) -> Result<Given, Fail> {
-    let mut texts = Vec::new(rt.alloc());
+/// The words as texts.
+fn texts(alloc: Global, words: &[&str]) -> Result<Vec<String>, AllocError> {
+    let mut texts = Vec::new(alloc);
     for word in words {
-        texts.push(word.to_string(rt.alloc())?)?;
+        texts.push(word.to_string(alloc)?)?;
     }
-    let nodes = [node(rt, b"a.tal", false, file)?, node(rt, b"d", true, b"")?];
-    assert!(rt; MemTree::can_hold(&nodes, 200));
-    let mut tree = MemTree::new(rt.alloc(), &nodes, 3, 200, faults.tree)?;
-    let mut out = MemSink::new(rt.alloc(), 200, faults.out)?;
-    let mut err = MemSink::new(rt.alloc(), faults.err_room, faults.err)?;
-    let status = uxn(rt.alloc(), &texts, &mut tree, &mut out, &mut err);
-    Ok(Given {
-        status,
-        tree,
-        out,
-        err,
-    })
+    Ok(texts)
 }
 
-/// The bytes of the file at a path, where a file is there.
-fn held<'a>(given: &'a Given, name: &[u8]) -> Option<&'a [u8]> {
+/// A file or a folder at a path of one component.
+fn node(alloc: Global, name: &[u8], folder: bool, bytes: &[u8]) -> Option<(Path, Node)> {
     let Ok(path) = Path::read(name) else {
         return None;
     };
-    match given.tree.node(&path) {
-        Some(node) => Some(node.bytes.as_slice()),
-        None => None,
+    let Ok(bytes) = Bytes::new(alloc, bytes) else {
+        return None;
+    };
+    Some((path, Node { folder, bytes }))
+}
+
+/// A tree that has the file a.tal and the folder d, and places for three files more.
+fn new_tree(alloc: Global, file: &[u8], fails: &[(TreeCall, u32)]) -> Option<MemTree> {
+    let nodes = [
+        node(alloc, b"a.tal", false, file)?,
+        node(alloc, b"d", true, b"")?,
+    ];
+    if !MemTree::can_hold(&nodes, 200) {
+        return None;
+    }
+    MemTree::new(alloc, &nodes, 3, 200, fails).ok()
+}
+
+/// Whether the file o is there with these bytes, or not there.
+fn has_made(tree: &MemTree, bytes: Option<&[u8]>) -> bool {
+    let Ok(path) = Path::read(b"o") else {
+        return false;
+    };
+    match tree.node(&path) {
+        Some(node) => bytes == Some(node.bytes.as_slice()),
+        None => bytes.is_none(),
     }
 }
 
-#[test]
-fn runs_sources(rt: HostRuntime) -> Result<(), Fail> {
-    for (source, out, err) in [
-        (
-            b"|0100 LIT 41 #18 DEO BRK".as_slice(),
-            b"A".as_slice(),
-            b"".as_slice(),
-        ),
-        (
-            b"|0100 #40 #01 ADD #18 DEO #42 #19 DEO".as_slice(),
-            b"A".as_slice(),
-            b"B".as_slice(),
-        ),
-        (b"".as_slice(), b"".as_slice(), b"".as_slice()),
-    ] {
-        let given = call(&rt, &["play", "a.tal"], source, NONE)?;
-        assert_eq!(rt; given.status, 0, "{source:?}");
-        assert_eq!(rt; given.out.bytes(), out, "{source:?}");
-        assert_eq!(rt; given.err.bytes(), err, "{source:?}");
-    }
-    Ok(())
+/// Whether a call over a tree has its status, and puts its bytes on both outputs.
+fn puts(alloc: Global, call: &Call, words: &[String], tree: &mut MemTree) -> bool {
+    let Ok(mut out) = MemSink::new(alloc, 200, call.faults.out) else {
+        return false;
+    };
+    let Ok(mut err) = MemSink::new(alloc, call.faults.err_room, call.faults.err) else {
+        return false;
+    };
+    uxn(alloc, words, tree, &mut out, &mut err) == call.status
+        && out.bytes() == call.out
+        && err.bytes() == call.err
 }
 
-#[test]
-fn refuses_with_one_line(rt: HostRuntime) -> Result<(), Fail> {
-    for (words, status, line) in [
-        (
-            ["play", "a.tal"].as_slice(),
-            131,
-            b"source 1:5: UnknownName: ,x\n".as_slice(),
-        ),
-        (
-            ["asm", "a.tal"].as_slice(),
-            128,
-            b"words: not understood\n".as_slice(),
-        ),
-        (
-            ["play", "../x.tal", "--budget", "0"].as_slice(),
-            128,
-            b"words: not understood\n".as_slice(),
-        ),
-        (
-            ["play", "../x.tal", "--report", "/"].as_slice(),
-            129,
-            b"path: ../x.tal\n".as_slice(),
-        ),
-        (
-            ["dis", "a.tal", "--symbols=none"].as_slice(),
-            130,
-            b"missing: none\n".as_slice(),
-        ),
-        (
-            ["dis", "a.tal", "--symbols", "a.tal"].as_slice(),
-            134,
-            b"symbols 0: Torn\n".as_slice(),
-        ),
-        (
-            ["asm", "a.tal", "--out", "o", "--symbols", "o"].as_slice(),
-            135,
-            b"output: o\n".as_slice(),
-        ),
-        (
-            ["play", "a.tal", "--report=s", "--script=s"].as_slice(),
-            135,
-            b"output: s\n".as_slice(),
-        ),
-    ] {
-        let given = call(&rt, words, b"#41 ,x", NONE)?;
-        assert_eq!(rt; given.status, status, "{words:?}");
-        assert_eq!(rt; given.out.bytes(), b"".as_slice(), "{words:?}");
-        assert_eq!(rt; given.err.bytes(), line, "{words:?}");
-        assert_eq!(rt; held(&given, b"o"), None, "{words:?}");
-    }
-    Ok(())
+/// Whether a call gives what it is to give.
+fn gives(alloc: Global, call: &Call) -> bool {
+    let Ok(words) = texts(alloc, call.words) else {
+        return false;
+    };
+    let Some(mut tree) = new_tree(alloc, call.file, call.faults.tree) else {
+        return false;
+    };
+    puts(alloc, call, &words, &mut tree) && has_made(&tree, call.made)
 }
 
-#[test]
-fn prints_a_disassembly(rt: HostRuntime) -> Result<(), Fail> {
-    let rom = [0x80, 0x41, 0x80, 0x18, 0x17].as_slice();
-    let given = call(&rt, &["dis", "a.tal"], rom, NONE)?;
-    assert_eq!(rt; given.status, 0);
-    assert_eq!(rt;
-        given.out.bytes(),
-        b"|0100\nLIT 41 ( 0100 )\nLIT 18 ( 0102 )\nDEO ( 0104 )\n".as_slice()
-    );
-    Ok(())
+/// Makes each of these calls, over a tree of its own.
+fn all_give(rt: &impl Abort, alloc: Global, calls: &[Call]) {
+    for call in calls {
+        assert!(rt; gives(alloc, call), "{:?}, {:?}", call.words, call.file);
+    }
 }
 
+/// Runs of sources.
+static RUNS: [Call; 3] = [
+    Call {
+        words: &["play", "a.tal"],
+        file: b"|0100 LIT 41 #18 DEO BRK",
+        faults: NONE,
+        status: 0,
+        out: b"A",
+        err: b"",
+        made: None,
+    },
+    Call {
+        words: &["play", "a.tal"],
+        file: b"|0100 #40 #01 ADD #18 DEO #42 #19 DEO",
+        faults: NONE,
+        status: 0,
+        out: b"A",
+        err: b"B",
+        made: None,
+    },
+    Call {
+        words: &["play", "a.tal"],
+        file: b"",
+        faults: NONE,
+        status: 0,
+        out: b"",
+        err: b"",
+        made: None,
+    },
+];
+
 #[test]
-fn ends_at_the_first_fault(rt: HostRuntime) -> Result<(), Fail> {
-    let writes = b"LIT 41 #18 DEO LIT 42 #19 DEO BRK".as_slice();
-    for (words, faults, status, out, err) in [
-        (
-            ["play", "a.tal"].as_slice(),
-            Faults { out: &[0], ..NONE },
-            137,
-            b"".as_slice(),
-            b"".as_slice(),
-        ),
-        (
-            ["play", "a.tal"].as_slice(),
-            Faults { err: &[0], ..NONE },
-            137,
-            b"A".as_slice(),
-            b"".as_slice(),
-        ),
-        (
-            ["play"].as_slice(),
-            Faults { err: &[0], ..NONE },
-            137,
-            b"".as_slice(),
-            b"".as_slice(),
-        ),
-        (
-            ["play"].as_slice(),
-            Faults {
-                err_room: 5,
-                ..NONE
-            },
-            137,
-            b"".as_slice(),
-            b"words".as_slice(),
-        ),
-        (
-            ["play", "a.tal"].as_slice(),
-            Faults {
-                tree: &[(TreeCall::Read, 0)],
-                ..NONE
-            },
-            136,
-            b"".as_slice(),
-            b"".as_slice(),
-        ),
-        (
-            ["asm", "a.tal", "--out", "o"].as_slice(),
-            Faults {
-                tree: &[(TreeCall::Append, 0)],
-                ..NONE
-            },
-            136,
-            b"".as_slice(),
-            b"".as_slice(),
-        ),
-    ] {
-        let given = call(&rt, words, writes, faults)?;
-        assert_eq!(rt; given.status, status, "{words:?}");
-        assert_eq!(rt; given.out.bytes(), out, "{words:?}");
-        assert_eq!(rt; given.err.bytes(), err, "{words:?}");
-    }
-    Ok(())
+fn runs_sources(rt: HostRuntime) {
+    all_give(&rt, rt.alloc(), &RUNS);
+}
+
+/// A source that is refused.
+const FAULTY: &[u8] = b"#41 ,x";
+
+/// Calls that are refused.
+static REFUSALS: [Call; 8] = [
+    Call {
+        words: &["play", "a.tal"],
+        file: FAULTY,
+        faults: NONE,
+        status: 131,
+        out: b"",
+        err: b"source 1:5: UnknownName: ,x\n",
+        made: None,
+    },
+    Call {
+        words: &["asm", "a.tal"],
+        file: FAULTY,
+        faults: NONE,
+        status: 128,
+        out: b"",
+        err: b"words: not understood\n",
+        made: None,
+    },
+    Call {
+        words: &["play", "../x.tal", "--budget", "0"],
+        file: FAULTY,
+        faults: NONE,
+        status: 128,
+        out: b"",
+        err: b"words: not understood\n",
+        made: None,
+    },
+    Call {
+        words: &["play", "../x.tal", "--report", "/"],
+        file: FAULTY,
+        faults: NONE,
+        status: 129,
+        out: b"",
+        err: b"path: ../x.tal\n",
+        made: None,
+    },
+    Call {
+        words: &["dis", "a.tal", "--symbols=none"],
+        file: FAULTY,
+        faults: NONE,
+        status: 130,
+        out: b"",
+        err: b"missing: none\n",
+        made: None,
+    },
+    Call {
+        words: &["dis", "a.tal", "--symbols", "a.tal"],
+        file: FAULTY,
+        faults: NONE,
+        status: 134,
+        out: b"",
+        err: b"symbols 0: Torn\n",
+        made: None,
+    },
+    Call {
+        words: &["asm", "a.tal", "--out", "o", "--symbols", "o"],
+        file: FAULTY,
+        faults: NONE,
+        status: 135,
+        out: b"",
+        err: b"output: o\n",
+        made: None,
+    },
+    Call {
+        words: &["play", "a.tal", "--report=s", "--script=s"],
+        file: FAULTY,
+        faults: NONE,
+        status: 135,
+        out: b"",
+        err: b"output: s\n",
+        made: None,
+    },
+];
+
+#[test]
+fn refuses_with_one_line(rt: HostRuntime) {
+    all_give(&rt, rt.alloc(), &REFUSALS);
+}
+
+/// A disassembly.
+static DISASSEMBLY: [Call; 1] = [Call {
+    words: &["dis", "a.tal"],
+    file: &[0x80, 0x41, 0x80, 0x18, 0x17],
+    faults: NONE,
+    status: 0,
+    out: b"|0100\nLIT 41 ( 0100 )\nLIT 18 ( 0102 )\nDEO ( 0104 )\n",
+    err: b"",
+    made: None,
+}];
+
+#[test]
+fn prints_a_disassembly(rt: HostRuntime) {
+    all_give(&rt, rt.alloc(), &DISASSEMBLY);
+}
+
+/// A source that puts a byte on each output.
+const WRITES: &[u8] = b"LIT 41 #18 DEO LIT 42 #19 DEO BRK";
+
+/// Calls in which the tree or an output fails.
+static FAILURES: [Call; 6] = [
+    Call {
+        words: &["play", "a.tal"],
+        file: WRITES,
+        faults: Faults { out: &[0], ..NONE },
+        status: 137,
+        out: b"",
+        err: b"",
+        made: None,
+    },
+    Call {
+        words: &["play", "a.tal"],
+        file: WRITES,
+        faults: Faults { err: &[0], ..NONE },
+        status: 137,
+        out: b"A",
+        err: b"",
+        made: None,
+    },
+    Call {
+        words: &["play"],
+        file: WRITES,
+        faults: Faults { err: &[0], ..NONE },
+        status: 137,
+        out: b"",
+        err: b"",
+        made: None,
+    },
+    Call {
+        words: &["play"],
+        file: WRITES,
+        faults: Faults {
+            err_room: 5,
+            ..NONE
+        },
+        status: 137,
+        out: b"",
+        err: b"words",
+        made: None,
+    },
+    Call {
+        words: &["play", "a.tal"],
+        file: WRITES,
+        faults: Faults {
+            tree: &[(TreeCall::Read, 0)],
+            ..NONE
+        },
+        status: 136,
+        out: b"",
+        err: b"",
+        made: None,
+    },
+    Call {
+        words: &["asm", "a.tal", "--out", "o"],
+        file: WRITES,
+        faults: Faults {
+            tree: &[(TreeCall::Append, 0)],
+            ..NONE
+        },
+        status: 136,
+        out: b"",
+        err: b"",
+        made: Some(b""),
+    },
+];
+
+#[test]
+fn ends_at_the_first_fault(rt: HostRuntime) {
+    all_give(&rt, rt.alloc(), &FAILURES);
 }

@@ -1,10 +1,9 @@
 //! Sessions with the logs that they print, faults of commands, and the limits.
 
 use super::*;
-use play_script::read_script;
+use play_script::{Script, read_script};
 use std::alloc::{AllocError, Global};
 use std::process::Abort;
-use std::test::Fail;
 use tal_symbols::{Label, Name};
 use uxn_io::{MemSink, MemTree};
 use uxn_opcodes::Core;
@@ -26,7 +25,7 @@ type Session = (
     &'static [u8],
 );
 
-const SESSIONS: [Session; 10] = [
+static SESSIONS: [Session; 10] = [
     (
         PUTS,
         b"",
@@ -104,138 +103,208 @@ fn labels(alloc: Global) -> Result<Vec<Label>, AllocError> {
     Ok(labels)
 }
 
-// What a program puts under a debugger.
-fn put_under(
-    rt: &impl Abort,
+// Whether a run ends without a fault, and puts these bytes on a console with room for 100.
+fn puts(
     alloc: Global,
-    rom: &[u8],
-    script: &[u8],
+    put: &[u8],
+    (core, devices, tree): (&mut Core, &mut Devices, &mut MemTree),
+    script: &Script,
     debugger: &mut Debugger<'_>,
-) -> Result<Vec<u8>, Fail> {
-    let script = read_script(alloc, script)?;
-    let clock = Clock {
-        seconds: 0,
-        offset: 0,
+) -> bool {
+    let Ok(mut out) = MemSink::new(alloc, 100, &[]) else {
+        return false;
+    };
+    let Ok(mut err) = MemSink::new(alloc, 0, &[]) else {
+        return false;
     };
     let outputs = Outputs {
         frames: None,
         samples: None,
     };
-    let mut devices = Devices::new(alloc, None, clock)?;
-    let mut tree = MemTree::new(alloc, &[], 0, 0, &[])?;
-    let mut out = MemSink::new(alloc, 100, &[])?;
-    let mut err = MemSink::new(alloc, 0, &[])?;
-    let mut bus = Bus::new(&mut devices, &mut tree, &mut out, &mut err);
-    assert!(rt; rom.len() < 100);
-    assert!(rt; bus.frames() == 0);
-    let mut core = Core::new(alloc, rom)?;
-    let ran = run_script(&mut core, &mut bus, &script, &outputs, 1000, debugger);
-    assert!(rt; ran.is_ok());
-    Ok(Vec::from_slice(alloc, out.bytes())?)
+    let mut bus = Bus::new(devices, tree, &mut out, &mut err);
+    bus.frames() == 0
+        && run_script(core, &mut bus, script, &outputs, 1000, debugger).is_ok()
+        && out.bytes() == put
+}
+
+// The same of a run on new devices over a tree with nothing in it.
+fn puts_from_new(
+    alloc: Global,
+    put: &[u8],
+    core: &mut Core,
+    script: &Script,
+    debugger: &mut Debugger<'_>,
+) -> bool {
+    let clock = Clock {
+        seconds: 0,
+        offset: 0,
+    };
+    let Ok(mut tree) = MemTree::new(alloc, &[], 0, 0, &[]) else {
+        return false;
+    };
+    let Ok(mut devices) = Devices::new(alloc, None, clock) else {
+        return false;
+    };
+    puts(
+        alloc,
+        put,
+        (core, &mut devices, &mut tree),
+        script,
+        debugger,
+    )
+}
+
+// The same of a run of a program of fewer than 100 bytes with a script.
+fn program_puts(
+    alloc: Global,
+    rom: &[u8],
+    script: &[u8],
+    put: &[u8],
+    debugger: &mut Debugger<'_>,
+) -> bool {
+    if rom.len() >= 100 {
+        return false;
+    }
+    let Ok(script) = read_script(alloc, script) else {
+        return false;
+    };
+    let Ok(mut core) = Core::new(alloc, rom) else {
+        return false;
+    };
+    puts_from_new(alloc, put, &mut core, &script, debugger)
+}
+
+// Whether the program of a session puts what it is to put, and its debugger prints the log.
+fn agrees(alloc: Global, labels: &[Label], session: &Session) -> bool {
+    let (rom, script, put, text, log) = *session;
+    let Ok(commands) = read_commands(alloc, text, labels) else {
+        return false;
+    };
+    let mut debugger = Debugger::new(alloc, commands, labels);
+    program_puts(alloc, rom, script, put, &mut debugger) && debugger.log() == log
 }
 
 #[test]
-fn sessions_print_their_logs(rt: HostRuntime) -> Result<(), Fail> {
+fn sessions_print_their_logs(rt: HostRuntime) -> Result<(), AllocError> {
     let labels = labels(rt.alloc())?;
-    for (rom, script, put, text, log) in &SESSIONS {
-        let commands = read_commands(rt.alloc(), text, &labels)?;
-        let mut debugger = Debugger::new(rt.alloc(), commands, &labels);
-        let bytes = put_under(&rt, rt.alloc(), rom, script, &mut debugger)?;
-        assert_eq!(rt; bytes.as_slice(), *put);
-        assert_eq!(rt; debugger.log(), *log, "{text:?}");
+    for session in &SESSIONS {
+        assert!(rt; agrees(rt.alloc(), &labels, session), "at {:?}", session.3);
     }
     Ok(())
 }
 
-/// Texts with their first faulty lines.
-const FAULTS: [(&[u8], u32, CommandKind); 31] = [
-    (b"break @nowhere", 1, CommandKind::NoSuchLabel),
-    (b"go", 1, CommandKind::Unknown),
-    (b"Run", 1, CommandKind::Unknown),
-    (b"back 1", 1, CommandKind::Unknown),
-    (b"\n# run\nruns 1 2 3", 3, CommandKind::Unknown),
-    (b"break", 1, CommandKind::Missing),
-    (b"delete \t", 1, CommandKind::Missing),
-    (b"step", 1, CommandKind::Missing),
-    (b"mem", 1, CommandKind::Missing),
-    (b"run\nmem 100", 2, CommandKind::Missing),
-    (b"run 1", 1, CommandKind::Extra),
-    (b"where 0100", 1, CommandKind::Extra),
-    (b"stacks #", 1, CommandKind::Extra),
-    (b"ports 10", 1, CommandKind::Extra),
-    (b"break x y", 1, CommandKind::Extra),
-    (b"delete @v 1", 1, CommandKind::Extra),
-    (b"step 0 0", 1, CommandKind::Extra),
-    (b"mem x 0 1", 1, CommandKind::Extra),
-    (b"break 100", 1, CommandKind::BadValue),
-    (b"break 00FF", 1, CommandKind::BadValue),
-    (b"delete #0100", 1, CommandKind::BadValue),
-    (b"break @", 1, CommandKind::BadValue),
-    (b"step 0", 1, CommandKind::BadValue),
-    (b"step 01", 1, CommandKind::BadValue),
-    (b"step 4294967296", 1, CommandKind::BadValue),
-    (b"mem 0100 0", 1, CommandKind::BadValue),
-    (b"mem 0100 257", 1, CommandKind::BadValue),
-    (b"mem @nowhere 0", 1, CommandKind::BadValue),
-    (b"mem 100 1", 1, CommandKind::BadValue),
-    (b"mem @nowhere 1", 1, CommandKind::NoSuchLabel),
-    (b"run\r\ndelete @V\ngo", 2, CommandKind::NoSuchLabel),
+// How many commands there are in a text, or its first faulty line and the fault there.
+type Counted = Result<usize, (u32, CommandKind)>;
+
+/// Texts, each with its first faulty line and the fault there.
+static FAULTS: [(&[u8], Result<Counted, AllocError>); 31] = [
+    (b"break @nowhere", Ok(Err((1, CommandKind::NoSuchLabel)))),
+    (b"go", Ok(Err((1, CommandKind::Unknown)))),
+    (b"Run", Ok(Err((1, CommandKind::Unknown)))),
+    (b"back 1", Ok(Err((1, CommandKind::Unknown)))),
+    (b"\n# run\nruns 1 2 3", Ok(Err((3, CommandKind::Unknown)))),
+    (b"break", Ok(Err((1, CommandKind::Missing)))),
+    (b"delete \t", Ok(Err((1, CommandKind::Missing)))),
+    (b"step", Ok(Err((1, CommandKind::Missing)))),
+    (b"mem", Ok(Err((1, CommandKind::Missing)))),
+    (b"run\nmem 100", Ok(Err((2, CommandKind::Missing)))),
+    (b"run 1", Ok(Err((1, CommandKind::Extra)))),
+    (b"where 0100", Ok(Err((1, CommandKind::Extra)))),
+    (b"stacks #", Ok(Err((1, CommandKind::Extra)))),
+    (b"ports 10", Ok(Err((1, CommandKind::Extra)))),
+    (b"break x y", Ok(Err((1, CommandKind::Extra)))),
+    (b"delete @v 1", Ok(Err((1, CommandKind::Extra)))),
+    (b"step 0 0", Ok(Err((1, CommandKind::Extra)))),
+    (b"mem x 0 1", Ok(Err((1, CommandKind::Extra)))),
+    (b"break 100", Ok(Err((1, CommandKind::BadValue)))),
+    (b"break 00FF", Ok(Err((1, CommandKind::BadValue)))),
+    (b"delete #0100", Ok(Err((1, CommandKind::BadValue)))),
+    (b"break @", Ok(Err((1, CommandKind::BadValue)))),
+    (b"step 0", Ok(Err((1, CommandKind::BadValue)))),
+    (b"step 01", Ok(Err((1, CommandKind::BadValue)))),
+    (b"step 4294967296", Ok(Err((1, CommandKind::BadValue)))),
+    (b"mem 0100 0", Ok(Err((1, CommandKind::BadValue)))),
+    (b"mem 0100 257", Ok(Err((1, CommandKind::BadValue)))),
+    (b"mem @nowhere 0", Ok(Err((1, CommandKind::BadValue)))),
+    (b"mem 100 1", Ok(Err((1, CommandKind::BadValue)))),
+    (b"mem @nowhere 1", Ok(Err((1, CommandKind::NoSuchLabel)))),
+    (
+        b"run\r\ndelete @V\ngo",
+        Ok(Err((2, CommandKind::NoSuchLabel))),
+    ),
 ];
 
-// The line and the fault of a text, or how many commands there are.
-fn count(alloc: Global, text: &[u8]) -> Result<usize, (u32, Option<CommandKind>)> {
-    let labels = match labels(alloc) {
-        Ok(labels) => labels,
-        Err(_) => return Err((0, None)),
-    };
+// Counts the commands of a text.
+fn count(alloc: Global, text: &[u8]) -> Result<Counted, AllocError> {
+    let labels = labels(alloc)?;
     match read_commands(alloc, text, &labels) {
-        Ok(commands) => Ok(commands.len()),
-        Err(CommandStop::Refused { line, kind }) => Err((line, Some(kind))),
-        Err(CommandStop::NoMemory) => Err((0, None)),
+        Ok(commands) => Ok(Ok(commands.len())),
+        Err(CommandStop::Refused { line, kind }) => Ok(Err((line, kind))),
+        Err(CommandStop::NoMemory) => Err(AllocError),
     }
 }
 
-#[test]
-fn the_first_fault_of_the_first_faulty_line_is_found(rt: HostRuntime) {
-    for (text, line, kind) in &FAULTS {
-        assert_eq!(rt;
-            count(rt.alloc(), text),
-            Err((*line, Some(*kind))),
-            "{text:?}"
+// Counts the commands of a text that has a piece so many times, and then a last piece.
+fn count_behind(
+    alloc: Global,
+    times: u32,
+    piece: &[u8],
+    last: &[u8],
+) -> Result<Counted, AllocError> {
+    let mut text = Vec::new(alloc);
+    for _ in 0..times {
+        text.extend_from_slice(piece)?;
+    }
+    text.extend_from_slice(last)?;
+    count(alloc, &text)
+}
+
+// Counts the commands of texts that begin with a piece so many times, and then have these last pieces.
+fn count_all(
+    rt: &impl Abort,
+    alloc: Global,
+    times: u32,
+    piece: &[u8],
+    rows: &[(&[u8], Result<Counted, AllocError>)],
+) {
+    for (last, answer) in rows {
+        assert!(rt;
+            count_behind(alloc, times, piece, last) == *answer,
+            "at {last:?}"
         );
     }
 }
 
 #[test]
-fn there_are_65536_commands_at_most(rt: HostRuntime) -> Result<(), AllocError> {
-    let alloc = rt.alloc();
-    let mut text = Vec::new(alloc);
-    for _ in 0..65_536 {
-        text.extend_from_slice(b"run\n")?;
-    }
-    assert_eq!(rt; count(alloc, text.as_slice()), Ok(65_536));
-    text.extend_from_slice(b"#\nrun 1")?;
-    let extra = Some(CommandKind::Extra);
-    assert_eq!(rt; count(alloc, text.as_slice()), Err((65_538, extra)));
-    text.truncate(text.len() - 2);
-    let many = Some(CommandKind::ManyCommands);
-    assert_eq!(rt; count(alloc, text.as_slice()), Err((65_538, many)));
-    Ok(())
+fn the_first_fault_of_the_first_faulty_line_is_found(rt: HostRuntime) {
+    count_all(&rt, rt.alloc(), 0, b"", &FAULTS);
 }
 
+/// What stands behind 65,536 commands, with the answer.
+static MANY: [(&[u8], Result<Counted, AllocError>); 3] = [
+    (b"", Ok(Ok(65_536))),
+    (b"#\nrun 1", Ok(Err((65_538, CommandKind::Extra)))),
+    (b"#\nrun", Ok(Err((65_538, CommandKind::ManyCommands)))),
+];
+
 #[test]
-fn commands_have_4194304_bytes_at_most(rt: HostRuntime) -> Result<(), AllocError> {
-    let alloc = rt.alloc();
-    let mut text = vec![in alloc; b' '; 4_194_304]?;
-    assert_eq!(rt; count(alloc, text.as_slice()), Ok(0));
-    text.push(b' ')?;
-    let long = Some(CommandKind::LongCommands);
-    assert_eq!(rt; count(alloc, text.as_slice()), Err((1, long)));
-    Ok(())
+fn there_are_65536_commands_at_most(rt: HostRuntime) {
+    count_all(&rt, rt.alloc(), 65_536, b"run\n", &MANY);
+}
+
+/// What stands behind 4,194,304 spaces, with the answer.
+static LONG: [(&[u8], Result<Counted, AllocError>); 2] = [
+    (b"", Ok(Ok(0))),
+    (b" ", Ok(Err((1, CommandKind::LongCommands)))),
+];
+
+#[test]
+fn commands_have_4194304_bytes_at_most(rt: HostRuntime) {
+    count_all(&rt, rt.alloc(), 4_194_304, b" ", &LONG);
 }
 
 #[test]
 fn kinds_have_the_names_that_are_printed(rt: HostRuntime) {
-    assert_eq!(rt; CommandKind::Unknown.name(), "Unknown");
-    assert_eq!(rt; CommandKind::NoSuchLabel.name(), "NoSuchLabel");
+    assert!(rt; CommandKind::Unknown.name() == "Unknown");
+    assert!(rt; CommandKind::NoSuchLabel.name() == "NoSuchLabel");
 }
