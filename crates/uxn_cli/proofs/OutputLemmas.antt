@@ -118,7 +118,7 @@ keep_files texts path bytes (Some nodes) new e files =
     rw e (All-weaker (λ (t : Text). IsSome (file_at nodes t.path)) (λ (t : Text). IsSome (file_at (with_appended path bytes nodes) t.path)) (λ t h. appended-file nodes path t.path bytes h) texts files)
 
 pub none_made : (texts : List Text) (before : Option Nodes) → before ≡ option_map (with_empty (take 0 texts)) before
-none_made texts None = refl
-none_made texts (Some nodes) = refl
+none_made written None = refl
+none_made written (Some nodes) = refl
 
 pub ruleset pushed = (map-append)
