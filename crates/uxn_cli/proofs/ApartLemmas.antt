@@ -19,7 +19,7 @@ use Rattle.uxn_io.specs.Changes.{can_create, with_created, with_appended}
 use Rattle.uxn_io.specs.Files.{Nodes, Node, File, file_at, bytes_at, bytes_of, is_folder, is_folder_at, has_parent}
 use Rattle.uxn_io.proofs.ComponentLemmas.{under_answer}
 use Rattle.uxn_cli.specs.World.{Text, with_empty, with_bytes, with_texts, CanMake, AreFiles, CanFill}
-use Rattle.uxn_cli.specs.Request.{meets, clashes}
+use Rattle.uxn_words.specs.Places.{meets, clashes}
 use Rattle.uxn_cli.proofs.OutputLemmas.{insert-file}
 
 -- ---- a path lies under its parent

@@ -9,14 +9,14 @@ use Rattle.uxn_io.specs.Room.{Room, Leaves}
 use Rattle.uxn_io.specs.WholeFile.{whole_file}
 use Rattle.uxn_opcodes.specs.declared.Stop.TheVariants.{TreeFault}
 use Rattle.uxn_cli.specs.declared.outputs.Output.{Output}
-use Rattle.uxn_cli.specs.declared.task.Task.{Task}
-use Rattle.uxn_cli.specs.declared.words.Command.TheVariants.{Assemble}
+use Rattle.uxn_words.specs.declared.task.Task.{Task}
+use Rattle.uxn_words.specs.declared.words.Command.TheVariants.{Assemble}
 use Rattle.uxn_cli.specs.declared.refusal.Refusal.{Refusal}
 use Rattle.uxn_cli.specs.declared.refusal.Refusal.TheVariants.{NoOutput}
 use Rattle.uxn_cli.specs.World.{world, Text, with_empty, with_texts, CanMake, CanFill, HasWrittenFront}
 use Rattle.uxn_cli.specs.Outputs.{seen_text, seen_texts, paths_of}
 use Rattle.uxn_cli.specs.Job.{text_at}
-use Rattle.uxn_cli.specs.Request.{root_by, HasApartOutputs}
+use Rattle.uxn_words.specs.Places.{root_by, HasApartOutputs}
 use Rattle.uxn_cli.specs.Verdict.{and_then, View, Work, Write, source_in, texts_of, inputs_by, outputs_by, outputs_of, clashes, blocked_seen, made_by, judged}
 use Rattle.uxn_cli.specs.Answer.{IsViewOf, Judges, HasEnded, IsRefused, HasCut}
 use Rattle.uxn_cli.proofs.ChangeLemmas.{written-changes, written-cut}

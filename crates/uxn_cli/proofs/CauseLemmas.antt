@@ -6,9 +6,9 @@ use Rattle.uxn_io.specs.declared.trees.FileBytes.TheVariants.{Found, Missing as 
 use Rattle.uxn_io.specs.ByteList.{ByteList}
 use Rattle.uxn_io.specs.Files.{Nodes}
 use Rattle.uxn_opcodes.specs.declared.Stop.TheVariants.{TreeFault, SinkFault, NoMemory}
-use Rattle.uxn_cli.specs.declared.words.Command.{Command}
-use Rattle.uxn_cli.specs.declared.words.Command.TheVariants.{Play, Debug, Assemble, Disassemble}
-use Rattle.uxn_cli.specs.declared.task.Task.{Task}
+use Rattle.uxn_words.specs.declared.words.Command.{Command}
+use Rattle.uxn_words.specs.declared.words.Command.TheVariants.{Play, Debug, Assemble, Disassemble}
+use Rattle.uxn_words.specs.declared.task.Task.{Task}
 use Rattle.uxn_cli.specs.declared.refusal.Refusal.{Refusal}
 use Rattle.uxn_cli.specs.declared.refusal.Refusal.TheVariants.{NotUnderstood, NoPath, NoOutput, Missing, Faulty, LongRom, BadSymbols, BadScript, BadCommands}
 use Rattle.uxn_io.specs.Faults.{Counts, Rose, Ledger, TreeRose, OutRose, ErrRose, TheTree, ASink}

@@ -9,10 +9,10 @@ use Rattle.file_ports.specs.RootPart.{below}
 use Rattle.uxn_io.specs.Files.{Nodes}
 use Rattle.uxn_io.specs.Outside.{Change, ToErr, Creates, changed_files, files_by}
 use Rattle.varvara_bus.specs.Touching.{Spares, Each, spared-one}
-use Rattle.uxn_cli.specs.declared.task.Task.{Task}
+use Rattle.uxn_words.specs.declared.task.Task.{Task}
 use Rattle.uxn_cli.specs.declared.refusal.Refusal.{Refusal}
 use Rattle.uxn_cli.specs.Lines.{line_of}
-use Rattle.uxn_cli.specs.Request.{root_by}
+use Rattle.uxn_words.specs.Places.{root_by}
 use Rattle.uxn_cli.specs.Verdict.{Work, Run, Write, Print, view_of, judged, work_of}
 use Rattle.uxn_cli.specs.Outcome.{outcome_of, creating, writing, running}
 use Rattle.uxn_cli.specs.Causes.{verdict_on, IsAside}

@@ -1,6 +1,3 @@
-pub mod ArgumentLemmas
-pub mod LineLemmas
-pub mod WordLemmas
 pub mod ChangeLemmas
 pub mod VerdictLemmas
 pub mod ReadyLemmas

@@ -14,11 +14,12 @@ use Rattle.uxn_io.specs.Outside.{Change, Creates, World, changed_by, changed_by-
 use Rattle.uxn_io.specs.Taking.{files-told}
 use Rattle.varvara_bus.specs.Touching.{Each, told_at, spared}
 use Rattle.play_script.specs.Scripts.{ScriptView}
-use Rattle.uxn_cli.specs.declared.words.Command.TheVariants.{Play, Debug}
-use Rattle.uxn_cli.specs.declared.task.Task.{Task}
+use Rattle.uxn_words.specs.declared.words.Command.TheVariants.{Play, Debug}
+use Rattle.uxn_words.specs.declared.task.Task.{Task}
 use Rattle.uxn_cli.specs.declared.refusal.Refusal.{Refusal}
-use Rattle.uxn_cli.specs.Words.{settings}
-use Rattle.uxn_cli.specs.Request.{and_then, path_in, optional_path_in, paths_in, inputs_by, run_outputs, outputs_of, root_by, meets, clashes, first_clash, apart, apart_by, legal, request}
+use Rattle.uxn_words.specs.Words.{settings}
+use Rattle.uxn_cli.specs.Request.{and_then, path_in, optional_path_in, paths_in, apart, apart_by, legal, request}
+use Rattle.uxn_words.specs.Places.{inputs_by, run_outputs, outputs_of, root_by, meets, clashes, first_clash}
 use Rattle.uxn_cli.specs.Verdict.{Work, Run, View, view_of, judged, work_of, made_by, blocked_seen, program_in, given_in, script_in, commands_in, debug_labels, debugging, home_by, job_of}
 use Rattle.uxn_cli.specs.Job.{Job, Debugging, outputs_in, trail_of, log_by}
 use Rattle.uxn_cli.specs.Outcome.{outcome_of, creating, filling_all, reporting, running}

@@ -14,9 +14,9 @@ use Rattle.play_script.specs.Scripts.{ScriptView}
 use Rattle.varvara_bus.specs.Bus.{IsOutside}
 use Rattle.varvara_bus.specs.Touching.{Spares, Each, StandsApart, each-append, each-map, told_at, spared, spared-front, kept-node}
 use Rattle.uxn_opcodes.specs.Rule.{new_core}
-use Rattle.uxn_cli.specs.declared.words.Command.{Command}
-use Rattle.uxn_cli.specs.declared.words.Command.TheVariants.{Play, Debug, Assemble, Disassemble}
-use Rattle.uxn_cli.specs.declared.task.Task.{Task}
+use Rattle.uxn_words.specs.declared.words.Command.{Command}
+use Rattle.uxn_words.specs.declared.words.Command.TheVariants.{Play, Debug, Assemble, Disassemble}
+use Rattle.uxn_words.specs.declared.task.Task.{Task}
 use Rattle.uxn_cli.specs.declared.refusal.Refusal.{Refusal}
 use Rattle.uxn_opcodes.specs.declared.Core.{Core}
 use Rattle.vector_loop.specs.declared.output.Outputs.{Outputs}

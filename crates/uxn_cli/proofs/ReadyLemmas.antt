@@ -7,8 +7,8 @@ use Rattle.uxn_io.specs.Files.{Nodes}
 use Rattle.play_script.specs.Scripts.{ScriptView}
 use Rattle.uxn_debugger.specs.declared.command.DebugCommand.{DebugCommand}
 use Rattle.uxn_cli.specs.declared.program.Program.{Program}
-use Rattle.uxn_cli.specs.declared.task.Task.{Task}
-use Rattle.uxn_cli.specs.declared.words.Command.TheVariants.{Play, Debug}
+use Rattle.uxn_words.specs.declared.task.Task.{Task}
+use Rattle.uxn_words.specs.declared.words.Command.TheVariants.{Play, Debug}
 use Rattle.uxn_cli.specs.declared.refusal.Refusal.{Refusal}
 use Rattle.uxn_cli.specs.declared.refusal.Halt.{Halt}
 use Rattle.uxn_cli.specs.declared.refusal.Halt.TheVariants.{Refused, Stopped}

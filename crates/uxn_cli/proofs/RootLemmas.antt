@@ -17,8 +17,8 @@ use Rattle.varvara_bus.specs.Touching.{inserted-other}
 use Rattle.uxn_cli.specs.Job.{home_in}
 use Rattle.uxn_cli.specs.Outcome.{creating}
 use Rattle.uxn_cli.proofs.ApartLemmas.{parent_under}
-use Rattle.uxn_cli.specs.declared.task.Task.{Task}
-use Rattle.uxn_cli.specs.Request.{inputs_by, outputs_of, root_by, meets, clashes, HasApartOutputs}
+use Rattle.uxn_words.specs.declared.task.Task.{Task}
+use Rattle.uxn_words.specs.Places.{inputs_by, outputs_of, root_by, meets, clashes, HasApartOutputs}
 
 -- one where a test holds
 abbrev one_if : Bool → ℕ

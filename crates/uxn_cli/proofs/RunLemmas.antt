@@ -30,8 +30,8 @@ use Rattle.uxn_debugger.specs.Watching.{Watching, new_watching, shown as shown_t
 use Rattle.uxn_cli.specs.declared.outputs.Output.{Output}
 use Rattle.uxn_cli.specs.declared.machine.Machine.{Machine}
 use Rattle.uxn_cli.specs.declared.running.Ended.{Ended}
-use Rattle.uxn_cli.specs.declared.task.Task.{Task}
-use Rattle.uxn_cli.specs.declared.words.Command.TheVariants.{Play, Debug}
+use Rattle.uxn_words.specs.declared.task.Task.{Task}
+use Rattle.uxn_words.specs.declared.words.Command.TheVariants.{Play, Debug}
 use Rattle.uxn_cli.specs.declared.refusal.Refusal.{Refusal}
 use Rattle.uxn_cli.specs.declared.refusal.Refusal.TheVariants.{NoOutput}
 use Rattle.uxn_cli.specs.declared.refusal.Halt.{Halt}
@@ -41,7 +41,7 @@ use Rattle.uxn_cli.specs.Outputs.{seen_texts, paths_of}
 use Rattle.uxn_cli.specs.Blame.{blame_of}
 use Rattle.uxn_cli.specs.Job.{Debugging, Job, Home, no_home, home_in, devices_with, outputs_in, trail_by, trail_of, exit_in, text_at, report_text, shown_of, log_text, log_by}
 use Rattle.uxn_cli.specs.Outcome.{creating, filling_all, reporting, running}
-use Rattle.uxn_cli.specs.Request.{root_by, run_outputs, HasApartOutputs}
+use Rattle.uxn_words.specs.Places.{root_by, run_outputs, HasApartOutputs}
 use Rattle.uxn_cli.specs.Lines.{line_of}
 use Rattle.uxn_cli.specs.Causes.{verdict_on}
 use Rattle.uxn_cli.specs.Room.{TakesFor, TreeSuffices, SinksSuffice}
@@ -240,11 +240,11 @@ module _ (task : Task) (tree : Option Nodes) where
     judged = ap (λ s. and_then s (made_by blocked)) (same_work task.command ∙ work.work);
   }
     where
-      same_work : (c : Rattle.uxn_cli.specs.declared.words.Command.Command) → work_of c task (record work.view { blocked = blocked }) ≡ work_of c task work.view
+      same_work : (c : Rattle.uxn_words.specs.declared.words.Command.Command) → work_of c task (record work.view { blocked = blocked }) ≡ work_of c task work.view
       same_work Play = refl
       same_work Debug = refl
-      same_work Rattle.uxn_cli.specs.declared.words.Command.TheVariants.Assemble = refl
-      same_work Rattle.uxn_cli.specs.declared.words.Command.TheVariants.Disassemble = refl
+      same_work Rattle.uxn_words.specs.declared.words.Command.TheVariants.Assemble = refl
+      same_work Rattle.uxn_words.specs.declared.words.Command.TheVariants.Disassemble = refl
 
   -- the inputs were refused, or could not be read
   pub unprepared : (new : Option Nodes) (out err : Option (List ℕ)) (halt : Halt) → Unready tree task halt → new ≡ tree

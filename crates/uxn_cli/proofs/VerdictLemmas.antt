@@ -8,8 +8,8 @@ use Rattle.uxn_io.specs.Files.{Nodes, file_at}
 use Rattle.uxn_io.specs.WholeFile.{whole_file}
 use Rattle.uxn_opcodes.specs.declared.Stop.{Stop}
 use Rattle.uxn_opcodes.specs.declared.Stop.TheVariants.{TreeFault, SinkFault, NoMemory}
-use Rattle.uxn_cli.specs.declared.task.Task.{Task}
-use Rattle.uxn_cli.specs.declared.words.Command.TheVariants.{Disassemble}
+use Rattle.uxn_words.specs.declared.task.Task.{Task}
+use Rattle.uxn_words.specs.declared.words.Command.TheVariants.{Disassemble}
 use Rattle.uxn_cli.specs.declared.refusal.Refusal.{Refusal}
 use Rattle.uxn_cli.specs.declared.refusal.Refusal.TheVariants.{NotUnderstood}
 use Rattle.uxn_cli.specs.declared.refusal.Halt.{Halt}
@@ -19,7 +19,7 @@ use Rattle.uxn_io.specs.Outside.{World, ToErr, changed_by, changed_by-err}
 use Rattle.uxn_cli.proofs.ChangeLemmas.{IsCutText, printed, print-cut, line-cut}
 use Rattle.uxn_cli.specs.Lines.{status_of, line_of}
 use Rattle.uxn_cli.specs.Blame.{Stops}
-use Rattle.uxn_cli.specs.Words.{settings}
+use Rattle.uxn_words.specs.Words.{settings}
 use Rattle.uxn_cli.specs.World.{world}
 use Rattle.uxn_cli.specs.Request.{and_then, legal, paths_in, apart, request}
 use Rattle.uxn_cli.specs.Verdict.{View, Work, Print, rom_in, labels_in, symbols_by, symbols_seen, script_seen, commands_seen, part_seen, parent_seen, blocked_seen, made_by, judged, verdict}

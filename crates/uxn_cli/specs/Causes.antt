@@ -12,7 +12,7 @@ use Rattle.tal_words.specs.declared.fault.Fault.{Fault}
 use Rattle.tal_symbols.specs.declared.stop.SymbolKind.{SymbolKind}
 use Rattle.play_script.specs.declared.script.ScriptKind.{ScriptKind}
 use Rattle.uxn_debugger.specs.declared.command.CommandKind.{CommandKind}
-use Rattle.uxn_cli.specs.declared.task.Task.{Task}
+use Rattle.uxn_words.specs.declared.task.Task.{Task}
 use Rattle.uxn_cli.specs.declared.refusal.Refusal.{Refusal}
 use Rattle.uxn_cli.specs.declared.refusal.Refusal.TheVariants.{NotUnderstood, NoPath, NoOutput, Missing, Faulty, LongRom}
 use Rattle.uxn_cli.specs.declared.refusal.Refusal.TheVariants.{BadSymbols, BadScript, BadCommands}

@@ -6,7 +6,7 @@ use Rattle.std.specs.FinMap as map
 use Rattle.file_ports.specs.RootPart.{below}
 use Rattle.uxn_io.specs.Files.{Nodes}
 use Rattle.uxn_io.specs.Outside.{files_by}
-use Rattle.uxn_cli.specs.declared.task.Task.{Task}
+use Rattle.uxn_words.specs.declared.task.Task.{Task}
 use Rattle.uxn_cli.specs.declared.refusal.Refusal.{Refusal}
 use Rattle.uxn_cli.specs.Verdict.{Work, view_of, outputs_of, root_by}
 use Rattle.uxn_cli.specs.Outcome.{outcome_of}

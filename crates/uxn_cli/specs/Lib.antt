@@ -1,5 +1,3 @@
-pub mod Words
-pub mod Asked
 pub mod Lines
 pub mod World
 pub mod Outputs

@@ -6,10 +6,10 @@ use Rattle.file_ports.specs.RootPart.{below}
 use Rattle.uxn_io.specs.Files.{Nodes}
 use Rattle.uxn_io.specs.Outside.{Change, World, changed_by}
 use Rattle.varvara_bus.specs.Touching.{told_at}
-use Rattle.uxn_cli.specs.declared.words.Command.TheVariants.{Play, Debug}
-use Rattle.uxn_cli.specs.declared.task.Task.{Task}
+use Rattle.uxn_words.specs.declared.words.Command.TheVariants.{Play, Debug}
+use Rattle.uxn_words.specs.declared.task.Task.{Task}
 use Rattle.uxn_cli.specs.declared.refusal.Refusal.{Refusal}
-use Rattle.uxn_cli.specs.Words.{settings}
+use Rattle.uxn_words.specs.Words.{settings}
 use Rattle.uxn_cli.specs.Job.{Debugging, Job, trail_of, exit_of, log_by}
 use Rattle.uxn_cli.specs.Verdict.{Work, Run}
 use Rattle.uxn_cli.specs.Outcome.{Outcome, outcome_of, creating, filling_all, running}

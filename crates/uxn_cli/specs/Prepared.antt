@@ -23,7 +23,7 @@ use Rattle.vector_loop.specs.declared.output.Outputs.{Outputs}
 use Rattle.vector_loop.specs.Outputs.{IsOutput}
 use Rattle.vector_loop.specs.Watch.{ports_read, moment_of, shown_all}
 use Rattle.vector_loop.specs.Trail.{Trail}
-use Rattle.uxn_cli.specs.declared.task.Task.{Task}
+use Rattle.uxn_words.specs.declared.task.Task.{Task}
 use Rattle.uxn_cli.specs.declared.program.Program.{Program}
 use Rattle.uxn_cli.specs.declared.program.Program.TheVariants.{Rom, Source}
 use Rattle.uxn_cli.specs.declared.machine.Machine.{Machine}

@@ -26,14 +26,15 @@ use Rattle.uxn_io.specs.ByteList.{tight}
 use Rattle.uxn_io.specs.Changes.{can_create}
 use Rattle.uxn_io.specs.Files.{Nodes, file_at}
 use Rattle.uxn_io.specs.WholeFile.{whole_file}
-use Rattle.uxn_cli.specs.declared.words.Command.{Command}
-use Rattle.uxn_cli.specs.declared.words.Command.TheVariants.{Play, Debug, Assemble, Disassemble}
-use Rattle.uxn_cli.specs.declared.task.Task.{Task}
+use Rattle.uxn_words.specs.declared.words.Command.{Command}
+use Rattle.uxn_words.specs.declared.words.Command.TheVariants.{Play, Debug, Assemble, Disassemble}
+use Rattle.uxn_words.specs.declared.task.Task.{Task}
 use Rattle.uxn_cli.specs.declared.refusal.Refusal.{Refusal}
 use Rattle.uxn_cli.specs.declared.refusal.Refusal.TheVariants.{NoOutput, Missing, Faulty, LongRom, BadSymbols, BadScript, BadCommands}
 use Rattle.uxn_cli.specs.Job.{Debugging, Job, Home, no_home, text_at}
 use Rattle.uxn_cli.specs.World.{Text}
-pub use Rattle.uxn_cli.specs.Request.{and_then, inputs_by, outputs_by, outputs_of, root_by, clashes, HasApartOutputs}
+pub use Rattle.uxn_cli.specs.Request.{and_then}
+pub use Rattle.uxn_words.specs.Places.{inputs_by, outputs_by, outputs_of, root_by, clashes, HasApartOutputs}
 
 -- what the tree shows a task: its file, its file of symbols, its script, its commands, what lies beneath its root and whether the
 -- root's parent is a folder, and the first output that cannot be made

@@ -6,7 +6,7 @@ ghost use Rattle.tal_listing.specs.Listing.{listing_of};
 ghost use Rattle.uxn_io.specs.Faults.{Ledger, TheTree, ASink, counts};
 ghost use Rattle.uxn_cli.specs.World.{world};
 ghost use Rattle.uxn_cli.specs.Outputs.{seen_texts};
-ghost use Rattle.uxn_cli.specs.Request.{HasApartOutputs};
+ghost use Rattle.uxn_words.specs.Places.{HasApartOutputs};
 ghost use Rattle.uxn_cli.specs.Job.{text_at};
 ghost use Rattle.uxn_cli.specs.Verdict.{texts_of};
 ghost use Rattle.uxn_cli.specs.Answer.{Performs};
@@ -17,13 +17,12 @@ ghost use Rattle.uxn_cli.specs.Room.{TreeSuffices};
 use super::commands::{Accepted, SOURCE_LIMIT, accept_source};
 use super::outputs::{Output, first_blocked, write_all};
 use super::refusal::{Halt, Refusal};
-use super::task::Task;
-use super::words::Command;
 use std::alloc::{AllocError, Global};
 use tal_listing::listing;
 use tal_rom::Assembly;
 use tal_symbols::write_symbols;
 use uxn_io::{Path, Tree, read_file};
+use uxn_words::{Command, Task};
 
 /// The file of a ROM, where it was asked for.
 #[tactic(auto, using(crate::proofs::OutputLemmas::pushed))]

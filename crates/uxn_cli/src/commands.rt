@@ -14,8 +14,6 @@ ghost use Rattle.uxn_cli.specs.Causes.{verdict_on};
 ghost use Rattle.uxn_cli.specs.Room.{SinksSuffice};
 
 use super::refusal::{Halt, Refusal};
-use super::task::Task;
-use super::words::Command;
 use std::alloc::Global;
 use tal_listing::disassemble;
 use tal_rom::{Assembly, assemble};
@@ -23,6 +21,7 @@ use tal_symbols::{SymbolKind, SymbolStop, read_symbols};
 use tal_words::{AsmStop, Fault, FaultKind, Label, fault_word};
 use uxn_io::{Bytes, Failed, FileBytes, Path, ReadStop, Sink, Tree, put_all, read_file};
 use uxn_opcodes::Stop;
+use uxn_words::{Command, Task};
 
 /// The greatest length of a source in bytes.
 pub const SOURCE_LIMIT: u32 = 4_194_304;

@@ -1,9 +1,9 @@
 //! What `debug` does.
-ghost use Rattle.std.specs.Prelude.{◌≡◌, ◌≢◌, ◌<◌, ◌≤◌, ◌++◌, ℕ, List, Option, Some, Ok, Err, OnOk, OnErr, IfOk, IfErr, IfSome, length, option_map, unwrap_or};
+ghost use Rattle.std.specs.Prelude.{◌≡◌, ◌<◌, ◌≤◌, Option, Some, Ok, Err, OnOk, IfOk, IfErr, IfSome, length, option_map, unwrap_or};
 ghost use Rattle.uxn_io.specs.Faults.{Ledger, TheTree, ASink, counts};
 ghost use Rattle.uxn_io.specs.Room.{Leaves};
 ghost use Rattle.uxn_cli.specs.World.{world};
-ghost use Rattle.uxn_cli.specs.Request.{HasApartOutputs};
+ghost use Rattle.uxn_words.specs.Places.{HasApartOutputs};
 ghost use Rattle.uxn_cli.specs.Answer.{Performs};
 ghost use Rattle.uxn_cli.specs.Blame.{blame_in, OnRefused};
 ghost use Rattle.uxn_cli.specs.Causes.{verdict_on};
@@ -22,8 +22,6 @@ use super::program::{Program, load};
 use super::refusal::{Halt, Refusal};
 use super::running::{run_made, write_text};
 use super::scripts::accept_script;
-use super::task::Task;
-use super::words::Command;
 use std::alloc::Global;
 use tal_words::Label;
 use uxn_debugger::{
@@ -31,6 +29,7 @@ use uxn_debugger::{
 };
 use uxn_io::{Failed, FileBytes, Path, Sink, Tree, read_file};
 use uxn_opcodes::Stop;
+use uxn_words::{Command, Task};
 
 /// The greatest length of a file of commands in bytes.
 const COMMANDS_LIMIT: u32 = 4_194_304;

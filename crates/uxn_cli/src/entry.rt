@@ -2,7 +2,8 @@
 ghost use Rattle.std.specs.Prelude.{◌≡◌, ◌≤◌, ◌⊎◌, ℕ, List, Ok, map, string_bytes, IfOk, IfSome};
 ghost use Rattle.uxn_io.specs.Faults.{Rose, Ledger, TheTree, ASink, counts};
 ghost use Rattle.uxn_cli.specs.World.{world};
-ghost use Rattle.uxn_cli.specs.Request.{request, HasApartOutputs};
+ghost use Rattle.uxn_cli.specs.Request.{request};
+ghost use Rattle.uxn_words.specs.Places.{HasApartOutputs};
 ghost use Rattle.uxn_cli.specs.Verdict.{Work};
 ghost use Rattle.uxn_cli.specs.Follows.{Follows};
 ghost use Rattle.uxn_cli.specs.Answer.{Performs, Ends, MayStop, Answers};
@@ -15,13 +16,13 @@ ghost use Rattle.uxn_cli.specs.Observation.{HaveSameItems, IsOutcomeButLog};
 use super::assembling::assemble_files;
 use super::commands::disassemble_rom;
 use super::debugging::debug;
+use super::paths::{apart, paths_in};
 use super::playing::play;
 use super::refusal::{Halt, Refusal};
-use super::task::{Task, apart, paths_in};
-use super::words::{Command, read_words};
 use std::alloc::Global;
 use uxn_io::{Sink, Tree};
 use uxn_opcodes::Stop;
+use uxn_words::{Command, Task, read_words};
 
 /// What the words ask for, unless they are not legal or name no path.
 fn request(alloc: Global, words: &[String]) -> Result<Task, Halt>

@@ -9,16 +9,15 @@ mod laws;
 mod machine;
 mod making;
 mod outputs;
+mod paths;
 mod playing;
 mod program;
 mod refusal;
 mod report;
 mod running;
 mod scripts;
-mod task;
 #[cfg(test)]
 mod tests;
-mod words;
 
 pub use entry::uxn;
 pub use laws::{

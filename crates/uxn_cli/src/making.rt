@@ -1,20 +1,19 @@
 //! The outputs of a run, which are made before it.
-ghost use Rattle.std.specs.Prelude.{◌≡◌, ◌<◌, ◌++◌, length, IfOk, IfSome, OnOk, option_to_list, List, ℕ, None, find, not, ◌∷◌, []};
+ghost use Rattle.std.specs.Prelude.{◌≡◌, ◌<◌, ◌++◌, IfOk, IfSome, OnOk, None, find, not, ◌∷◌, []};
 ghost use Rattle.uxn_io.specs.Changes.{can_create};
 ghost use Rattle.uxn_io.specs.Faults.{Ledger, TheTree, counts};
-ghost use Rattle.uxn_io.specs.Room.{Leaves};
 ghost use Rattle.uxn_io.specs.Taking.{TreeTakes, TreeLeft};
 ghost use Rattle.uxn_cli.specs.Outcome.{creating};
 ghost use Rattle.uxn_cli.specs.Outputs.{paths_of};
-ghost use Rattle.uxn_cli.specs.Request.{HasApartOutputs, outputs_of};
+ghost use Rattle.uxn_words.specs.Places.{HasApartOutputs, outputs_of};
 ghost use Rattle.uxn_cli.specs.Blame.{blame_in};
 ghost use Rattle.uxn_cli.specs.Prepared.{MakesOutputs};
 
 use super::outputs::{Output, first_blocked, make_all};
 use super::refusal::{Halt, Refusal};
-use super::task::Task;
 use std::alloc::{AllocError, Global};
 use uxn_io::{Path, Tree};
+use uxn_words::Task;
 
 /// Puts a file without bytes behind others.
 #[tactic(auto, using(crate::proofs::OutputLemmas::pushed))]

@@ -1,5 +1,5 @@
 //! The files that a command writes.
-ghost use Rattle.std.specs.Prelude.{◌≡◌, ◌<◌, ◌≤◌, None, Some, not, find, length, IfOk, IsOk, IfSome, OnOk, OnErr, MatchOption, is_err};
+ghost use Rattle.std.specs.Prelude.{◌≡◌, ◌<◌, None, Some, not, find, length, IfOk, IsOk, IfSome, OnOk, OnErr, MatchOption, is_err};
 ghost use Rattle.std.specs.Option.{option_map};
 ghost use Rattle.uxn_io.specs.Changes.{can_create};
 ghost use Rattle.uxn_io.specs.Faults.{Counted};

@@ -1,9 +1,9 @@
 //! What `play` does.
-ghost use Rattle.std.specs.Prelude.{◌≡◌, ◌≢◌, ◌<◌, ◌≤◌, ◌++◌, ℕ, List, Option, Some, Ok, Err, OnOk, OnErr, IfOk, IfErr, IfSome, length};
+ghost use Rattle.std.specs.Prelude.{◌≡◌, ◌<◌, ◌≤◌, Ok, Err, OnOk, IfSome};
 ghost use Rattle.uxn_io.specs.Faults.{Ledger, TheTree, ASink, counts};
 ghost use Rattle.uxn_io.specs.Room.{Leaves};
 ghost use Rattle.uxn_cli.specs.World.{world};
-ghost use Rattle.uxn_cli.specs.Request.{HasApartOutputs};
+ghost use Rattle.uxn_words.specs.Places.{HasApartOutputs};
 ghost use Rattle.uxn_cli.specs.Answer.{Performs};
 ghost use Rattle.uxn_cli.specs.Blame.{blame_in, OnRefused};
 ghost use Rattle.uxn_cli.specs.Causes.{verdict_on};
@@ -16,10 +16,9 @@ use super::program::load;
 use super::refusal::Halt;
 use super::running::run_made;
 use super::scripts::accept_script;
-use super::task::Task;
-use super::words::Command;
 use std::alloc::Global;
 use uxn_io::{Sink, Tree};
+use uxn_words::{Command, Task};
 use vector_loop::NoWatch;
 
 /// The machine that is asked for.

@@ -8,10 +8,10 @@ ghost use Rattle.uxn_cli.specs.Prepared.{Loads, rom_in_program, labels_in_progra
 
 use super::commands::{Accepted, ROM_LIMIT, SOURCE_LIMIT, accept_rom, accept_source};
 use super::refusal::Halt;
-use super::task::Task;
 use std::alloc::Global;
 use tal_words::Label;
 use uxn_io::{Bytes, Tree, read_file};
+use uxn_words::Task;
 
 /// A program that is accepted.
 #[derive(Drop)]

@@ -11,11 +11,11 @@ ghost use Rattle.uxn_cli.specs.Prepared.{around, AreNew, AtHome, TreeWasDone, Tr
 
 use super::machine::Machine;
 use super::report::report;
-use super::task::Task;
 use play_script::Script;
 use system_port::exit_code;
 use uxn_io::{Failed, Path, Sink, Tree, append_all};
 use uxn_opcodes::{Core, Stop};
+use uxn_words::Task;
 use varvara_bus::{Bus, Devices};
 use vector_loop::{Outputs, Tally, Watcher, run_script};
 

@@ -1,7 +1,7 @@
 use Rattle.std.proofs.Common.{◌≡◌, rules}
 use Rattle.std.specs.Prelude.{Err}
-use Rattle.uxn_cli.specs.declared.task.Task.{Task}
-use Rattle.uxn_cli.specs.Asked.{asked}
+use Rattle.uxn_words.specs.declared.task.Task.{Task}
+use Rattle.uxn_words.specs.Asked.{asked}
 use Rattle.uxn_cli.specs.Request.{paths_in, apart}
 use Rattle.uxn_cli.proofs.VerdictLemmas.{request-illegal, request-legal, failed_then}
 use Rattle.uxn_cli.proofs.entry.request.Goals as goal

@@ -11,12 +11,12 @@ use Rattle.clap.specs.declared.error.Error.{Error}
 use Rattle.clap.specs.declared.error.kind.ErrorKind.TheVariants.{OutOfMemory}
 use Rattle.clap.specs.declared.parser.matches.ArgMatches.{ArgMatches}
 use Rattle.clap.proofs.WalkLemmas.{first_value-rows}
-use Rattle.uxn_cli.specs.declared.words.Command.{Command}
-use Rattle.uxn_cli.specs.declared.words.Command.TheVariants.{Play, Debug, Assemble, Disassemble}
-use Rattle.uxn_cli.specs.Words.{Given, asked_by, asked_with, budget_in, choices_of, command_of, file_name, is_legal, is_on, is_whole, items_of, settings, task_in, value_in, value_of}
-use Rattle.uxn_cli.specs.Asked.{parser_for}
-use Rattle.uxn_cli.proofs.ArgumentLemmas.{blind, has_only_switch, is_apart, items_first, no_switch_unseen, row, unseen, with_defaults}
-use Rattle.uxn_cli.proofs.LineLemmas.{Reads, Rejects, illegal, parsed}
+use Rattle.uxn_words.specs.declared.words.Command.{Command}
+use Rattle.uxn_words.specs.declared.words.Command.TheVariants.{Play, Debug, Assemble, Disassemble}
+use Rattle.uxn_words.specs.Words.{Given, asked_by, asked_with, budget_in, choices_of, command_of, file_name, is_legal, is_on, is_whole, items_of, settings, task_in, value_in, value_of}
+use Rattle.uxn_words.specs.Asked.{parser_for}
+use Rattle.uxn_words.proofs.ArgumentLemmas.{blind, has_only_switch, is_apart, items_first, no_switch_unseen, row, unseen, with_defaults}
+use Rattle.uxn_words.proofs.LineLemmas.{Reads, Rejects, illegal, parsed}
 
 -- ---- the commands
 

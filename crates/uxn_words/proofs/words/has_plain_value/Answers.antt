@@ -2,9 +2,9 @@ use Rattle.std.proofs.Common.{◌≡◌, ◌∙◌, ◌+◌, ◌==◌, rules, te
 use Rattle.std.specs.Prelude.{Some, None, position, option_map}
 use Rattle.std.proofs.lemmas.Iterator.{YieldsList-from_slice}
 use Rattle.std.proofs.lemmas.Iterator.Search.{position_from_yields_List}
-use Rattle.uxn_cli.specs.Words.{is_plain, value_in}
-use Rattle.uxn_cli.proofs.WordLemmas.{value_at}
-use Rattle.uxn_cli.proofs.words.has_plain_value.Goals as goal
+use Rattle.uxn_words.specs.Words.{is_plain, value_in}
+use Rattle.uxn_words.proofs.WordLemmas.{value_at}
+use Rattle.uxn_words.proofs.words.has_plain_value.Goals as goal
 
 pub returns-in-Some : goal.returns-in-Some
 returns-in-Some c =

@@ -1,7 +1,7 @@
 use Rattle.std.proofs.Common.{◌∙◌, map, string_bytes, sym}
 use Rattle.clap.specs.Words.{app_of}
-use Rattle.uxn_cli.proofs.WordLemmas.{read_err, read_illegal, read_ok}
-use Rattle.uxn_cli.proofs.words.Command.read.Goals as goal
+use Rattle.uxn_words.proofs.WordLemmas.{read_err, read_illegal, read_ok}
+use Rattle.uxn_words.proofs.words.Command.read.Goals as goal
 
 pub returns-then-not-are_legal-clause-asked : goal.returns-then-not-are_legal-clause-asked
 returns-then-not-are_legal-clause-asked c = read_illegal c.args.self (map string_bytes c.args.words.now) (sym c.are_legal.ensures ∙ c.if-not-are_legal.true)

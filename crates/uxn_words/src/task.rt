@@ -1,16 +1,12 @@
-//! What legal words ask for, once all that they name are paths.
+//! What is to be done, and which of the files that it names clash.
 ghost use Rattle.std.specs.Prelude.{◌≡◌, ◌++◌, IfOk, OnOk, find, option_copied, option_to_list};
 ghost use Rattle.std.specs.List.{list_any};
 ghost use Rattle.std.specs.Str.{bytes_eq};
-ghost use Rattle.uxn_cli.specs.Asked.{asked};
-ghost use Rattle.std.specs.Option.{option_map};
-ghost use Rattle.uxn_cli.specs.Request.{path_in, optional_path_in, paths_in, inputs_by, run_outputs, outputs_of, root_by, places_of, meets, clashes, apart, HasApartOutputs};
-ghost use Rattle.uxn_cli.specs.Follows.{Follows};
+ghost use Rattle.uxn_words.specs.Places.{inputs_by, run_outputs, outputs_of, root_by, places_of, meets, clashes, first_clash};
 
-use super::refusal::{Halt, Refusal};
-use super::words::{Command, Settings};
+use super::words::Command;
 use std::alloc::{AllocError, Global};
-use uxn_io::{Bytes, Path};
+use uxn_io::Path;
 
 /// What is to be done.
 #[derive(Clone, Copy)]
@@ -43,60 +39,6 @@ pub struct Task {
     pub samples: Option<Path>,
     /// The file for the report of a run.
     pub report: Option<Path>,
-}
-
-/// The path that a word is.
-fn path_in(alloc: Global, word: &[u8]) -> Result<Path, Halt>
-    ensures { Follows (λ found. found) result (path_in word.now) }
-{
-    match Path::read(word) {
-        Ok(path) => Ok(path),
-        Err(_) => Err(Halt::Refused(Refusal::NoPath(Bytes::new(alloc, word)?))),
-    }
-}
-
-/// The path that a word is, where there is a word.
-fn optional_path_in(alloc: Global, word: Option<&[u8]>) -> Result<Option<Path>, Halt>
-    ensures { Follows (λ found. found) result (optional_path_in (option_map (λ text. text.now) word.entry)) }
-{
-    match word {
-        Some(word) => Ok(Some(path_in(alloc, word)?)),
-        None => Ok(None),
-    }
-}
-
-/// What the words ask for, unless a word that names a file is no path: then the first one is named.
-pub fn paths_in(alloc: Global, settings: &Settings<'_>) -> Result<Task, Halt>
-    ensures follows { Follows (λ found. found) result (paths_in (asked settings.now)) }
-    ensures budget { IfOk result (λ task. task.budget ≡ settings.now.budget) }
-{
-    let file = path_in(alloc, settings.file)?;
-    let out = optional_path_in(alloc, settings.out)?;
-    let commands = optional_path_in(alloc, settings.commands)?;
-    let log = optional_path_in(alloc, settings.log)?;
-    let symbols = optional_path_in(alloc, settings.symbols)?;
-    let listing = optional_path_in(alloc, settings.listing)?;
-    let script = optional_path_in(alloc, settings.script)?;
-    let root = optional_path_in(alloc, settings.root)?;
-    let frames = optional_path_in(alloc, settings.frames)?;
-    let samples = optional_path_in(alloc, settings.samples)?;
-    let report = optional_path_in(alloc, settings.report)?;
-    Ok(Task {
-        command: settings.command,
-        file,
-        rom: settings.rom,
-        budget: settings.budget,
-        out,
-        commands,
-        log,
-        symbols,
-        listing,
-        script,
-        root,
-        frames,
-        samples,
-        report,
-    })
 }
 
 impl Task {
@@ -169,18 +111,27 @@ impl Task {
     }
 
     /// Whether an output clashes with another one or the root, or is an input.
-    #[tactic(auto, unfolding(crate::specs::Request::clashes))]
+    #[tactic(auto, unfolding(crate::specs::Places::clashes))]
     fn clashes(&self, places: &[Path], path: &Path) -> bool
         ensures { result ≡ clashes (inputs_by self.now.command self.now) places.now path.now }
     {
         places.iter().filter(|other| meets(path, other)).count() > 1 || self.has_input(path)
     }
 
-    /// The first output that clashes.
-    fn first_clash<'a>(&self, places: &[Path], outputs: &'a [Path]) -> Option<&'a Path>
+    /// The first of the outputs that clashes.
+    fn clash_in<'a>(&self, places: &[Path], outputs: &'a [Path]) -> Option<&'a Path>
         ensures { option_copied result ≡ find (clashes (inputs_by self.now.command self.now) places.now) outputs.now }
     {
         outputs.iter().find(|path| self.clashes(places, path))
+    }
+
+    /// The first output that clashes: with another one or the root, or since it is an input. Errors with want of memory.
+    pub fn first_clash(&self, alloc: Global) -> Result<Option<Path>, AllocError>
+        ensures { IfOk result (λ found. found ≡ first_clash self.now) }
+    {
+        let outputs = self.outputs(alloc)?;
+        let places = self.places(alloc, &outputs)?;
+        Ok(self.clash_in(&places, &outputs).copied())
     }
 }
 
@@ -216,18 +167,4 @@ fn meets(path: &Path, other: &Path) -> bool
     ensures { result ≡ meets path.now other.now }
 {
     is_same(path, other) || path.is_under(other) || other.is_under(path)
-}
-
-/// A task whose outputs do not clash, or else the first one that does.
-pub fn apart(alloc: Global, task: Task) -> Result<Task, Halt>
-    ensures follows { Follows (λ found. found) result (apart task) }
-    ensures apart { IfOk result HasApartOutputs }
-    ensures same { IfOk result (λ found. found ≡ task) }
-{
-    let outputs = task.outputs(alloc)?;
-    let places = task.places(alloc, &outputs)?;
-    match task.first_clash(&places, &outputs) {
-        Some(path) => Err(Halt::Refused(Refusal::NoOutput(*path))),
-        None => Ok(task),
-    }
 }

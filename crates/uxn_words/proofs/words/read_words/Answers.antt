@@ -1,9 +1,9 @@
 use Rattle.std.proofs.Common.{◌≡◌, ◌∙◌, ap, sym, map, ◌-◌, length, take, drop, string_bytes, arith}
 use Rattle.std.specs.Prelude.{Some}
 use Rattle.std.proofs.lemmas.Result.{IfOk-weaker}
-use Rattle.uxn_cli.specs.Words.{asked_with, command_of}
-use Rattle.uxn_cli.proofs.WordLemmas.{settings_at, settings_empty}
-use Rattle.uxn_cli.proofs.words.read_words.Goals as goal
+use Rattle.uxn_words.specs.Words.{asked_with, command_of}
+use Rattle.uxn_words.proofs.WordLemmas.{settings_at, settings_empty}
+use Rattle.uxn_words.proofs.words.read_words.Goals as goal
 
 pub returns-in_default-clause-asked : goal.returns-in_default-clause-asked
 returns-in_default-clause-asked c = sym (settings_empty string_bytes c.args.words.now c.in_default.len_below)

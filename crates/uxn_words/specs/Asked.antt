@@ -2,9 +2,9 @@
 use Rattle.std.specs.Prelude.{ℕ, Bool, true, List, ◌∷◌, Option, Some, None, codes, map, option_map, if◌then◌else◌}
 use Rattle.clap.specs.Words.{App, Rule, new_app, new_rule}
 use Rattle.clap.specs.declared.builder.action.ArgAction.TheVariants.{Set, SetTrue}
-use Rattle.uxn_cli.specs.declared.words.Settings.{Settings}
-use Rattle.uxn_cli.specs.declared.task.Task.{Task}
-use Rattle.uxn_cli.specs.Words.{Choice, file_name}
+use Rattle.uxn_words.specs.declared.words.Settings.{Settings}
+use Rattle.uxn_words.specs.declared.task.Task.{Task}
+use Rattle.uxn_words.specs.Words.{Choice, file_name}
 
 abbrev pub asked : Settings → Task
 asked settings = record {

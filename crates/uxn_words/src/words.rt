@@ -1,10 +1,10 @@
 //! The words of the command line.
-ghost use Rattle.std.specs.Prelude.{◌≡◌, ◌≤◌, IfSome, ◌+◌, ◌==◌, ◌∷◌, [], drop, position, IfOk, Some, true, false, codes, map, string_bytes};
+ghost use Rattle.std.specs.Prelude.{◌≡◌, ◌≤◌, IfSome, ◌+◌, ◌==◌, ◌∷◌, [], position, IfOk, Some, true, false, map, string_bytes};
 ghost use Rattle.std.specs.Option.{option_map, option_map_or};
 ghost use Rattle.std.specs.List.{list_all, fold};
-ghost use Rattle.clap.specs.Words.{app_of, found_of, first_value, rule_of, with_rule};
-ghost use Rattle.uxn_cli.specs.Words.{command_of, is_plain, is_legal, option_text, value_in, run_choices, choices_of, budget_in, task_in, asked_with, settings};
-ghost use Rattle.uxn_cli.specs.Asked.{asked, argument, choice_argument, file_argument, parser_of, parser_for};
+ghost use Rattle.clap.specs.Words.{app_of, found_of, first_value, with_rule};
+ghost use Rattle.uxn_words.specs.Words.{command_of, is_plain, is_legal, option_text, value_in, run_choices, choices_of, budget_in, task_in, asked_with, settings};
+ghost use Rattle.uxn_words.specs.Asked.{asked, argument, choice_argument, file_argument, parser_of, parser_for};
 
 use clap::error::ErrorKind;
 use clap::{Arg, ArgAction, ArgMatches};

@@ -17,8 +17,8 @@ use Rattle.clap.specs.declared.builder.value_parser.Reading.TheVariants.{AsWritt
 use Rattle.clap.specs.declared.parser.matches.ValueSource.TheVariants.{DefaultValue, CommandLine}
 use Rattle.clap.specs.declared.error.kind.ErrorKind.TheVariants as kind
 use Rattle.std.specs.Prelude.{option_and_then, slice_get}
-use Rattle.uxn_cli.specs.Asked.{argument, choice_argument, file_argument}
-use Rattle.uxn_cli.specs.Words.{Choice, Given, choice_named, file_name, given, is_given, value_of}
+use Rattle.uxn_words.specs.Asked.{argument, choice_argument, file_argument}
+use Rattle.uxn_words.specs.Words.{Choice, Given, choice_named, file_name, given, is_given, value_of}
 
 -- ---- rules
 

@@ -13,9 +13,9 @@ use Rattle.clap.specs.Faults.{built_fault, check_fault, fault_of, word_fault, de
 use Rattle.clap.specs.declared.error.kind.ErrorKind.TheVariants as kind
 use Rattle.clap.proofs.FaultLemmas.{leaf_fault}
 use Rattle.clap.proofs.WalkLemmas.{list_any-map}
-use Rattle.uxn_cli.specs.Asked.{parser_for}
-use Rattle.uxn_cli.specs.Words.{Choice, Given, Step, gives, awaits, refuses, choice_named, choice_step, file_name, follow, given, is_given, is_legal, is_plain, is_whole, items_of, each_once, lacks_some, name_in, option_step, option_text, step_of, value_in}
-use Rattle.uxn_cli.proofs.ArgumentLemmas.{Fits, apart_named, by_id, by_long, choice_rule, defaults_pass, file_rule, filled_rules, is_apart, repeats, row, rows_given, ruled, rules_for, use_faults, use_rows, values_for, with_defaults}
+use Rattle.uxn_words.specs.Asked.{parser_for}
+use Rattle.uxn_words.specs.Words.{Choice, Given, Step, gives, awaits, refuses, choice_named, choice_step, file_name, follow, given, is_given, is_legal, is_plain, is_whole, items_of, each_once, lacks_some, name_in, option_step, option_text, step_of, value_in}
+use Rattle.uxn_words.proofs.ArgumentLemmas.{Fits, apart_named, by_id, by_long, choice_rule, defaults_pass, file_rule, filled_rules, is_apart, repeats, row, rows_given, ruled, rules_for, use_faults, use_rows, values_for, with_defaults}
 
 is_false : (b : Bool) → not b ≡ true → b ≡ false
 is_false true e = absurd (true≢false (sym e))
