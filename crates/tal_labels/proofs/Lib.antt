@@ -7,3 +7,4 @@ pub mod PlacingLemmas
 pub mod LayingLemmas
 pub mod PlacedLemmas
 pub mod CallerLemmas
+pub mod PlainLemmas

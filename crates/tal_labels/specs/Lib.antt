@@ -4,3 +4,4 @@ pub mod Shapes
 pub mod Placing
 pub mod Answers
 pub mod Index
+pub mod PlainWords

@@ -5,6 +5,7 @@ mod closing;
 mod labels;
 mod placed;
 mod placing;
+mod plain;
 mod shapes;
 #[cfg(test)]
 mod tests;
@@ -12,4 +13,5 @@ mod tests;
 pub use labels::{FIRST_SCOPE, full_name, next_scope};
 pub use placed::{Placed, PlacedWord};
 pub use placing::{FIRST_ADDRESS, MEMORY_END, place};
+pub use plain::plain_words_stand_one_behind_the_other;
 pub use shapes::strays_match_no_opener;
