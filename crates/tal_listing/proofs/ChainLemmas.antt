@@ -6,9 +6,9 @@ use Rattle.std.proofs.lemmas.Bool.{cases_eq, eq-eqb, ne_eqb}
 use Rattle.std.proofs.lemmas.List.{drop_more, get_or-replicate, length-replicate, length-set, get_or_default}
 use Rattle.std.proofs.lemmas.List.Concat.{flat_map-append}
 use Rattle.tal_words.specs.declared.name.Label.{Label}
-use Rattle.tal_listing.specs.Texts.{text_of_lines}
 use Rattle.tal_listing.specs.LabelChains.{IsNext, AreChained}
-use Rattle.tal_listing.specs.Disassembly.{label_lines, immediate_left, immediate_length, lines_at, begins_instruction, instruction_line, rom_start, disassembly, disassembly_lines}
+use Rattle.tal_words.specs.PlainTexts.{text_of_items}
+use Rattle.tal_listing.specs.Disassembly.{label_items}
 
 -- behind the last label no chain has begun
 pub chained_start : (labels : List Label) (first next : List ℕ) (count : ℕ) → count ≡ 65536 → first ≡ replicate count (length labels)
@@ -79,78 +79,6 @@ module _ (labels : List Label) (place : ℕ) (d : Label) (within : place < lengt
 
 -- what is left of a chain, and the text so far
 pub record LinesLeft (labels : List Label) (address : ℕ) (before now : List ℕ) (place : ℕ) : Type 0 where
-  pub text : now ++ text_of_lines (label_lines (drop place labels) address) ≡ before ++ text_of_lines (label_lines labels address)
+  pub text : now ++ text_of_items (label_items (drop place labels) address) ≡ before ++ text_of_items (label_items labels address)
   pub within : place ≤ length labels
   pub found : (d : Label) → place < length labels → (get_or labels place d).address ≡ address
-
--- the offsets up to one more
-range_more : (from count : ℕ) → range_with_len from (count + 1) ≡ range_with_len from count ++ (from + count) ∷ []
-range_more from count = by count from (count + 1) (from + count) (omega arith) refl
-  where
-    by : (count from more last : ℕ) → more ≡ suc count → from + count ≡ last → range_with_len from more ≡ range_with_len from count ++ last ∷ []
-    by zero from more last is_more is_last = let same : from ≡ last = omega arith in rw (is_more, same) refl
-    by (suc count) from more last is_more is_last = rw is_more (ap (λ (rest : List ℕ). from ∷ rest) (by count (from + 1) (suc count) last refl (omega arith)))
-
--- the text of the lines up to an offset
-pub record TextUpTo (rom : List ℕ) (labels : List Label) (text : List ℕ) (left offset : ℕ) : Type 0 where
-  pub lines : text ≡ text_of_lines (codes "|0100" ∷ flat_map (lines_at rom labels) (range_with_len 0 offset))
-  pub ahead : left ≡ immediate_left rom offset
-
-pub text_start : (rom : List ℕ) (labels : List Label) (text : List ℕ) → text ≡ codes "|0100" ++ 10 ∷ [] → TextUpTo rom labels text 0 0
-unfolding immediate_left
-text_start rom labels text is = record { lines = is; ahead = refl }
-
--- the text with the lines of one more offset
-text_more : (rom : List ℕ) (labels : List Label) (text more : List ℕ) (left offset : ℕ) → TextUpTo rom labels text left offset
-    → more ≡ text ++ text_of_lines (lines_at rom labels offset)
-    → more ≡ text_of_lines (codes "|0100" ∷ flat_map (lines_at rom labels) (range_with_len 0 (offset + 1)))
-text_more rom labels text more left offset up added =
-    let ended = λ (line : List ℕ). line ++ 10 ∷ [] in
-    let first = codes "|0100" ++ 10 ∷ [] in
-    let so_far = flat_map (lines_at rom labels) (range_with_len 0 offset) in
-    let last : 0 + offset ≡ offset = omega arith in
-    let range : range_with_len 0 (offset + 1) ≡ range_with_len 0 offset ++ offset ∷ [] = range_more 0 offset ∙ ap (λ (n : ℕ). range_with_len 0 offset ++ n ∷ []) last in
-    let joined : flat_map (lines_at rom labels) (range_with_len 0 (offset + 1)) ≡ so_far ++ lines_at rom labels offset =
-    ap (flat_map (lines_at rom labels)) range ∙ flat_map-append (lines_at rom labels) (range_with_len 0 offset) (offset ∷ [])
-    ∙ ap (λ (lines : List (List ℕ)). so_far ++ lines) (append-nil (lines_at rom labels offset)) in
-    added ∙ ap (λ (t : List ℕ). t ++ text_of_lines (lines_at rom labels offset)) up.lines
-    ∙ append_assoc first (text_of_lines so_far) (text_of_lines (lines_at rom labels offset))
-    ∙ ap (λ (t : List ℕ). first ++ t) (sym (flat_map-append ended so_far (lines_at rom labels offset)))
-    ∙ ap (λ (lines : List (List ℕ)). first ++ text_of_lines lines) (sym joined)
-
--- an offset at which an instruction begins
-pub text_begins : (rom : List ℕ) (labels : List Label) (text with_labels more : List ℕ) (left after offset : ℕ) → TextUpTo rom labels text left offset → left ≡ 0
-    → with_labels ≡ text ++ text_of_lines (label_lines labels (rom_start + offset)) → more ≡ with_labels ++ (instruction_line rom offset ++ 10 ∷ [])
-    → after ≡ immediate_length (get_or rom offset 0) → TextUpTo rom labels more after (offset + 1)
-unfolding immediate_left
-text_begins rom labels text with_labels more left after offset up none labelled added length' =
-    let begins : begins_instruction rom offset ≡ true = eq-eqb (immediate_left rom offset) 0 (sym up.ahead ∙ none) in
-    let one : offset + 1 ≡ suc offset = omega arith in
-    let here : text_of_lines (lines_at rom labels offset) ≡ text_of_lines (label_lines labels (rom_start + offset)) ++ (instruction_line rom offset ++ 10 ∷ []) =
-    rw begins
-    (flat_map-append (λ (line : List ℕ). line ++ 10 ∷ []) (label_lines labels (rom_start + offset)) (instruction_line rom offset ∷ [])
-    ∙ ap (λ (t : List ℕ). text_of_lines (label_lines labels (rom_start + offset)) ++ t) (append-nil (instruction_line rom offset ++ 10 ∷ []))) in
-    record {
-      lines = text_more rom labels text more left offset up
-          (added ∙ ap (λ (t : List ℕ). t ++ (instruction_line rom offset ++ 10 ∷ [])) labelled
-          ∙ append_assoc text (text_of_lines (label_lines labels (rom_start + offset))) (instruction_line rom offset ++ 10 ∷ [])
-          ∙ ap (λ (t : List ℕ). text ++ t) (sym here));
-      ahead = length' ∙ sym (rw (one, begins) refl);
-    }
-
--- an offset within an instruction
-pub text_within : (rom : List ℕ) (labels : List Label) (text : List ℕ) (left after offset : ℕ) → TextUpTo rom labels text left offset → left ≢ 0
-    → after ≡ left - 1 → TextUpTo rom labels text after (offset + 1)
-unfolding immediate_left
-text_within rom labels text left after offset up some less =
-    let within : begins_instruction rom offset ≡ false = ne_eqb (immediate_left rom offset) 0 (λ none. some (up.ahead ∙ none)) in
-    let one : offset + 1 ≡ suc offset = omega arith in
-    let here : text_of_lines (lines_at rom labels offset) ≡ [] = rw within refl in
-    record {
-      lines = text_more rom labels text text left offset up (sym (append-nil text) ∙ ap (λ (t : List ℕ). text ++ t) (sym here));
-      ahead = less ∙ ap (λ (n : ℕ). n - 1) up.ahead ∙ sym (rw (one, within) refl);
-    }
-
-pub text_end : (rom : List ℕ) (labels : List Label) (text : List ℕ) (left offset : ℕ) → offset ≡ length rom → TextUpTo rom labels text left offset → text ≡ disassembly rom labels
-unfolding disassembly disassembly_lines
-text_end rom labels text left offset end up = up.lines ∙ ap (λ (n : ℕ). text_of_lines (codes "|0100" ∷ flat_map (lines_at rom labels) (range_with_len 0 n))) end

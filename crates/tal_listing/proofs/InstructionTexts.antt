@@ -1,110 +1,16 @@
--- What the texts of opcodes and of digits are as words.
-use Rattle.std.proofs.Common.{◌≡◌, ℕ, zero, suc, ◌+◌, ◌*◌, ◌/◌, ◌%◌, ◌<◌, ◌≤◌, Bool, true, false, not, List, [], ◌∷◌, ◌++◌, length, None, Result, Ok, Err, inl, inr, refl, ap, sym, ◌∙◌, arith}
-use Rattle.std.specs.Prelude.{◌&&◌, ◌==◌, nat_lt, nat_le}
+-- What the texts of digits are as words.
+use Rattle.std.proofs.Common.{◌≡◌, ℕ, zero, suc, ◌+◌, ◌*◌, ◌/◌, ◌%◌, ◌<◌, ◌≤◌, Bool, true, false, List, [], ◌∷◌, ◌++◌, length, None, Ok, inl, inr, refl, ap, sym, ◌∙◌, arith}
+use Rattle.std.specs.Prelude.{◌&&◌, ◌==◌}
 use Rattle.std.specs.List.{list_any}
-use Rattle.std.proofs.lemmas.Bool.{cases_Bool, and_parts, cases_lt, eqb-true, not-true, ltb-true, leb-true}
+use Rattle.std.proofs.lemmas.Bool.{cases_Bool, and_parts, cases_lt, eqb-true}
 use Rattle.std.proofs.lemmas.Bool.Decides.{nat_tests}
-use Rattle.tal_words.specs.declared.fault.FaultKind.{FaultKind}
-use Rattle.tal_words.specs.declared.form.Form.{Form}
-use Rattle.tal_words.specs.declared.form.Form.TheVariants.{Pad, Skip, Lit1, Lit2, Raw1, Raw2, Op, Text, LabelDef, SubDef, Refer, LambdaEnd, Ignored}
-use Rattle.tal_words.specs.Source.{is_blank, begins}
+use Rattle.tal_words.specs.declared.form.Form.TheVariants.{Raw1, Raw2}
+use Rattle.tal_words.specs.Source.{is_blank}
 use Rattle.tal_words.specs.Forms.{form, bare, short_bytes}
 use Rattle.tal_words.specs.Digits.{is_digit, digit_value, number_of}
 use Rattle.tal_words.specs.Names.{rune_of}
-use Rattle.tal_words.specs.Opcodes.{name_of_op, byte_of_op}
-use Rattle.tal_words.specs.Braces.{opens, closes}
+use Rattle.tal_words.specs.PlainTexts.{IsPlainWord}
 use Rattle.uxn_io.specs.NumberText.{hex_digit, hex_of_byte}
-use Rattle.tal_listing.proofs.WordLemmas.{IsSpoken}
-use Rattle.tal_listing.proofs.MacroFree.{IsNoHead}
-
--- the form is this opcode
-abbrev is_opcode_form : Form → ℕ → Bool
-is_opcode_form (Op found) byte = found == byte
-is_opcode_form _ byte = false
-
-abbrev is_opcode : Result Form FaultKind → ℕ → Bool
-is_opcode (Ok shape) byte = is_opcode_form shape byte
-is_opcode (Err kind) byte = false
-
-opcode-form : (shape : Form) (byte : ℕ) → is_opcode_form shape byte ≡ true → shape ≡ Op byte
-opcode-form (Op found) byte e = ap Op (eqb-true found byte e)
-opcode-form (Pad n) byte e = cc
-opcode-form (Skip n) byte e = cc
-opcode-form (Lit1 n) byte e = cc
-opcode-form (Lit2 n) byte e = cc
-opcode-form (Raw1 n) byte e = cc
-opcode-form (Raw2 n) byte e = cc
-opcode-form Text byte e = cc
-opcode-form LabelDef byte e = cc
-opcode-form SubDef byte e = cc
-opcode-form (Refer rune) byte e = cc
-opcode-form LambdaEnd byte e = cc
-opcode-form Ignored byte e = cc
-
-opcode-is : (answer : Result Form FaultKind) (byte : ℕ) → is_opcode answer byte ≡ true → answer ≡ Ok (Op byte)
-opcode-is (Ok shape) byte e = ap Ok (opcode-form shape byte e)
-opcode-is (Err kind) byte e = cc
-
--- what is known of a word of an instruction, as a test
-abbrev is_bare_word : List ℕ → Bool
-is_bare_word text =
-    nat_lt 0 (length text) && not (list_any is_blank text) && not (begins 40 text) && not (begins 41 text) && nat_le (length text) 255
-    && not (begins 37 text) && not (opens text) && not (closes text)
-
-pub record IsBareWord (text : List ℕ) : Type 0 where
-  pub spoken : (blank : ℕ) → is_blank blank ≡ true → IsSpoken text blank
-  pub no_head : IsNoHead text
-  pub unopened : opens text ≡ false
-  pub unclosed : closes text ≡ false
-
-bare_word : (text : List ℕ) → is_bare_word text ≡ true → IsBareWord text
-bare_word text e =
-    let p7 = and_parts (nat_lt 0 (length text) && not (list_any is_blank text) && not (begins 40 text) && not (begins 41 text) && nat_le (length text) 255 && not (begins 37 text) && not (opens text)) (not (closes text)) e in
-    let p6 = and_parts (nat_lt 0 (length text) && not (list_any is_blank text) && not (begins 40 text) && not (begins 41 text) && nat_le (length text) 255 && not (begins 37 text)) (not (opens text)) p7.0 in
-    let p5 = and_parts (nat_lt 0 (length text) && not (list_any is_blank text) && not (begins 40 text) && not (begins 41 text) && nat_le (length text) 255) (not (begins 37 text)) p6.0 in
-    let p4 = and_parts (nat_lt 0 (length text) && not (list_any is_blank text) && not (begins 40 text) && not (begins 41 text)) (nat_le (length text) 255) p5.0 in
-    let p3 = and_parts (nat_lt 0 (length text) && not (list_any is_blank text) && not (begins 40 text)) (not (begins 41 text)) p4.0 in
-    let p2 = and_parts (nat_lt 0 (length text) && not (list_any is_blank text)) (not (begins 40 text)) p3.0 in
-    let p1 = and_parts (nat_lt 0 (length text)) (not (list_any is_blank text)) p2.0 in
-    record {
-      spoken = λ blank parted. record {
-        some = ltb-true 0 (length text) p1.0;
-        plain = not-true (list_any is_blank text) p1.1;
-        opens = not-true (begins 40 text) p2.1;
-        closes = not-true (begins 41 text) p3.1;
-        short = leb-true (length text) 255 p4.1;
-        parted = parted;
-      };
-      no_head = not-true (begins 37 text) p5.1;
-      unopened = not-true (opens text) p6.1;
-      unclosed = not-true (closes text) p7.1;
-    }
-
--- the name of each byte
-abbrev named_below : ℕ → Bool
-named_below zero = true
-named_below (suc byte) = (is_bare_word (name_of_op byte) && is_opcode (form (name_of_op byte)) byte) && named_below byte
-
-named_below-at : (bound byte : ℕ) → named_below bound ≡ true → byte < bound → (is_bare_word (name_of_op byte) && is_opcode (form (name_of_op byte)) byte) ≡ true
-named_below-at zero byte h below = absurd (omega arith)
-named_below-at (suc bound) byte h below =
-    let parts = and_parts (is_bare_word (name_of_op bound) && is_opcode (form (name_of_op bound)) bound) (named_below bound) h in
-    elim (cases_lt byte bound) [
-      | inl less ↦ named_below-at bound byte parts.1 less
-      | inr not_less ↦
-          let e : byte ≡ bound = omega arith in
-          rw e parts.0
-    ]
-
-name_known : (byte : ℕ) → byte < 256 → (is_bare_word (name_of_op byte) && is_opcode (form (name_of_op byte)) byte) ≡ true
-unfolding name_of_op form byte_of_op
-name_known byte below = named_below-at 256 byte refl below
-
-pub name_bare : (byte : ℕ) → byte < 256 → IsBareWord (name_of_op byte)
-name_bare byte below = bare_word (name_of_op byte) (and_parts (is_bare_word (name_of_op byte)) (is_opcode (form (name_of_op byte)) byte) (name_known byte below)).0
-
-pub form-name : (byte : ℕ) → byte < 256 → form (name_of_op byte) ≡ Ok (Op byte)
-form-name byte below = opcode-is (form (name_of_op byte)) byte (and_parts (is_bare_word (name_of_op byte)) (is_opcode (form (name_of_op byte)) byte) (name_known byte below)).1
 
 -- the digit of each number below 16
 abbrev digits_below : ℕ → Bool
@@ -172,25 +78,19 @@ form-digit digit rest is =
     rw (a1, a2, a3, a4, a5, a6, a7, a8, a9, b1, b2, b3, none) refl
 
 -- two digits or more, as a word
-digits_bare : (first second : ℕ) (rest : List ℕ) → is_digit first ≡ true → is_digit second ≡ true → list_any is_blank rest ≡ false → length rest ≤ 2
-    → IsBareWord (first ∷ second ∷ rest)
-digits_bare first second rest is_first is_second plain short =
+digits_plain : (first second : ℕ) (rest : List ℕ) → is_digit first ≡ true → is_digit second ≡ true → list_any is_blank rest ≡ false → length rest ≤ 2
+    → IsPlainWord (first ∷ second ∷ rest)
+digits_plain first second rest is_first is_second plain short =
     let p1 = digit_plain first is_first in
     let p2 = digit_plain second is_second in
-    let o1 = other first 40 is_first refl in
-    let o2 = other first 41 is_first refl in
-    let o3 = other first 37 is_first refl in
     let none = digit_no_rune first is_first in
     record {
-      spoken = λ blank parted. record {
-        some = omega arith;
-        plain = rw (p1, p2, plain) refl;
-        opens = o1;
-        closes = o2;
-        short = omega arith;
-        parted = parted;
-      };
-      no_head = o3;
+      some = omega arith;
+      short = omega arith;
+      blank_free = rw (p1, p2, plain) refl;
+      no_comment = other first 40 is_first refl;
+      no_paren = other first 41 is_first refl;
+      no_head = other first 37 is_first refl;
       unopened = rw none refl;
       unclosed = refl;
     }
@@ -203,8 +103,8 @@ module _ (byte : ℕ) (below : byte < 256) where
   pub low_digit : (is_digit (hex_digit (byte % 16)) ≡ true) × (digit_value (hex_digit (byte % 16)) ≡ byte % 16)
   low_digit = digit_known (byte % 16) (omega arith)
 
-  pub byte_bare : IsBareWord (hex_of_byte byte)
-  byte_bare = digits_bare (hex_digit (byte / 16)) (hex_digit (byte % 16)) [] high_digit.0 low_digit.0 refl (omega arith)
+  pub byte_plain : IsPlainWord (hex_of_byte byte)
+  byte_plain = digits_plain (hex_digit (byte / 16)) (hex_digit (byte % 16)) [] high_digit.0 low_digit.0 refl (omega arith)
 
   pub form-byte : form (hex_of_byte byte) ≡ Ok (Raw1 byte)
   form-byte =
@@ -215,11 +115,11 @@ module _ (byte : ℕ) (below : byte < 256) where
 
 -- two bytes as four digits
 module _ (high low : ℕ) (high_below : high < 256) (low_below : low < 256) where
-  pub short_bare : IsBareWord (hex_of_byte high ++ hex_of_byte low)
-  short_bare =
+  pub short_plain : IsPlainWord (hex_of_byte high ++ hex_of_byte low)
+  short_plain =
       let p1 = digit_plain (hex_digit (low / 16)) (high_digit low low_below).0 in
       let p2 = digit_plain (hex_digit (low % 16)) (low_digit low low_below).0 in
-      digits_bare (hex_digit (high / 16)) (hex_digit (high % 16)) (hex_of_byte low) (high_digit high high_below).0 (low_digit high high_below).0 (rw (p1, p2) refl) (omega arith)
+      digits_plain (hex_digit (high / 16)) (hex_digit (high % 16)) (hex_of_byte low) (high_digit high high_below).0 (low_digit high high_below).0 (rw (p1, p2) refl) (omega arith)
 
   pub form-short : form (hex_of_byte high ++ hex_of_byte low) ≡ Ok (Raw2 (256 * high + low))
   form-short =

@@ -21,14 +21,18 @@ use Rattle.tal_labels.specs.Labels.{label_name, defined_name, last_label, scope_
 use Rattle.tal_macros.specs.Expansion.{expanded_of}
 use Rattle.tal_rom.specs.Assembly.{layout}
 use Rattle.tal_symbols.specs.SymbolFile.{is_readable, are_readable}
-use Rattle.tal_listing.proofs.DisassemblyLemmas.{all_joined}
-use Rattle.tal_listing.proofs.BlankFree.{IsPlain, IsPlainExpanded, expanded_plain}
+use Rattle.tal_words.specs.PlainTexts.{IsBlankFree}
+use Rattle.tal_words.proofs.BlankFree.{all_joined}
+use Rattle.tal_macros.proofs.BlankLemmas.{expanded_free}
 
-drop_plain : (text : List ℕ) → IsPlain text → IsPlain (drop 1 text)
+abbrev IsFree : List ℕ → Expanded → Type 0
+IsFree source word = IsBlankFree (expanded_text source word)
+
+drop_plain : (text : List ℕ) → IsBlankFree text → IsBlankFree (drop 1 text)
 drop_plain [] plain = refl
 drop_plain (first ∷ rest) plain = (or_parts (is_blank first) (list_any is_blank rest) plain).1
 
-take_plain : (n : ℕ) (text : List ℕ) → IsPlain text → IsPlain (take n text)
+take_plain : (n : ℕ) (text : List ℕ) → IsBlankFree text → IsBlankFree (take n text)
 take_plain zero text plain = refl
 take_plain (suc n) [] plain = refl
 take_plain (suc n) (first ∷ rest) plain =
@@ -85,14 +89,14 @@ unfolding form
 not_empty [] e = cc
 not_empty (first ∷ rest) e = omega arith
 
-readable_name : (name : List ℕ) (address : ℕ) → 0 < length name → IsPlain name → is_readable (record { name = name; address = address }) ≡ true
+readable_name : (name : List ℕ) (address : ℕ) → 0 < length name → IsBlankFree name → is_readable (record { name = name; address = address }) ≡ true
 readable_name name address some plain =
     and_from (nat_lt 0 (length name)) (not (list_any is_blank name)) (lt-ltb 0 (length name) some) (not_from_false (list_any is_blank name) plain)
 
-full_plain : (scope text : List ℕ) → IsPlain scope → IsPlain text → IsPlain (full_name scope text)
+full_plain : (scope text : List ℕ) → IsBlankFree scope → IsBlankFree text → IsBlankFree (full_name scope text)
 full_plain scope text scope_plain plain = by (begins 38 text || begins slash text)
   where
-    by : (b : Bool) → IsPlain (if b then scope ++ slash ∷ drop 1 text else text)
+    by : (b : Bool) → IsBlankFree (if b then scope ++ slash ∷ drop 1 text else text)
     by true =
         list_any-append is_blank scope (slash ∷ drop 1 text)
         ∙ or_from (list_any is_blank scope) (list_any is_blank (drop 1 text)) scope_plain (drop_plain text plain)
@@ -107,9 +111,9 @@ full_some scope text some = by (begins 38 text || begins slash text)
 
 abbrev IsPlainName : Option (List ℕ) → Type 0
 IsPlainName None = Unit {0}
-IsPlainName (Some name) = IsPlain name
+IsPlainName (Some name) = IsBlankFree name
 
-label_plain : (answer : Result Form FaultKind) (text : List ℕ) → IsPlain text → IsPlainName (label_name answer text)
+label_plain : (answer : Result Form FaultKind) (text : List ℕ) → IsBlankFree text → IsPlainName (label_name answer text)
 label_plain (Err kind) text plain = tt
 label_plain (Ok (Pad n)) text plain = tt
 label_plain (Ok (Skip n)) text plain = tt
@@ -126,7 +130,7 @@ label_plain (Ok LambdaEnd) text plain = tt
 label_plain (Ok Ignored) text plain = tt
 
 module _ (source : List ℕ) where
-  last_plain : (words : List Expanded) → AllByRecursion (IsPlainExpanded source) words → IsPlainName (last_label source words)
+  last_plain : (words : List Expanded) → AllByRecursion (IsFree source) words → IsPlainName (last_label source words)
   last_plain [] all = tt
   last_plain (word ∷ words) all =
       by (last_label source words) (label_name (form (expanded_text source word)) (expanded_text source word))
@@ -136,15 +140,15 @@ module _ (source : List ℕ) where
       by (Some name) earlier a b = a
       by None earlier a b = b
 
-  scope_plain : (words : List Expanded) → AllByRecursion (IsPlainExpanded source) words → IsPlain (scope_after source words)
+  scope_plain : (words : List Expanded) → AllByRecursion (IsFree source) words → IsBlankFree (scope_after source words)
   unfolding scope_after
   scope_plain words all = by (last_label source words) (last_plain words all)
     where
-      by : (o : Option (List ℕ)) → IsPlainName o → IsPlain (option_map_or scope_of o first_scope)
+      by : (o : Option (List ℕ)) → IsPlainName o → IsBlankFree (option_map_or scope_of o first_scope)
       by None plain = refl
       by (Some name) plain = take_plain (prefix_len (λ byte. not (byte == slash)) name) name plain
 
-  given_readable : (before : List Expanded) (answer : Result Form FaultKind) (scope text : List ℕ) → form text ≡ answer → IsPlain text → IsPlain scope
+  given_readable : (before : List Expanded) (answer : Result Form FaultKind) (scope text : List ℕ) → form text ≡ answer → IsBlankFree text → IsBlankFree scope
       → are_readable (label_at source before (defined_name answer scope text)) ≡ true
   given_readable before (Err kind) scope text e plain scoped = refl
   given_readable before (Ok (Pad n)) scope text e plain scoped = refl
@@ -165,7 +169,7 @@ module _ (source : List ℕ) where
   given_readable before (Ok LambdaEnd) scope text e plain scoped = refl
   given_readable before (Ok Ignored) scope text e plain scoped = refl
 
-  collected_readable : (before words : List Expanded) → AllByRecursion (IsPlainExpanded source) before → AllByRecursion (IsPlainExpanded source) words
+  collected_readable : (before words : List Expanded) → AllByRecursion (IsFree source) before → AllByRecursion (IsFree source) words
       → are_readable (collected (labels_given source) before words) ≡ true
   collected_readable before [] earlier all = refl
   collected_readable before (word ∷ words) earlier all =
@@ -173,8 +177,8 @@ module _ (source : List ℕ) where
       list_all-append is_readable (labels_given source before word words) (collected (labels_given source) (before ++ word ∷ []) words)
       ∙ and_from (are_readable (labels_given source before word words)) (are_readable (collected (labels_given source) (before ++ word ∷ []) words))
       (given_readable before (form text) (scope_after source before) text refl all.0 (scope_plain before earlier))
-      (collected_readable (before ++ word ∷ []) words (all_joined (IsPlainExpanded source) before (word ∷ []) earlier (all.0, tt)) all.1)
+      (collected_readable (before ++ word ∷ []) words (all_joined (IsFree source) before (word ∷ []) earlier (all.0, tt)) all.1)
 
   pub labels_readable : are_readable (layout source).labels ≡ true
   unfolding layout labels_of
-  labels_readable = collected_readable [] (expanded_of source) tt (expanded_plain source)
+  labels_readable = collected_readable [] (expanded_of source) tt (expanded_free source)

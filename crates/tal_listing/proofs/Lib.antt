@@ -1,12 +1,6 @@
-pub mod TokenLemmas
-pub mod WordLemmas
-pub mod MacroFree
-pub mod PlainWords
-pub mod LaidOut
 pub mod InstructionTexts
 pub mod DisassemblyLemmas
 pub mod ChainLemmas
 pub mod ListingLemmas
-pub mod BlankFree
 pub mod LabelNames
 pub mod ListedBytes

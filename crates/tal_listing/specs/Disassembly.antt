@@ -1,12 +1,13 @@
 -- The disassembly of a ROM (Uxntal opcode reference; profile: the form of the lines).
-use Rattle.std.specs.Prelude.{ℕ, zero, suc, ◌+◌, ◌-◌, Bool, ◌||◌, ◌==◌, if◌then◌else◌, List, []}
-use Rattle.std.specs.Prelude.{◌∷◌, ◌++◌, codes, length, map, take, drop, slice_index}
-use Rattle.std.specs.List.{flat_map, range_with_len}
+use Rattle.std.specs.Prelude.{ℕ, zero, suc, ◌+◌, ◌||◌, ◌==◌, if◌then◌else◌, List, [], ◌∷◌, ◌++◌, length, map, take, drop}
+use Rattle.std.specs.List.{flat_map}
 use Rattle.tal_words.specs.declared.name.Label.{Label}
 use Rattle.tal_words.specs.Opcodes.{name_of_op}
+use Rattle.tal_words.specs.PlainTexts.{Item, Comment, PlainWord, text_of_items}
+use Rattle.tal_labels.specs.PlainWords.{pad_text}
 use Rattle.uxn_io.specs.NumberText.{hex_of_short}
 use Rattle.tal_listing.specs.LabelChains.{labels_of_address}
-use Rattle.tal_listing.specs.Texts.{text_of_lines, hex_of_bytes}
+use Rattle.tal_listing.specs.Texts.{hex_of_bytes}
 
 -- the address of the first byte of a ROM
 abbrev pub rom_start : ℕ
@@ -19,53 +20,47 @@ immediate_length opcode =
     else if opcode == 160 || opcode == 224 || opcode == 32 || opcode == 64 || opcode == 96 then 2
     else 0
 
--- bytes behind a name, as digits and with a space before them
-abbrev pub behind_name : List ℕ → List ℕ
-behind_name [] = []
-behind_name (byte ∷ bytes) = 32 ∷ hex_of_bytes (byte ∷ bytes)
+-- an instruction: its address, its opcode, and the bytes behind this that belong to it, as far as the ROM has them
+pub record Instruction : Type 0 where
+  pub address : ℕ
+  pub opcode : ℕ
+  pub immediate : List ℕ
 
--- the comment with an address
-abbrev pub address_comment : ℕ → List ℕ
-address_comment address = codes " ( " ++ hex_of_short address ++ codes " )"
+-- the instructions of bytes from an address on, at most so many of them
+unfoldable pub instructions_from : ℕ → ℕ → List ℕ → List Instruction
+instructions_from zero address bytes = []
+instructions_from (suc more) address [] = []
+instructions_from (suc more) address (opcode ∷ bytes) =
+    record { address = address; opcode = opcode; immediate = take (immediate_length opcode) bytes }
+    ∷ instructions_from more (address + 1 + immediate_length opcode) (drop (immediate_length opcode) bytes)
 
--- the line of a label: a comment with its name
-abbrev pub label_line : Label → List ℕ
-label_line label = codes "( @" ++ label.name ++ codes " )"
+-- the comment with the name of a label, on a line of its own
+abbrev pub label_item : Label → Item
+label_item label = Comment (64 ∷ label.name) 10
 
--- the lines of the labels of an address, in order
-abbrev pub label_lines : List Label → ℕ → List (List ℕ)
-label_lines labels address = map label_line (labels_of_address address labels)
+-- the digits of an immediate, if there is one
+abbrev pub immediate_items : List ℕ → List Item
+immediate_items [] = []
+immediate_items (byte ∷ bytes) = PlainWord (hex_of_bytes (byte ∷ bytes)) 32 ∷ []
 
-module _ (rom : List ℕ) where
-  -- how many bytes from an offset on belong to an instruction that begins before it
-  unfoldable pub immediate_left : ℕ → ℕ
-  immediate_left zero = 0
-  immediate_left (suc offset) =
-      if immediate_left offset == 0 then immediate_length (slice_index rom offset) else immediate_left offset - 1
+-- the line of an instruction: its name, its immediate, and the comment with its address
+abbrev pub instruction_items : Instruction → List Item
+instruction_items instruction =
+    PlainWord (name_of_op instruction.opcode) 32
+    ∷ (immediate_items instruction.immediate ++ Comment (hex_of_short instruction.address) 10 ∷ [])
 
-  -- an instruction begins at an offset
-  abbrev pub begins_instruction : ℕ → Bool
-  begins_instruction offset = immediate_left offset == 0
+-- the labels of an address, in order
+abbrev pub label_items : List Label → ℕ → List Item
+label_items labels address = map label_item (labels_of_address address labels)
 
-  -- the bytes behind an opcode that belong to its instruction, as far as the ROM has them
-  abbrev pub immediate_at : ℕ → List ℕ
-  immediate_at offset = take (immediate_length (slice_index rom offset)) (drop (offset + 1) rom)
+-- an instruction behind the labels of its address
+abbrev pub items_of : List Label → Instruction → List Item
+items_of labels instruction = label_items labels instruction.address ++ instruction_items instruction
 
-  -- the line of an instruction: its name, its immediate and its address
-  abbrev pub instruction_line : ℕ → List ℕ
-  instruction_line offset =
-      name_of_op (slice_index rom offset) ++ behind_name (immediate_at offset) ++ address_comment (rom_start + offset)
+-- the items of a disassembly: `|0100`, and the instructions with their labels
+abbrev pub disassembly_items : List ℕ → List Label → List Item
+disassembly_items rom labels = PlainWord pad_text 10 ∷ flat_map (items_of labels) (instructions_from (length rom) rom_start rom)
 
-  module _ (labels : List Label) where
-    -- the lines of an offset: where an instruction begins, those of the labels of its address, and its own
-    abbrev pub lines_at : ℕ → List (List ℕ)
-    lines_at offset =
-        if begins_instruction offset then label_lines labels (rom_start + offset) ++ instruction_line offset ∷ [] else []
-
-    -- the lines of a disassembly
-    unfoldable pub disassembly_lines : List (List ℕ)
-    disassembly_lines = codes "|0100" ∷ flat_map lines_at (range_with_len 0 (length rom))
-
-    -- the disassembly of a ROM with labels
-    unfoldable pub disassembly : List ℕ
-    disassembly = text_of_lines disassembly_lines
+-- the disassembly of a ROM with labels
+unfoldable pub disassembly : List ℕ → List Label → List ℕ
+disassembly rom labels = text_of_items (disassembly_items rom labels)

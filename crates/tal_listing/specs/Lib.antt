@@ -1,5 +1,4 @@
 pub mod Texts
 pub mod LabelChains
 pub mod Disassembly
-pub mod Assembling
 pub mod Listing

@@ -1,14 +1,15 @@
 //! The disassembly of a ROM.
 
-ghost use Rattle.std.specs.Prelude.{◌≡◌, ◌≤◌, ◌<◌, ◌+◌, ◌++◌, ℕ, List, ◌∷◌, [], length, slice_index, true, IfOk, OnOk};
+ghost use Rattle.std.specs.Prelude.{◌≡◌, ◌≤◌, ◌<◌, ◌+◌, ◌++◌, ℕ, List, ◌∷◌, [], length, drop, slice_index, take, true, IfOk, OnOk};
 ghost use Rattle.tal_words.specs.declared.name.Label.{Label};
 ghost use Rattle.tal_words.specs.Comments.{source_limit};
+ghost use Rattle.tal_words.specs.PlainTexts.{text_of_items};
 ghost use Rattle.tal_symbols.specs.SymbolFile.{are_readable};
+ghost use Rattle.tal_rom.specs.PlainWords.{AssemblesTo};
 ghost use Rattle.tal_rom.specs.Rom.{rom_limit};
-ghost use Rattle.tal_listing.specs.Assembling.{AssemblesTo};
 ghost use Rattle.tal_listing.specs.LabelChains.{AreChained};
-ghost use Rattle.tal_listing.specs.Texts.{text_of_lines};
-ghost use Rattle.tal_listing.specs.Disassembly.{immediate_length, immediate_at, behind_name, label_line, label_lines, instruction_line, disassembly};
+ghost use Rattle.tal_listing.specs.Texts.{behind_name};
+ghost use Rattle.tal_listing.specs.Disassembly.{disassembly, immediate_length, instruction_items, label_item, label_items};
 
 use crate::chains::LabelChains;
 use std::alloc::{AllocError, Global};
@@ -31,16 +32,13 @@ pub fn disassemble(alloc: Global, rom: &[u8], labels: &[Label]) -> Result<Vec<u8
     let chains = LabelChains::new(alloc, labels)?;
     let mut text = Vec::new(alloc);
     text.extend_from_slice(b"|0100\n")?;
-    let mut left = 0;
-    for offset in 0..rom.len() {
-        if left == 0 {
-            let address = (ROM_START + offset) as u16;
-            append_label_lines(&mut text, &chains, labels, address)?;
-            append_instruction(&mut text, rom, offset)?;
-            left = immediate_len(rom[offset]);
-        } else {
-            left -= 1;
-        }
+    let mut offset = 0;
+    while offset < rom.len() {
+        let address = (ROM_START + offset) as u16;
+        append_label_lines(&mut text, &chains, labels, address)?;
+        let immediate = immediate_of(rom, offset);
+        append_instruction(&mut text, address, rom[offset], immediate)?;
+        offset += 1 + immediate.len();
     }
     Ok(text)
 }
@@ -74,7 +72,7 @@ fn append_label_lines(
     address: u16,
 ) -> Result<(), AllocError>
     requires { AreChained labels.now 0 chains.now.first.items chains.now.next.items }
-    ensures { OnOk result (text.new.items ≡ text.old.items ++ text_of_lines (label_lines labels.now address)) }
+    ensures { OnOk result (text.new.items ≡ text.old.items ++ text_of_items (label_items labels.now address)) }
 {
     let mut place = chains.first_of(labels, address);
     while place < labels.len() {
@@ -86,30 +84,35 @@ fn append_label_lines(
 
 /// Appends the line of a label.
 fn append_label_line(text: &mut Vec<u8>, label: &Label) -> Result<(), AllocError>
-    ensures { OnOk result (text.new.items ≡ text.old.items ++ (label_line label.now ++ 10 ∷ [])) }
+    ensures { OnOk result (text.new.items ≡ text.old.items ++ text_of_items (label_item label.now ∷ [])) }
 {
     text.extend_from_slice(b"( @")?;
     text.extend_from_slice(label.name.bytes())?;
     text.extend_from_slice(b" )\n")
 }
 
-/// Appends the line of the instruction at an offset.
-fn append_instruction(text: &mut Vec<u8>, rom: &[u8], offset: usize) -> Result<(), AllocError>
-    requires within { offset < length rom.now }
-    requires short { length rom.now ≤ rom_limit }
-    ensures { OnOk result (text.new.items ≡ text.old.items ++ (instruction_line rom.now offset ++ 10 ∷ [])) }
+/// Appends the line of an instruction at an address.
+fn append_instruction(
+    text: &mut Vec<u8>,
+    address: u16,
+    opcode: u8,
+    immediate: &[u8],
+) -> Result<(), AllocError>
+    ensures { OnOk result (text.new.items ≡ text.old.items
+        ++ text_of_items (instruction_items (record { address = address; opcode = opcode; immediate = immediate.now }))) }
 {
-    text.extend_from_slice(&op_name(rom[offset]))?;
-    append_immediate(text, immediate_of(rom, offset))?;
+    text.extend_from_slice(&op_name(opcode))?;
+    append_immediate(text, immediate)?;
     text.extend_from_slice(b" ( ")?;
-    text.extend_from_slice(&hex_short((ROM_START + offset) as u16))?;
-    text.extend_from_slice(b" )\n")
+    text.extend_from_slice(&hex_short(address))?;
+    text.extend_from_slice(b" )\n")?;
+    Ok(())
 }
 
 /// The bytes behind an opcode that belong to its instruction, as far as the ROM has them.
 fn immediate_of(rom: &[u8], offset: usize) -> &[u8]
     requires { offset < length rom.now }
-    ensures { result.now ≡ immediate_at rom.now offset }
+    ensures { result.now ≡ take (immediate_length (slice_index rom.now offset)) (drop (offset + 1) rom.now) }
 {
     let rest = &rom[offset + 1..];
     &rest[..immediate_len(rom[offset]).min(rest.len())]

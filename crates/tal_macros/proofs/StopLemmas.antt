@@ -10,7 +10,7 @@ use Rattle.tal_macros.specs.Passing.{left, rest, Passes, TurnGives}
 use Rattle.tal_macros.specs.Heads.{HeadGives}
 use Rattle.tal_macros.proofs.PassLemmas.{left-nothing, continues-same}
 
-module _ (source : List ℕ) (words : List Word) (old new : Pass) (none : body_words words old.body ≡ []) (bare : old.open.items ≡ []) where
+module _ (source : List ℕ) (words : List Word) (old new : Pass) (none : body_words words old.body ≡ []) (bare : old.outer.items ≡ []) where
   left-head : left source words old ≡ rest source (known_of words old.macros.entries) old.count (parts_from source 0 (drop old.at words))
   unfolding left
   left-head = rw (none, bare) (left-nothing source words (known_of words old.macros.entries) old.count old.at)

@@ -60,13 +60,13 @@ module _ (source : List ℕ) where
     left pass =
         let known = known_of words pass.macros.entries in
         steps_from known pass.count
-        (flat_map (visits source known pass.origin (depth_limit - length pass.open.items)) (body_words words pass.body)
-        ++ open_visits known pass.origin depth_limit pass.open.items)
+        (flat_map (visits source known pass.origin (depth_limit - length pass.outer.items)) (body_words words pass.body)
+        ++ open_visits known pass.origin depth_limit pass.outer.items)
         pass.at
 
     -- what falls with each step that gives no word
     abbrev pub to_go : Pass → ℕ
-    to_go pass = 2 * (visit_limit - pass.count) + length pass.open.items + (length words - pass.at)
+    to_go pass = 2 * (visit_limit - pass.count) + length pass.outer.items + (length words - pass.at)
 
     -- nothing was visited
     pub record Passes (old new : Pass) : Type 0 where

@@ -38,7 +38,7 @@ pub struct Pass {
     /// The words that are visited now: those of the innermost use, or a word outside heads by itself.
     body: Body,
     /// What is left behind each open use, the outermost first.
-    open: ArrayVec<Body, DEPTH_LIMIT>,
+    outer: ArrayVec<Body, DEPTH_LIMIT>,
     /// The word of the source that is visited.
     origin: Word,
     /// How many words were visited.
@@ -51,14 +51,14 @@ impl Pass {
         ensures macros { result.macros.entries ≡ [] }
         ensures place { result.at ≡ 0 }
         ensures body { result.body ≡ record { from = 0; to = 0 } }
-        ensures open { result.open.items ≡ [] }
+        ensures outer { result.outer.items ≡ [] }
         ensures count { result.count ≡ 0 }
     {
         Pass {
             macros: IndexMap::new(alloc),
             at: 0,
             body: Body::default(),
-            open: ArrayVec::new(),
+            outer: ArrayVec::new(),
             origin: Word {
                 span: Span { start: 0, end: 0 },
                 line: 1,
@@ -75,7 +75,7 @@ impl Pass {
         if let Some(word) = self.body.first(words) {
             return self.visit(source, words, word);
         }
-        match self.open.pop() {
+        match self.outer.pop() {
             Some(body) => {
                 self.body = body;
                 Ok(Turn::Passed)
@@ -92,7 +92,7 @@ impl Pass {
         ensures { TurnGives source.now words.now self.old self.new result }
     {
         let used = body_named(&self.macros, word.span.text(source));
-        if used.is_some() && self.open.is_full() {
+        if used.is_some() && self.outer.is_full() {
             return Err(AsmStop::Refused(Fault::new(&self.origin, FaultKind::MacroDeep)));
         }
         if self.count >= VISIT_LIMIT {
@@ -102,7 +102,7 @@ impl Pass {
         self.body.from += 1;
         match used {
             Some(body) => {
-                self.open.push(self.body);
+                self.outer.push(self.body);
                 self.body = body;
                 Ok(Turn::Passed)
             }
@@ -116,7 +116,7 @@ impl Pass {
     /// Takes the next word of the source, or the head that begins with it.
     fn source_word(&mut self, alloc: Global, source: &[u8], words: &[Word]) -> Result<Turn, AsmStop>
         requires body { body_words words.now self.old.body ≡ [] }
-        requires open { self.old.open.items ≡ [] }
+        requires outer { self.old.outer.items ≡ [] }
         ensures { TurnGives source.now words.now self.old self.new result }
     {
         if self.at >= words.len() {

@@ -1,34 +1,28 @@
-use Rattle.std.proofs.Common.{ℕ, ◌+◌, List, length, ap, sym, subst, ◌∙◌, arith, rules}
-use Rattle.tal_listing.specs.Assembling.{AssemblesTo}
-use Rattle.tal_listing.proofs.DisassemblyLemmas.{disassembly_assembles}
-use Rattle.tal_listing.proofs.ChainLemmas.{TextUpTo, text_start, text_begins, text_within, text_end}
+use Rattle.std.proofs.Common.{ℕ, ◌+◌, List, length, drop, get_or, ap, sym, subst, ◌∙◌, arith, rules, length-take, length-drop}
+use Rattle.tal_rom.specs.PlainWords.{AssemblesTo}
+use Rattle.tal_listing.specs.Disassembly.{immediate_length}
+use Rattle.tal_listing.proofs.DisassemblyLemmas.{disassembly_assembles, disassembled_start, disassembled_more, disassembled_end}
 use Rattle.tal_listing.proofs.disassembly.disassemble.Goals as goal
-use Rattle.tal_listing.proofs.disassembly.disassemble.Goals.{then-left-eq0+in_ok-append_label_lines+in_ok-append_instruction, else-left-eq0}
 
 pub loop-offset-init : goal.loop-offset-init
-loop-offset-init c = text_start c.args.rom.now c.args.labels.now c.extend_from_slice.new.self.items (search rules)
+loop-offset-init c = disassembled_start c.args.rom.now c.args.labels.now c.extend_from_slice.new.self.items (search rules)
 
 pub loop-offset-preserved : goal.loop-offset-preserved
 loop-offset-preserved c =
     let rom = c.args.rom.now in
-    let labels = c.args.labels.now in
     let offset = c.loop-offset.offset in
-    let so_far = c.loop-offset.text.items in
-    elim c.if-left-eq0.branch [
-      | then-left-eq0+in_ok-append_label_lines+in_ok-append_instruction w ↦
-          text_begins rom labels so_far w.append_label_lines.new.text.items c.if-left-eq0.text.items c.loop-offset.left c.if-left-eq0.left offset c.loop-offset.invariant
-          w.if-left-eq0.true w.in_ok-append_label_lines.ensures (ap (λ text. text.items) w.text-is ∙ w.in_ok-append_instruction.ensures) (w.left-is ∙ w.immediate_len-left.ensures.value)
-      | else-left-eq0 w ↦
-          let P : List ℕ → Type 0 = λ text. TextUpTo rom labels text c.if-left-eq0.left (offset + 1) in
-          subst P (sym (ap (λ text. text.items) w.text-is))
-          (text_within rom labels so_far c.loop-offset.left c.if-left-eq0.left offset c.loop-offset.invariant w.if-left-eq0.false w.left-is)
-    ]
+    let immediate = c.immediate_of-immediate.ensures in
+    let size = ap length immediate in
+    let taken = length-take (immediate_length (get_or rom offset 0)) (drop (offset + 1) rom) in
+    disassembled_more rom c.args.labels.now c.loop-offset.text.items offset c.loop-offset-test.true c.loop-offset.invariant c.append_label_lines.new.text.items
+    c.append_instruction.new.text.items (offset + (1 + length c.immediate_of-immediate.result.now)) c.in_ok-append_label_lines.ensures
+    (rw (← immediate) c.in_ok-append_instruction.ensures) (omega (arith, size)) (omega (arith, size, taken, length-drop (offset + 1) rom))
 
 pub returns-clause-value : goal.returns-clause-value
-returns-clause-value c = text_end c.args.rom.now c.args.labels.now c.loop-offset.text.items c.loop-offset.left c.loop-offset.offset (omega arith) c.loop-offset.invariant
+returns-clause-value c = disassembled_end c.args.rom.now c.args.labels.now c.loop-offset.text.items c.loop-offset.offset (omega arith) c.loop-offset.invariant
 
 pub returns-clause-assembles : goal.returns-clause-assembles
 returns-clause-assembles c = λ readable short.
-    let is = text_end c.args.rom.now c.args.labels.now c.loop-offset.text.items c.loop-offset.left c.loop-offset.offset (omega arith) c.loop-offset.invariant in
+    let is = disassembled_end c.args.rom.now c.args.labels.now c.loop-offset.text.items c.loop-offset.offset (omega arith) c.loop-offset.invariant in
     let P : List ℕ → Type 0 = λ text. AssemblesTo text c.args.rom.now in
     subst P (sym is) (disassembly_assembles c.args.rom.now c.args.labels.now (λ i within. omega (arith, c.type_inv.rom i)) c.requires readable (omega (arith, ap length is)))

@@ -7,5 +7,5 @@ pub invariant_of-result : goal.invariant_of-result
 unfolding left
 invariant_of-result c =
     follows-start c.args.source.now c.args.words.now c.new.result
-    (rw (c.new.ensures.macros, c.new.ensures.place, c.new.ensures.body, c.new.ensures.open, c.new.ensures.count) refl)
+    (rw (c.new.ensures.macros, c.new.ensures.place, c.new.ensures.body, c.new.ensures.outer, c.new.ensures.count) refl)
     c.new.ensures.count c.requires

@@ -11,7 +11,7 @@ use Rattle.tal_macros.proofs.pass.Pass.source_word.Goals as goal
 pub returns-then-self-words : goal.returns-then-self-words
 unfolding left
 returns-then-self-words c = (
-  rw (c.requires.body, c.requires.open) (steps-end c.args.source.now c.args.words.now (known_of c.args.words.now c.args.self.now.macros.entries) c.args.self.now.count c.args.self.now.at c.if-self-words.true),
+  rw (c.requires.body, c.requires.outer) (steps-end c.args.source.now c.args.words.now (known_of c.args.words.now c.args.self.now.macros.entries) c.args.self.now.count c.args.self.now.at c.if-self-words.true),
   record { continues = continues-same _ _ refl; count = refl },
 )
 
@@ -20,15 +20,15 @@ unfolding left
 returns-in_err-body c =
     let p = err_from_is_err_and c.from_residual.result c.from_residual.ensures.1 in
     let new : Pass = record c.args.self.now { macros = c.define.new.macros } in
-    let known = known_after c.args.source.now c.args.words.now c.args.self.now new c.requires.body c.requires.open c.in_err-body.field-0.0 c.in_err-body.ensures in
+    let known = known_after c.args.source.now c.args.words.now c.args.self.now new c.requires.body c.requires.outer c.in_err-body.field-0.0 c.in_err-body.ensures in
     rw (p.1, p.2)
-    (stopped c.args.source.now c.args.words.now c.args.self.now new c.requires.body c.requires.open (rw known refl) refl c.in_err-body.field-0.0 c.in_err-body.ensures)
+    (stopped c.args.source.now c.args.words.now c.args.self.now new c.requires.body c.requires.outer (rw known refl) refl c.in_err-body.field-0.0 c.in_err-body.ensures)
 
 pub returns-in_ok-body : goal.returns-in_ok-body
 unfolding left
 returns-in_ok-body c = (
   inl (record {
-    continues = rw (c.requires.body, c.requires.open, left-nothing, left-nothing) (c.in_ok-body.ensures.continues c.args.self.now.count);
+    continues = rw (c.requires.body, c.requires.outer, left-nothing, left-nothing) (c.in_ok-body.ensures.continues c.args.self.now.count);
     count = refl;
   }),
   omega (arith, c.in_ok-body.ensures.ahead, c.in_ok-body.ensures.within),
@@ -38,7 +38,7 @@ pub returns-else-begins : goal.returns-else-begins
 unfolding left
 returns-else-begins c = (
   inl (record {
-    continues = continues-same _ _ (rw (c.requires.body, c.requires.open) (steps-source c.args.source.now c.args.words.now (known_of c.args.words.now c.args.self.now.macros.entries) c.args.self.now.count c.args.self.now.at (omega arith) (ap (begins 37) (sym c.text.ensures) ∙ sym c.begins.ensures ∙ c.if-begins.false)));
+    continues = continues-same _ _ (rw (c.requires.body, c.requires.outer) (steps-source c.args.source.now c.args.words.now (known_of c.args.words.now c.args.self.now.macros.entries) c.args.self.now.count c.args.self.now.at (omega arith) (ap (begins 37) (sym c.text.ensures) ∙ sym c.begins.ensures ∙ c.if-begins.false)));
     count = refl;
   }),
   omega arith,

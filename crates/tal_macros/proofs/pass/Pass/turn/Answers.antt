@@ -12,7 +12,7 @@ returns-in-Some-pop c =
     let s = c.args.self.now in
     let known = known_of c.args.words.now s.macros.entries in
     let parts = c.pop.ensures.items ∙ ap (λ (last : Option Body). c.pop.new.self.items ++ option_to_list last) c.in-Some-pop.is in
-    let same = pending-pop c.args.source.now c.args.words.now known s.origin s.open.items c.pop.new.self.items s.body c.in-Some-pop.body c.in_default.ensures.word parts in (
+    let same = pending-pop c.args.source.now c.args.words.now known s.origin s.outer.items c.pop.new.self.items s.body c.in-Some-pop.body c.in_default.ensures.word parts in (
       inl (record { continues = continues-same _ _ (ap (λ pending. steps_from c.args.source.now c.args.words.now known s.count pending s.at) same); count = refl }),
       omega (arith, ap length parts, length-append c.pop.new.self.items (c.in-Some-pop.body ∷ [])),
     )

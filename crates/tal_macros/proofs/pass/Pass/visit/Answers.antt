@@ -31,8 +31,8 @@ returns-then-is_full c =
     let known = known_of c.args.words.now s.macros.entries in
     let found = named c.args.source.now c.args.words.now s.macros.entries c.args.word _ _ c.text.ensures c.body_named-used.ensures in
     let next : Body = record { from = s.body.from + 1; to = s.body.to } in
-    let first = steps-word c.args.source.now c.args.words.now known s.origin s.open.items s.body next c.args.word s.count s.at c.requires.first in
-    let word : Visited = visited c.args.source.now known s.origin (depth_limit - length s.open.items) c.args.word in
+    let first = steps-word c.args.source.now c.args.words.now known s.origin s.outer.items s.body next c.args.word s.count s.at c.requires.first in
+    let word : Visited = visited c.args.source.now known s.origin (depth_limit - length s.outer.items) c.args.word in
     let full = eqb-true _ _ (sym c.is_full.ensures.value ∙ c.if-is_full.true) in (
       rw c.new.ensures
           (refuses-at _ _ _ _ _ first.1
@@ -48,9 +48,9 @@ returns-then-self-ge-VISIT_LIMIT c =
     let known = known_of c.args.words.now s.macros.entries in
     let found = named c.args.source.now c.args.words.now s.macros.entries c.args.word _ _ c.text.ensures c.body_named-used.ensures in
     let next : Body = record { from = s.body.from + 1; to = s.body.to } in
-    let first = steps-word c.args.source.now c.args.words.now known s.origin s.open.items s.body next c.args.word s.count s.at c.requires.first in
-    let word : Visited = visited c.args.source.now known s.origin (depth_limit - length s.open.items) c.args.word in
-    let room : (length s.open.items < depth_limit) ⊎ (c.is_some.result ≡ false) = elim c.else-is_some.branch [
+    let first = steps-word c.args.source.now c.args.words.now known s.origin s.outer.items s.body next c.args.word s.count s.at c.requires.first in
+    let word : Visited = visited c.args.source.now known s.origin (depth_limit - length s.outer.items) c.args.word in
+    let room : (length s.outer.items < depth_limit) ⊎ (c.is_some.result ≡ false) = elim c.else-is_some.branch [
       | else-is_some-via-then-is_some+else-is_full w ↦ inl (below_full _ (sym w.is_full.ensures.value ∙ w.if-is_full.false) w.is_full.ensures.fits)
       | else-is_some-via-else-is_some w ↦ inr w.if-is_some.false
     ] in (
@@ -69,13 +69,13 @@ returns-in-Some c =
     let found = named c.args.source.now c.args.words.now s.macros.entries c.args.word _ _ c.text.ensures c.body_named-used.ensures in
     let some = found ∙ ap (option_map (body_words c.args.words.now)) c.in-Some.is in
     let used : c.is_some.result ≡ true = c.is_some.ensures ∙ ap is_some c.in-Some.is in
-    let room : length s.open.items < depth_limit = elim c.else-is_some.branch [
+    let room : length s.outer.items < depth_limit = elim c.else-is_some.branch [
       | else-is_some-via-then-is_some+else-is_full w ↦ below_full _ (sym w.is_full.ensures.value ∙ w.if-is_full.false) w.is_full.ensures.fits
       | else-is_some-via-else-is_some w ↦ (let never : true ≡ false = sym used ∙ w.if-is_some.false in cc)
     ] in
-    let word : Visited = visited c.args.source.now known s.origin (depth_limit - length s.open.items) c.args.word in
+    let word : Visited = visited c.args.source.now known s.origin (depth_limit - length s.outer.items) c.args.word in
     let next : Body = record { from = s.body.from + 1; to = s.body.to } in
-    let step = steps-use c.args.source.now c.args.words.now known s.origin s.open.items s.body next c.args.word s.count s.at c.requires.first c.in-Some.body some room in (
+    let step = steps-use c.args.source.now c.args.words.now known s.origin s.outer.items s.body next c.args.word s.count s.at c.requires.first c.in-Some.body some room in (
       inr (
         word,
         is_use _ _ _ _ found c.is_some.ensures ∙ used,
@@ -96,9 +96,9 @@ returns-in-None c =
     let found = named c.args.source.now c.args.words.now s.macros.entries c.args.word _ _ c.text.ensures c.body_named-used.ensures in
     let none = found ∙ ap (option_map (body_words c.args.words.now)) c.in-None.is in
     let plain : c.is_some.result ≡ false = c.is_some.ensures ∙ ap is_some c.in-None.is in
-    let word : Visited = visited c.args.source.now known s.origin (depth_limit - length s.open.items) c.args.word in
+    let word : Visited = visited c.args.source.now known s.origin (depth_limit - length s.outer.items) c.args.word in
     let next : Body = record { from = s.body.from + 1; to = s.body.to } in
-    let step = steps-plain c.args.source.now c.args.words.now known s.origin s.open.items s.body next c.args.word s.count s.at c.requires.first none in (
+    let step = steps-plain c.args.source.now c.args.words.now known s.origin s.outer.items s.body next c.args.word s.count s.at c.requires.first none in (
       word,
       is_use _ _ _ _ found c.is_some.ensures ∙ plain,
       refl,
