@@ -7,6 +7,11 @@ use Rattle.std.proofs.lemmas.Bool.Decides.{nat_tests}
 use Rattle.std.proofs.lemmas.List.{drop-take, get_or-set_other, get_or-take, length-append, length-take-le, take-set-le, take-take}
 use Rattle.uxn_memory.specs.Bytes.{bank0, place_in, in_run, copied, with_bytes, filled, copied_up, copied_down}
 
+-- bank 0 has 65,536 bytes
+pub length-bank0 : (memory : List ℕ) → 65536 ≤ length memory → length (bank0 memory) ≡ 65536
+unfolding bank0
+length-bank0 memory h = length-take-le 65536 memory h
+
 -- a byte of bank 0 is that of memory
 pub bank0-at : (memory : List ℕ) (k : ℕ) → k < 65536 → slice_index (bank0 memory) k ≡ slice_index memory k
 unfolding bank0
@@ -92,6 +97,7 @@ bank0-copied_down_other memory (suc count) from_bank from to_bank to b =
 
 -- bank 0 changes as a memory of its own where it is changed, and not at all where another bank is
 pub record Bank0Law : Type 0 where
+  pub size : (memory : List ℕ) → 65536 ≤ length memory → length (bank0 memory) ≡ 65536
   pub reads : (memory : List ℕ) (k : ℕ) → k < 65536 → slice_index (bank0 memory) k ≡ slice_index memory k
   pub stores : (memory : List ℕ) (k value : ℕ) → k < 65536 → bank0 (slice_set memory k value) ≡ slice_set (bank0 memory) k value
   pub puts : (memory : List ℕ) (at : ℕ) (bytes : List ℕ) → 65536 ≤ length memory → at + length bytes ≤ 65536
@@ -112,6 +118,7 @@ pub record Bank0Law : Type 0 where
 
 pub bank0_law : Bank0Law
 bank0_law = record {
+  size = length-bank0;
   reads = bank0-at;
   stores = bank0-set;
   puts = bank0-with_bytes;
