@@ -3,6 +3,7 @@
 use Rattle.std.specs.Prelude.{ℕ, zero, suc, ◌+◌, ◌-◌, ◌*◌, ◌/◌, ◌%◌, ◌^◌, ◌==◌, nat_lt, nat_le}
 use Rattle.std.specs.Prelude.{Bool, true, false, ◌&&◌}
 use Rattle.std.specs.Prelude.{if◌then◌else◌, List, [], ◌∷◌, ◌++◌, take, drop, slice_index, Option, Some, None}
+use Rattle.uxn_memory.specs.Bytes.{bank0}
 use Rattle.screen_layers.specs.declared.control.Layer.{Layer}
 use Rattle.screen_layers.specs.declared.control.Layer.TheVariants.{Background, Foreground}
 use Rattle.screen_layers.specs.declared.Moved.{Moved}
@@ -96,9 +97,9 @@ moved_by_pixel x y auto control =
     then (x, y)
     else ((x + (if has_bit auto 1 then 1 else 0)) % 65536, (y + (if has_bit auto 2 then 1 else 0)) % 65536)
 
--- so many bytes from an address on; memory follows itself, since addresses are modulo 65536
+-- so many bytes of bank 0 from an address on; the bank follows itself, since addresses are modulo 65536
 unfoldable pub bytes_at : List ℕ → ℕ → ℕ → List ℕ
-bytes_at memory at count = take count (drop at (memory ++ memory))
+bytes_at memory at count = take count (drop at (bank0 memory ++ bank0 memory))
 
 -- how far the bytes of one tile lie from those of the next: a tile's size where auto has 04, else 0
 abbrev pub bytes_step : ℕ → ℕ → ℕ
