@@ -34,3 +34,11 @@ row_more colours row into colour i h l v three before =
     let joined : row_bytes colours (take (i + 1) row) ≡ row_bytes colours (take i row) ++ colour =
     rw (take_more row i 0 h, flat_map-append (λ x. slice_index_or colours x []) (take i row) (slice_index_or row i 0 ∷ [])) (rw (← v, append-nil colour) refl) in
     rw more (taken ∙ whole ∙ sym joined)
+
+-- the colour of one more pixel behind those before
+pub row_next : (colours : List (List ℕ)) (row front : List ℕ) (i : ℕ) → i < length row → front ≡ row_bytes colours (take i row)
+    → front ++ slice_index_or colours (slice_index_or row i 0) [] ≡ row_bytes colours (take (i + 1) row)
+row_next colours row front i h before =
+    let joined : row_bytes colours (take (i + 1) row) ≡ row_bytes colours (take i row) ++ slice_index_or colours (slice_index_or row i 0) [] =
+    rw (take_more row i 0 h, flat_map-append (λ x. slice_index_or colours x []) (take i row) (slice_index_or row i 0 ∷ [])) (rw (append-nil (slice_index_or colours (slice_index_or row i 0) [])) refl) in
+    rw before (sym joined)

@@ -1,12 +1,15 @@
 -- The search for the `}` of a body, one word at a time.
-use Rattle.std.proofs.Common.{◌≡◌, ℕ, suc, ◌+◌, ◌-◌, ◌<◌, ◌≤◌, Bool, true, false, ◌&&◌, ◌==◌, List, map, length, drop, Option, Some, None, refl, ap, sym, ◌∙◌, arith}
+use Rattle.std.proofs.Common.{◌≡◌, ℕ, suc, ◌+◌, ◌-◌, ◌<◌, ◌≤◌, Bool, true, false, ◌&&◌, ◌==◌, List, [], ◌∷◌, map, length, take, drop, Option, Some, None, refl, ap, sym, ◌∙◌, arith}
 use Rattle.std.specs.Prelude.{if◌then◌else◌}
-use Rattle.std.specs.Option.{option_map}
-use Rattle.std.proofs.lemmas.List.{drop_more, drop_all}
+use Rattle.std.specs.List.{find}
+use Rattle.std.specs.Option.{option_map, option_or}
+use Rattle.std.proofs.lemmas.List.{drop_more, drop_all, take_more, get_or-drop, length-drop}
+use Rattle.std.proofs.lemmas.List.Folds.{find-append}
 use Rattle.tal_words.specs.declared.span.Word.{Word}
 use Rattle.tal_words.specs.Braces.{opens, closes, one_if, matching_after, matching}
 use Rattle.tal_words.specs.Source.{word_text}
 use Rattle.tal_macros.specs.Bodies.{word_at}
+use Rattle.tal_macros.specs.Heads.{is_head}
 
 -- an index counted from further in front
 abbrev pub shifted : ℕ → Option ℕ → Option ℕ
@@ -68,3 +71,20 @@ pub searches_end : (source : List ℕ) (words : List Word) (from index opened cl
     → matching (map (word_text source) (drop from words)) ≡ None
 searches_end source words from index opened closed past searches =
     let none = drop_all index words past in sym (rw none at searches.found)
+
+-- the first word that begins a head, one word further on
+pub heads_more : (source : List ℕ) (words : List Word) (from index : ℕ) → from ≤ index → index < length words
+    → find (is_head source) (take (index + 1 - from) (drop from words))
+    ≡ option_or (find (is_head source) (take (index - from) (drop from words))) (if is_head source (word_at words index) then Some (word_at words index) else None)
+heads_more source words from index after within =
+    let further : index + 1 - from ≡ index - from + 1 = omega arith in
+    let place : from + (index - from) ≡ index = omega arith in
+    let inside : index - from < length (drop from words) = omega (arith, length-drop from words) in
+    let more = take_more (drop from words) (index - from) (record { span = record { start = 0; end = 0 }; line = 0; column = 0 }) inside in
+    let read = get_or-drop from words (index - from) (record { span = record { start = 0; end = 0 }; line = 0; column = 0 }) in
+    rw (further, more, read, place)
+    (find-append (is_head source) (take (index - from) (drop from words)) (word_at words index ∷ []))
+
+pub or_none : {X : Type 0} (found : Option X) → option_or found None ≡ found
+or_none None = refl
+or_none (Some x) = refl

@@ -1,5 +1,5 @@
 -- Bodies and macros as lists.
-use Rattle.std.proofs.Common.{◌≡◌, ℕ, Bool, true, false, cond, List, [], ◌∷◌, ◌++◌, Option, Some, None, is_some, refl, ap, ◌∙◌}
+use Rattle.std.proofs.Common.{◌≡◌, ℕ, Bool, true, false, cond, List, [], ◌∷◌, ◌++◌, Option, Some, None, is_some, refl, ap, sym, ◌∙◌}
 use Rattle.std.specs.Prelude.{if◌then◌else◌, Vec}
 use Rattle.std.specs.Option.{option_map}
 use Rattle.std.specs.Map.{lookup}
@@ -7,7 +7,7 @@ use Rattle.std.specs.Str.{bytes_eq}
 use Rattle.std.specs.declared.alloc.Global.{Global}
 use Rattle.indexmap.specs.IndexMap.{insert_entry}
 use Rattle.tal_words.specs.declared.span.Word.{Word}
-use Rattle.tal_macros.specs.Expansion.{body_named}
+use Rattle.tal_macros.specs.Expansion.{Macro, body_named}
 use Rattle.tal_macros.specs.declared.body.Body.{Body}
 use Rattle.tal_macros.specs.Bodies.{body_words, known_of}
 
@@ -43,3 +43,9 @@ known-insert words eq (entry ∷ entries) key body same none =
 pub no_body : (found : Option Body) → is_some found ≡ false → found ≡ None
 no_body None there = refl
 no_body (Some body) there = cc
+
+-- whether a name is known, by what a map found
+pub known-is_some : (words : List Word) (known : List Macro) (text name : List ℕ) (found : Option Body) (there : Bool) → text ≡ name
+    → option_map (body_words words) found ≡ body_named known text → is_some found ≡ there → is_some (body_named known name) ≡ there
+known-is_some words known text name None there same e is = ap (λ t. is_some (body_named known t)) (sym same) ∙ ap is_some (sym e) ∙ is
+known-is_some words known text name (Some body) there same e is = ap (λ t. is_some (body_named known t)) (sym same) ∙ ap is_some (sym e) ∙ is

@@ -1,5 +1,8 @@
-pub mod Expanding
+pub mod StepLemmas
+pub mod PassLemmas
+pub mod StopLemmas
+pub mod FollowLemmas
+pub mod GivenLemmas
 pub mod HeadLemmas
 pub mod Closing
 pub mod Known
-pub mod Visiting

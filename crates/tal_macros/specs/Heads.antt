@@ -1,28 +1,42 @@
 -- What the reading of a head answers.
-use Rattle.std.specs.Prelude.{◌≡◌, ℕ, ◌≤◌, List, [], ◌∷◌, ◌++◌, length, drop, Some, Result, Ok, Err}
+use Rattle.std.specs.Prelude.{◌≡◌, ℕ, ◌+◌, ◌-◌, ◌<◌, ◌≤◌, Bool, List, [], length, take, drop, Option, Some, Result, Ok, Err}
+use Rattle.std.specs.List.{find}
 use Rattle.tal_words.specs.declared.span.Word.{Word}
+use Rattle.tal_words.specs.declared.fault.Fault.{Fault}
 use Rattle.tal_words.specs.declared.fault.AsmStop.{AsmStop}
-use Rattle.tal_words.specs.Source.{word_text}
-use Rattle.tal_macros.specs.Expansion.{Macro, body_after, head_faults}
+use Rattle.tal_words.specs.declared.fault.AsmStop.TheVariants.{Refused, NoMemory}
+use Rattle.tal_words.specs.Source.{begins, word_text}
+use Rattle.tal_macros.specs.Expansion.{Macro, body_after, parts_from}
 use Rattle.tal_macros.specs.declared.body.Body.{Body}
 use Rattle.tal_macros.specs.Bodies.{body_words}
-use Rattle.tal_macros.specs.Visiting.{Stops}
+use Rattle.tal_macros.specs.Passing.{Continues, Refuses, rest}
 
--- a closed body of a head, by the words after the head's first
-pub record IsBody (source : List ℕ) (words after : List Word) (body : Body) : Type 0 where
-  pub closed : body_after source after ≡ Some (body_words words body)
+-- a word begins a head; 37 is `%`
+abbrev pub is_head : List ℕ → Word → Bool
+is_head source word = begins 37 (word_text source word)
+
+-- a closed body whose `{` has an index, and the first word behind this that begins a head
+pub record IsBody (source : List ℕ) (words : List Word) (brace : ℕ) (body : Body) (nested : Option Word) : Type 0 where
+  pub closed : body_after source (drop brace words) ≡ Some (body_words words body)
+  pub from : body.from ≡ brace + 1
   pub ordered : body.from ≤ body.to
-  pub within : body.to ≤ length words
+  pub within : body.to < length words
+  pub heads : nested ≡ find (is_head source) (take (body.to + 1 - brace) (drop brace words))
 
--- a head without a fault has a body and defines a macro, which is known after it
-pub record Defines (source : List ℕ) (words : List Word) (word : Word) (after : List Word) (old new : List Macro) (body : Body)
-    : Type 0 where
-  pub is_body : IsBody source words after body
-  pub faultless : head_faults source word old (Some (body_words words body)) ≡ []
-  pub known : new ≡ old ++ record { name = drop 1 (word_text source word); body = body_words words body } ∷ []
+-- a head without a fault: the expansion goes on behind its body, with its macro
+pub record Defines (source : List ℕ) (words : List Word) (at : ℕ) (old new : List Macro) (body : Body) : Type 0 where
+  pub ahead : at < body.to
+  pub within : body.to < length words
+  pub continues : (count : ℕ) → Continues (rest source old count (parts_from source 0 (drop at words)))
+      (rest source new count (parts_from source 0 (drop (body.to + 1) words))) []
 
--- what the reading of a head answers: its body, or the least of its faults
-abbrev pub HeadGives : List ℕ → List Word → Word → List Word → List Macro → List Macro → Result Body AsmStop → Type 0
-HeadGives source words word after old new (Ok body) = Defines source words word after old new body
-HeadGives source words word after old new (Err stop) =
-    Stops (record { origin = word; kinds = head_faults source word old (body_after source after) } ∷ []) stop
+-- a head with a fault in it, after which nothing is known anew
+pub record FaultyHead (source : List ℕ) (words : List Word) (at : ℕ) (old new : List Macro) (fault : Fault) : Type 0 where
+  pub refuses : (count : ℕ) → Refuses (rest source old count (parts_from source 0 (drop at words))) fault
+  pub known : new ≡ old
+
+-- what the reading of a head answers: its body, or the first of its faults
+abbrev pub HeadGives : List ℕ → List Word → ℕ → List Macro → List Macro → Result Body AsmStop → Type 0
+HeadGives source words at old new (Ok body) = Defines source words at old new body
+HeadGives source words at old new (Err (Refused fault)) = FaultyHead source words at old new fault
+HeadGives source words at old new (Err NoMemory) = new ≡ old

@@ -1,4 +1,5 @@
 pub mod Expansion
 pub mod Bodies
+pub mod Steps
+pub mod Passing
 pub mod Heads
-pub mod Visiting

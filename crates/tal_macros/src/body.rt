@@ -1,6 +1,6 @@
 //! Bodies of macros, and the map from names to bodies.
 
-ghost use Rattle.std.specs.Prelude.{◌≡◌, List};
+ghost use Rattle.std.specs.Prelude.{◌≡◌, ◌+◌, ◌<◌, List, [], ◌∷◌, MatchOption, IfSome, length};
 ghost use Rattle.std.specs.Option.{option_map};
 ghost use Rattle.tal_words.specs.declared.span.Word.{Word as SourceWord};
 ghost use Rattle.tal_macros.specs.Expansion.{body_named};
@@ -9,8 +9,8 @@ ghost use Rattle.tal_macros.specs.Bodies.{body_words, known_of};
 use indexmap::IndexMap;
 use tal_words::Word;
 
-/// The words of a body, by their indices: from `from` up to the one before `to`.
-#[derive(Clone, Copy)]
+/// Words of a body, by their indices: from `from` up to the one before `to`.
+#[derive(Clone, Copy, Default)]
 pub struct Body {
     pub from: usize,
     pub to: usize,
@@ -20,13 +20,18 @@ pub struct Body {
 pub type Macros = IndexMap<Vec<u8>, Body>;
 
 impl Body {
-    /// The words of the body.
-    pub fn words(self, words: &[Word]) -> &[Word]
-        ensures { result.now ≡ body_words words.now self }
+    /// The first of the words.
+    pub fn first(self, words: &[Word]) -> Option<Word>
+        ensures word { MatchOption result (body_words words.now self ≡ [])
+            (λ word. body_words words.now self ≡ word ∷ body_words words.now (record { from = self.from + 1; to = self.to })) }
+        ensures within { IfSome result (λ _. self.from < length words.now) }
     {
         let to = self.to.min(words.len());
-        let from = self.from.min(to);
-        &words[from..to]
+        if self.from < to {
+            Some(words[self.from])
+        } else {
+            None
+        }
     }
 }
 

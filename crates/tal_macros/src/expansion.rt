@@ -1,17 +1,111 @@
-//! The expanded list of a source.
+//! The expanded list of a source, word by word and as a whole.
 
-ghost use Rattle.std.specs.Prelude.{◌≡◌, ◌≤◌, IfOk, [], length};
+ghost use Rattle.std.specs.Prelude.{◌≡◌, ◌≤◌, ◌∷◌, ◌++◌, ℕ, List, [], None, Some, IfOk, length, map};
+ghost use Rattle.tal_words.specs.declared.span.Expanded.{Expanded as ExpandedWord};
 ghost use Rattle.tal_words.specs.Order.{collected};
-ghost use Rattle.tal_words.specs.Faults.{Gives, phase_fault};
+ghost use Rattle.tal_words.specs.Faults.{Gives};
 ghost use Rattle.tal_words.specs.Comments.{words_of};
-ghost use Rattle.tal_macros.specs.Expansion.{expanded_of, expansion_fault, judged_part, parts_from, visit_list, visit_limit, without_uses};
+ghost use Rattle.tal_macros.specs.Expansion.{Visited, expanded_of, expansion_fault, judged_part, visit_list, parts_of, without_uses, visit_limit};
+ghost use Rattle.tal_macros.specs.Steps.{Progress, steps_given, given, next_word, words_left, visits_before_fault, advanced, NextGives, progress_after};
 
-use crate::body::Macros;
-use crate::head::define;
-use crate::visit::{DEPTH_LIMIT, Visits, visit};
-use indexmap::IndexMap;
+use crate::pass::{Pass, Turn};
 use std::alloc::Global;
-use tal_words::{AsmStop, Expanded, Fault, FaultKind, Word, begins};
+use std::marker::Model;
+use tal_words::{AsmStop, Expanded, Word};
+
+/// Gives the expanded list of a source word by word.
+#[derive(Drop)]
+pub struct Expander<'a> {
+    alloc: Global,
+    source: &'a [u8],
+    words: &'a [Word],
+    pass: Pass,
+    /// How many words were visited at the end of the last call that did not want memory.
+    visited: u32,
+}
+
+impl<'a> Model for Expander<'a> {
+    ghost use Rattle.tal_macros.specs.Steps.{Progress};
+
+    ghost Value = { Progress };
+
+    ghost use Rattle.tal_macros.specs.Passing.{Follows};
+
+    ghost view = { λ e. record { source = e.source.now; visited = e.visited } };
+
+    ghost invariant = { λ e. Follows e.source.now e.words.now e.visited e.pass };
+}
+
+impl<'a> Expander<'a> {
+    /// An Expander before the first word of a source, which has these words. It takes no memory.
+    pub fn new(alloc: Global, source: &'a [u8], words: &'a [Word]) -> Expander<'a>
+        requires { words.now ≡ words_of source.now }
+        ensures { result ≡ record { source = source.now; visited = 0 } }
+    {
+        Expander {
+            alloc,
+            source,
+            words,
+            pass: Pass::new(alloc),
+            visited: 0,
+        }
+    }
+
+    /// The next word of the expanded list, or None at its end. Refused with the first fault of the heads
+    /// and uses where all words before it were given, and again at each later call. Where memory is
+    /// wanting the Expander is unchanged.
+    pub fn next(&mut self) -> Result<Option<Expanded>, AsmStop>
+        ensures answer { NextGives self.old result }
+        ensures progress { self.new ≡ progress_after self.old result }
+        ensures bound { self.new.visited ≤ visit_limit }
+    {
+        loop {
+            match self.pass.turn(self.alloc, self.source, self.words) {
+                Ok(Turn::Passed) => {}
+                Ok(Turn::Word(word)) => {
+                    self.visited = self.pass.count;
+                    return Ok(Some(word));
+                }
+                Ok(Turn::End) => {
+                    self.visited = self.pass.count;
+                    return Ok(None);
+                }
+                Err(AsmStop::Refused(fault)) => {
+                    self.visited = self.pass.count;
+                    return Err(AsmStop::Refused(fault));
+                }
+                Err(AsmStop::NoMemory) => return Err(AsmStop::NoMemory),
+            }
+        }
+    }
+
+    /// How many words of the visit list were given, or opened as uses, so far: at most 1,000,000.
+    pub fn visited(&self) -> u32
+        ensures value { result ≡ self.now.visited }
+        ensures bound { result ≤ visit_limit }
+    {
+        self.visited
+    }
+}
+
+/// What an Expander gives is the expanded list. A word that it gives stands behind those given so far; where
+/// it gives none, all words that the visit list has before the first fault were given, and none is given
+/// later. These are a front of the visit list, and without a fault all of it. Its steps are judged as
+/// the words of the source and those visited for them are.
+pub fn expanders_give_the_list()
+    ensures more { (progress : Progress) (word : ExpandedWord) → next_word (words_left progress) ≡ Some word
+        → given (advanced progress) ≡ given progress ++ word ∷ [] }
+    ensures end { (progress : Progress) → next_word (words_left progress) ≡ None
+        → given progress ≡ without_uses (visits_before_fault progress.source) }
+    ensures again { (progress : Progress) → next_word (words_left progress) ≡ None
+        → next_word (words_left (advanced progress)) ≡ None }
+    ensures front { (source : List ℕ) → (behind : List Visited)
+        × (visit_list source (parts_of source) ≡ visits_before_fault source ++ behind) }
+    ensures whole { (source : List ℕ) → expansion_fault source ≡ None
+        → visits_before_fault source ≡ visit_list source (parts_of source) }
+    ensures judged { (source : List ℕ) → map (λ step. step.judged) (collected (steps_given source) [] (parts_of source))
+        ≡ collected (judged_part source) [] (parts_of source) }
+{}
 
 /// The expanded list of a source, which has these words: the words outside the heads of macros, with
 /// what its body gives in the place of each use: at most 1,000,000. Refused with the first fault of a
@@ -21,43 +115,10 @@ pub fn expand(alloc: Global, source: &[u8], words: &[Word]) -> Result<Vec<Expand
     ensures value { Gives (λ v. v.items) result (expansion_fault source.now) (expanded_of source.now) }
     ensures few { IfOk result (λ v. length v.items ≤ visit_limit) }
 {
-    expand_words(alloc, source, words)
-}
-
-/// What the words give.
-fn expand_words(alloc: Global, source: &[u8], words: &[Word]) -> Result<Vec<Expanded>, AsmStop>
-    ensures value { Gives (λ v. v.items) result
-        (phase_fault (collected (judged_part source.now) [] (parts_from source.now 0 words.now)))
-        (without_uses (visit_list source.now (parts_from source.now 0 words.now))) }
-    ensures few { IfOk result (λ v. length v.items ≤ visit_limit) }
-{
-    let mut macros: Macros = IndexMap::new(alloc);
-    let mut visited = Visits {
-        count: 0,
-        expanded: Vec::new(alloc),
-    };
-    let mut inside = 0usize;
-    for (at, word) in words.iter().enumerate() {
-        let is_head = begins(word.span.text(source), b'%');
-        if inside > 0 {
-            if is_head {
-                return Err(AsmStop::Refused(Fault::new(word, FaultKind::MacroBody)));
-            }
-            inside -= 1;
-        } else if is_head {
-            let body = define(alloc, source, words, at, &mut macros)?;
-            inside = body.to - body.from + 2;
-        } else {
-            visit(
-                source,
-                words,
-                &macros,
-                *word,
-                DEPTH_LIMIT,
-                *word,
-                &mut visited,
-            )?;
-        }
+    let mut expander = Expander::new(alloc, source, words);
+    let mut expanded = Vec::new(alloc);
+    while let Some(word) = expander.next()? {
+        expanded.push(word)?;
     }
-    Ok(visited.expanded)
+    Ok(expanded)
 }

@@ -4,9 +4,9 @@
 mod body;
 mod expansion;
 mod head;
+mod pass;
 #[cfg(test)]
 mod tests;
-mod visit;
 
-pub use expansion::expand;
+pub use expansion::{Expander, expand, expanders_give_the_list};
 pub use tal_words::Expanded;

@@ -1,7 +1,7 @@
 //! What the macros of known sources give. The faults of macros and their limits are cases of the
 //! command line.
 
-use crate::expand;
+use crate::{Expander, expand};
 use std::alloc::Global;
 use std::process::Abort;
 use std::test::Fail;
@@ -40,5 +40,28 @@ fn gives_words(rt: HostRuntime) -> Result<(), Fail> {
         b"%a { b } %b { ?{ } } a",
         &[("?{", 22), ("}", 22)],
     )?;
+    Ok(())
+}
+
+/// What an Expander gives of a source in turn: a word, or none, and how many words were visited then.
+static TURNS: [(Option<&str>, u32); 5] = [
+    (Some("#04"), 1),
+    (Some("DUP"), 4),
+    (Some("ADD"), 5),
+    (None, 6),
+    (None, 6),
+];
+
+#[test]
+fn counts_uses_that_are_opened(rt: HostRuntime) -> Result<(), Fail> {
+    let source = b"%none { } %dbl { DUP ADD } #04 none dbl none";
+    let words = words(rt.alloc(), source)?;
+    let mut expander = Expander::new(rt.alloc(), source, &words);
+    for (text, visited) in &TURNS {
+        let given = expander.next()?;
+        let text_given = given.map(|word| word.text.text(source));
+        assert!(rt; text_given == text.map(|text| text.as_bytes()));
+        assert!(rt; expander.visited() == *visited);
+    }
     Ok(())
 }

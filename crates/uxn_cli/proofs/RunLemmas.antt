@@ -245,6 +245,7 @@ module _ (task : Task) (tree : Option Nodes) where
       same_work Debug = refl
       same_work Rattle.uxn_words.specs.declared.words.Command.TheVariants.Assemble = refl
       same_work Rattle.uxn_words.specs.declared.words.Command.TheVariants.Disassemble = refl
+      same_work Rattle.uxn_words.specs.declared.words.Command.TheVariants.Generate = refl
 
   -- the inputs were refused, or could not be read
   pub unprepared : (new : Option Nodes) (out err : Option (List ℕ)) (halt : Halt) → Unready tree task halt → new ≡ tree

@@ -1,6 +1,35 @@
-use Rattle.tal_macros.specs.Expansion.{expanded_of, expansion_fault, parts_of}
+use Rattle.std.proofs.Common.{◌≡◌, ◌∷◌, [], ◌++◌, length, ap, sym, ◌∙◌, arith}
+use Rattle.tal_macros.specs.Expansion.{expanded_of}
+use Rattle.tal_macros.specs.Steps.{Progress, given, words_left, advanced}
+use Rattle.tal_macros.proofs.GivenLemmas.{given-more, given-whole, given-few, next-visited}
 use Rattle.tal_macros.proofs.expansion.expand.Goals as goal
 
+pub loop-expanded-smaller : goal.loop-expanded-smaller
+loop-expanded-smaller c =
+    let next = rw c.in-Some.is at c.in_ok-word.ensures.answer in
+    let moved : c.next.new.self ≡ advanced c.loop-expanded.expander = c.in_ok-word.ensures.progress in
+    omega (arith, next-visited (words_left c.loop-expanded.expander) c.in-Some.word next, ap (λ (p : Progress). p.visited) moved, c.next.ensures.bound)
+
+pub loop-expanded-preserved : goal.loop-expanded-preserved
+loop-expanded-preserved c =
+    let next = rw c.in-Some.is at c.in_ok-word.ensures.answer in
+    let moved : c.next.new.self ≡ advanced c.loop-expanded.expander = c.in_ok-word.ensures.progress in
+    record {
+      words =
+          c.in_ok-push.ensures.items ∙ ap (λ words. words ++ c.in-Some.word ∷ []) c.loop-expanded.invariant.words
+          ∙ sym (given-more c.loop-expanded.expander c.in-Some.word next) ∙ ap given (sym moved);
+      source = ap (λ (p : Progress). p.source) moved ∙ c.loop-expanded.invariant.source;
+      bound = c.next.ensures.bound;
+    }
+
 pub returns-clause-value : goal.returns-clause-value
-unfolding expanded_of expansion_fault parts_of
-returns-clause-value c = rw c.requires at c.expand_words.ensures.value
+returns-clause-value c =
+    let next = rw c.in_default.is at c.in_ok-word.ensures.answer in
+    let source = c.loop-expanded.invariant.source in
+    let faultless = rw source at next.1 in (
+      faultless,
+      c.loop-expanded.invariant.words ∙ given-whole c.loop-expanded.expander next.0 next.1 ∙ ap expanded_of source,
+    )
+
+pub returns-clause-few : goal.returns-clause-few
+returns-clause-few c = omega (arith, ap length c.loop-expanded.invariant.words, given-few c.loop-expanded.expander, c.loop-expanded.invariant.bound)

@@ -1,0 +1,57 @@
+use Rattle.std.proofs.Common.{ap, sym, ◌∙◌}
+use Rattle.tal_macros.specs.Steps.{reached}
+use Rattle.tal_macros.specs.Passing.{fault_of}
+use Rattle.tal_macros.proofs.FollowLemmas.{follows-turn, follows-given, next-given, next-none}
+use Rattle.tal_macros.proofs.expansion.Expander.next.Goals as goal
+
+pub loop-word-preserved : goal.loop-word-preserved
+loop-word-preserved c =
+    let turn = rw c.in-Ok-Passed.field-0-is at c.in-Ok-Passed.ensures in
+    record {
+      follows = follows-turn _ _ _ _ _ c.loop-word.invariant.follows turn.0;
+      kept = c.loop-word.invariant.kept;
+    }
+
+pub invariant_of-self : goal.invariant_of-self
+invariant_of-self c =
+    let turn = rw c.in-Ok-Word.field-0-is at c.in-Ok-Word.ensures in
+    follows-given _ _ _ _ _ c.loop-word.invariant.follows _ turn.3
+
+pub returns-in-Ok-Word-clause-answer : goal.returns-in-Ok-Word-clause-answer
+returns-in-Ok-Word-clause-answer c =
+    let turn = rw c.in-Ok-Word.field-0-is at c.in-Ok-Word.ensures in
+    rw (← c.loop-word.invariant.kept)
+    (next-given _ _ _ _ _ c.loop-word.invariant.follows _ turn.3 turn.1 _ turn.2).0
+
+pub returns-in-Ok-Word-clause-progress : goal.returns-in-Ok-Word-clause-progress
+returns-in-Ok-Word-clause-progress c =
+    let turn = rw c.in-Ok-Word.field-0-is at c.in-Ok-Word.ensures in
+    rw (← c.loop-word.invariant.kept)
+    (ap (λ n. record { source = c.loop-word.self-inside.source.now; visited = n })
+    (next-given _ _ _ _ _ c.loop-word.invariant.follows _ turn.3 turn.1 _ turn.2).1)
+
+pub returns-in-Ok-End-clause-answer : goal.returns-in-Ok-End-clause-answer
+returns-in-Ok-End-clause-answer c =
+    let turn = rw c.in-Ok-End.field-0-is at c.in-Ok-End.ensures in
+    let follows = c.loop-word.invariant.follows in
+    rw (← c.loop-word.invariant.kept) ((next-none _ _ _ _ _ follows (ap reached turn.0) turn.1).0, sym follows.faults ∙ ap fault_of turn.0)
+
+pub returns-in-Ok-End-clause-progress : goal.returns-in-Ok-End-clause-progress
+returns-in-Ok-End-clause-progress c =
+    let turn = rw c.in-Ok-End.field-0-is at c.in-Ok-End.ensures in
+    rw (← c.loop-word.invariant.kept)
+    (ap (λ n. record { source = c.loop-word.self-inside.source.now; visited = n })
+    (next-none _ _ _ _ _ c.loop-word.invariant.follows (ap reached turn.0) turn.1).1)
+
+pub returns-in-Err-Refused-clause-answer : goal.returns-in-Err-Refused-clause-answer
+returns-in-Err-Refused-clause-answer c =
+    let turn = rw c.in-Err-Refused.field-0-is at c.in-Err-Refused.ensures in
+    let follows = c.loop-word.invariant.follows in
+    rw (← c.loop-word.invariant.kept) ((next-none _ _ _ _ _ follows turn.0.visits turn.1).0, sym follows.faults ∙ turn.0.faulty)
+
+pub returns-in-Err-Refused-clause-progress : goal.returns-in-Err-Refused-clause-progress
+returns-in-Err-Refused-clause-progress c =
+    let turn = rw c.in-Err-Refused.field-0-is at c.in-Err-Refused.ensures in
+    rw (← c.loop-word.invariant.kept)
+    (ap (λ n. record { source = c.loop-word.self-inside.source.now; visited = n })
+    (next-none _ _ _ _ _ c.loop-word.invariant.follows turn.0.visits turn.1).1)

@@ -1,0 +1,139 @@
+//! The pass over the words of a source, one step at a time.
+
+ghost use Rattle.std.specs.Prelude.{◌≡◌, ◌+◌, ◌<◌, [], ◌∷◌, length};
+ghost use Rattle.tal_macros.specs.Bodies.{body_words};
+ghost use Rattle.tal_macros.specs.Passing.{TurnGives};
+
+use crate::body::{Body, Macros, body_named};
+use crate::head::define;
+use arrayvec::ArrayVec;
+use indexmap::IndexMap;
+use std::alloc::Global;
+use tal_words::{AsmStop, Expanded, Fault, FaultKind, Span, Word, begins};
+
+/// How deep a use may stand.
+const DEPTH_LIMIT: usize = 32;
+
+/// How many words may be visited.
+const VISIT_LIMIT: u32 = 1_000_000;
+
+/// What a step of the pass came to.
+pub enum Turn {
+    /// No word is given yet: a head was read or a use was opened, or the words behind one go on.
+    Passed,
+    /// This word was visited, which is no use.
+    Word(Expanded),
+    /// No word is left.
+    End,
+}
+
+/// How far the pass has come. Nothing is done in it before it is known to have no fault, so a pass that
+/// is refused stays as it is.
+#[derive(Drop)]
+pub struct Pass {
+    /// The macros so far.
+    macros: Macros,
+    /// The index of the next word of the source.
+    at: usize,
+    /// The words that are visited now: those of the innermost use, or a word outside heads by itself.
+    body: Body,
+    /// What is left behind each open use, the outermost first.
+    open: ArrayVec<Body, DEPTH_LIMIT>,
+    /// The word of the source that is visited.
+    origin: Word,
+    /// How many words were visited.
+    pub count: u32,
+}
+
+impl Pass {
+    /// The pass before the first word.
+    pub fn new(alloc: Global) -> Pass
+        ensures macros { result.macros.entries ≡ [] }
+        ensures place { result.at ≡ 0 }
+        ensures body { result.body ≡ record { from = 0; to = 0 } }
+        ensures open { result.open.items ≡ [] }
+        ensures count { result.count ≡ 0 }
+    {
+        Pass {
+            macros: IndexMap::new(alloc),
+            at: 0,
+            body: Body::default(),
+            open: ArrayVec::new(),
+            origin: Word {
+                span: Span { start: 0, end: 0 },
+                line: 1,
+                column: 1,
+            },
+            count: 0,
+        }
+    }
+
+    /// Goes one step on.
+    pub fn turn(&mut self, alloc: Global, source: &[u8], words: &[Word]) -> Result<Turn, AsmStop>
+        ensures { TurnGives source.now words.now self.old self.new result }
+    {
+        if let Some(word) = self.body.first(words) {
+            return self.visit(source, words, word);
+        }
+        match self.open.pop() {
+            Some(body) => {
+                self.body = body;
+                Ok(Turn::Passed)
+            }
+            None => self.source_word(alloc, source, words),
+        }
+    }
+
+    /// Visits the first word of the body.
+    fn visit(&mut self, source: &[u8], words: &[Word], word: Word) -> Result<Turn, AsmStop>
+        requires first { body_words words.now self.old.body
+            ≡ word ∷ body_words words.now (record { from = self.old.body.from + 1; to = self.old.body.to }) }
+        requires within { self.old.body.from < length words.now }
+        ensures { TurnGives source.now words.now self.old self.new result }
+    {
+        let used = body_named(&self.macros, word.span.text(source));
+        if used.is_some() && self.open.is_full() {
+            return Err(AsmStop::Refused(Fault::new(&self.origin, FaultKind::MacroDeep)));
+        }
+        if self.count >= VISIT_LIMIT {
+            return Err(AsmStop::Refused(Fault::new(&self.origin, FaultKind::ManyWords)));
+        }
+        self.count += 1;
+        self.body.from += 1;
+        match used {
+            Some(body) => {
+                self.open.push(self.body);
+                self.body = body;
+                Ok(Turn::Passed)
+            }
+            None => Ok(Turn::Word(Expanded {
+                text: word.span,
+                origin: self.origin,
+            })),
+        }
+    }
+
+    /// Takes the next word of the source, or the head that begins with it.
+    fn source_word(&mut self, alloc: Global, source: &[u8], words: &[Word]) -> Result<Turn, AsmStop>
+        requires body { body_words words.now self.old.body ≡ [] }
+        requires open { self.old.open.items ≡ [] }
+        ensures { TurnGives source.now words.now self.old self.new result }
+    {
+        if self.at >= words.len() {
+            return Ok(Turn::End);
+        }
+        let word = words[self.at];
+        if begins(word.span.text(source), b'%') {
+            let body = define(alloc, source, words, self.at, &mut self.macros)?;
+            self.at = body.to + 1;
+        } else {
+            self.origin = word;
+            self.body = Body {
+                from: self.at,
+                to: self.at + 1,
+            };
+            self.at += 1;
+        }
+        Ok(Turn::Passed)
+    }
+}
