@@ -3,24 +3,32 @@ use Rattle.std.specs.Prelude.{ℕ, Bool, false, nat_lt, if◌then◌else◌, Lis
 use Rattle.std.specs.List.{find}
 use Rattle.std.specs.Str.{bytes_eq}
 use Rattle.line_texts.specs.declared.row.Row.{Row}
+use Rattle.line_texts.specs.declared.row.Counts.{Counts}
+use Rattle.line_texts.specs.declared.row.Counts.TheVariants.{Exactly, Between, AtLeast}
 use Rattle.line_texts.specs.declared.row.LineFault.{LineFault}
 use Rattle.line_texts.specs.declared.row.LineFault.TheVariants.{Unknown, Missing, Extra}
 
 -- the row of a first word
 unfoldable pub row_of : {K : Type 0} → List (Row K) → List ℕ → Option (Row K)
-row_of rows name = find (λ row. bytes_eq name row.word.now) rows
+row_of rows name = find (λ row. bytes_eq name row.0.now) rows
 
--- without a greatest number there may be any more values
-abbrev pub is_over : Option ℕ → ℕ → Bool
-is_over None count = false
-is_over (Some most) count = nat_lt most count
+-- there are too few values for a line, and too many
+abbrev pub are_too_few : Counts → ℕ → Bool
+are_too_few (Exactly wanted) count = nat_lt count wanted
+are_too_few (Between least most) count = nat_lt count least
+are_too_few (AtLeast least) count = nat_lt count least
+
+abbrev pub are_too_many : Counts → ℕ → Bool
+are_too_many (Exactly wanted) count = nat_lt wanted count
+are_too_many (Between least most) count = nat_lt most count
+are_too_many (AtLeast least) count = false
 
 -- the keyword of a row that takes as many values
 abbrev pub counted_by : {K : Type 0} → Row K → ℕ → Result K LineFault
 counted_by row count =
-    if nat_lt count row.least then Err Missing
-    else if is_over row.most count then Err Extra
-    else Ok row.keyword
+    if are_too_few row.1 count then Err Missing
+    else if are_too_many row.1 count then Err Extra
+    else Ok row.2
 
 abbrev pub counted : {K : Type 0} → Option (Row K) → ℕ → Result K LineFault
 counted None count = Err Unknown

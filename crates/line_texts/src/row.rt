@@ -6,18 +6,20 @@ ghost use Rattle.line_texts.specs.Rows.{row_of, counted, counted_by};
 
 use crate::words::first_word;
 
-/// A line of a table: its first word, and how many values stand behind it.
+/// How many values a line takes behind its first word.
 #[derive(Clone, Copy, Debug)]
-pub struct Row<K> {
-    /// The first word.
-    pub word: &'static str,
-    /// The least number of values.
-    pub least: usize,
-    /// The greatest number of values; without it there may be any more.
-    pub most: Option<usize>,
-    /// What the first word stands for.
-    pub keyword: K,
+pub enum Counts {
+    /// So many.
+    Exactly(usize),
+    /// From the first number to the second.
+    Between(usize, usize),
+    /// So many or more.
+    AtLeast(usize),
 }
+
+/// A row of a table of lines: a first word, how many values it takes, and what it stands for.
+#[derive(Clone, Copy, Debug)]
+pub struct Row<K>(pub &'static str, pub Counts, pub K);
 
 /// What can be wrong with the words of a line.
 #[derive(Clone, Copy, Debug, PartialEq, Eq)]
@@ -37,7 +39,7 @@ pub fn keyword_line<K: Copy>(rows: &[Row<K>], name: &[u8], values: &[u8]) -> Res
 {
     let mut left = rows;
     while let Some((row, more)) = left.split_first() {
-        if row.word.as_bytes() == name {
+        if row.0.as_bytes() == name {
             return count_values(row, values);
         }
         left = more;
@@ -49,16 +51,19 @@ pub fn keyword_line<K: Copy>(rows: &[Row<K>], name: &[u8], values: &[u8]) -> Res
 fn count_values<K: Copy>(row: &Row<K>, values: &[u8]) -> Result<K, LineFault>
     ensures { result ≡ counted_by row.now (length (words_of values.now)) }
 {
+    let (least, most) = match row.1 {
+        Counts::Exactly(count) => (count, count),
+        Counts::Between(least, most) => (least, most),
+        Counts::AtLeast(least) => (least, usize::MAX),
+    };
     let count = count_words(values);
-    if count < row.least {
+    if count < least {
         return Err(LineFault::Missing);
     }
-    if let Some(most) = row.most
-        && count > most
-    {
+    if most < count {
         return Err(LineFault::Extra);
     }
-    Ok(row.keyword)
+    Ok(row.2)
 }
 
 /// How many words a line has.
