@@ -20,7 +20,8 @@ words_of line = filter (λ word. nat_lt 0 (length word)) (slice_split is_blank l
 abbrev pub lines_from : List ℕ → ℕ → List (List ℕ)
 lines_from text at = if nat_le at (length text) then lines_of (drop at text) else []
 
--- the lines of a text that are left, and the number of the last one that was taken, from 1
+-- the lines of a text that are left, the number of the last one that was taken, from 1, and the length of the text
 pub record LinesView : Type 0 where
   pub left : List (List ℕ)
   pub number : ℕ
+  pub size : ℕ

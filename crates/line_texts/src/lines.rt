@@ -1,6 +1,6 @@
 //! The lines of a text, one after the other.
 
-ghost use Rattle.std.specs.Prelude.{◌≡◌, ◌+◌, ◌-◌, ◌<◌, ◌^◌, ◌∷◌, [], length, MatchOption};
+ghost use Rattle.std.specs.Prelude.{◌≡◌, ◌+◌, ◌-◌, ◌<◌, ◌≤◌, ◌^◌, ◌∷◌, [], length, IfSome, MatchOption};
 ghost use Rattle.line_texts.specs.Lines.{lines_of};
 
 use crate::words::line_at;
@@ -20,7 +20,7 @@ impl<'a> Model for Lines<'a> {
 
     ghost Value = { LinesView };
 
-    ghost view = { λ l. record { left = lines_from l.text.now l.start; number = l.number } };
+    ghost view = { λ l. record { left = lines_from l.text.now l.start; number = l.number; size = length l.text.now } };
 
     ghost invariant = { λ l. (length l.text.now < 2 ^ 32 - 1) × (l.number ≤ l.start) × (l.start ≤ length l.text.now + 1) };
 }
@@ -31,6 +31,7 @@ impl<'a> Lines<'a> {
         requires { length text.now < 2 ^ 32 - 1 }
         ensures left { result.left ≡ lines_of text.now }
         ensures number { result.number ≡ 0 }
+        ensures size { result.size ≡ length text.now }
     {
         Lines {
             text,
@@ -50,6 +51,8 @@ impl<'a> Lines<'a> {
     pub fn next_line(&mut self) -> Option<&'a [u8]>
         ensures left { MatchOption result (self.old.left ≡ []) (λ line. self.old.left ≡ line.now ∷ self.new.left) }
         ensures number { MatchOption result (self.new ≡ self.old) (λ line. self.new.number ≡ self.old.number + 1) }
+        ensures size { self.new.size ≡ self.old.size }
+        ensures within { IfSome result (λ line. length line.now ≤ self.old.size) }
     {
         if self.start > self.text.len() {
             return None;

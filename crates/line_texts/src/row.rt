@@ -2,7 +2,7 @@
 
 ghost use Rattle.std.specs.Prelude.{◌≡◌, length};
 ghost use Rattle.line_texts.specs.Lines.{words_of};
-ghost use Rattle.line_texts.specs.Rows.{row_of, counted, counted_by};
+ghost use Rattle.line_texts.specs.Rows.{rows_in, row_of, counted, counted_by};
 
 use crate::words::first_word;
 
@@ -35,7 +35,7 @@ pub enum LineFault {
 /// The keyword of a first word whose row takes as many values as there are words.
 #[tactic(auto, unfolding(crate::specs::Rows::row_of))]
 pub fn keyword_line<K: Copy>(rows: &[Row<K>], name: &[u8], values: &[u8]) -> Result<K, LineFault>
-    ensures { result ≡ counted (row_of rows.now name.now) (length (words_of values.now)) }
+    ensures { result ≡ counted (row_of (rows_in rows.now) name.now) (length (words_of values.now)) }
 {
     let mut left = rows;
     while let Some((row, more)) = left.split_first() {
@@ -49,7 +49,7 @@ pub fn keyword_line<K: Copy>(rows: &[Row<K>], name: &[u8], values: &[u8]) -> Res
 
 // The keyword of a row, where so many values are taken.
 fn count_values<K: Copy>(row: &Row<K>, values: &[u8]) -> Result<K, LineFault>
-    ensures { result ≡ counted_by row.now (length (words_of values.now)) }
+    ensures { result ≡ counted_by (row.now.0.now, row.now.1, row.now.2) (length (words_of values.now)) }
 {
     let (least, most) = match row.1 {
         Counts::Exactly(count) => (count, count),
