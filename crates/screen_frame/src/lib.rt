@@ -116,10 +116,20 @@ pub fn ppm_row(palette: &Palette, row: &[u8], into: &mut [u8])
 {
     let wide = palette.wide();
     let mut i = 0;
-    while i + 3 <= row.len() {
-        put_wide(into, 3 * i, &wide, row[i]);
-        put_wide(into, 3 * i + 3, &wide, row[i + 1]);
-        i += 2;
+    while i + 5 <= row.len() {
+        put_two(
+            into,
+            3 * i,
+            wide_of(&wide, row[i]),
+            wide_of(&wide, row[i + 1]),
+        );
+        put_two(
+            into,
+            3 * i + 6,
+            wide_of(&wide, row[i + 2]),
+            wide_of(&wide, row[i + 3]),
+        );
+        i += 4;
     }
     for at in i..row.len() {
         let [red, green, blue] = palette.colour(row[at]);
@@ -129,12 +139,29 @@ pub fn ppm_row(palette: &Palette, row: &[u8], into: &mut [u8])
     }
 }
 
-// Puts the colour of a value at a place, and one byte behind it, since four bytes are put at once.
-fn put_wide(into: &mut [u8], at: usize, wide: &[[u8; 4]; 4], value: u8)
-    requires value { value < 4 }
-    requires room { at + 4 ≤ length into.old }
-    ensures front { take (at + 3) into.new ≡ take at into.old ++ take 3 (slice_index_or wide.now value []) }
+// The colour of a value, with one byte more.
+fn wide_of(wide: &[[u8; 4]; 4], value: u8) -> [u8; 4]
+    requires { value < 4 }
+    ensures { result ≡ slice_index_or wide.now value [] }
+{
+    wide[usize::from(value)]
+}
+
+// Puts two colours at a place, and one byte behind them, since four bytes are put at once.
+fn put_two(into: &mut [u8], at: usize, first: [u8; 4], second: [u8; 4])
+    requires { at + 7 ≤ length into.old }
+    ensures front { take (at + 6) into.new ≡ take at into.old ++ (take 3 first ++ take 3 second) }
     ensures length { length into.new ≡ length into.old }
 {
-    into[at..at + 4].copy_from_slice(&wide[usize::from(value)]);
+    put_wide(into, at, first);
+    put_wide(into, at + 3, second);
+}
+
+// Puts the three bytes of a colour at a place, and one behind them.
+fn put_wide(into: &mut [u8], at: usize, colour: [u8; 4])
+    requires { at + 4 ≤ length into.old }
+    ensures front { take (at + 3) into.new ≡ take at into.old ++ take 3 colour }
+    ensures length { length into.new ≡ length into.old }
+{
+    into[at..at + 4].copy_from_slice(&colour);
 }

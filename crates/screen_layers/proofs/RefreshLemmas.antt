@@ -4,7 +4,11 @@ use Rattle.std.specs.Prelude.{count_by}
 use Rattle.std.proofs.lemmas.List.{take_more, take_all, get_or_past}
 use Rattle.std.proofs.lemmas.List.Sums.{sum_by-append}
 use Rattle.std.proofs.lemmas.Bool.{cases_lt, cases_eq, eq-eqb, ne_eqb}
-use Rattle.screen_layers.specs.Layers.{Layers, SamePixels, mark_at}
+use Rattle.screen_layers.specs.declared.control.Layer.{Layer}
+use Rattle.screen_layers.specs.declared.control.Layer.TheVariants.{Background, Foreground}
+use Rattle.screen_layers.specs.Layers.{Layers, SamePixels, Refreshes, StandsFor, pixel_at, pixels_of, mark_at}
+use Rattle.screen_layers.specs.Pictures.{Picture}
+use Rattle.screen_layers.proofs.ScreenLemmas.{none-marked}
 
 -- the first rows of a screen are refreshed
 pub record Refreshed (start now : Layers) (y count : ℕ) : Type 0 where
@@ -70,4 +74,24 @@ refreshed-plain start now y count so_far plain = record {
   counted = let was : mark_at start.marks y ≡ false = sym (so_far.later y (omega arith)) ∙ plain in
       so_far.counted ∙ sym (count-more start.marks y ∙ rw was (omega arith));
   most = let most = so_far.most in omega arith;
+}
+
+same-stands : (before after : Layers) (picture : Picture) → SamePixels before after → StandsFor before picture → StandsFor after picture
+same-stands before after picture same stands = record {
+  width = same.width ∙ stands.width;
+  height = same.height ∙ stands.height;
+  pixels = λ layer x y in_x in_y. rw same.width (ap (λ pixels. pixel_at before.width pixels x y) (layer-same layer)
+      ∙ stands.pixels layer x y (rw (← same.width) in_x) (rw (← same.height) in_y));
+} where
+  layer-same : (layer : Layer) → pixels_of after layer ≡ pixels_of before layer
+  layer-same Background = same.background
+  layer-same Foreground = same.foreground
+
+-- all rows are refreshed
+pub refreshed-all : (start now : Layers) (y count : ℕ) → Refreshed start now y count → y ≡ start.height → Refreshes start now count
+refreshed-all start now y count rows whole = record {
+  counted = rows.counted ∙ ap (λ n. count_by (λ mark. mark) (take n start.marks)) whole;
+  pixels = rows.same;
+  stands = λ picture stands. same-stands start now picture rows.same stands;
+  marked = none-marked now (λ other below. rows.done other (rw whole (rw (← rows.same.height) below)));
 }

@@ -1,5 +1,5 @@
 -- What a screen keeps, the pictures that it stands for, and the rows that are marked.
-use Rattle.std.specs.Prelude.{◌≡◌, ◌⊎◌, ℕ, ◌+◌, ◌*◌, ◌<◌, Bool, true, false, List, length, slice_index, slice_index_or, unwrap_or}
+use Rattle.std.specs.Prelude.{◌≡◌, ◌⊎◌, ℕ, ◌+◌, ◌*◌, ◌<◌, Bool, true, false, List, [], length, take, count_by, slice_index, slice_index_or, unwrap_or}
 use Rattle.screen_frame.specs.Colours.{shown}
 use Rattle.screen_layers.specs.declared.control.Layer.{Layer}
 use Rattle.screen_layers.specs.declared.control.Layer.TheVariants.{Background, Foreground}
@@ -86,9 +86,16 @@ pub record Draws (before after : Layers) (drawing : Drawing) : Type 0 where
       ≡ unwrap_or (paint drawing layer x y) (pixel_at before.width (pixels_of before layer) x y)
   pub marks : MarksMore before.marks after.marks before.width before.height drawing.shape
 
--- a refresh changes no pixel
+-- the size and the pixels of both layers are the same
 pub record SamePixels (before after : Layers) : Type 0 where
   pub width : after.width ≡ before.width
   pub height : after.height ≡ before.height
   pub background : after.background ≡ before.background
   pub foreground : after.foreground ≡ before.foreground
+
+-- a refresh counts the marked rows, changes no pixel, and leaves no row marked
+pub record Refreshes (before after : Layers) (count : ℕ) : Type 0 where
+  pub counted : count ≡ count_by (λ mark. mark) (take before.height before.marks)
+  pub pixels : SamePixels before after
+  pub stands : (picture : Picture) → StandsFor before picture → StandsFor after picture
+  pub marked : MarkedBy after []

@@ -1,7 +1,7 @@
 //! The screen: two layers of pixels, drawn by the ports pixel and sprite.
 #![tactic(auto)]
 
-ghost use Rattle.std.specs.Prelude.{ℕ, ◌≡◌, ◌==◌, ◌↔◌, ◌+◌, ◌*◌, ◌/◌, ◌%◌, ◌<◌, ◌≤◌, true, false, nat_le, nat_lt, ◌&&◌, if◌then◌else◌, List, [], ◌∷◌, ◌++◌, IfOk, All, length, take, drop, slice_index, count_by};
+ghost use Rattle.std.specs.Prelude.{ℕ, ◌≡◌, ◌==◌, ◌↔◌, ◌+◌, ◌*◌, ◌/◌, ◌%◌, ◌<◌, ◌≤◌, true, false, nat_le, nat_lt, ◌&&◌, if◌then◌else◌, List, [], ◌∷◌, ◌++◌, IfOk, All, length, take, drop, slice_index};
 ghost use Rattle.screen_layers.specs.Control.{has_bit, step_of, tile_size};
 ghost use Rattle.screen_layers.specs.Drawings.{Drawing, tile, filled, dotted, drawn_by_pixel, drawn_by_sprite, moved_by_pixel, moved_by_sprite, bytes_at};
 ghost use Rattle.screen_layers.specs.Layers.{mark_at};
@@ -76,7 +76,7 @@ impl Model for Screen {
 }
 
 impl Screen {
-    ghost use Rattle.screen_layers.specs.Layers.{StandsFor, MarkedBy, CoversRow, SamePixels, Draws};
+    ghost use Rattle.screen_layers.specs.Layers.{StandsFor, MarkedBy, CoversRow, SamePixels, Refreshes, Draws};
 
     /// A screen of 512 by 320 pixels, both layers 0, no row marked. It takes the memory of both layers and of the composed
     /// values at the greatest size; no other call takes any.
@@ -187,9 +187,7 @@ impl Screen {
 
     /// Composes each marked row, takes its mark away, and gives the number of these rows.
     pub fn refresh(&mut self) -> u16
-        ensures count { result ≡ count_by (λ mark. mark) (take self.old.height self.old.marks) }
-        ensures picture { SamePixels self.old self.new }
-        ensures marked { MarkedBy self.new [] }
+        ensures { Refreshes self.old self.new result }
     {
         let mut count = 0;
         for y in 0..self.size.height {

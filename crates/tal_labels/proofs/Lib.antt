@@ -7,3 +7,6 @@ pub mod PlacingLemmas
 pub mod LayingLemmas
 pub mod PlacedLemmas
 pub mod CallerLemmas
+pub mod OpenLemmas
+pub mod AddingLemmas
+pub mod KeptLemmas

@@ -2,14 +2,19 @@
 #![tactic(auto)]
 
 mod closing;
+mod label_index;
 mod labels;
 mod placed;
+mod placer;
 mod placing;
+mod scope;
 mod shapes;
 #[cfg(test)]
 mod tests;
 
 pub use labels::{FIRST_SCOPE, full_name, next_scope};
 pub use placed::{Placed, PlacedWord};
+pub use placer::Placer;
 pub use placing::{FIRST_ADDRESS, MEMORY_END, place};
+pub use scope::Scope;
 pub use shapes::strays_match_no_opener;

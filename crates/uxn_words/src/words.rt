@@ -8,7 +8,7 @@ ghost use Rattle.uxn_words.specs.Asked.{asked, argument, choice_argument, file_a
 
 use clap::error::ErrorKind;
 use clap::{Arg, ArgAction, ArgMatches};
-use play_script::number_within;
+use line_texts::number_within;
 use std::alloc::{AllocError, Global};
 
 /// What the program is asked to do.

@@ -35,6 +35,8 @@ pub record HasGrown (before now : Tally) (begun given budget : ℕ) : Type 0 whe
   pub events : now.events ≤ before.events + given
   pub frames : now.frames ≤ before.frames + given
   pub shots : now.shots ≤ before.shots + given
+  pub expects : now.expects ≤ before.expects + given
+  pub misses : now.misses ≤ before.misses + given
   pub later : before.instructions ≤ now.instructions
 
 -- so many more vectors, each of at most so many instructions, and so many events can be counted up to a limit
@@ -45,6 +47,8 @@ pub record HasRoom (limit : ℕ) (tally : Tally) (begun given budget : ℕ) : Ty
   pub events : tally.events + given ≤ limit
   pub frames : tally.frames + given ≤ limit
   pub shots : tally.shots + given ≤ limit
+  pub expects : tally.expects + given ≤ limit
+  pub misses : tally.misses + given ≤ limit
 
 module _ {T O E W : Type 0} (meaning : Meaning T O E) (refuses : Type 0) where
   -- not all of a trail was done: a front of its changes is made, and whoever is to blame for the stop did not surely take all of

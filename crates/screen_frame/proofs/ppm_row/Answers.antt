@@ -1,24 +1,23 @@
-use Rattle.std.proofs.Common.{◌≡◌, ◌*◌, ◌+◌, ◌++◌, take, slice_index, ap, sym, ◌∙◌, arith}
-use Rattle.screen_frame.specs.Ppm.{row_bytes}
+use Rattle.std.proofs.Common.{◌≡◌, ℕ, ◌*◌, ◌+◌, ◌<◌, List, [], length, take, slice_index, slice_index_or, refl, ap, ◌∙◌, arith}
 use Rattle.screen_frame.proofs.ppm_row.Goals as goal
-use Rattle.screen_frame.proofs.RowLemmas.{row_more, row_next}
+use Rattle.screen_frame.proofs.RowLemmas.{row_more, row_two}
 
 pub loop-i-preserved : goal.loop-i-preserved
 loop-i-preserved c =
     let colours = c.args.palette.now.colours in
     let row = c.args.row.now in
     let i = c.loop-i.i in
-    let one : take (3 * i + 3) c.put_wide.new.into ≡ row_bytes colours (take (i + 1) row) =
-    c.put_wide.ensures.front ∙ ap (λ w. take (3 * i) c.loop-i.into ++ w) (c.wide-wide.ensures (slice_index row i) (c.requires.values i 0 (omega arith)))
-    ∙ row_next colours row (take (3 * i) c.loop-i.into) i (omega arith) c.loop-i.invariant.front in
-    let two : take (3 * i + 3 + 3) c.put_wide-in-loop-i.new.into ≡ row_bytes colours (take (i + 1 + 1) row) =
-    c.put_wide-in-loop-i.ensures.front ∙ ap (λ w. take (3 * i + 3) c.put_wide.new.into ++ w) (c.wide-wide.ensures (slice_index row (i + 1)) (c.requires.values (i + 1) 0 (omega arith)))
-    ∙ row_next colours row (take (3 * i + 3) c.put_wide.new.into) (i + 1) (omega arith) one in
-    let bytes : 3 * (i + 2) ≡ 3 * i + 3 + 3 = omega arith in
-    let pixels : i + 2 ≡ i + 1 + 1 = omega arith in
+    let colour = λ (k : ℕ) (wide : List ℕ) (h : k < length row) (e : wide ≡ slice_index_or c.wide-wide.result (slice_index row k) []).
+    ap (λ w. take 3 w) e ∙ c.wide-wide.ensures (slice_index row k) (c.requires.values k 0 h) in
+    let one = row_two colours row c.loop-i.into c.put_two.new.into c.wide_of.result c.wide_of-in-loop-i.result i (3 * i) refl (omega arith) c.put_two.ensures.front
+    (colour i _ (omega arith) c.wide_of.ensures) (colour (i + 1) _ (omega arith) c.wide_of-in-loop-i.ensures) c.loop-i.invariant.front in
+    let third : i + 2 + 1 ≡ i + 3 = omega arith in
+    let two = row_two colours row c.put_two.new.into c.put_two-in-loop-i.new.into c.wide_of-in-loop-i-2.result c.wide_of-in-loop-i-3.result (i + 2) (3 * i + 6) (omega arith) (omega arith) c.put_two-in-loop-i.ensures.front
+    (colour (i + 2) _ (omega arith) c.wide_of-in-loop-i-2.ensures) (rw third (colour (i + 3) _ (omega arith) c.wide_of-in-loop-i-3.ensures)) one in
+    let pixels : i + 4 ≡ i + 2 + 2 = omega arith in
     record {
       within = omega arith;
-      front = ap (λ n. take n c.put_wide-in-loop-i.new.into) bytes ∙ two ∙ ap (λ n. row_bytes colours (take n row)) (sym pixels);
+      front = rw pixels two;
     }
 
 pub loop-at-preserved : goal.loop-at-preserved

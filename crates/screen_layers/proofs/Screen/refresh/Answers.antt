@@ -1,6 +1,6 @@
-use Rattle.std.proofs.Common.{sym, ap, ◌∙◌}
+use Rattle.std.proofs.Common.{◌≡◌, sym, ap, ◌∙◌, arith}
 use Rattle.screen_layers.specs.Layers.{Layers}
-use Rattle.screen_layers.proofs.RefreshLemmas.{refreshed-none, refreshed-marked, refreshed-plain}
+use Rattle.screen_layers.proofs.RefreshLemmas.{refreshed-none, refreshed-marked, refreshed-plain, refreshed-all}
 use Rattle.screen_layers.proofs.Screen.refresh.Goals as goal
 use Rattle.screen_layers.proofs.Screen.refresh.Goals.{then-is_marked, else-is_marked}
 
@@ -20,3 +20,8 @@ loop-y-preserved c =
         end = c.loop-y.invariant.end;
       }
     ]
+
+pub returns : goal.returns
+returns c =
+    let height : c.self.inside.size.height ≡ c.args.self.now.height = ap (λ (s : Layers). s.height) c.self.view_is in
+    refreshed-all _ c.loop-y.self c.loop-y.y c.loop-y.count c.loop-y.invariant.rows (omega arith)
