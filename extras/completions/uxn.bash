@@ -3,7 +3,7 @@ _uxn() {
     local run='--rom --script --root --frames --samples --report --budget' word=${COMP_WORDS[COMP_CWORD]} words
     COMPREPLY=()
     if [[ $COMP_CWORD -eq 1 ]]; then
-        mapfile -t COMPREPLY < <(compgen -W 'play debug asm dis' -- "$word")
+        mapfile -t COMPREPLY < <(compgen -W 'play debug asm dis gen' -- "$word")
         return
     fi
     case ${COMP_WORDS[COMP_CWORD - 1]} in
