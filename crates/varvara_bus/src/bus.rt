@@ -1,5 +1,5 @@
 //! The bus: what the machine's ports are.
-ghost use Rattle.std.specs.Prelude.{◌≡◌, ◌+◌, ◌<◌, ◌≤◌, [], ◌∷◌, map, length, Err, IsOk, OnOk, OnErr, IfErr, is_err};
+ghost use Rattle.std.specs.Prelude.{◌≡◌, ℕ, slice_index, ◌+◌, ◌<◌, ◌≤◌, [], ◌∷◌, map, length, Err, IsOk, OnOk, OnErr, IfErr, is_err};
 ghost use Rattle.varvara_bus.specs.State.{DeviceState, storing, next_frame, rendered};
 ghost use Rattle.screen_frame.specs.Colours.{colours_of};
 ghost use Rattle.screen_layers.specs.Layers as layers;
@@ -18,6 +18,7 @@ ghost use Rattle.varvara_bus.specs.Bus.{
   IsFileWhereTold,
   IsOutside,
   held,
+  held_page,
   frames_begun,
   screen_of,
   bus_faults,
@@ -230,11 +231,13 @@ impl<'a, T: Tree, O: Sink, E: Sink> Bus<'a, T, O, E> {
 }
 
 impl<'a, T: Tree, O: Sink, E: Sink> Ports for Bus<'a, T, O, E> {
-    ghost use Rattle.varvara_bus.specs.Bus.{meaning_of, bus_rules, bus_faults};
+    ghost use Rattle.varvara_bus.specs.Bus.{meaning_of, bus_rules, bus_faults, held_page};
 
     ghost rules = { bus_rules (meaning_of T.told O.told E.told T.sure O.sure E.sure) };
 
     ghost faults = { bus_faults T.faults O.faults E.faults };
+
+    ghost stored = { held_page };
 
     #[tactic(auto, unfolding(crate::specs::Reads::read_of))]
     fn dei(&self, core: &Core, port: u8) -> u8 {
@@ -255,6 +258,14 @@ impl<'a, T: Tree, O: Sink, E: Sink> Ports for Bus<'a, T, O, E> {
             Ok(()) => Ok(()),
             Err(stop) => Err(stop),
         }
+    }
+
+    fn stored_page(&self) -> &[u8; 256]
+        ensures held { result.now ≡ held_page self.now }
+        ensures stored { (state : DeviceState) → BusStandsFor T.told self.now state
+            → (port : ℕ) → slice_index result.now port ≡ stored state.history port }
+    {
+        &self.devices.page
     }
 }
 
