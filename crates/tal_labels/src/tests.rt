@@ -2,7 +2,7 @@
 //! command line.
 
 use crate::{Placed, Placer, place};
-use std::alloc::Global;
+use std::alloc::{AllocError, Global};
 use tal_words::{AsmStop, Expanded, words};
 
 /// The words of a source, each its own origin.
@@ -14,19 +14,16 @@ fn expanded(alloc: Global, source: &[u8]) -> Result<Vec<Expanded>, AsmStop> {
             origin: *word,
         })?;
     }
-    if expanded.len() > 4_194_304 {
-        return Err(AsmStop::NoMemory);
-    }
     Ok(expanded)
 }
 
-/// The words of a source with their addresses, added one by one.
-fn added(alloc: Global, source: &[u8]) -> Result<Option<Placed>, AsmStop> {
+/// The words with their addresses, added one by one.
+fn added(alloc: Global, source: &[u8], words: &[Expanded]) -> Result<Option<Placed>, AllocError> {
     let mut placer = Placer::new(alloc);
     if source.len() > 4_194_304 {
-        return Err(AsmStop::NoMemory);
+        return Ok(None);
     }
-    for word in expanded(alloc, source)?.as_slice() {
+    for word in words {
         placer.add(source, *word)?;
     }
     Ok(placer.finish())
@@ -40,10 +37,14 @@ fn has_label(
     name: &[u8],
     address: Option<u16>,
 ) -> Result<bool, AsmStop> {
-    let placed = place(alloc, source, &expanded(alloc, source)?)?;
-    let Some(others) = added(alloc, source)? else {
+    let words = expanded(alloc, source)?;
+    let Some(others) = added(alloc, source, &words)? else {
         return Ok(false);
     };
+    if source.len() > 4_194_304 || words.len() > 4_194_304 {
+        return Ok(false);
+    }
+    let placed = place(alloc, source, &words)?;
     Ok(
         placed.address_of(name) == address
             && others.address_of(name) == address
@@ -80,13 +81,15 @@ static FAULTY: [&[u8]; 6] = [
 ];
 
 /// Says whether no layout is given for a source.
-fn is_refused(alloc: Global, source: &[u8]) -> bool {
-    matches!(added(alloc, source), Ok(None))
+fn is_refused(alloc: Global, source: &[u8]) -> Result<bool, AsmStop> {
+    let words = expanded(alloc, source)?;
+    Ok(added(alloc, source, &words)?.is_none())
 }
 
 #[test]
 fn faulty_words_give_no_layout(rt: HostRuntime) {
     for source in &FAULTY {
-        assert!(rt; is_refused(rt.alloc(), source), "at {source:?}");
+        let refused = is_refused(rt.alloc(), source);
+        assert!(rt; matches!(refused, Ok(true)), "at {source:?}");
     }
 }
