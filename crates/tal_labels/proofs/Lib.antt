@@ -10,3 +10,4 @@ pub mod CallerLemmas
 pub mod OpenLemmas
 pub mod AddingLemmas
 pub mod KeptLemmas
+pub mod PlainLemmas

@@ -7,3 +7,4 @@ pub mod Index
 pub mod Adding
 pub mod Scopes
 pub mod Placers
+pub mod PlainWords

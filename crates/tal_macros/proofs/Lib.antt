@@ -6,3 +6,5 @@ pub mod GivenLemmas
 pub mod HeadLemmas
 pub mod Closing
 pub mod Known
+pub mod PlainLemmas
+pub mod BlankLemmas

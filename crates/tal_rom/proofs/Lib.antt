@@ -2,3 +2,4 @@ pub mod Trimming
 pub mod Covering
 pub mod Laying
 pub mod AssemblyLemmas
+pub mod PlainLemmas

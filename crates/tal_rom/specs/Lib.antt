@@ -3,3 +3,4 @@ pub mod Rom
 pub mod Program
 pub mod Assembly
 pub mod Answers
+pub mod PlainWords

@@ -3,11 +3,13 @@
 
 mod assembly;
 mod encoding;
+mod plain;
 mod references;
 mod rom;
 #[cfg(test)]
 mod tests;
 
 pub use assembly::{Assembly, assemble, words_cover_once};
+pub use plain::plain_words_assemble_to_their_bytes;
 pub use tal_labels::PlacedWord;
 pub use tal_words::{AsmStop, Fault, FaultKind, Label, fault_word};

@@ -6,5 +6,9 @@ pub mod Numbers
 pub mod Operations
 pub mod OrderLemmas
 pub mod PassLemmas
+pub mod BlankFree
+pub mod PlainTokens
+pub mod PlainTexts
+pub mod PlainNames
 pub mod Runs
 pub mod Tokens

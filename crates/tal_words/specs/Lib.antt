@@ -9,3 +9,4 @@ pub mod Labels
 pub mod Names
 pub mod Forms
 pub mod Braces
+pub mod PlainTexts

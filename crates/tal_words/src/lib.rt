@@ -7,6 +7,7 @@ mod fault;
 mod form;
 mod name;
 mod opcode;
+mod plain;
 mod runes;
 mod span;
 #[cfg(test)]
@@ -18,6 +19,7 @@ pub use fault::{AsmStop, Fault, FaultKind, fault_word, first_fault_is_first};
 pub use form::{Form, Rune, form_of};
 pub use name::{Label, Name, name_fault};
 pub use opcode::{names_are_read, op_byte, op_name};
+pub use plain::{names_are_plain, plain_words_are_the_words, words_have_no_blanks};
 pub use runes::{closes, opens, rune_of};
 pub use span::{Expanded, Span, Word};
 pub use text::{begins, is_only};

@@ -1,0 +1,131 @@
+-- No word of an expanded list has a blank.
+use Rattle.std.proofs.Common.{ℕ, zero, suc, Bool, true, false, not, List, [], ◌∷◌, ◌++◌, take, map, Option, Some, None}
+use Rattle.std.specs.Prelude.{if◌then◌else◌, filter, unwrap_or}
+use Rattle.std.specs.Option.{option_map}
+use Rattle.std.specs.List.{flat_map, AllByRecursion}
+use Rattle.std.specs.Str.{bytes_eq}
+use Rattle.tal_words.specs.declared.span.Word.{Word}
+use Rattle.tal_words.specs.declared.span.Expanded.{Expanded}
+use Rattle.tal_words.specs.Source.{begins, is_only, bytes_at, word_text, expanded_text}
+use Rattle.tal_words.specs.Comments.{words_of}
+use Rattle.tal_words.specs.Order.{collected}
+use Rattle.tal_words.specs.Braces.{matching}
+use Rattle.tal_macros.specs.Expansion.{Macro, Part, Plain, Head, Inside, Visited, depth_limit, body_named, body_after, body_defined, parts_from, head_length, macro_given, known_at, visits, visits_given, visit_list, without_uses, parts_of, expanded_of}
+use Rattle.tal_words.specs.PlainTexts.{IsBlankFree}
+use Rattle.tal_words.proofs.BlankFree.{all_joined, words_free}
+
+-- what holds of what each of some things gives
+all_flat : {X Y : Type 0} (P : X → Type 0) (Q : Y → Type 0) (f : X → List Y) → ((x : X) → P x → AllByRecursion Q (f x)) → (xs : List X)
+    → AllByRecursion P xs → AllByRecursion Q (flat_map f xs)
+all_flat P Q f each [] all = tt
+all_flat P Q f each (x ∷ xs) all = all_joined Q (f x) (flat_map f xs) (each x all.0) (all_flat P Q f each xs all.1)
+
+all_taken : {X : Type 0} (P : X → Type 0) (n : ℕ) (xs : List X) → AllByRecursion P xs → AllByRecursion P (take n xs)
+all_taken P zero xs all = tt
+all_taken P (suc n) [] all = tt
+all_taken P (suc n) (x ∷ xs) all = (all.0, all_taken P n xs all.1)
+
+module _ (source : List ℕ) where
+  abbrev IsFreeWord : Word → Type 0
+  IsFreeWord word = IsBlankFree (word_text source word)
+
+  -- the bodies of macros
+  abbrev IsFreeBody : Option (List Word) → Type 0
+  IsFreeBody None = Unit {0}
+  IsFreeBody (Some body) = AllByRecursion IsFreeWord body
+
+  abbrev IsFreePart : Part → Type 0
+  IsFreePart (Plain word) = IsFreeWord word
+  IsFreePart (Head word body) = IsFreeBody body
+  IsFreePart (Inside word) = Unit {0}
+
+  abbrev IsFreeMacro : Macro → Type 0
+  IsFreeMacro macro = AllByRecursion IsFreeWord macro.body
+
+  body_free : (words : List Word) → AllByRecursion IsFreeWord words → IsFreeBody (body_after source words)
+  body_free [] all = tt
+  body_free (brace ∷ words) all = by (is_only 123 (word_text source brace)) (matching (map (word_text source) words))
+    where
+      by : (b : Bool) (o : Option ℕ) → IsFreeBody (if b then option_map (λ count. take count words) o else None)
+      by true (Some count) = all_taken IsFreeWord count words all.1
+      by true None = tt
+      by false o = tt
+
+  defined_free : (word : Word) (words : List Word) → AllByRecursion IsFreeWord words → IsFreeBody (body_defined source word words)
+  defined_free word words all = by (begins 37 (word_text source word))
+    where
+      by : (b : Bool) → IsFreeBody (if b then body_after source words else None)
+      by true = body_free words all
+      by false = tt
+
+  parts_free : (inside : ℕ) (words : List Word) → AllByRecursion IsFreeWord words → AllByRecursion IsFreePart (parts_from source inside words)
+  parts_free inside [] all = tt
+  parts_free (suc inside) (word ∷ words) all = (tt, parts_free inside words all.1)
+  parts_free zero (word ∷ words) all =
+      (by (begins 37 (word_text source word)) (defined_free word words all.1), parts_free (head_length (body_defined source word words)) words all.1)
+    where
+      by : (b : Bool) → IsFreeBody (body_defined source word words) → IsFreePart (if b then Head word (body_defined source word words) else Plain word)
+      by true body = body
+      by false body = all.0
+
+  macro_free : (part : Part) → IsFreePart part → AllByRecursion IsFreeMacro (macro_given source part)
+  macro_free (Plain word) plain = tt
+  macro_free (Head word None) plain = tt
+  macro_free (Head word (Some body)) plain = (plain, tt)
+  macro_free (Inside word) plain = tt
+
+  known_free : (before : List Part) → AllByRecursion IsFreePart before → AllByRecursion IsFreeMacro (known_at source before)
+  unfolding known_at
+  known_free before all = all_flat IsFreePart IsFreeMacro (macro_given source) macro_free before all
+
+  named_free : (known : List Macro) (name : List ℕ) → AllByRecursion IsFreeMacro known → AllByRecursion IsFreeWord (unwrap_or (body_named known name) [])
+  named_free [] name all = tt
+  named_free (macro ∷ macros) name all = by (bytes_eq name macro.name) (named_free macros name all.1)
+    where
+      by : (b : Bool) → AllByRecursion IsFreeWord (unwrap_or (body_named macros name) [])
+          → AllByRecursion IsFreeWord (unwrap_or (if b then Some macro.body else body_named macros name) [])
+      by true rest = all.0
+      by false rest = rest
+
+  abbrev IsFreeVisit : Visited → Type 0
+  IsFreeVisit word = IsBlankFree (bytes_at source word.text)
+
+  visits_free : (known : List Macro) (origin : Word) (room : ℕ) (word : Word) → AllByRecursion IsFreeMacro known → IsFreeWord word
+      → AllByRecursion IsFreeVisit (visits source known origin room word)
+  unfolding visits
+  visits_free known origin zero word all plain = (plain, tt)
+  visits_free known origin (suc room) word all plain = (
+    plain,
+    all_flat IsFreeWord IsFreeVisit (visits source known origin room) (λ inner inner_free. visits_free known origin room inner all inner_free)
+        (unwrap_or (body_named known (word_text source word)) []) (named_free known (word_text source word) all),
+  )
+
+  given_free : (before : List Part) (part : Part) (after : List Part) → AllByRecursion IsFreePart before → IsFreePart part → AllByRecursion IsFreeVisit (visits_given source before part after)
+  given_free before (Plain word) after all plain = visits_free (known_at source before) word depth_limit word (known_free before all) plain
+  given_free before (Head word body) after all plain = tt
+  given_free before (Inside word) after all plain = tt
+
+  list_free : (before parts : List Part) → AllByRecursion IsFreePart before → AllByRecursion IsFreePart parts → AllByRecursion IsFreeVisit (collected (visits_given source) before parts)
+  list_free before [] earlier all = tt
+  list_free before (part ∷ parts) earlier all =
+      all_joined IsFreeVisit (visits_given source before part parts) (collected (visits_given source) (before ++ part ∷ []) parts)
+      (given_free before part parts earlier all.0)
+      (list_free (before ++ part ∷ []) parts (all_joined IsFreePart before (part ∷ []) earlier (all.0, tt)) all.1)
+
+  abbrev IsFreeExpanded : Expanded → Type 0
+  IsFreeExpanded word = IsBlankFree (expanded_text source word)
+
+  kept_free : (visited : List Visited) → AllByRecursion IsFreeVisit visited → AllByRecursion IsFreeExpanded (without_uses visited)
+  kept_free [] all = tt
+  kept_free (word ∷ words) all = by word.is_use (kept_free words all.1)
+    where
+      by : (b : Bool) → AllByRecursion IsFreeExpanded (without_uses words)
+          → AllByRecursion IsFreeExpanded (map (λ (v : Visited). record { text = v.text; origin = v.origin }) (if not b then word ∷ filter (λ v. not v.is_use) words else filter (λ v. not v.is_use) words))
+      by true rest = rest
+      by false rest = (all.0, rest)
+
+  pub expanded_free : AllByRecursion IsFreeExpanded (expanded_of source)
+  unfolding expanded_of visit_list parts_of
+  expanded_free =
+      let words = words_of source in
+      kept_free (collected (visits_given source) [] (parts_from source 0 words)) (list_free [] (parts_from source 0 words) tt (parts_free 0 words (words_free source)))

@@ -1,0 +1,128 @@
+-- The tokens of a text of which each has one blank behind it.
+use Rattle.std.proofs.Common.{◌≡◌, ℕ, zero, suc, ◌+◌, ◌-◌, ◌<◌, Bool, true, false, not, List, [], ◌∷◌, ◌++◌, length, take, drop, get_or, map, refl, ap, sym, ◌∙◌, arith, add-one, append_assoc, append-nil, length-append}
+use Rattle.std.specs.Prelude.{if◌then◌else◌}
+use Rattle.std.specs.List.{flat_map, list_any, prefix_len, AllByRecursion}
+use Rattle.std.proofs.lemmas.Bool.{or_parts}
+use Rattle.std.proofs.lemmas.List.{get_or-append-add, get_or_append_left, get_or_at, take_at, drop_at, map-append}
+use Rattle.tal_words.specs.declared.span.Word.{Word}
+use Rattle.tal_words.specs.PlainTexts.{Chunk, chunk_text}
+use Rattle.tal_words.specs.Source.{is_blank, word_text, run_length, is_after_blank, begins_token, token_at, tokens_below, tokens_of}
+
+abbrev pub text_of_chunks : List Chunk → List ℕ
+text_of_chunks chunks = flat_map chunk_text chunks
+
+-- a token is not empty and has no blank
+pub record IsChunk (chunk : Chunk) : Type 0 where
+  pub some : 0 < length chunk.text
+  pub plain : list_any is_blank chunk.text ≡ false
+  pub parted : is_blank chunk.blank ≡ true
+
+abbrev pub AreChunks : List Chunk → Type 0
+AreChunks chunks = AllByRecursion IsChunk chunks
+
+any_none : (p : ℕ → Bool) (xs : List ℕ) (j : ℕ) → list_any p xs ≡ false → j < length xs → p (get_or xs j 0) ≡ false
+any_none p [] j none within = absurd (omega arith)
+any_none p (x ∷ xs) zero none within = (or_parts (p x) (list_any p xs) none).0
+any_none p (x ∷ xs) (suc j) none within = any_none p xs j (or_parts (p x) (list_any p xs) none).1 (omega arith)
+
+-- the bytes up to the first blank
+run_of : (word : List ℕ) (blank : ℕ) (rest : List ℕ) → list_any is_blank word ≡ false → is_blank blank ≡ true
+    → prefix_len (λ byte. not (is_blank byte)) ((word ++ blank ∷ []) ++ rest) ≡ length word
+run_of [] blank rest plain parted = rw parted refl
+run_of (byte ∷ word) blank rest plain parted =
+    let parts = or_parts (is_blank byte) (list_any is_blank word) plain in
+    let here = parts.0 in
+    let more = run_of word blank rest parts.1 parted in
+    rw (here, more) (omega arith)
+
+after_blank-suc : (source : List ℕ) (at : ℕ) → 0 < at → is_after_blank source at ≡ is_blank (get_or source (at - 1) 0)
+after_blank-suc source zero some = absurd (omega arith)
+after_blank-suc source (suc before) some = let one : suc before - 1 ≡ before = omega arith in rw one refl
+
+module _ (source : List ℕ) where
+  tokens_more : (at : ℕ) → tokens_below source (at + 1) ≡ tokens_below source at ++ (if begins_token source at then token_at source at ∷ [] else [])
+  unfolding tokens_below
+  tokens_more at = rw (add-one at) refl
+
+  -- no token begins behind a byte that is no blank
+  none_begins : (at : ℕ) → 0 < at → is_blank (get_or source (at - 1) 0) ≡ false → tokens_below source (at + 1) ≡ tokens_below source at
+  none_begins at some plain =
+      let within : is_after_blank source at ≡ false = after_blank-suc source at some ∙ plain in
+      tokens_more at ∙ rw within (append-nil (tokens_below source at))
+
+  none_within : (n p : ℕ) → ((j : ℕ) → j < n → is_blank (get_or source (p + j) 0) ≡ false) → tokens_below source (p + n + 1) ≡ tokens_below source (p + 1)
+  none_within zero p plain = let same : p + 0 + 1 ≡ p + 1 = omega arith in ap (tokens_below source) same
+  none_within (suc n) p plain =
+      let before : p + suc n - 1 ≡ p + n = omega arith in
+      let last : is_blank (get_or source (p + suc n - 1) 0) ≡ false = ap (λ (k : ℕ). is_blank (get_or source k 0)) before ∙ plain n (omega arith) in
+      let same : p + suc n ≡ p + n + 1 = omega arith in
+      none_begins (p + suc n) (omega arith) last ∙ ap (tokens_below source) same ∙ none_within n p (λ j h. plain j (omega arith))
+
+  module _ (front : List ℕ) (chunk : Chunk) (rest : List ℕ) (is : IsChunk chunk) (split : source ≡ front ++ (chunk_text chunk ++ rest)) where
+    p : ℕ
+    p = length front
+
+    read_word : (j : ℕ) → j < length chunk.text → get_or source (length front + j) 0 ≡ get_or chunk.text j 0
+    read_word j within =
+        ap (λ (s : List ℕ). get_or s (length front + j) 0) split ∙ get_or-append-add front (chunk_text chunk ++ rest) j 0
+        ∙ get_or_append_left (chunk_text chunk) rest 0 j (omega (arith, length-append chunk.text (chunk.blank ∷ [])))
+        ∙ get_or_append_left chunk.text (chunk.blank ∷ []) 0 j within
+
+    read_blank : get_or source (length front + length chunk.text) 0 ≡ chunk.blank
+    read_blank =
+        ap (λ (s : List ℕ). get_or s (length front + length chunk.text) 0) split ∙ get_or-append-add front (chunk_text chunk ++ rest) (length chunk.text) 0
+        ∙ ap (λ (s : List ℕ). get_or s (length chunk.text) 0) (append_assoc chunk.text (chunk.blank ∷ []) rest)
+        ∙ get_or_at chunk.text chunk.blank rest 0 (length chunk.text) refl
+
+    plain_at : (j : ℕ) → j < length chunk.text → is_blank (get_or source (length front + j) 0) ≡ false
+    plain_at j within = ap is_blank (read_word j within) ∙ any_none is_blank chunk.text j is.plain within
+
+    -- the token of the chunk comes next
+    next_token : is_after_blank source (length front) ≡ true
+        → tokens_below source (length front + length chunk.text + 1) ≡ tokens_below source (length front) ++ token_at source (length front) ∷ []
+    next_token after =
+        let first : length front + 0 ≡ length front = omega arith in
+        let here : is_blank (get_or source (length front) 0) ≡ false = ap (λ (k : ℕ). is_blank (get_or source k 0)) (sym first) ∙ plain_at 0 is.some in
+        none_within (length chunk.text) (length front) plain_at ∙ tokens_more (length front) ∙ rw (after, here) refl
+
+    -- and a blank stands behind it
+    behind_token : is_after_blank source (length front + length chunk.text + 1) ≡ true
+    behind_token =
+        let before : length front + length chunk.text + 1 - 1 ≡ length front + length chunk.text = omega arith in
+        after_blank-suc source (length front + length chunk.text + 1) (omega arith)
+        ∙ ap (λ (k : ℕ). is_blank (get_or source k 0)) before ∙ ap is_blank read_blank ∙ is.parted
+
+    -- its text is that of the chunk
+    token_text : word_text source (token_at source (length front)) ≡ chunk.text
+    unfolding token_at
+    token_text =
+        let dropped : drop (length front) source ≡ chunk_text chunk ++ rest = ap (drop (length front)) split ∙ drop_at front (chunk_text chunk ++ rest) (length front) refl in
+        let run : run_length source (length front) ≡ length chunk.text = ap (prefix_len (λ byte. not (is_blank byte))) dropped ∙ run_of chunk.text chunk.blank rest is.plain is.parted in
+        let size : length front + run_length source (length front) - length front ≡ length chunk.text = omega (arith, run) in
+        ap (λ (n : ℕ). take n (drop (length front) source)) size ∙ ap (take (length chunk.text)) dropped
+        ∙ ap (take (length chunk.text)) (append_assoc chunk.text (chunk.blank ∷ []) rest)
+        ∙ take_at chunk.text ((chunk.blank ∷ []) ++ rest) (length chunk.text) refl
+
+  -- the texts of the tokens from a place on
+  texts_from : (chunks : List Chunk) (front : List ℕ) → AreChunks chunks → source ≡ front ++ text_of_chunks chunks → is_after_blank source (length front) ≡ true
+      → map (word_text source) (tokens_below source (length source)) ≡ map (word_text source) (tokens_below source (length front)) ++ map (λ chunk. chunk.text) chunks
+  texts_from [] front are split after =
+      let same : length source ≡ length front = ap length (split ∙ append-nil front) in
+      ap (λ (n : ℕ). map (word_text source) (tokens_below source n)) same ∙ sym (append-nil (map (word_text source) (tokens_below source (length front))))
+  texts_from (chunk ∷ chunks) front are split after =
+      let rest = text_of_chunks chunks in
+      let size : length (front ++ chunk_text chunk) ≡ length front + length chunk.text + 1 = omega (arith, length-append front (chunk_text chunk), length-append chunk.text (chunk.blank ∷ [])) in
+      let again : source ≡ (front ++ chunk_text chunk) ++ rest = split ∙ sym (append_assoc front (chunk_text chunk) rest) in
+      let later : is_after_blank source (length (front ++ chunk_text chunk)) ≡ true = ap (is_after_blank source) size ∙ behind_token front chunk rest are.0 split in
+      texts_from chunks (front ++ chunk_text chunk) are.1 again later
+      ∙ ap (λ (n : ℕ). map (word_text source) (tokens_below source n) ++ map (λ (c : Chunk). c.text) chunks) size
+      ∙ ap (λ (tokens : List Word). map (word_text source) tokens ++ map (λ (c : Chunk). c.text) chunks) (next_token front chunk rest are.0 split after)
+      ∙ ap (λ (texts : List (List ℕ)). texts ++ map (λ (c : Chunk). c.text) chunks) (map-append (word_text source) (tokens_below source (length front)) (token_at source (length front) ∷ []))
+      ∙ ap (λ (text : List ℕ). (map (word_text source) (tokens_below source (length front)) ++ text ∷ []) ++ map (λ (c : Chunk). c.text) chunks) (token_text front chunk rest are.0 split)
+      ∙ append_assoc (map (word_text source) (tokens_below source (length front))) (chunk.text ∷ []) (map (λ (c : Chunk). c.text) chunks)
+
+-- the texts of the tokens of chunks
+pub texts_of_tokens : (chunks : List Chunk) → AreChunks chunks
+    → map (word_text (text_of_chunks chunks)) (tokens_of (text_of_chunks chunks)) ≡ map (λ chunk. chunk.text) chunks
+unfolding tokens_of tokens_below
+texts_of_tokens chunks are = texts_from (text_of_chunks chunks) chunks [] are refl refl
