@@ -130,7 +130,7 @@ job-spares path job none outside =
     let runs = any-last path (log_in job.debug) (frames ++ samples ++ report) none in
     let first = any-first path (frames ++ samples) report runs in
     each-append (Spares path) (creating (outputs_in job)) _ (creating-spares path (outputs_in job) none)
-    (each-append (Spares path) (reporting job.report (trail_of job)) _
+    (each-append (Spares path) (reporting job.report job.script.version (trail_of job)) _
     (each-append (Spares path) (trail_of job).changes _
     (trail-spares path job.budget (run_outputs_by job.frames job.samples) job.script job.home (new_core job.rom) (other-output path job.frames (any-first path frames samples first)) (other-output path job.samples (any-last path frames samples first)) outside)
     (text-spares path job.report _ (any-last path (frames ++ samples) report runs)))

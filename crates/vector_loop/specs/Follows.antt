@@ -39,6 +39,17 @@ pub record HasGrown (before now : Tally) (begun given budget : ℕ) : Type 0 whe
   pub misses : now.misses ≤ before.misses + given
   pub later : before.instructions ≤ now.instructions
 
+-- one expect was counted
+pub record IsCompared (before now : Tally) : Type 0 where
+  pub instructions : now.instructions ≡ before.instructions
+  pub vectors : now.vectors ≡ before.vectors
+  pub cuts : now.cuts ≡ before.cuts
+  pub events : now.events ≡ before.events
+  pub frames : now.frames ≡ before.frames
+  pub shots : now.shots ≡ before.shots
+  pub expects : now.expects ≤ before.expects + 1
+  pub misses : now.misses ≤ before.misses + 1
+
 -- so many more vectors, each of at most so many instructions, and so many events can be counted up to a limit
 pub record HasRoom (limit : ℕ) (tally : Tally) (begun given budget : ℕ) : Type 0 where
   pub instructions : tally.instructions + begun * budget ≤ limit

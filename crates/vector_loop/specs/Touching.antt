@@ -17,7 +17,7 @@ use Rattle.audio_mixer.specs.Sounds.{endings}
 use Rattle.uxn_io.specs.Outside.{ToFile}
 use Rattle.vector_loop.specs.declared.output.Outputs.{Outputs}
 use Rattle.vector_loop.specs.Outputs.{appended_to, picture_bytes}
-use Rattle.vector_loop.specs.Event.{vector_in, unless_over, give_each, console, device, samples_kept, vector_where, ended_vectors}
+use Rattle.vector_loop.specs.Event.{vector_in, unless_over, give_each, console, device, expected, samples_kept, vector_where, ended_vectors}
 use Rattle.vector_loop.specs.Event.{heard, shown_and_heard, frame, shot, happens, give}
 use Rattle.vector_loop.specs.Run.{console_byte, arguments_given, made_ready, run}
 

@@ -9,7 +9,7 @@ ghost use Rattle.varvara_bus.specs.State.{DeviceState};
 ghost use Rattle.vector_loop.specs.State.{counting_expect};
 ghost use Rattle.vector_loop.specs.Event.{vector_in, console, device, give};
 ghost use Rattle.vector_loop.specs.Outputs.{OutputsThere};
-ghost use Rattle.vector_loop.specs.Follows.{running, FollowsFrom, FallsShortFrom, HasGrown};
+ghost use Rattle.vector_loop.specs.Follows.{running, FollowsFrom, FallsShortFrom, HasGrown, IsCompared};
 
 use crate::frame::give_frame;
 use crate::output::{Outputs, keep_picture};
@@ -141,8 +141,9 @@ fn compare<'a, T: Tree, O: Sink, E: Sink>(
 )
     requires expects { tally.old.expects ≤ 2 ^ 61 }
     requires misses { tally.old.misses ≤ 2 ^ 61 }
-    ensures { (devices : DeviceState) → BusStandsFor T.told bus.now devices
+    ensures counted { (devices : DeviceState) → BusStandsFor T.told bus.now devices
         → tally.new ≡ counting_expect (read_of devices core.now port == byte) tally.old }
+    ensures grown { IsCompared tally.old tally.new }
 {
     let read = bus.dei(core, port);
     tally.expects += 1;

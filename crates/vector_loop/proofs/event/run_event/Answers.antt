@@ -1,4 +1,5 @@
 use Rattle.play_script.specs.declared.script.Event.TheVariants.{Input, EndInput, Frame, Device, Shot, Expect}
+use Rattle.std.proofs.Common.{arith}
 use Rattle.varvara_bus.specs.Bus.{meaning_of}
 use Rattle.vector_loop.specs.Answers.{telling_of}
 use Rattle.vector_loop.proofs.Events.{follows-given, follows-expect, short-given}
@@ -41,4 +42,19 @@ returns-in-Err-keep_picture-clause-err g c = rw c.in-Shot.is (short-given _ _ _ 
 
 pub returns-in-Expect-clause-ok : goal.returns-in-Expect-clause-ok
 returns-in-Expect-clause-ok g c = rw c.in-Expect.is (follows-given _ _ _ _ _ _ _ _ c.args.budget c.args.outputs.now (Expect c.in-Expect.port c.in-Expect.byte)
-    (follows-expect _ _ _ _ _ _ _ _ c.in-Expect.port c.in-Expect.byte c.compare.ensures))
+    (follows-expect _ _ _ _ _ _ _ _ c.in-Expect.port c.in-Expect.byte c.compare.ensures.counted))
+
+pub returns-in-Expect-clause-grown : goal.returns-in-Expect-clause-grown
+returns-in-Expect-clause-grown g c =
+    let more = c.compare.ensures.grown in
+    record {
+      instructions = omega (arith, more.instructions);
+      vectors = omega (arith, more.vectors);
+      cuts = omega (arith, more.cuts);
+      events = omega (arith, more.events);
+      frames = omega (arith, more.frames);
+      shots = omega (arith, more.shots);
+      expects = omega (arith, more.expects);
+      misses = omega (arith, more.misses);
+      later = omega (arith, more.instructions);
+    }
