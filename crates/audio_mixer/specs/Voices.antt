@@ -1,5 +1,5 @@
 -- What the voices that are kept stand for.
-use Rattle.std.specs.Prelude.{◌≡◌, ℕ, ◌+◌, ◌*◌, ◌%◌, min, Bool, true, false, List, Option, Some, None}
+use Rattle.std.specs.Prelude.{◌≡◌, ℕ, ◌+◌, ◌*◌, ◌%◌, ◌&&◌, min, Bool, true, false, List, Option, Some, None}
 use Rattle.audio_mixer.specs.declared.notes.Start.{Start}
 use Rattle.audio_mixer.specs.declared.voices.Playing.{Playing}
 use Rattle.audio_mixer.specs.declared.voices.Voice.{Voice}
@@ -53,3 +53,7 @@ pub record StandsFor (mixer : Mixer) (sounds : ℕ → Sound) : Type 0 where
   pub second : Sounds mixer.second (sounds 1)
   pub third : Sounds mixer.third (sounds 2)
   pub fourth : Sounds mixer.fourth (sounds 3)
+
+-- no voice plays a note that will end
+abbrev pub all_play_on : Mixer → Bool
+all_play_on mixer = plays_on mixer.first.playing && plays_on mixer.second.playing && plays_on mixer.third.playing && plays_on mixer.fourth.playing

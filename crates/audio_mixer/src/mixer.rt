@@ -34,7 +34,7 @@ pub struct Mixer {
 impl Mixer {
     ghost use Rattle.std.specs.Prelude.{◌≡◌, ◌≢◌, ℕ, ◌<◌, true, false, not, ◌&&◌, is_none, [], ◌∷◌};
     ghost use Rattle.audio_mixer.specs.Sounds.{Sound, Silence, begun, later, can_end, started_on, position_of, output_of, endings, frame_of};
-    ghost use Rattle.audio_mixer.specs.Voices.{Sounds, StandsFor, plays_on};
+    ghost use Rattle.audio_mixer.specs.Voices.{Sounds, StandsFor, all_play_on};
 
     /// Four voices that are stopped.
     pub fn new() -> Mixer
@@ -89,23 +89,28 @@ impl Mixer {
         [first, second, third, fourth]
     }
 
-    /// Lets a frame pass of which no samples are asked for: true where no voice plays a note that can end, and then no note
-    /// has ended. False changes nothing.
-    pub fn pass(&mut self) -> bool
-        ensures answer { (sounds : ℕ → Sound) → StandsFor self.old sounds → result
+    /// Whether no voice plays a note that will end.
+    pub fn is_endless(&self) -> bool
+        ensures sounds { (sounds : ℕ → Sound) → StandsFor self.now sounds → result
             ≡ (not (can_end (sounds 0)) && not (can_end (sounds 1)) && not (can_end (sounds 2)) && not (can_end (sounds 3))) }
-        ensures sounds { result ≡ true → (sounds : ℕ → Sound) → StandsFor self.old sounds → StandsFor self.new (λ voice. later 735 (sounds voice)) }
-        ensures ends { result ≡ true → (sounds : ℕ → Sound) → StandsFor self.old sounds → endings 735 sounds ≡ false ∷ false ∷ false ∷ false ∷ [] }
-        ensures refused { result ≡ false → self.new ≡ self.old }
+        ensures held { result ≡ all_play_on self.now }
     {
-        if !self.is_endless() {
-            return false;
-        }
+        self.first.is_endless()
+            && self.second.is_endless()
+            && self.third.is_endless()
+            && self.fourth.is_endless()
+    }
+
+    /// Lets a frame pass of which no samples are asked for and in which no note can end.
+    pub fn pass(&mut self)
+        requires { all_play_on self.old ≡ true }
+        ensures sounds { (sounds : ℕ → Sound) → StandsFor self.old sounds → StandsFor self.new (λ voice. later 735 (sounds voice)) }
+        ensures ends { (sounds : ℕ → Sound) → StandsFor self.old sounds → endings 735 sounds ≡ false ∷ false ∷ false ∷ false ∷ [] }
+    {
         self.first.pass();
         self.second.pass();
         self.third.pass();
         self.fourth.pass();
-        true
     }
 
     // Whether no voice plays.
@@ -117,19 +122,6 @@ impl Mixer {
             && self.second.is_stopped()
             && self.third.is_stopped()
             && self.fourth.is_stopped()
-    }
-
-    // Whether no voice plays a note that can end.
-    fn is_endless(&self) -> bool
-        ensures sounds { (sounds : ℕ → Sound) → StandsFor self.now sounds → result
-            ≡ (not (can_end (sounds 0)) && not (can_end (sounds 1)) && not (can_end (sounds 2)) && not (can_end (sounds 3))) }
-        ensures held { result ≡ (plays_on self.now.first.playing && plays_on self.now.second.playing
-            && plays_on self.now.third.playing && plays_on self.now.fourth.playing) }
-    {
-        self.first.is_endless()
-            && self.second.is_endless()
-            && self.third.is_endless()
-            && self.fourth.is_endless()
     }
 
     /// A voice by its number.
