@@ -38,7 +38,7 @@ later-more count (Note note age) = ap (λ n. Note note n) (omega arith)
 over-later : (note : Start) (age : ℕ) → is_over note age ≡ true → is_over note (age + 1) ≡ true
 over-later note age h = over-next note age ∙ over-ended note age h
 
-over-far : (note : Start) (age count : ℕ) → is_over note age ≡ true → is_over note (age + count) ≡ true
+pub over-far : (note : Start) (age count : ℕ) → is_over note age ≡ true → is_over note (age + count) ≡ true
 over-far note age zero h = rw add-zero h
 over-far note age (suc count) h =
     subst (λ n. is_over note n ≡ true) (omega arith) (over-later note (age + count) (over-far note age count h))

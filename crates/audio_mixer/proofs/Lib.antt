@@ -2,3 +2,4 @@ pub mod Divisions
 pub mod Ages
 pub mod Overs
 pub mod Frames
+pub mod Passing

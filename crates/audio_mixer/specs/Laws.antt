@@ -1,5 +1,5 @@
 -- Whatever a voice is said to sound, its position and its output are the same; and samples are signed shorts.
-use Rattle.std.specs.Prelude.{◌≡◌, ℕ, zero, suc, ◌+◌, ◌≤◌, min, refl}
+use Rattle.std.specs.Prelude.{◌≡◌, ℕ, zero, suc, ◌≤◌, min, refl}
 use Rattle.std.specs.Prelude.{List, [], ◌∷◌, ◌++◌, map, ℤ}
 use Rattle.std.specs.Int.{w16, cast_signed, cast_unsigned}
 use Rattle.std.proofs.Common.{◌∙◌, ap, arith}

@@ -3,7 +3,7 @@ use Rattle.std.specs.Prelude.{ℕ, zero, suc, ◌+◌, ◌*◌, ◌++◌, ◌==�
 use Rattle.std.specs.Prelude.{if◌then◌else◌, List, [], ◌∷◌, ℤ, pos}
 use Rattle.std.specs.Int.{w16, int_wrapping_add}
 use Rattle.audio_mixer.specs.declared.notes.Start.{Start}
-use Rattle.audio_mixer.specs.Notes.{is_silent, has_ended, sample_at, steps_of, wrapped, envelope_at, level, left_of, right_of}
+use Rattle.audio_mixer.specs.Notes.{is_repeating, release_of, is_silent, has_ended, sample_at, steps_of, wrapped, envelope_at, level, left_of, right_of}
 
 -- a voice sounds nothing, or a note of which so many samples were rendered
 pub data Sound : Type 0 where
@@ -23,6 +23,15 @@ later samples (Note note age) = Note note (age + samples)
 abbrev pub is_over : Start → ℕ → Bool
 is_over note zero = false
 is_over note (suc age) = has_ended note age
+
+-- a note that repeats its sample and has no envelope goes on without end
+abbrev pub is_endless : Start → Bool
+is_endless note = is_repeating note && (release_of note == 0)
+
+-- the voice plays a note that will end
+abbrev pub can_end : Sound → Bool
+can_end Silence = false
+can_end (Note note age) = not (is_over note age) && not (is_endless note)
 
 -- the note ends among the next so many samples
 abbrev pub ends_within : ℕ → Sound → Bool

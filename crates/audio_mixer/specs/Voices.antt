@@ -1,12 +1,12 @@
 -- What the voices that are kept stand for.
-use Rattle.std.specs.Prelude.{◌≡◌, ℕ, ◌+◌, ◌*◌, ◌%◌, min, true, false, List, Option, Some, None}
+use Rattle.std.specs.Prelude.{◌≡◌, ℕ, ◌+◌, ◌*◌, ◌%◌, ◌&&◌, min, Bool, true, false, List, Option, Some, None}
 use Rattle.audio_mixer.specs.declared.notes.Start.{Start}
 use Rattle.audio_mixer.specs.declared.voices.Playing.{Playing}
 use Rattle.audio_mixer.specs.declared.voices.Voice.{Voice}
 use Rattle.audio_mixer.specs.declared.voices.Pair.{Pair}
 use Rattle.audio_mixer.specs.declared.mixer.Mixer.{Mixer}
 use Rattle.audio_mixer.specs.Notes.{advance_of, period_of, release_of, steps_of, wrapped, left_of, right_of, sample_at, place_at, is_played}
-use Rattle.audio_mixer.specs.Sounds.{Sound, Silence, Note, is_over, sample_in}
+use Rattle.audio_mixer.specs.Sounds.{Sound, Silence, Note, is_over, is_endless, sample_in}
 
 -- a note that goes on is kept as its start, and the age, the phase and the place that it has come to
 pub record Plays (playing : Playing) (note : Start) (age : ℕ) : Type 0 where
@@ -39,6 +39,11 @@ SoundsAs None (Note note age) = is_over note age ≡ true
 SoundsAs (Some playing) Silence = ⊥
 SoundsAs (Some playing) (Note note age) = Plays playing note age
 
+-- a voice that is stopped, or whose note goes on without end
+abbrev pub plays_on : Option Playing → Bool
+plays_on None = true
+plays_on (Some playing) = is_endless playing.start
+
 abbrev pub Sounds : Voice → Sound → Type 0
 Sounds voice sound = SoundsAs voice.playing sound
 
@@ -48,3 +53,7 @@ pub record StandsFor (mixer : Mixer) (sounds : ℕ → Sound) : Type 0 where
   pub second : Sounds mixer.second (sounds 1)
   pub third : Sounds mixer.third (sounds 2)
   pub fourth : Sounds mixer.fourth (sounds 3)
+
+-- no voice plays a note that will end
+abbrev pub all_play_on : Mixer → Bool
+all_play_on mixer = plays_on mixer.first.playing && plays_on mixer.second.playing && plays_on mixer.third.playing && plays_on mixer.fourth.playing

@@ -32,9 +32,9 @@ pub struct Mixer {
 }
 
 impl Mixer {
-    ghost use Rattle.std.specs.Prelude.{◌≡◌, ◌≢◌, ℕ, ◌<◌};
-    ghost use Rattle.audio_mixer.specs.Sounds.{Sound, Silence, begun, later, started_on, position_of, output_of, endings, frame_of};
-    ghost use Rattle.audio_mixer.specs.Voices.{Sounds, StandsFor};
+    ghost use Rattle.std.specs.Prelude.{◌≡◌, ◌≢◌, ℕ, ◌<◌, true, false, not, ◌&&◌, is_none, [], ◌∷◌};
+    ghost use Rattle.audio_mixer.specs.Sounds.{Sound, Silence, begun, later, can_end, started_on, position_of, output_of, endings, frame_of};
+    ghost use Rattle.audio_mixer.specs.Voices.{Sounds, StandsFor, all_play_on};
 
     /// Four voices that are stopped.
     pub fn new() -> Mixer
@@ -68,6 +68,10 @@ impl Mixer {
         ensures ends { (sounds : ℕ → Sound) → StandsFor self.old sounds → result ≡ endings 735 sounds }
         ensures sounds { (sounds : ℕ → Sound) → StandsFor self.old sounds → StandsFor self.new (λ voice. later 735 (sounds voice)) }
     {
+        if self.is_stopped() {
+            into.fill(0);
+            return [false; 4];
+        }
         let (mut first, mut second, mut third, mut fourth) = (false, false, false, false);
         for place in 0..PAIRS {
             let (a, a_ends) = self.first.next(memory);
@@ -83,6 +87,41 @@ impl Mixer {
             fourth |= d_ends;
         }
         [first, second, third, fourth]
+    }
+
+    /// Whether no voice plays a note that will end.
+    pub fn is_endless(&self) -> bool
+        ensures sounds { (sounds : ℕ → Sound) → StandsFor self.now sounds → result
+            ≡ (not (can_end (sounds 0)) && not (can_end (sounds 1)) && not (can_end (sounds 2)) && not (can_end (sounds 3))) }
+        ensures held { result ≡ all_play_on self.now }
+    {
+        self.first.is_endless()
+            && self.second.is_endless()
+            && self.third.is_endless()
+            && self.fourth.is_endless()
+    }
+
+    /// Lets a frame pass of which no samples are asked for and in which no note can end.
+    pub fn pass(&mut self)
+        requires { all_play_on self.old ≡ true }
+        ensures sounds { (sounds : ℕ → Sound) → StandsFor self.old sounds → StandsFor self.new (λ voice. later 735 (sounds voice)) }
+        ensures ends { (sounds : ℕ → Sound) → StandsFor self.old sounds → endings 735 sounds ≡ false ∷ false ∷ false ∷ false ∷ [] }
+    {
+        self.first.pass();
+        self.second.pass();
+        self.third.pass();
+        self.fourth.pass();
+    }
+
+    // Whether no voice plays.
+    fn is_stopped(&self) -> bool
+        ensures { result ≡ (is_none self.now.first.playing && is_none self.now.second.playing
+            && is_none self.now.third.playing && is_none self.now.fourth.playing) }
+    {
+        self.first.is_stopped()
+            && self.second.is_stopped()
+            && self.third.is_stopped()
+            && self.fourth.is_stopped()
     }
 
     /// A voice by its number.

@@ -106,7 +106,7 @@ fn level(envelope: u32, volume: u8) -> u8
 impl Playing {
     ghost use Rattle.std.specs.Prelude.{◌≡◌, ℕ, ◌+◌, ◌<◌, ◌≤◌, min, true, false, IfSome, IfNone};
     ghost use Rattle.audio_mixer.specs.Notes.{is_silent, is_repeating, is_released, is_played, has_ended, wrapped, envelope_at, heard, left_of, right_of};
-    ghost use Rattle.audio_mixer.specs.Sounds.{output_of, Note};
+    ghost use Rattle.audio_mixer.specs.Sounds.{output_of, Note, is_endless};
     ghost use Rattle.audio_mixer.specs.Voices.{Plays, IsAhead, GivesPair};
 
     /// The note at its start, unless it is silent.
@@ -198,6 +198,23 @@ impl Playing {
         Some(pair)
     }
 
+    /// Whether the note goes on without end.
+    fn is_endless(&self) -> bool
+        ensures { result ≡ is_endless self.now.start }
+    {
+        self.start.repeats() && self.envelope.release == 0
+    }
+
+    /// Lets a frame of 735 samples pass of a note that goes on without end.
+    fn pass(&mut self)
+        requires { is_endless self.old.start ≡ true }
+        ensures { (age : ℕ) → Plays self.old self.old.start age → Plays self.new self.old.start (age + 735) }
+    {
+        let total = self.phase + 735 * self.advance;
+        self.place = (self.place + total / self.period) % self.len;
+        self.phase = total % self.period;
+    }
+
     /// How loud the note is, 0 to 2184.
     fn loudness(&self) -> u32
         ensures value { (age : ℕ) → Plays self.now self.now.start age → result ≡ envelope_at self.now.start age }
@@ -230,9 +247,9 @@ impl Playing {
 }
 
 impl Voice {
-    ghost use Rattle.std.specs.Prelude.{◌≡◌, ℕ};
-    ghost use Rattle.audio_mixer.specs.Sounds.{Sound, Silence, begun, later, ends_within, position_of, output_of};
-    ghost use Rattle.audio_mixer.specs.Voices.{Sounds, GivesNext};
+    ghost use Rattle.std.specs.Prelude.{◌≡◌, ℕ, true, false, not, is_none};
+    ghost use Rattle.audio_mixer.specs.Sounds.{Sound, Silence, begun, later, can_end, ends_within, position_of, output_of};
+    ghost use Rattle.audio_mixer.specs.Voices.{Sounds, GivesNext, plays_on};
 
     /// A voice that plays nothing.
     pub(crate) fn stopped() -> Voice
@@ -266,6 +283,36 @@ impl Voice {
                 self.playing = None;
                 (Pair { left: 0, right: 0 }, true)
             }
+        }
+    }
+
+    /// Whether the voice plays nothing.
+    pub(crate) fn is_stopped(&self) -> bool
+        ensures { result ≡ is_none self.now.playing }
+    {
+        self.playing.is_none()
+    }
+
+    /// Whether the voice plays nothing, or a note that goes on without end.
+    pub(crate) fn is_endless(&self) -> bool
+        ensures sound { (sound : Sound) → Sounds self.now sound → result ≡ not (can_end sound) }
+        ensures held { result ≡ plays_on self.now.playing }
+    {
+        match &self.playing {
+            Some(playing) => playing.is_endless(),
+            None => true,
+        }
+    }
+
+    /// Lets a frame of 735 samples pass, in which no note can end.
+    pub(crate) fn pass(&mut self)
+        requires { plays_on self.old.playing ≡ true }
+        ensures ends { (sound : Sound) → Sounds self.old sound → ends_within 735 sound ≡ false }
+        ensures sounds { (sound : Sound) → Sounds self.old sound → Sounds self.new (later 735 sound) }
+    {
+        if let Some(mut playing) = self.playing {
+            playing.pass();
+            self.playing = Some(playing);
         }
     }
 

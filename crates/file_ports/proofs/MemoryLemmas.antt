@@ -1,8 +1,8 @@
 -- Bytes put in memory, one piece after another.
-use Rattle.std.proofs.Common.{◌≡◌, ℕ, zero, suc, ◌+◌, ◌%◌, ◌<◌, ◌≤◌, List, [], ◌∷◌, ◌++◌, length, take, drop, replicate, ap, sym, ◌∙◌, add-one, arith, append_assoc}
+use Rattle.std.proofs.Common.{◌≡◌, ℕ, zero, suc, ◌+◌, ◌*◌, ◌%◌, ◌<◌, ◌≤◌, List, [], ◌∷◌, ◌++◌, length, take, drop, replicate, ap, sym, ◌∙◌, add-one, arith, append_assoc}
 use Rattle.std.specs.Prelude.{slice_set}
 use Rattle.std.proofs.lemmas.List.{append-nil, take-append-drop, length-append, length-take-le, length-replicate, take_at, drop_at, drop-drop, drop_more, set_at, take-set-le, drop-set, replicate_more}
-use Rattle.uxn_memory.specs.Bytes.{with_bytes, filled}
+use Rattle.uxn_memory.specs.Bytes.{place_in, with_bytes, filled}
 
 -- to put nothing changes nothing
 pub with_nothing : (memory : List ℕ) (at : ℕ) → with_bytes memory at [] ≡ memory
@@ -47,12 +47,12 @@ then_set memory at xs y h =
     ∙ (λ i. append_assoc (take at memory) xs (y ∷ []) i ++ drop (e i) memory)
 
 -- a fill that does not wrap puts the same byte so many times
-pub with_same : (memory : List ℕ) (count at value : ℕ) → length memory ≡ 65536 → at + count ≤ 65536 → filled memory count at value ≡ with_bytes memory at (replicate count value)
+pub with_same : (memory : List ℕ) (count at value : ℕ) → length memory ≡ 1048576 → at + count ≤ 65536 → filled memory count 0 at value ≡ with_bytes memory at (replicate count value)
 unfolding filled
 with_same memory zero at value size h = sym (with_nothing memory at)
 with_same memory (suc count) at value size h =
-    let here : (at + count) % 65536 ≡ at + length (replicate count value) = omega (arith, length-replicate count value) in
-    ap (λ (z : List ℕ). slice_set z ((at + count) % 65536) value) (with_same memory count at value size (omega arith))
+    let here : 0 * 65536 + (at + count) % 65536 ≡ at + length (replicate count value) = omega (arith, length-replicate count value) in
+    ap (λ (z : List ℕ). slice_set z (place_in 0 (at + count)) value) (with_same memory count at value size (omega arith))
     ∙ ap (λ (n : ℕ). slice_set (with_bytes memory at (replicate count value)) n value) here
     ∙ then_set memory at (replicate count value) value (omega (arith, length-replicate count value))
     ∙ ap (with_bytes memory at) (replicate_more count value ∙ ap (λ (n : ℕ). replicate n value) (add-one count))

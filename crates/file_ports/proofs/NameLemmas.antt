@@ -1,6 +1,7 @@
 -- The bytes around an address, and a name among them.
 use Rattle.std.proofs.Common.{◌≡◌, ℕ, ◌+◌, ◌-◌, ◌≤◌, zero, suc, List, [], ◌∷◌, ◌++◌, length, take, drop, refl, ap, ◌∙◌, arith}
 use Rattle.std.proofs.lemmas.List.{length-take}
+use Rattle.uxn_memory.specs.Bytes.{bank0}
 use Rattle.file_ports.specs.Names.{bytes_around}
 
 take-append : (n : ℕ) (xs ys : List ℕ) → take n (xs ++ ys) ≡ take n xs ++ take (n - length xs) ys
@@ -15,9 +16,9 @@ front_and_rest n xs ys =
     let e : n - length xs ≡ n - length (take n xs) = omega (arith, length-take n xs) in
     take-append n xs ys ∙ ap (λ (m : ℕ). take n xs ++ take m ys) e
 
-pub bytes_around-parts : (memory : List ℕ) (at : ℕ) → bytes_around memory at ≡ take 256 (drop at memory) ++ take (256 - length (take 256 (drop at memory))) memory
+pub bytes_around-parts : (memory : List ℕ) (at : ℕ) → bytes_around memory at ≡ take 256 (drop at (bank0 memory)) ++ take (256 - length (take 256 (drop at (bank0 memory)))) (bank0 memory)
 unfolding bytes_around
-bytes_around-parts memory at = front_and_rest 256 (drop at memory) memory
+bytes_around-parts memory at = front_and_rest 256 (drop at (bank0 memory)) (bank0 memory)
 
 -- how long the two parts are
 pub front_within : (n : ℕ) (xs : List ℕ) → length (take n xs) ≤ n

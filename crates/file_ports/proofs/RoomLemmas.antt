@@ -9,6 +9,7 @@ use Rattle.uxn_io.specs.Changes.{can_create, new_files, with_appended}
 use Rattle.uxn_io.specs.Appending.{bytes_put}
 use Rattle.uxn_io.specs.Outside.{Change, Creates, ToFile, Removes, files_by}
 use Rattle.uxn_io.specs.Taking.{TreeTakes, TreeLeft, files_made, files_gone, takes-first, takes-later, left-both}
+use Rattle.uxn_memory.specs.Bytes.{bank0}
 use Rattle.file_ports.specs.declared.mode.Mode.{Mode}
 use Rattle.file_ports.specs.Device.{FileState, Suits, is_writing}
 use Rattle.file_ports.specs.Actions.{FileAction, Outcome, Read, Write, Stat, Delete, seen_in, seen_of, is_file, begun, adds, acts, count_from}
@@ -274,16 +275,16 @@ added_changes path memory piece None = refl
 added_changes path memory piece (Some first) = refl
 
 write_changes : (at length : ℕ) (keep writing : Bool) (path piece : List ℕ) (was : Option (List ℕ)) (mode : Mode) (device : FileState) (memory : List ℕ) (root : Option (List ℕ)) (nodes : Nodes)
-    → Suits root device → was ≡ Some path → record { path = was; mode = mode } ≡ device → writing ≡ is_writing mode → piece ≡ take (count_from at length) (drop at memory)
+    → Suits root device → was ≡ Some path → record { path = was; mode = mode } ≡ device → writing ≡ is_writing mode → piece ≡ take (count_from at length) (drop at (bank0 memory))
     → (outcome_of (Write at length keep) root nodes device memory).changes ≡ and_then (begun writing keep (seen_of nodes path)) (list_map (λ byte. ToFile path byte) piece)
 write_changes at length keep writing path piece was mode device memory root nodes suits e view writes is =
     ap (λ (o : Outcome). o.changes) (at_path (Write at length keep) root nodes path device memory suits (ap (λ (d : FileState). d.path) (sym view) ∙ e))
-    ∙ added_changes path memory (take (count_from at length) (drop at memory)) (begun (is_writing device.mode) keep (seen_of nodes path))
-    ∙ ap (λ (b : Bool). and_then (begun b keep (seen_of nodes path)) (list_map (λ byte. ToFile path byte) (take (count_from at length) (drop at memory)))) (ap (λ (d : FileState). is_writing d.mode) (sym view) ∙ sym writes)
+    ∙ added_changes path memory (take (count_from at length) (drop at (bank0 memory))) (begun (is_writing device.mode) keep (seen_of nodes path))
+    ∙ ap (λ (b : Bool). and_then (begun b keep (seen_of nodes path)) (list_map (λ byte. ToFile path byte) (take (count_from at length) (drop at (bank0 memory))))) (ap (λ (d : FileState). is_writing d.mode) (sym view) ∙ sym writes)
     ∙ ap (λ (z : List ℕ). and_then (begun writing keep (seen_of nodes path)) (list_map (λ byte. ToFile path byte) z)) (sym is)
 
 pub surely_write : (at length : ℕ) (keep writing : Bool) (path piece : List ℕ) (was : Option (List ℕ)) (mode : Mode) (device : FileState) (memory : List ℕ) (told : Option Nodes) (room : Room) (failed : Bool)
-    → was ≡ Some path → record { path = was; mode = mode } ≡ device → writing ≡ is_writing mode → piece ≡ take (count_from at length) (drop at memory)
+    → was ≡ Some path → record { path = was; mode = mode } ≡ device → writing ≡ is_writing mode → piece ≡ take (count_from at length) (drop at (bank0 memory))
     → IfSome told (λ nodes. TreeTakes room nodes (and_then (begun writing keep (seen_of nodes path)) (list_map (λ byte. ToFile path byte) piece)) → false ≡ true)
     → TakesSurely (Write at length keep) device memory told room failed
 surely_write at length keep writing path piece was mode device memory None room failed e view writes is sure = tt
@@ -292,7 +293,7 @@ surely_write at length keep writing path piece was mode device memory (Some node
     subst P (sym (write_changes at length keep writing path piece was mode device memory root nodes suits e view writes is)) (λ takes. absurd (different (sure takes)))
 
 pub leaves_write : (at length : ℕ) (keep writing : Bool) (path piece : List ℕ) (was : Option (List ℕ)) (mode : Mode) (device : FileState) (memory : List ℕ) (told : Option Nodes) (before now : Room) (failed : Bool)
-    → was ≡ Some path → record { path = was; mode = mode } ≡ device → writing ≡ is_writing mode → piece ≡ take (count_from at length) (drop at memory)
+    → was ≡ Some path → record { path = was; mode = mode } ≡ device → writing ≡ is_writing mode → piece ≡ take (count_from at length) (drop at (bank0 memory))
     → IfSome told (λ nodes. TreeTakes before nodes (and_then (begun writing keep (seen_of nodes path)) (list_map (λ byte. ToFile path byte) piece))
     → TreeLeft before now nodes (and_then (begun writing keep (seen_of nodes path)) (list_map (λ byte. ToFile path byte) piece)))
     → LeavesSurely (Write at length keep) device memory told before now failed

@@ -8,6 +8,7 @@ use Rattle.uxn_io.specs.Files.{Node, Nodes, File, kind_at, file_at, bytes_of}
 use Rattle.uxn_io.specs.Changes.{can_create, with_created, with_appended, HasAppendedFront}
 use Rattle.uxn_io.specs.Appending.{get_put}
 use Rattle.uxn_io.specs.Outside.{Change, Creates, ToFile, files_by}
+use Rattle.uxn_memory.specs.Bytes.{bank0}
 use Rattle.file_ports.specs.declared.stop.FileStop.{FileStop}
 use Rattle.file_ports.specs.declared.mode.Mode.{Mode}
 use Rattle.file_ports.specs.declared.mode.Mode.TheVariants.{Idle, Writing}
@@ -137,7 +138,7 @@ Wrote at length keep device memory nodes now result path mode =
 
 written : (at length : ℕ) (keep : Bool) (path : List ℕ) (was : Option (List ℕ)) (mode mode_now : Mode) (device : FileState) (memory : List ℕ) (nodes : Nodes) (now : Option Nodes) (result : Result ℕ FileStop)
     → was ≡ Some path → record { path = was; mode = mode } ≡ device
-    → Does (adds path memory (take (count_from at length) (drop at memory)) (begun (is_writing mode) keep (seen_of nodes path))) nodes now result (record { path = Some path; mode = mode_now }) memory
+    → Does (adds path memory (take (count_from at length) (drop at (bank0 memory))) (begun (is_writing mode) keep (seen_of nodes path))) nodes now result (record { path = Some path; mode = mode_now }) memory
     → Wrote at length keep device memory nodes now result was mode_now
 written at length keep path was mode mode_now device memory nodes now result e view does =
     let D : FileState → Type 0 = λ d. Wrote at length keep d memory nodes now result was mode_now in
@@ -145,7 +146,7 @@ written at length keep path was mode mode_now device memory nodes now result e v
     subst D view (subst W (sym e) does)
 
 pub write-none : (at length : ℕ) (keep goes writing : Bool) (path piece : List ℕ) (was : Option (List ℕ)) (mode mode_now : Mode) (device : FileState) (memory : List ℕ) (before now : Option Nodes) → was ≡ Some path
-    → record { path = was; mode = mode } ≡ device → writing ≡ is_writing mode → piece ≡ take (count_from at length) (drop at memory)
+    → record { path = was; mode = mode } ≡ device → writing ≡ is_writing mode → piece ≡ take (count_from at length) (drop at (bank0 memory))
     → IfSome before (λ nodes. Adds (begun writing keep (seen_of nodes path)) (list_map (λ byte. ToFile path byte) piece) goes nodes now) → goes ≡ false → mode_now ≡ Idle
     → Acted (Write at length keep) device memory before now (Ok 0) (record { path = was; mode = mode_now }) memory
 write-none at length keep goes writing path piece was mode mode_now device memory None now e view writes_is piece_is makes h idle = tt
@@ -155,12 +156,12 @@ write-none at length keep goes writing path piece was mode mode_now device memor
     (acted-by (Write at length keep) device memory (Some nodes) now (Ok 0) (idle_at was) memory
     (λ root. written at length keep path was mode Idle device memory nodes now (Ok 0) e view
     (let P : Bool → List ℕ → Type 0 = λ b z. Does (adds path memory z (begun b keep (seen_of nodes path))) nodes now (Ok 0) (idle_at (Some path)) memory in
-    let Q : Bool → Type 0 = λ b. P b (take (count_from at length) (drop at memory)) in
+    let Q : Bool → Type 0 = λ b. P b (take (count_from at length) (drop at (bank0 memory))) in
     let R : List ℕ → Type 0 = λ z. P writing z in
     subst Q writes_is (subst R piece_is (added_none (begun writing keep (seen_of nodes path)) nodes now path memory piece (list_map (λ byte. ToFile path byte) piece) goes makes h)))))
 
 pub write-some : (at most count : ℕ) (keep goes writing : Bool) (path piece : List ℕ) (was : Option (List ℕ)) (mode : Mode) (device : FileState) (memory : List ℕ) (before now : Option Nodes) → was ≡ Some path
-    → record { path = was; mode = mode } ≡ device → writing ≡ is_writing mode → piece ≡ take (count_from at most) (drop at memory)
+    → record { path = was; mode = mode } ≡ device → writing ≡ is_writing mode → piece ≡ take (count_from at most) (drop at (bank0 memory))
     → IfSome before (λ nodes. Adds (begun writing keep (seen_of nodes path)) (list_map (λ byte. ToFile path byte) piece) goes nodes now) → goes ≡ true → count ≡ length piece
     → Acted (Write at most keep) device memory before now (Ok count) (record { path = was; mode = Writing }) memory
 write-some at most count keep goes writing path piece was mode device memory None now e view writes_is piece_is makes h counts = tt
@@ -168,13 +169,13 @@ write-some at most count keep goes writing path piece was mode device memory (So
     acted-by (Write at most keep) device memory (Some nodes) now (Ok count) (record { path = was; mode = Writing }) memory
     (λ root. written at most keep path was mode Writing device memory nodes now (Ok count) e view
     (let P : Bool → List ℕ → ℕ → Type 0 = λ b z n. Does (adds path memory z (begun b keep (seen_of nodes path))) nodes now (Ok n) (record { path = Some path; mode = Writing }) memory in
-    let Q : Bool → Type 0 = λ b. P b (take (count_from at most) (drop at memory)) count in
+    let Q : Bool → Type 0 = λ b. P b (take (count_from at most) (drop at (bank0 memory))) count in
     let R : List ℕ → Type 0 = λ z. P writing z count in
     let N : ℕ → Type 0 = λ n. P writing piece n in
     subst Q writes_is (subst R piece_is (subst N (sym counts) (added_some (begun writing keep (seen_of nodes path)) nodes now path memory piece goes makes h)))))
 
 pub write-cut : (at length : ℕ) (keep writing : Bool) (path piece : List ℕ) (was : Option (List ℕ)) (mode : Mode) (device : FileState) (memory : List ℕ) (before now : Option Nodes) → was ≡ Some path
-    → record { path = was; mode = mode } ≡ device → writing ≡ is_writing mode → piece ≡ take (count_from at length) (drop at memory)
+    → record { path = was; mode = mode } ≡ device → writing ≡ is_writing mode → piece ≡ take (count_from at length) (drop at (bank0 memory))
     → IfSome before (λ nodes. HasMadeFront (and_then (begun writing keep (seen_of nodes path)) (list_map (λ byte. ToFile path byte) piece)) nodes now)
     → CutOff (Write at length keep) device memory before now
 write-cut at length keep writing path piece was mode device memory None now e view writes_is piece_is front = tt
@@ -184,6 +185,6 @@ write-cut at length keep writing path piece was mode device memory (Some nodes) 
     let D : FileState → Type 0 = λ d. HasMadeFront (writes at (count_from at length) keep d memory (option_map (seen_of nodes) d.path)).changes nodes now in
     let W : Option (List ℕ) → Type 0 = λ w. HasMadeFront (writes at (count_from at length) keep (record { path = w; mode = mode }) memory (option_map (seen_of nodes) w)).changes nodes now in
     let P : Bool → List ℕ → Type 0 = λ b z. HasMadeFront (adds path memory z (begun b keep (seen_of nodes path))).changes nodes now in
-    let Q : Bool → Type 0 = λ b. P b (take (count_from at length) (drop at memory)) in
+    let Q : Bool → Type 0 = λ b. P b (take (count_from at length) (drop at (bank0 memory))) in
     let R : List ℕ → Type 0 = λ z. P writing z in
     subst D view (subst W (sym e) (subst Q writes_is (subst R piece_is (added_cut (begun writing keep (seen_of nodes path)) nodes now path memory piece front)))))

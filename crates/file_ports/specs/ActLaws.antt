@@ -8,6 +8,7 @@ use Rattle.uxn_io.specs.PathText.{parent_of}
 use Rattle.uxn_io.specs.Files.{Nodes, is_folder, is_folder_at}
 use Rattle.uxn_io.specs.Outside.{Change, ToOut, ToErr, Creates, ToFile, Removes, World, changed_files, changed, changed_by}
 use Rattle.uxn_io.specs.Outside.{files_by, IsCutOff}
+use Rattle.uxn_memory.specs.Bytes.{bank0}
 use Rattle.file_ports.specs.RootPart.{is_in, parent_is_folder, path_changed, is_in_part, IsIn, LieIn}
 use Rattle.file_ports.specs.Device.{FileState, idle_at, suits, Suits, is_writing}
 use Rattle.file_ports.specs.Actions.{FileAction, Outcome, Name, Read, Write, Stat, Delete, is_file, begun, adds, quiet, acts}
@@ -68,7 +69,7 @@ at_path (Write at length keep) root part parent device memory None lies = tt
 at_path (Write at length keep) root part parent device memory (Some path) lies =
     let seen = seen_in root part parent path in
     added_lie root ((is_writing device.mode || keep) && is_file seen.kind) (is_writing device.mode) seen.can_make path memory
-    (take (count_from at length) (drop at memory)) lies
+    (take (count_from at length) (drop at (bank0 memory))) lies
 at_path (Stat at length) root part parent device memory None lies = tt
 at_path (Stat at length) root part parent device memory (Some path) lies = tt
 at_path Delete root part parent device memory None lies = tt
@@ -89,7 +90,7 @@ kept_at (Read at length) root part parent device memory (Some path) e lies = lie
 kept_at (Write at length keep) root part parent device memory None e lies = ap (suits root) e ∙ lies
 kept_at (Write at length keep) root part parent device memory (Some path) e lies =
     added_at root (begun (is_writing device.mode) keep (seen_in root part parent path)) path memory
-    (take (count_from at length) (drop at memory)) lies
+    (take (count_from at length) (drop at (bank0 memory))) lies
 kept_at (Stat at length) root part parent device memory None e lies = ap (suits root) e ∙ lies
 kept_at (Stat at length) root part parent device memory (Some path) e lies = ap (suits root) e ∙ lies
 kept_at Delete root part parent device memory None e lies = ap (suits root) e ∙ lies

@@ -12,7 +12,7 @@ use Rattle.uxn_io.specs.Files.{Nodes, kind_at, bytes_at, is_folder, has_parent}
 use Rattle.uxn_io.specs.Children.{children}
 use Rattle.uxn_io.specs.Changes.{can_create}
 use Rattle.uxn_io.specs.Outside.{Change, Creates, ToFile, Removes}
-use Rattle.uxn_memory.specs.Bytes.{with_bytes}
+use Rattle.uxn_memory.specs.Bytes.{bank0, with_bytes}
 use Rattle.file_ports.specs.declared.mode.Mode.{Mode}
 use Rattle.file_ports.specs.declared.mode.Mode.TheVariants.{Idle, ReadingFile, ReadingListing, Writing}
 use Rattle.file_ports.specs.Device.{FileState, idle_at, is_writing}
@@ -143,7 +143,7 @@ adds path memory piece (Some first) = record {
 abbrev pub writes : ℕ → ℕ → Bool → FileState → List ℕ → Option Seen → Outcome
 writes at count keep device memory None = quiet 0 device memory
 writes at count keep device memory (Some seen) =
-    adds seen.path memory (take count (drop at memory)) (begun (is_writing device.mode) keep seen)
+    adds seen.path memory (take count (drop at (bank0 memory))) (begun (is_writing device.mode) keep seen)
 
 -- a stat puts signs in memory, and tells their number where something is there (profile); the device goes on as before
 abbrev pub stat_success : Kind → ℕ → ℕ

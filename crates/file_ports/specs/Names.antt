@@ -4,10 +4,11 @@ use Rattle.std.specs.Option.{option_map, option_and_then}
 use Rattle.std.specs.Result.{result_ok}
 use Rattle.std.specs.Str.{bytes_eq}
 use Rattle.uxn_io.specs.PathText.{path_of, joined}
+use Rattle.uxn_memory.specs.Bytes.{bank0}
 
--- the 256 bytes from an address on; addresses wrap
+-- the 256 bytes of bank 0 from an address on; addresses wrap
 unfoldable pub bytes_around : List ℕ → ℕ → List ℕ
-bytes_around memory at = take 256 (drop at memory ++ memory)
+bytes_around memory at = take 256 (drop at (bank0 memory) ++ bank0 memory)
 
 -- what stands before the first zero byte of a list, where it has one
 abbrev pub before_zero : List ℕ → Option (List ℕ)

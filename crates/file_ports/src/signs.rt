@@ -60,7 +60,7 @@ fn put_same(memory: &mut Memory, at: u16, count: u16, sign: u8)
     ensures { memory.new ≡ with_bytes memory.old at (replicate count sign) }
 {
     memory.known();
-    memory.fill(count, at, sign);
+    memory.fill(count, 0, at, sign);
 }
 
 /// Puts so many signs for a size.

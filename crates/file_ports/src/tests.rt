@@ -44,7 +44,7 @@ const AT: u16 = 0x0200;
 
 /// Puts a name with a zero byte behind it in memory, and gives it to a device with the root `save`.
 fn named(device: &mut FileDevice, memory: &mut Memory, name: &[u8]) -> Result<(), Fail> {
-    memory.fill(0x0100, NAME, 0);
+    memory.fill(0x0100, 0, NAME, 0);
     if name.len() < 0x0100 {
         memory.put(NAME, name);
     }
@@ -173,7 +173,7 @@ fn names_that_are_no_path_name_nothing(rt: HostRuntime) -> Result<(), Fail> {
     }
     let mut tree = tree(&rt, &every)?;
     let mut memory = Memory::new(rt.alloc())?;
-    memory.fill(0x0100, NAME, b'a');
+    memory.fill(0x0100, 0, NAME, b'a');
     let mut device = FileDevice::new(rt.alloc());
     device.name(&memory, NAME, Some(&path(b"save")?));
     assert_eq!(rt; device.read(&mut tree, &mut memory, AT, 9), Ok(0));
@@ -190,6 +190,7 @@ fn the_longest_name_and_one_that_wraps(rt: HostRuntime) -> Result<(), Fail> {
     assert_eq!(rt; device.stat(&mut tree, &mut memory, AT, 1), Ok(1));
     memory.set(0xffff, b'a');
     memory.set(0x0000, 0);
+    memory.fill(1, 1, 0x0000, b'b');
     device.name(&memory, 0xffff, Some(&path(b"save")?));
     assert_eq!(rt; device.write(&mut tree, &memory, AT, 2, false), Ok(2));
     assert_eq!(rt; bytes_of(&tree, b"save/a"), Some(b"0\0".as_slice()));

@@ -2,7 +2,7 @@
 #![tactic(auto)]
 
 ghost use Rattle.std.specs.Prelude.{◌≡◌, ◌<◌, length, slice_index};
-ghost use Rattle.input_ports.specs.Page.{stores_of, stores_after, vector_of, with_stores, short_stores};
+ghost use Rattle.input_ports.specs.Page.{stores_of, stores_after, vector_of, with_stores, short_stores, buttons_port, bits_set, bits_cleared};
 
 #[cfg(test)]
 mod tests;
@@ -13,7 +13,8 @@ pub const CONTROLLER_VECTOR: u8 = 0x80;
 /// Where the mouse's vector is stored, a short.
 pub const MOUSE_VECTOR: u8 = 0x90;
 
-const BUTTONS: usize = 0x82;
+/// Player 1, whose buttons `Down` and `Up` are.
+const FIRST_PLAYER: u8 = 1;
 
 const KEY: usize = 0x83;
 
@@ -32,9 +33,9 @@ const SCROLL_Y: usize = 0x9c;
 pub enum Input {
     /// A key is struck; the byte is its character.
     Key(u8),
-    /// The buttons of this mask go down: `01` A, `02` B, `04` select, `08` start, `10` up, `20` down, `40` left, `80` right.
+    /// The buttons of this mask of player 1 go down: `01` A, `02` B, `04` select, `08` start, `10` up, `20` down, `40` left, `80` right.
     Down(u8),
-    /// The buttons of this mask go up.
+    /// The buttons of this mask of player 1 go up.
     Up(u8),
     /// The mouse is at this column and row, in pixels.
     Mouse(u16, u16),
@@ -44,6 +45,39 @@ pub enum Input {
     Release(u8),
     /// The wheel turns so far to the right and down.
     Scroll(i16, i16),
+    /// The buttons of a player, 2 to 4, and a mask go down; another number is player 1's.
+    DownOf(u8, u8),
+    /// The buttons of a player, 2 to 4, and a mask go up; another number is player 1's.
+    UpOf(u8, u8),
+}
+
+// The port of a player's buttons.
+fn buttons_port(player: u8) -> usize
+    ensures port { result ≡ buttons_port player }
+    ensures within { result < 256 }
+{
+    match player {
+        2 => 0x85,
+        3 => 0x86,
+        4 => 0x87,
+        _ => 0x82,
+    }
+}
+
+// Sets bits of the byte at a port.
+fn set_bits(page: &mut [u8; 256], port: usize, mask: u8)
+    requires { port < 256 }
+    ensures { page.new ≡ with_stores page.old (bits_set (slice_index page.old) port mask) }
+{
+    page[port] = page[port] | mask;
+}
+
+// Clears bits of the byte at a port.
+fn clear_bits(page: &mut [u8; 256], port: usize, mask: u8)
+    requires { port < 256 }
+    ensures { page.new ≡ with_stores page.old (bits_cleared (slice_index page.old) port mask) }
+{
+    page[port] = page[port] & !mask;
 }
 
 /// Stores an input at its ports, as its vector finds them.
@@ -54,14 +88,16 @@ pub fn apply(page: &mut [u8; 256], input: &Input)
 {
     match *input {
         Input::Key(byte) => page[KEY] = byte,
-        Input::Down(mask) => page[BUTTONS] = page[BUTTONS] | mask,
-        Input::Up(mask) => page[BUTTONS] = page[BUTTONS] & !mask,
+        Input::Down(mask) => set_bits(page, buttons_port(FIRST_PLAYER), mask),
+        Input::Up(mask) => clear_bits(page, buttons_port(FIRST_PLAYER), mask),
+        Input::DownOf(player, mask) => set_bits(page, buttons_port(player), mask),
+        Input::UpOf(player, mask) => clear_bits(page, buttons_port(player), mask),
         Input::Mouse(x, y) => {
             store_short(page, MOUSE_X, x);
             store_short(page, MOUSE_Y, y);
         }
-        Input::Press(mask) => page[MOUSE_STATE] = page[MOUSE_STATE] | mask,
-        Input::Release(mask) => page[MOUSE_STATE] = page[MOUSE_STATE] & !mask,
+        Input::Press(mask) => set_bits(page, MOUSE_STATE, mask),
+        Input::Release(mask) => clear_bits(page, MOUSE_STATE, mask),
         Input::Scroll(x, y) => {
             store_short(page, SCROLL_X, x.cast_unsigned());
             store_short(page, SCROLL_Y, y.cast_unsigned());
@@ -91,7 +127,8 @@ pub fn vector_port(input: &Input) -> u8
     ensures { result ≡ vector_of input.now }
 {
     match *input {
-        Input::Key(_) | Input::Down(_) | Input::Up(_) => CONTROLLER_VECTOR,
+        Input::Key(_) | Input::Down(_) | Input::Up(_) | Input::DownOf(_, _) | Input::UpOf(_, _) =>
+            CONTROLLER_VECTOR,
         Input::Mouse(_, _) | Input::Press(_) | Input::Release(_) | Input::Scroll(_, _) => {
             MOUSE_VECTOR
         }

@@ -56,3 +56,17 @@ fn a_key_is_there_for_its_vector_alone(rt: HostRuntime) {
     assert_eq!(rt; page[0x83], 0);
     assert_eq!(rt; four(&page, 0x92), [0x12, 0x34, 0xff, 0xfe]);
 }
+
+#[test]
+fn each_player_has_a_port(rt: HostRuntime) {
+    let mut page = [0; 256];
+    apply(&mut page, &Input::Down(0x01));
+    apply(&mut page, &Input::DownOf(2, 0x06));
+    apply(&mut page, &Input::DownOf(3, 0x08));
+    apply(&mut page, &Input::DownOf(4, 0x10));
+    apply(&mut page, &Input::UpOf(2, 0x02));
+    settle(&mut page, &Input::UpOf(2, 0x02));
+    assert_eq!(rt; four(&page, 0x82), [0x01, 0, 0, 0x04]);
+    assert_eq!(rt; four(&page, 0x86), [0x08, 0x10, 0, 0]);
+    assert_eq!(rt; vector_port(&Input::DownOf(4, 0x10)), 0x80);
+}

@@ -1,7 +1,6 @@
-pub mod Cutting
-pub mod Numbers
 pub mod LineTexts
-pub mod FirstFault
+pub mod Limits
+pub mod Stepping
 pub mod PrintedWords
+pub mod Versions
 pub mod RoundTrip
-pub mod Valid

@@ -12,7 +12,7 @@ use Rattle.play_script.specs.declared.script.Event.{Event}
 use Rattle.play_script.specs.declared.script.Event.TheVariants.{Input}
 use Rattle.play_script.specs.Rows.{inputs_of}
 use Rattle.play_script.specs.Scripts.{ScriptView}
-use Rattle.play_script.specs.PlainText.{line_text, text_word, argument_words, clock_words, event_words, plain_lines, plain_text}
+use Rattle.play_script.specs.PlainText.{line_text, text_word, argument_words, clock_words, event_words, plain_lines, plain_text, version_words}
 
 pub three_words : (text a b c : List ℕ) → (((((text ++ a) ++ (32 ∷ [])) ++ b) ++ (32 ∷ [])) ++ c) ++ (10 ∷ []) ≡ text ++ line_text (a ∷ b ∷ c ∷ [])
 three_words text a b c = simp append_assoc refl
@@ -43,11 +43,19 @@ event_lines : (events : List Event) → flat_map line_text (map event_words even
 event_lines [] = refl
 event_lines (event ∷ events) = ap (λ more. line_text (event_words event) ++ more) (event_lines events)
 
-pub plain_parts : (script : ScriptView) → (line_text (clock_words script.clock) ++ flat_map line_text (argument_words script.arguments)) ++ flat_map (λ given. line_text (event_words given)) script.events ≡ plain_text script
+pub plain_parts : (script : ScriptView)
+    → ((flat_map line_text (version_words script.version) ++ line_text (clock_words script.clock)) ++ flat_map line_text (argument_words script.arguments)) ++ flat_map (λ given. line_text (event_words given)) script.events ≡ plain_text script
 unfolding plain_text plain_lines
 plain_parts script =
-    rw (flat_map-append line_text (argument_words script.arguments) (map event_words script.events), event_lines script.events)
-    (append_assoc (line_text (clock_words script.clock)) (flat_map line_text (argument_words script.arguments)) _)
+    let number = flat_map line_text (version_words script.version) in
+    let clock = line_text (clock_words script.clock) in
+    let texts = argument_words script.arguments in
+    let events = map event_words script.events in
+    let apart : ((number ++ clock) ++ flat_map line_text texts) ++ flat_map line_text events ≡ number ++ (clock ++ (flat_map line_text texts ++ flat_map line_text events)) = simp append_assoc refl in
+    ap (λ lines. ((number ++ clock) ++ flat_map line_text texts) ++ lines) (sym (event_lines script.events))
+    ∙ apart
+    ∙ ap (λ lines. number ++ (clock ++ lines)) (sym (flat_map-append line_text texts events))
+    ∙ sym (flat_map-append line_text (version_words script.version) (clock_words script.clock ∷ (texts ++ events)))
 
 -- the same of texts that are held
 pub held_inputs_length : (held : List ByteList) → length (inputs_of (bytes_in held)) ≡ sum_by (λ text. length text.list) held

@@ -1,5 +1,5 @@
 -- Words that are printed are read back.
-use Rattle.std.proofs.Common.{◌≡◌, ℕ, zero, suc, ◌/◌, ◌%◌, ◌<◌, ◌≤◌, Bool, true, false, ◌&&◌, ◌||◌, ◌-◌, ◌^◌, eqb, ltb, not, ℤ, pos, negsuc, neg_ℤ, ◌≤ℤ◌, List, [], ◌∷◌, ◌++◌, length, get_or, Some, inl, inr, refl, ap, ◌∙◌, arith}
+use Rattle.std.proofs.Common.{◌≡◌, ℕ, zero, suc, ◌/◌, ◌%◌, ◌<◌, ◌≤◌, Bool, true, false, ◌&&◌, ◌||◌, ◌^◌, eqb, ltb, not, ℤ, pos, negsuc, neg_ℤ, ◌≤ℤ◌, List, [], ◌∷◌, ◌++◌, length, get_or, Some, inl, inr, refl, ap, ◌∙◌, arith}
 use Rattle.std.specs.Prelude.{decimal}
 use Rattle.std.specs.Fmt.{signed_decimal}
 use Rattle.std.specs.List.{All, list_all}
@@ -10,9 +10,10 @@ use Rattle.std.proofs.lemmas.List.Elements.{All-head, All-tail, All-nil, All-con
 use Rattle.hex.specs.Hex.{encode_lower, encode_with, lower_digits, IsBytes}
 use Rattle.hex.proofs.HexLemmas.{length-encode_with, decode_of-encode_lower, decode_sized-encode_lower}
 use Rattle.play_script.specs.Limits.{IsBit}
-use Rattle.play_script.specs.PlainText.{text_word, button_name, mouse_button_number}
-use Rattle.play_script.specs.Values.{is_digit, is_number, number_within, integer_within, byte_of, text_of, begins_with, button_of, mouse_button_of}
-use Rattle.play_script.proofs.Numbers.{own}
+use Rattle.line_texts.specs.Numbers.{is_digit, is_number, number_within, integer_within, byte_of, begins_with}
+use Rattle.line_texts.proofs.Numerals.{own}
+use Rattle.play_script.specs.PlainText.{text_word, name_in}
+use Rattle.play_script.specs.Values.{text_of, Buttons, bit_in, buttons, mouse_buttons}
 use borrow.Author.Differences.{le_out, neg_is}
 
 -- a word has bytes, and none that parts words or lines
@@ -172,26 +173,14 @@ by_bit P p1 p2 p4 p8 p16 p32 p64 p128 mask bit =
           ]
     ]
 
-pub button_back : (mask : ℕ) → IsBit mask → button_of (button_name mask) ≡ Some mask
-unfolding button_of button_name
-button_back = by_bit (λ mask. button_of (button_name mask) ≡ Some mask) refl refl refl refl refl refl refl refl
+-- a button's name is read back, and is a plain word
+abbrev pub IsRead : Buttons → ℕ → Type 0
+IsRead table mask = (bit_in table (name_in table mask) ≡ Some mask) × (is_plain (name_in table mask) ≡ true)
 
-pub plain_button : (mask : ℕ) → IsBit mask → is_plain (button_name mask) ≡ true
-unfolding button_name
-plain_button = by_bit (λ mask. is_plain (button_name mask) ≡ true) refl refl refl refl refl refl refl refl
+pub button_back : (mask : ℕ) → IsBit mask → IsRead buttons mask
+unfolding bit_in name_in
+button_back = by_bit (IsRead buttons) (refl, refl) (refl, refl) (refl, refl) (refl, refl) (refl, refl) (refl, refl) (refl, refl) (refl, refl)
 
-number_of : (k mask : ℕ) → 1 ≤ k → k ≤ 8 → mouse_button_number mask ≡ k → 2 ^ (k - 1) ≡ mask → mouse_button_of (decimal (mouse_button_number mask)) ≡ Some mask
-unfolding mouse_button_of
-number_of k mask from to number power = rw (number, number_back 1 8 k from to (omega arith)) (ap Some power)
-
-pub mouse_button_back : (mask : ℕ) → IsBit mask → mouse_button_of (decimal (mouse_button_number mask)) ≡ Some mask
-unfolding mouse_button_number
-mouse_button_back = by_bit (λ mask. mouse_button_of (decimal (mouse_button_number mask)) ≡ Some mask)
-    (number_of 1 1 (omega arith) (omega arith) refl refl) (number_of 2 2 (omega arith) (omega arith) refl refl)
-    (number_of 3 4 (omega arith) (omega arith) refl refl) (number_of 4 8 (omega arith) (omega arith) refl refl)
-    (number_of 5 16 (omega arith) (omega arith) refl refl) (number_of 6 32 (omega arith) (omega arith) refl refl)
-    (number_of 7 64 (omega arith) (omega arith) refl refl) (number_of 8 128 (omega arith) (omega arith) refl refl)
-
-pub small_number : (mask : ℕ) → IsBit mask → mouse_button_number mask < 9
-unfolding mouse_button_number
-small_number = by_bit (λ mask. mouse_button_number mask < 9) (omega arith) (omega arith) (omega arith) (omega arith) (omega arith) (omega arith) (omega arith) (omega arith)
+pub mouse_button_back : (mask : ℕ) → IsBit mask → IsRead mouse_buttons mask
+unfolding bit_in name_in
+mouse_button_back = by_bit (IsRead mouse_buttons) (refl, refl) (refl, refl) (refl, refl) (refl, refl) (refl, refl) (refl, refl) (refl, refl) (refl, refl)

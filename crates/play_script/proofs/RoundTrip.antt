@@ -1,29 +1,35 @@
 -- A printed script is read back.
-use Rattle.std.proofs.Common.{◌≡◌, ℕ, zero, suc, ◌+◌, ◌<◌, ◌≤◌, Bool, true, false, ltb, leb, ℤ, pos, negsuc, neg_ℤ, ◌≤ℤ◌, List, [], ◌∷◌, ◌++◌, length, get_or, map, Option, Some, None, Result, Ok, append_assoc, append-nil, refl, sym, ap, ◌∙◌, arith}
+use Rattle.std.proofs.Common.{◌≡◌, ℕ, zero, suc, ◌+◌, ◌<◌, ◌≤◌, Bool, true, false, cond, eqb, ltb, leb, ℤ, pos, negsuc, ◌≤ℤ◌, List, [], ◌∷◌, ◌++◌, length, get_or, map, Option, Some, None, Ok, Err, append_assoc, append-nil, refl, sym, ap, ◌∙◌, arith}
 use Rattle.std.specs.Prelude.{codes, decimal}
 use Rattle.std.specs.Fmt.{signed_decimal}
 use Rattle.std.specs.List.{All, list_all, flat_map, join_with_byte}
 use Rattle.std.specs.Option.{option_map}
 use Rattle.std.proofs.lemmas.Bool.{and_from, and_parts, ltb-true}
-use Rattle.std.proofs.lemmas.List.{length-append, length-map, take_at, take-append-le, get_or_append_left, get_or_push, map-append}
+use Rattle.std.proofs.lemmas.List.{length-append}
 use Rattle.std.proofs.lemmas.List.Concat.{flat_map-append}
 use Rattle.std.proofs.lemmas.List.Elements.{All-head, All-tail, All-from_get_or}
 use Rattle.std.proofs.lemmas.List.Splits.{slice_split_at}
 use Rattle.hex.specs.Hex.{encode_lower}
-use Rattle.input_ports.specs.declared.Input.TheVariants.{Key, Down, Up, Mouse, Press, Release, Scroll}
+use Rattle.line_texts.specs.Lines.{is_blank, is_newline, lines_of, words_of}
+use Rattle.line_texts.specs.Numbers.{number_within, integer_within}
+use Rattle.line_texts.specs.Reading.{Line, given}
+use Rattle.line_texts.proofs.Cutting.{no_words, after_blank, front_word, not_lt}
+use Rattle.input_ports.specs.declared.Input.TheVariants.{Key, Down, Up, Mouse, Press, Release, Scroll, DownOf, UpOf}
 use Rattle.play_script.specs.declared.script.Clock.{Clock}
 use Rattle.play_script.specs.declared.script.Event.{Event}
-use Rattle.play_script.specs.declared.script.Event.TheVariants.{Input, EndInput, Frame, Device, Shot}
+use Rattle.play_script.specs.declared.script.Event.TheVariants.{Input, EndInput, Frame, Device, Shot, Expect}
 use Rattle.play_script.specs.declared.script.ScriptKind.{ScriptKind}
-use Rattle.play_script.specs.Limits.{IsEvent, IsScript, IsTurn}
-use Rattle.play_script.specs.Lines.{is_blank, is_newline, words_of}
-use Rattle.play_script.specs.PlainText.{text_word, event_words, clock_words, argument_words, button_name, mouse_button_number, plain_lines, line_text, plain_text}
-use Rattle.play_script.specs.Rows.{Meaning, nothing, clock, arguments, event, keyword_of, row_of, meaning_of}
-use Rattle.play_script.specs.Scripts.{ScriptView, arguments_of, events_of, events_in, fault_after, meanings, fault_at, first_fault, script_from, read_lines, script_of}
-use Rattle.play_script.specs.Values.{texts_of, number_within, integer_within, both}
-use Rattle.play_script.proofs.Cutting.{no_words, after_blank, front_word, not_lt}
-use Rattle.play_script.proofs.FirstFault.{next_without, none_first}
-use Rattle.play_script.proofs.PrintedWords.{is_plain, weaker, all_append, number_back, integer_back, plain_decimal, plain_signed, plain_pairs, pairs_back, text_back, plain_text_word, one_byte, byte_back, button_back, plain_button, mouse_button_back, small_number}
+use Rattle.play_script.specs.declared.script.ScriptKind.TheVariants.{LongScript}
+use Rattle.play_script.specs.declared.script.Version.{Version}
+use Rattle.play_script.specs.declared.script.Version.TheVariants.{First, Second}
+use Rattle.play_script.specs.Limits.{IsEvent, IsScript, IsTime, IsTurn}
+use Rattle.play_script.specs.PlainText.{text_word, event_words, clock_words, argument_words, name_in, plain_lines, line_text, plain_text}
+use Rattle.play_script.specs.Rows.{Meaning, version, clock, arguments, event, rows_of, device_of, made_of, version_of, clock_of, keys_of, expect_of, buttons_of, mouse_buttons_of, mouse_of, scroll_of, down_of, up_of, line_of}
+use Rattle.play_script.specs.Scripts.{ScriptView, arguments_of, events_of, events_in, fault_behind, read_by, script_by, script_from, script_in, script_of, version_at, version_in}
+use Rattle.play_script.specs.Values.{texts_of, both, buttons, mouse_buttons, one_or}
+use Rattle.line_texts.specs.Rows.{row_of}
+use Rattle.play_script.proofs.PrintedWords.{is_plain, weaker, all_append, number_back, integer_back, plain_decimal, plain_signed, plain_pairs, pairs_back, text_back, plain_text_word, one_byte, byte_back, button_back, mouse_button_back}
+use Rattle.play_script.proofs.Versions.{lift}
 use borrow.Author.Differences.{le_out, le_in}
 
 -- lines of plain words
@@ -70,49 +76,62 @@ high_bytes (word ∷ next ∷ words) plain =
 no_newlines : (line : List ℕ) → list_all (λ byte. leb 32 byte) line ≡ true → All (λ byte. is_newline byte ≡ false) line
 no_newlines line high = All-from_get_or (λ byte. is_newline byte ≡ false) line 0 (λ i within. let here = index_of (λ byte. leb 32 byte) line high i within in grind arith)
 
-empty_line : meaning_of [] ∷ [] ≡ Ok nothing ∷ []
-unfolding meaning_of
-empty_line = refl
-
 -- the lines of a text are read back
-pub printed_lines : (lines : List (List (List ℕ))) → list_all are_plain lines ≡ true → read_lines (flat_map line_text lines) ≡ map meaning_of lines ++ Ok nothing ∷ []
-printed_lines [] plain = ap (λ words. meaning_of words ∷ []) no_words ∙ empty_line
-printed_lines (line ∷ lines) plain =
-    let parts = and_parts (are_plain line) (list_all are_plain lines) plain in
-    let rest = flat_map line_text lines in
-    ap read_lines (append_assoc (join_with_byte 32 line) (10 ∷ []) rest)
-    ∙ ap (λ cut. map (λ each. meaning_of (words_of each)) cut) (slice_split_at is_newline (join_with_byte 32 line) 10 rest (no_newlines _ (high_bytes line parts.0)) refl)
-    ∙ ap (λ words. meaning_of words ∷ read_lines rest) (joined_words line parts.0)
-    ∙ ap (λ more. meaning_of line ∷ more) (printed_lines lines parts.1)
+abbrev line_by : Version → List (List ℕ) → Line Meaning ScriptKind
+line_by number words = line_of number words
 
--- a number of seconds as it is printed
+cut_line : (line : List (List ℕ)) (lines : List (List (List ℕ))) → are_plain line ≡ true
+    → lines_of (flat_map line_text (line ∷ lines)) ≡ join_with_byte 32 line ∷ lines_of (flat_map line_text lines)
+cut_line line lines plain =
+    ap lines_of (append_assoc (join_with_byte 32 line) (10 ∷ []) (flat_map line_text lines))
+    ∙ slice_split_at is_newline (join_with_byte 32 line) 10 (flat_map line_text lines) (no_newlines _ (high_bytes line plain)) refl
+
+empty_line : (number : Version) → line_by number (words_of []) ∷ [] ≡ Ok None ∷ []
+unfolding line_of words_of
+empty_line number = refl
+
+printed_lines : (number : Version) (lines : List (List (List ℕ))) → list_all are_plain lines ≡ true → read_by number (lines_of (flat_map line_text lines)) ≡ map (line_by number) lines ++ Ok None ∷ []
+printed_lines number [] plain = empty_line number
+printed_lines number (line ∷ lines) plain =
+    let parts = and_parts (are_plain line) (list_all are_plain lines) plain in
+    ap (read_by number) (cut_line line lines parts.0)
+    ∙ ap (λ words. line_by number words ∷ read_by number (lines_of (flat_map line_text lines))) (joined_words line parts.0)
+    ∙ ap (λ more. line_by number line ∷ more) (printed_lines number lines parts.1)
+
+-- the line of the clock
 seconds_back : (seconds : ℤ) → pos 0 ≤ℤ seconds → seconds ≤ℤ pos 253370000000 → option_map pos (number_within 0 253370000000 (signed_decimal seconds)) ≡ Some seconds
 seconds_back (pos n) from to = ap (option_map pos) (number_back 0 253370000000 n (omega arith) (omega (arith, le_out, to)) (omega (arith, le_out, to)))
 seconds_back (negsuc n) from to = absurd (omega (arith, le_out, from))
 
--- both of two values, of which the first is a number
 with_seconds : (time : Clock) (first : Option ℕ) (second : Option ℤ) → option_map pos first ≡ Some time.seconds → second ≡ Some time.offset
     → both (λ seconds offset. clock (record { seconds = pos seconds; offset = offset })) first second ≡ Some (clock time)
 with_seconds time None second found other = grind (arith, found)
 with_seconds time (Some n) second found other = let is : pos n ≡ time.seconds = grind (arith, found) in rw (other, is) refl
 
-clock_meaning : (time : Clock) → pos 0 ≤ℤ time.seconds → time.seconds ≤ℤ pos 253370000000 → neg_ℤ (pos 840) ≤ℤ time.offset → time.offset ≤ℤ pos 840 → meaning_of (clock_words time) ≡ Ok (clock time)
-unfolding meaning_of keyword_of row_of
-clock_meaning time from to least most =
-    rw (with_seconds time (number_within 0 253370000000 (signed_decimal time.seconds)) (integer_within 840 840 (signed_decimal time.offset)) (seconds_back time.seconds from to)
-    (integer_back 840 840 time.offset (omega arith) (omega arith) least most)) refl
+abbrev Reads : Version → List (List ℕ) → Meaning → Type 0
+Reads number words m = line_of number words ≡ Ok (Some m)
+
+clock_line : (time : Clock) → IsTime time → Reads First (clock_words time) (clock time)
+unfolding line_of rows_of row_of made_of clock_of
+clock_line time is =
+    rw (with_seconds time (number_within 0 253370000000 (signed_decimal time.seconds)) (integer_within 840 840 (signed_decimal time.offset)) (seconds_back time.seconds is.seconds_from is.seconds_to)
+    (integer_back 840 840 time.offset (omega arith) (omega arith) is.offset_from is.offset_to)) refl
 
 -- the line of the arguments
-texts_back : (texts : List (List ℕ)) → All (All (λ byte. byte < 256)) texts → texts_of (map text_word texts) ≡ Some texts
+abbrev AreBytes : List (List ℕ) → Type 0
+AreBytes texts = All (All (λ byte. byte < 256)) texts
+
+texts_back : (texts : List (List ℕ)) → AreBytes texts → texts_of (map text_word texts) ≡ Some texts
 texts_back [] small = refl
 texts_back (text ∷ texts) small =
     rw (text_back text (All-head (All (λ byte. byte < 256)) text texts small), texts_back texts (All-tail (All (λ byte. byte < 256)) text texts small)) refl
 
-args_meaning : (text : List ℕ) (texts : List (List ℕ)) → All (All (λ byte. byte < 256)) (text ∷ texts) → meaning_of (codes "args" ∷ map text_word (text ∷ texts)) ≡ Ok (arguments (text ∷ texts))
-unfolding meaning_of keyword_of row_of
-args_meaning text texts small = rw (texts_back (text ∷ texts) small) refl
+args_line : (text : List ℕ) (texts : List (List ℕ)) → AreBytes (text ∷ texts) → Reads First (codes "args" ∷ map text_word (text ∷ texts)) (arguments (text ∷ texts))
+unfolding line_of rows_of row_of made_of
+args_line text texts small =
+    rw (not_lt (length (map text_word (text ∷ texts))) 1 (omega arith), text_back text (All-head (All (λ byte. byte < 256)) text texts small), texts_back texts (All-tail (All (λ byte. byte < 256)) text texts small)) refl
 
-plain_texts : (texts : List (List ℕ)) → All (All (λ byte. byte < 256)) texts → are_plain (map text_word texts) ≡ true
+plain_texts : (texts : List (List ℕ)) → AreBytes texts → are_plain (map text_word texts) ≡ true
 plain_texts [] small = refl
 plain_texts (text ∷ texts) small =
     and_from _ _ (plain_text_word text (All-head (All (λ byte. byte < 256)) text texts small)) (plain_texts texts (All-tail (All (λ byte. byte < 256)) text texts small))
@@ -121,22 +140,67 @@ plain_texts (text ∷ texts) small =
 one_text : (byte : ℕ) → byte < 256 → texts_of (encode_lower (byte ∷ []) ∷ []) ≡ Some ((byte ∷ []) ∷ [])
 one_text byte small = rw (pairs_back (byte ∷ []) (one_byte byte small)) refl
 
-pub event_meaning : (e : Event) → IsEvent e → meaning_of (event_words e) ≡ Ok (event e)
-unfolding meaning_of keyword_of row_of event_words
-event_meaning (Input byte) is = rw (one_text byte is) refl
-event_meaning EndInput is = refl
-event_meaning Frame is = refl
-event_meaning (Device (Key byte)) is = rw (byte_back byte is) refl
-event_meaning (Device (Down mask)) is = rw (button_back mask is) refl
-event_meaning (Device (Up mask)) is = rw (button_back mask is) refl
-event_meaning (Device (Mouse x y)) is =
+first_event : (e : Event) → IsEvent First e → Reads First (event_words e) (event e)
+unfolding line_of rows_of row_of made_of device_of keys_of buttons_of mouse_buttons_of mouse_of scroll_of event_words one_or
+first_event (Input byte) is = rw (one_text byte is) refl
+first_event EndInput is = refl
+first_event Frame is = refl
+first_event (Device (Key byte)) is = rw (byte_back byte is) refl
+first_event (Device (Down mask)) is = rw (button_back mask is).0 refl
+first_event (Device (Up mask)) is = rw (button_back mask is).0 refl
+first_event (Device (Mouse x y)) is =
     rw (number_back 0 65535 x (omega arith) (omega (arith, is.0)) (omega (arith, is.0)), number_back 0 65535 y (omega arith) (omega (arith, is.1)) (omega (arith, is.1))) refl
-event_meaning (Device (Press mask)) is = rw (mouse_button_back mask is) refl
-event_meaning (Device (Release mask)) is = rw (mouse_button_back mask is) refl
-event_meaning (Device (Scroll x y)) is =
+first_event (Device (Press mask)) is = rw (mouse_button_back mask is).0 refl
+first_event (Device (Release mask)) is = rw (mouse_button_back mask is).0 refl
+first_event (Device (Scroll x y)) is =
     rw (integer_back 32768 32767 x (omega arith) (omega arith) is.0.0 is.0.1, integer_back 32768 32767 y (omega arith) (omega arith) is.1.0 is.1.1) refl
-event_meaning Shot is = refl
+first_event (Device (DownOf player mask)) is = absurd is.0
+first_event (Device (UpOf player mask)) is = absurd is.0
+first_event Shot is = refl
+first_event (Expect port byte) is = absurd is
 
+player_back : (player : ℕ) → 2 ≤ player → player ≤ 4 → one_or 4 (decimal player ∷ []) ≡ Some player
+unfolding one_or
+player_back player from to = number_back 1 4 player (omega (arith, from)) to (omega (arith, to))
+
+further_down : (mask player : ℕ) → 2 ≤ player → down_of mask player ≡ DownOf player mask
+further_down mask player from = let other : eqb player 1 ≡ false = grind arith in rw other refl
+
+further_up : (mask player : ℕ) → 2 ≤ player → up_of mask player ≡ UpOf player mask
+further_up mask player from = let other : eqb player 1 ≡ false = grind arith in rw other refl
+
+raised : (e : Event) → Reads First (event_words e) (event e) → Reads Second (event_words e) (event e)
+raised e is = (lift (event_words e) (Some (event e)) is).0
+
+second_event : (e : Event) → IsEvent Second e → Reads Second (event_words e) (event e)
+unfolding line_of rows_of row_of made_of device_of expect_of buttons_of event_words
+second_event (Device (DownOf player mask)) is =
+    rw ((button_back mask is.1).0, player_back player is.0.0 is.0.1, further_down mask player is.0.0) refl
+second_event (Device (UpOf player mask)) is =
+    rw ((button_back mask is.1).0, player_back player is.0.0 is.0.1, further_up mask player is.0.0) refl
+second_event (Expect port byte) is = rw (byte_back port is.0, byte_back byte is.1) refl
+second_event (Input byte) is = raised (Input byte) (first_event (Input byte) is)
+second_event EndInput is = raised EndInput (first_event EndInput is)
+second_event Frame is = raised Frame (first_event Frame is)
+second_event (Device (Key byte)) is = raised (Device (Key byte)) (first_event (Device (Key byte)) is)
+second_event (Device (Down mask)) is = raised (Device (Down mask)) (first_event (Device (Down mask)) is)
+second_event (Device (Up mask)) is = raised (Device (Up mask)) (first_event (Device (Up mask)) is)
+second_event (Device (Mouse x y)) is = raised (Device (Mouse x y)) (first_event (Device (Mouse x y)) is)
+second_event (Device (Press mask)) is = raised (Device (Press mask)) (first_event (Device (Press mask)) is)
+second_event (Device (Release mask)) is = raised (Device (Release mask)) (first_event (Device (Release mask)) is)
+second_event (Device (Scroll x y)) is = raised (Device (Scroll x y)) (first_event (Device (Scroll x y)) is)
+second_event Shot is = raised Shot (first_event Shot is)
+
+event_line : (number : Version) (e : Event) → IsEvent number e → Reads number (event_words e) (event e)
+event_line First e is = first_event e is
+event_line Second e is = second_event e is
+
+-- what version 1 reads, in each version
+in_version : (number : Version) (words : List (List ℕ)) (m : Meaning) → Reads First words m → Reads number words m
+in_version First words m is = is
+in_version Second words m is = (lift words (Some m) is).0
+
+-- the words of events are plain
 plain_one : (name value : List ℕ) → is_plain name ≡ true → is_plain value ≡ true → are_plain (name ∷ value ∷ []) ≡ true
 plain_one name value first second = and_from _ _ first (and_from _ _ second refl)
 
@@ -147,150 +211,157 @@ turn_below : (z : ℤ) → z ≤ℤ pos 32767 → z ≤ℤ pos 32768
 turn_below (pos n) h = omega (arith, le_out, le_in, h)
 turn_below (negsuc n) h = omega (arith, le_out, le_in, h)
 
-plain_turn : (z : ℤ) → IsTurn z → is_plain (signed_decimal z) ≡ true
-plain_turn z is = plain_signed z 32768 (omega arith) is.0 (turn_below z is.1)
-
-pub plain_event : (e : Event) → IsEvent e → are_plain (event_words e) ≡ true
-unfolding event_words
-plain_event (Input byte) is = plain_one (codes "input") (encode_lower (byte ∷ [])) refl (plain_pairs (byte ∷ []) (omega arith) (one_byte byte is))
-plain_event EndInput is = refl
-plain_event Frame is = refl
-plain_event (Device (Key byte)) is = plain_one (codes "key") (encode_lower (byte ∷ [])) refl (plain_pairs (byte ∷ []) (omega arith) (one_byte byte is))
-plain_event (Device (Down mask)) is = plain_one (codes "down") (button_name mask) refl (plain_button mask is)
-plain_event (Device (Up mask)) is = plain_one (codes "up") (button_name mask) refl (plain_button mask is)
-plain_event (Device (Mouse x y)) is =
-    plain_two (codes "mouse") (decimal x) (decimal y) refl (plain_decimal x (omega (arith, is.0))) (plain_decimal y (omega (arith, is.1)))
-plain_event (Device (Press mask)) is =
-    plain_one (codes "press") (decimal (mouse_button_number mask)) refl (plain_decimal (mouse_button_number mask) (omega (arith, small_number mask is)))
-plain_event (Device (Release mask)) is =
-    plain_one (codes "release") (decimal (mouse_button_number mask)) refl (plain_decimal (mouse_button_number mask) (omega (arith, small_number mask is)))
-plain_event (Device (Scroll x y)) is =
-    plain_two (codes "scroll") (signed_decimal x) (signed_decimal y) refl (plain_turn x is.0) (plain_turn y is.1)
-plain_event Shot is = refl
-
--- lines that all mean something, with no fault among them
-abbrev NoFault : List Meaning → Type 0
-NoFault all = first_fault (map Ok all) (length all) ≡ None
-
-all_mean : (all : List Meaning) → meanings (map Ok all) ≡ all
-all_mean [] = refl
-all_mean (m ∷ all) = ap (λ more. m ∷ more) (all_mean all)
-
--- a fault hangs on the lines up to its own
-fault_among : (xs ys : List (Result Meaning ScriptKind)) (n : ℕ) → n < length xs → fault_at (xs ++ ys) n ≡ fault_at xs n
-fault_among xs ys n within = rw (take-append-le n xs ys (omega arith), get_or_append_left xs ys (Ok nothing) n within) refl
-
-first_among : (xs ys : List (Result Meaning ScriptKind)) (n : ℕ) → n ≤ length xs → first_fault (xs ++ ys) n ≡ first_fault xs n
-unfolding first_fault
-first_among xs ys zero within = refl
-first_among xs ys (suc n) within = rw (first_among xs ys n (omega arith), fault_among xs ys n (omega arith)) refl
-
-more_fine : (before : List Meaning) (m : Meaning) → NoFault before → fault_after before (Ok m) ≡ None → NoFault (before ++ m ∷ [])
-more_fine before m fine here =
-    let lines : List (Result Meaning ScriptKind) = map Ok before in
-    let size : length lines ≡ length before = length-map {B = Result Meaning ScriptKind} before Ok in
-    let next : length (before ++ m ∷ []) ≡ suc (length before) = omega (arith, length-append before (m ∷ [])) in
-    let none : first_fault (lines ++ Ok m ∷ []) (length before) ≡ None = first_among lines (Ok m ∷ []) (length before) (omega (arith, size)) ∙ fine in
-    let last : fault_at (lines ++ Ok m ∷ []) (length before) ≡ None =
-    rw (take_at lines (Ok m ∷ []) (length before) size, get_or_push lines (Ok m) (Ok nothing) (length before) size, all_mean before) here in
-    rw (map-append {B = Result Meaning ScriptKind} Ok before (m ∷ []), next) (next_without (lines ++ Ok m ∷ []) (length before) none last)
-
-fine_events : (before : List Meaning) (given : List Event) → NoFault before → length (events_of before) + length given ≤ 1000000 → NoFault (before ++ map event given)
-fine_events before [] fine few = rw (append-nil before) fine
-fine_events before (e ∷ given) fine few =
-    let one = more_fine before (event e) fine (rw (not_lt 1000000 (length (events_of before) + 1) (omega arith)) refl) in
-    let grown : length (events_of (before ++ event e ∷ [])) ≡ length (events_of before) + 1 =
-    ap length (flat_map-append events_in before (event e ∷ [])) ∙ length-append (events_of before) (e ∷ []) in
-    rw (sym (append_assoc before (event e ∷ []) (map event given))) (fine_events (before ++ event e ∷ []) given one (omega (arith, grown)))
-
--- what the printed lines mean
-args_meanings : List (List ℕ) → List Meaning
-args_meanings [] = []
-args_meanings (text ∷ texts) = arguments (text ∷ texts) ∷ []
-
-args_read : (texts : List (List ℕ)) → All (All (λ byte. byte < 256)) texts → map meaning_of (argument_words texts) ≡ map Ok (args_meanings texts)
-unfolding args_meanings
-args_read [] small = refl
-args_read (text ∷ texts) small = ap (λ m. m ∷ []) (args_meaning text texts small)
-
-events_read : (given : List Event) → All IsEvent given → map meaning_of (map event_words given) ≡ map Ok (map event given)
-events_read [] valid = refl
-events_read (e ∷ given) valid = rw (event_meaning e (All-head IsEvent e given valid), events_read given (All-tail IsEvent e given valid)) refl
-
-abbrev printed : ScriptView → List Meaning
-printed script = clock script.clock ∷ args_meanings script.arguments ++ map event script.events
-
-lines_read : (script : ScriptView) → IsScript script → map meaning_of (plain_lines script) ≡ map Ok (printed script)
-unfolding plain_lines
-lines_read script is =
-    rw (clock_meaning script.clock is.seconds_from is.seconds_to is.offset_from is.offset_to)
-    (ap (λ more. Ok (clock script.clock) ∷ more) (map-append meaning_of (argument_words script.arguments) (map event_words script.events)
-    ∙ rw (args_read script.arguments is.arguments_bytes, events_read script.events is.events_given) (sym (map-append {B = Result Meaning ScriptKind} Ok (args_meanings script.arguments) (map event script.events)))))
-
--- their words are plain
-plain_events : (given : List Event) → All IsEvent given → list_all are_plain (map event_words given) ≡ true
-plain_events [] valid = refl
-plain_events (e ∷ given) valid = and_from _ _ (plain_event e (All-head IsEvent e given valid)) (plain_events given (All-tail IsEvent e given valid))
-
-plain_args : (texts : List (List ℕ)) → All (All (λ byte. byte < 256)) texts → list_all are_plain (argument_words texts) ≡ true
-plain_args [] small = refl
-plain_args (text ∷ texts) small = and_from _ _ (and_from _ _ refl (plain_texts (text ∷ texts) small)) refl
-
-both_plain : (xs ys : List (List (List ℕ))) → list_all are_plain xs ≡ true → list_all are_plain ys ≡ true → list_all are_plain (xs ++ ys) ≡ true
-both_plain [] ys first second = second
-both_plain (x ∷ xs) ys first second = let parts = and_parts (are_plain x) (list_all are_plain xs) first in and_from _ _ parts.0 (both_plain xs ys parts.1 second)
-
 plain_seconds : (seconds : ℤ) → pos 0 ≤ℤ seconds → seconds ≤ℤ pos 253370000000 → is_plain (signed_decimal seconds) ≡ true
 plain_seconds (pos n) from to = plain_decimal n (omega (arith, le_out, to))
 plain_seconds (negsuc n) from to = absurd (omega (arith, le_out, from))
 
-all_plain : (script : ScriptView) → IsScript script → list_all are_plain (plain_lines script) ≡ true
-unfolding plain_lines
-all_plain script is =
-    and_from _ _ (plain_two (codes "clock") (signed_decimal script.clock.seconds) (signed_decimal script.clock.offset) refl (plain_seconds script.clock.seconds is.seconds_from is.seconds_to) (plain_signed script.clock.offset 840 (omega arith) is.offset_from is.offset_to))
-    (both_plain (argument_words script.arguments) (map event_words script.events) (plain_args script.arguments is.arguments_bytes) (plain_events script.events is.events_given))
+plain_turn : (z : ℤ) → IsTurn z → is_plain (signed_decimal z) ≡ true
+plain_turn z is = plain_signed z 32768 (omega arith) is.0 (turn_below z is.1)
 
--- what the meanings give again
-events_again : (given : List Event) → events_of (map event given ++ nothing ∷ []) ≡ given
-events_again [] = refl
-events_again (e ∷ given) = ap (λ more. e ∷ more) (events_again given)
+plain_byte : (byte : ℕ) → byte < 256 → is_plain (encode_lower (byte ∷ [])) ≡ true
+plain_byte byte small = plain_pairs (byte ∷ []) (omega arith) (one_byte byte small)
 
-no_arguments : (given : List Event) → arguments_of (map event given ++ nothing ∷ []) ≡ []
-no_arguments [] = refl
-no_arguments (e ∷ given) = no_arguments given
+plain_event : (e : Event) → IsEvent Second e → are_plain (event_words e) ≡ true
+unfolding event_words
+plain_event (Input byte) is = plain_one (codes "input") (encode_lower (byte ∷ [])) refl (plain_byte byte is)
+plain_event EndInput is = refl
+plain_event Frame is = refl
+plain_event (Device (Key byte)) is = plain_one (codes "key") (encode_lower (byte ∷ [])) refl (plain_byte byte is)
+plain_event (Device (Down mask)) is = plain_one (codes "down") (name_in buttons mask) refl (button_back mask is).1
+plain_event (Device (Up mask)) is = plain_one (codes "up") (name_in buttons mask) refl (button_back mask is).1
+plain_event (Device (Mouse x y)) is =
+    plain_two (codes "mouse") (decimal x) (decimal y) refl (plain_decimal x (omega (arith, is.0))) (plain_decimal y (omega (arith, is.1)))
+plain_event (Device (Press mask)) is = plain_one (codes "press") (name_in mouse_buttons mask) refl (mouse_button_back mask is).1
+plain_event (Device (Release mask)) is = plain_one (codes "release") (name_in mouse_buttons mask) refl (mouse_button_back mask is).1
+plain_event (Device (Scroll x y)) is =
+    plain_two (codes "scroll") (signed_decimal x) (signed_decimal y) refl (plain_turn x is.0) (plain_turn y is.1)
+plain_event (Device (DownOf player mask)) is =
+    plain_two (codes "down") (name_in buttons mask) (decimal player) refl (button_back mask is.1).1 (plain_decimal player (omega (arith, is.0.1)))
+plain_event (Device (UpOf player mask)) is =
+    plain_two (codes "up") (name_in buttons mask) (decimal player) refl (button_back mask is.1).1 (plain_decimal player (omega (arith, is.0.1)))
+plain_event Shot is = refl
+plain_event (Expect port byte) is = plain_two (codes "expect") (encode_lower (port ∷ [])) (encode_lower (byte ∷ [])) refl (plain_byte port is.0) (plain_byte byte is.1)
 
-same_script : (script : ScriptView) (texts : List (List ℕ)) → script.arguments ≡ texts → script_from (clock script.clock ∷ args_meanings texts ++ (map event script.events ++ nothing ∷ [])) ≡ script
-unfolding args_meanings
-same_script script [] is = rw (events_again script.events, no_arguments script.events, ← is) refl
-same_script script (text ∷ texts) is = rw (events_again script.events, ← is) refl
+in_second : (number : Version) (e : Event) → IsEvent number e → are_plain (event_words e) ≡ true
+unfolding event_words
+in_second Second e is = plain_event e is
+in_second First (Input byte) is = plain_event (Input byte) is
+in_second First EndInput is = refl
+in_second First Frame is = refl
+in_second First (Device (Key byte)) is = plain_event (Device (Key byte)) is
+in_second First (Device (Down mask)) is = plain_event (Device (Down mask)) is
+in_second First (Device (Up mask)) is = plain_event (Device (Up mask)) is
+in_second First (Device (Mouse x y)) is = plain_event (Device (Mouse x y)) is
+in_second First (Device (Press mask)) is = plain_event (Device (Press mask)) is
+in_second First (Device (Release mask)) is = plain_event (Device (Release mask)) is
+in_second First (Device (Scroll x y)) is = plain_event (Device (Scroll x y)) is
+in_second First (Device (DownOf player mask)) is = absurd is.0
+in_second First (Device (UpOf player mask)) is = absurd is.0
+in_second First Shot is = refl
+in_second First (Expect port byte) is = absurd is
 
-start_fine : (time : Clock) (texts : List (List ℕ)) → NoFault (clock time ∷ args_meanings texts)
-unfolding args_meanings
-start_fine time [] = more_fine [] (clock time) (none_first []) refl
-start_fine time (text ∷ texts) = more_fine (clock time ∷ []) (arguments (text ∷ texts)) (more_fine [] (clock time) (none_first []) refl) refl
+-- events in a row
+abbrev ok_event : Event → Line Meaning ScriptKind
+ok_event e = Ok (Some (event e))
 
-start_events : (time : Clock) (texts : List (List ℕ)) → events_of (clock time ∷ args_meanings texts) ≡ []
-unfolding args_meanings
-start_events time [] = refl
-start_events time (text ∷ texts) = refl
+given_events : (n : ℕ) (before : List Meaning) (more : List Event) → length (events_of before) + length more ≤ 1000000
+    → given fault_behind n before (map ok_event more ++ Ok None ∷ []) ≡ Ok (before ++ map event more)
+given_events n before [] few = ap Ok (sym (append-nil before))
+given_events n before (e ∷ more) few =
+    let fits = not_lt 1000000 (length (events_of before) + 1) (omega (arith, few)) in
+    let grown : length (events_of (before ++ event e ∷ [])) ≡ length (events_of before) + 1 =
+    ap length (flat_map-append events_in before (event e ∷ [])) ∙ length-append (events_of before) (e ∷ []) in
+    rw fits (given_events (n + 1) (before ++ event e ∷ []) more (omega (arith, grown, few)) ∙ ap Ok (append_assoc before (event e ∷ []) (map event more)))
 
-events_only : (given : List Event) → events_of (map event given) ≡ given
+events_read : (number : Version) (more : List Event) → All (IsEvent number) more → map (line_by number) (map event_words more) ≡ map ok_event more
+events_read number [] valid = refl
+events_read number (e ∷ more) valid =
+    rw (event_line number e (All-head (IsEvent number) e more valid), events_read number more (All-tail (IsEvent number) e more valid)) refl
+
+-- what the printed lines give
+start : Version → Clock → List (List ℕ) → List Meaning
+start First time [] = clock time ∷ []
+start First time (text ∷ texts) = clock time ∷ arguments (text ∷ texts) ∷ []
+start Second time [] = version ∷ clock time ∷ []
+start Second time (text ∷ texts) = version ∷ clock time ∷ arguments (text ∷ texts) ∷ []
+
+abbrev shown : Version → Clock → List (List ℕ) → List Event → ScriptView
+shown number time texts more = record { version = number; clock = time; arguments = texts; events = more }
+
+version_line : Reads Second (codes "script" ∷ codes "2" ∷ []) version
+unfolding line_of rows_of row_of made_of version_of
+version_line = refl
+
+all_given : (number : Version) (time : Clock) (texts : List (List ℕ)) (more : List Event) → IsTime time → AreBytes texts → All (IsEvent number) more → length more ≤ 1000000
+    → given fault_behind 1 [] (map (line_by number) (plain_lines (shown number time texts more)) ++ Ok None ∷ []) ≡ Ok (start number time texts ++ map event more)
+unfolding plain_lines start
+all_given First time [] more is small valid few =
+    rw (clock_line time is, events_read First more valid) (given_events 2 (clock time ∷ []) more (omega (arith, few)))
+all_given First time (text ∷ texts) more is small valid few =
+    rw (clock_line time is, args_line text texts small, events_read First more valid) (given_events 3 (clock time ∷ arguments (text ∷ texts) ∷ []) more (omega (arith, few)))
+all_given Second time [] more is small valid few =
+    rw (version_line, in_version Second _ _ (clock_line time is), events_read Second more valid) (given_events 3 (version ∷ clock time ∷ []) more (omega (arith, few)))
+all_given Second time (text ∷ texts) more is small valid few =
+    rw (version_line, in_version Second _ _ (clock_line time is), in_version Second _ _ (args_line text texts small), events_read Second more valid)
+    (given_events 4 (version ∷ clock time ∷ arguments (text ∷ texts) ∷ []) more (omega (arith, few)))
+
+-- what they give makes the same script
+events_only : (more : List Event) → events_of (map event more) ≡ more
 events_only [] = refl
-events_only (e ∷ given) = ap (λ more. e ∷ more) (events_only given)
+events_only (e ∷ more) = ap (λ rest. e ∷ rest) (events_only more)
 
-events_size : (before : List Meaning) (given : List Event) → events_of before ≡ [] → length (events_of (before ++ map event given)) ≡ length given
-events_size before given none = ap length (flat_map-append events_in before (map event given) ∙ rw none (events_only given))
+no_arguments : (more : List Event) → arguments_of (map event more) ≡ []
+no_arguments [] = refl
+no_arguments (e ∷ more) = no_arguments more
+
+same_script : (number : Version) (time : Clock) (texts : List (List ℕ)) (more : List Event) → script_from number (start number time texts ++ map event more) ≡ shown number time texts more
+unfolding start
+same_script First time [] more = rw (events_only more, no_arguments more) refl
+same_script First time (text ∷ texts) more = rw (events_only more) refl
+same_script Second time [] more = rw (events_only more, no_arguments more) refl
+same_script Second time (text ∷ texts) more = rw (events_only more) refl
+
+-- the printed lines are plain, and tell their version
+plain_clock : (time : Clock) → IsTime time → are_plain (clock_words time) ≡ true
+plain_clock time is =
+    plain_two (codes "clock") (signed_decimal time.seconds) (signed_decimal time.offset) refl (plain_seconds time.seconds is.seconds_from is.seconds_to) (plain_signed time.offset 840 (omega arith) is.offset_from is.offset_to)
+
+plain_events : (number : Version) (more : List Event) → All (IsEvent number) more → list_all are_plain (map event_words more) ≡ true
+plain_events number [] valid = refl
+plain_events number (e ∷ more) valid = and_from _ _ (in_second number e (All-head (IsEvent number) e more valid)) (plain_events number more (All-tail (IsEvent number) e more valid))
+
+plain_args : (texts : List (List ℕ)) (lines : List (List (List ℕ))) → AreBytes texts → list_all are_plain lines ≡ true → list_all are_plain (argument_words texts ++ lines) ≡ true
+plain_args [] lines small plain = plain
+plain_args (text ∷ texts) lines small plain = and_from _ _ (and_from _ _ refl (plain_texts (text ∷ texts) small)) plain
+
+all_plain : (number : Version) (time : Clock) (texts : List (List ℕ)) (more : List Event) → IsTime time → AreBytes texts → All (IsEvent number) more
+    → list_all are_plain (plain_lines (shown number time texts more)) ≡ true
+unfolding plain_lines
+all_plain First time texts more is small valid = and_from _ _ (plain_clock time is) (plain_args texts (map event_words more) small (plain_events First more valid))
+all_plain Second time texts more is small valid =
+    and_from _ _ refl (and_from _ _ (plain_clock time is) (plain_args texts (map event_words more) small (plain_events Second more valid)))
+
+told : (number : Version) (line : List (List ℕ)) (lines : List (List (List ℕ))) → are_plain line ≡ true → version_at line ≡ Some number → version_in (lines_of (flat_map line_text (line ∷ lines))) ≡ number
+told number line lines plain is = ap version_in (cut_line line lines plain) ∙ rw (joined_words line plain, is) refl
+
+version_back : (number : Version) (time : Clock) (texts : List (List ℕ)) (more : List Event) → IsTime time → version_in (lines_of (plain_text (shown number time texts more))) ≡ number
+unfolding plain_text plain_lines
+version_back First time texts more is = told First (clock_words time) (argument_words texts ++ map event_words more) (plain_clock time is) refl
+version_back Second time texts more is =
+    told Second (codes "script" ∷ codes "2" ∷ []) (clock_words time ∷ (argument_words texts ++ map event_words more)) refl refl
+
+text_read : (number : Version) (script : ScriptView) → list_all are_plain (plain_lines script) ≡ true → read_by number (lines_of (plain_text script)) ≡ map (line_by number) (plain_lines script) ++ Ok None ∷ []
+unfolding plain_text
+text_read number script plain = printed_lines number (plain_lines script) plain
 
 pub printed_scripts : (script : ScriptView) → IsScript script → length (plain_text script) ≤ 4194304 → script_of (plain_text script) ≡ Ok script
-unfolding script_of plain_text
+unfolding script_of
 printed_scripts script is short =
-    let start = clock script.clock ∷ args_meanings script.arguments in
-    let all = printed script ++ nothing ∷ [] in
-    let read : read_lines (flat_map line_text (plain_lines script)) ≡ map Ok all =
-    printed_lines (plain_lines script) (all_plain script is) ∙ rw (lines_read script is) (sym (map-append {B = Result Meaning ScriptKind} Ok (printed script) (nothing ∷ []))) in
-    let few : length (events_of (printed script)) ≤ 1000000 =
-    rw (events_size start script.events (start_events script.clock script.arguments)) is.events_few in
-    let fine_start = fine_events start script.events (start_fine script.clock script.arguments) (rw (start_events script.clock script.arguments) (omega (arith, is.events_few))) in
-    let fine = more_fine (printed script) nothing fine_start (rw (not_lt 1000000 (length (events_of (printed script)) + 0) (omega (arith, few))) refl) in
-    rw (not_lt 4194304 (length (flat_map line_text (plain_lines script))) short, read, length-map {B = Result Meaning ScriptKind} all Ok, fine)
-    (ap (λ lines. Ok (script_from lines)) (all_mean all ∙ append_assoc start (map event script.events) (nothing ∷ [])) ∙ ap Ok (same_script script script.arguments refl))
+    let number = script.version in
+    let small = is.arguments.1 in
+    let lines = lines_of (plain_text script) in
+    ap (λ test. cond test (Err (1, LongScript)) (script_in lines)) (not_lt 4194304 (length (plain_text script)) short)
+    ∙ ap (λ v. script_by v (given fault_behind 1 [] (read_by v lines))) (version_back number script.clock script.arguments script.events is.time)
+    ∙ ap (λ read. script_by number (given fault_behind 1 [] read)) (text_read number script (all_plain number script.clock script.arguments script.events is.time small is.events_given))
+    ∙ ap (script_by number) (all_given number script.clock script.arguments script.events is.time small is.events_given is.events_few)
+    ∙ ap Ok (same_script number script.clock script.arguments script.events)

@@ -1,10 +1,8 @@
-pub mod Lines
 pub mod Held
 pub mod Values
 pub mod Rows
 pub mod Scripts
 pub mod PlainText
-pub mod Steps
 pub mod Gathered
 pub mod Limits
 pub mod Kinds

@@ -1,22 +1,31 @@
--- What a line of a script of version 1 means (profile), a row for each first word.
-use Rattle.std.specs.Prelude.{ℕ, if◌then◌else◌, pos, List, [], ◌∷◌, codes, replicate, map, Option, Some, None}
+-- What a line of a script means (profile), a row for each first word.
+use Rattle.std.specs.Prelude.{ℕ, ◌==◌, if◌then◌else◌, pos, List, [], ◌∷◌, codes, replicate, map, length, Option, Some, None}
 use Rattle.std.specs.Prelude.{option_map, Result, Ok, Err}
-use Rattle.std.specs.List.{find, flat_map}
+use Rattle.std.specs.List.{flat_map}
 use Rattle.std.specs.Option.{ok_or}
 use Rattle.std.specs.Str.{bytes_eq}
-use Rattle.input_ports.specs.declared.Input.TheVariants.{Key, Down, Up, Mouse, Press, Release, Scroll}
+use Rattle.line_texts.specs.declared.row.Counts.TheVariants.{Exactly, Between, AtLeast}
+use Rattle.line_texts.specs.declared.row.LineFault.{LineFault}
+use Rattle.line_texts.specs.declared.row.LineFault.TheVariants as line
+use Rattle.line_texts.specs.Numbers.{begins_with, byte_of, integer_within, number_within}
+use Rattle.line_texts.specs.Reading.{Line}
+use Rattle.line_texts.specs.Rows.{Rows, row_of, counted}
+use Rattle.input_ports.specs.declared.Input.{Input as DeviceInput}
+use Rattle.input_ports.specs.declared.Input.TheVariants.{Key, Down, Up, Mouse, Press, Release, Scroll, DownOf, UpOf}
 use Rattle.play_script.specs.declared.script.Clock.{Clock}
 use Rattle.play_script.specs.declared.script.Event.{Event}
-use Rattle.play_script.specs.declared.script.Event.TheVariants.{Input, EndInput, Frame, Device, Shot}
+use Rattle.play_script.specs.declared.script.Event.TheVariants.{Input, EndInput, Frame, Device, Shot, Expect}
 use Rattle.play_script.specs.declared.script.ScriptKind.{ScriptKind}
 use Rattle.play_script.specs.declared.script.ScriptKind.TheVariants.{Unknown, BadValue, Missing, Extra}
+use Rattle.play_script.specs.declared.script.Version.{Version}
+use Rattle.play_script.specs.declared.script.Version.TheVariants.{First, Second}
 use Rattle.play_script.specs.declared.keyword.Keyword.{Keyword}
 use Rattle.play_script.specs.declared.keyword.Keyword.TheVariants as word
-use Rattle.play_script.specs.Values.{begins_with, number_within, integer_within, byte_of, texts_of, both, button_of, mouse_button_of}
+use Rattle.play_script.specs.Values.{texts_of, both, bit_in, buttons, mouse_buttons, one_or}
 
 -- what a line means
 pub data Meaning : Type 0 where
-  nothing : Meaning
+  version : Meaning
   clock : Clock → Meaning
   arguments : List (List ℕ) → Meaning
   events : List Event → Meaning
@@ -24,70 +33,143 @@ pub data Meaning : Type 0 where
 abbrev pub event : Event → Meaning
 event e = events (e ∷ [])
 
+abbrev pub times : Event → ℕ → Meaning
+times e count = events (replicate count e)
+
 -- an event for each byte of texts
 abbrev pub inputs_of : List (List ℕ) → List Event
 inputs_of each = flat_map (λ text. map Input text) each
 
--- the values that a line has behind its first word, and what they make; none where a value is not of its form or range
-pub data Row : Type 0 where
-  bare : Meaning → Row
-  one : (List ℕ → Option Meaning) → Row
-  two : (List ℕ → List ℕ → Option Meaning) → Row
-  at_most_one : Meaning → (List ℕ → Option Meaning) → Row
-  texts : (List (List ℕ) → Meaning) → Row
+-- the buttons of a player
+abbrev pub down_of : ℕ → ℕ → DeviceInput
+down_of mask player = if player == 1 then Down mask else DownOf player mask
 
--- a row with these values: Missing with too few, Extra with too many, BadValue with one that is not of its form or range
-abbrev pub read_row : Row → List (List ℕ) → Result Meaning ScriptKind
-read_row (bare m) [] = Ok m
-read_row (bare m) (a ∷ more) = Err Extra
-read_row (one make) [] = Err Missing
-read_row (one make) (a ∷ []) = ok_or (make a) BadValue
-read_row (one make) (a ∷ b ∷ more) = Err Extra
-read_row (two make) [] = Err Missing
-read_row (two make) (a ∷ []) = Err Missing
-read_row (two make) (a ∷ b ∷ []) = ok_or (make a b) BadValue
-read_row (two make) (a ∷ b ∷ c ∷ more) = Err Extra
-read_row (at_most_one m make) [] = Ok m
-read_row (at_most_one m make) (a ∷ []) = ok_or (make a) BadValue
-read_row (at_most_one m make) (a ∷ b ∷ more) = Err Extra
-read_row (texts make) [] = Err Missing
-read_row (texts make) (a ∷ more) = ok_or (option_map make (texts_of (a ∷ more))) BadValue
+abbrev pub up_of : ℕ → ℕ → DeviceInput
+up_of mask player = if player == 1 then Up mask else UpOf player mask
 
--- the first words of lines
-abbrev pub keywords : List (List ℕ × Keyword)
-keywords =
-    (codes "clock", word.Clock) ∷ (codes "args", word.Args) ∷ (codes "input", word.Input) ∷ (codes "end", word.End)
-    ∷ (codes "frame", word.Frame) ∷ (codes "key", word.Key) ∷ (codes "down", word.Down) ∷ (codes "up", word.Up)
-    ∷ (codes "mouse", word.Mouse) ∷ (codes "press", word.Press) ∷ (codes "release", word.Release)
-    ∷ (codes "scroll", word.Scroll) ∷ (codes "shot", word.Shot) ∷ []
+-- the values that version 1 does not have
+abbrev pub further : Version → List (List ℕ) → List (List ℕ)
+further First values = []
+further Second values = values
 
-unfoldable pub keyword_of : List ℕ → Option Keyword
-keyword_of name = option_map (λ row. row.1) (find (λ row. bytes_eq name row.0) keywords)
+-- what values make, as many as a line takes; nothing where one is not of its form or range
+unfoldable pub version_of : Version → List (List ℕ) → Option Meaning
+version_of First values = None
+version_of Second [] = None
+version_of Second (n ∷ more) = if bytes_eq n (codes "2") then Some version else None
 
--- the rows
-unfoldable pub row_of : Keyword → Row
-row_of word.Clock = two (λ s m. both (λ seconds offset. clock (record { seconds = pos seconds; offset = offset }))
-    (number_within 0 253370000000 s) (integer_within 840 840 m))
-row_of word.Args = texts arguments
-row_of word.Input = texts (λ each. events (inputs_of each))
-row_of word.End = bare (event EndInput)
-row_of word.Frame = at_most_one (event Frame) (λ n. option_map (λ count. events (replicate count Frame)) (number_within 1 1000000 n))
-row_of word.Key = one (λ b. option_map (λ byte. event (Device (Key byte))) (byte_of b))
-row_of word.Down = one (λ b. option_map (λ mask. event (Device (Down mask))) (button_of b))
-row_of word.Up = one (λ b. option_map (λ mask. event (Device (Up mask))) (button_of b))
-row_of word.Mouse = two (λ x y. both (λ column row. event (Device (Mouse column row)))
-    (number_within 0 65535 x) (number_within 0 65535 y))
-row_of word.Press = one (λ n. option_map (λ mask. event (Device (Press mask))) (mouse_button_of n))
-row_of word.Release = one (λ n. option_map (λ mask. event (Device (Release mask))) (mouse_button_of n))
-row_of word.Scroll = two (λ x y. both (λ right down. event (Device (Scroll right down)))
-    (integer_within 32768 32767 x) (integer_within 32768 32767 y))
-row_of word.Shot = bare (event Shot)
+unfoldable pub clock_of : List (List ℕ) → Option Meaning
+clock_of (s ∷ m ∷ more) = both (λ seconds offset. clock (record { seconds = pos seconds; offset = offset }))
+    (number_within 0 253370000000 s) (integer_within 840 840 m)
+clock_of _ = None
 
-abbrev pub read_by : Option Keyword → List (List ℕ) → Result Meaning ScriptKind
-read_by None values = Err Unknown
-read_by (Some keyword) values = read_row (row_of keyword) values
+unfoldable pub keys_of : Version → List (List ℕ) → Option Meaning
+keys_of number [] = None
+keys_of number (b ∷ more) = both (λ byte count. times (Device (Key byte)) count) (byte_of b) (one_or 1000000 (further number more))
+
+unfoldable pub expect_of : Version → List (List ℕ) → Option Meaning
+expect_of Second (p ∷ b ∷ more) = both (λ port byte. event (Expect port byte)) (byte_of p) (byte_of b)
+expect_of _ _ = None
+
+-- what values make of a player's buttons, of the mouse's buttons, of numbers of columns and rows, and of a wheel's ways
+unfoldable pub buttons_of : (ℕ → ℕ → DeviceInput) → Version → List (List ℕ) → Option DeviceInput
+buttons_of input number [] = None
+buttons_of input number (b ∷ more) = both input (bit_in buttons b) (one_or 4 (further number more))
+
+unfoldable pub mouse_buttons_of : (ℕ → DeviceInput) → List (List ℕ) → Option DeviceInput
+mouse_buttons_of input [] = None
+mouse_buttons_of input (n ∷ more) = option_map input (bit_in mouse_buttons n)
+
+unfoldable pub mouse_of : List (List ℕ) → Option DeviceInput
+mouse_of (x ∷ y ∷ more) = both Mouse (number_within 0 65535 x) (number_within 0 65535 y)
+mouse_of _ = None
+
+unfoldable pub scroll_of : List (List ℕ) → Option DeviceInput
+scroll_of (x ∷ y ∷ more) = both Scroll (integer_within 32768 32767 x) (integer_within 32768 32767 y)
+scroll_of _ = None
+
+abbrev pub input_if : Option DeviceInput → Option Meaning
+input_if input = option_map (λ given. event (Device given)) input
+
+-- what the values behind each first word make
+unfoldable pub device_of : Keyword → Version → List (List ℕ) → Option DeviceInput
+device_of word.Down number values = buttons_of down_of number values
+device_of word.Up number values = buttons_of up_of number values
+device_of word.Mouse number values = mouse_of values
+device_of word.Press number values = mouse_buttons_of Press values
+device_of word.Release number values = mouse_buttons_of Release values
+device_of word.Scroll number values = scroll_of values
+device_of _ number values = None
+
+unfoldable pub made_of : Keyword → Version → List (List ℕ) → Option Meaning
+made_of word.Script number values = version_of number values
+made_of word.Clock number values = clock_of values
+made_of word.Args number values = option_map arguments (texts_of values)
+made_of word.Input number values = option_map (λ texts. events (inputs_of texts)) (texts_of values)
+made_of word.End number values = Some (event EndInput)
+made_of word.Frame number values = option_map (times Frame) (one_or 1000000 values)
+made_of word.Key number values = keys_of number values
+made_of word.Shot number values = Some (event Shot)
+made_of word.Expect number values = expect_of number values
+made_of keyword number values = input_if (device_of keyword number values)
+
+-- the first words of version 1, with how many values each takes, and those of version 2
+abbrev pub first_rows : Rows Keyword
+first_rows =
+    (codes "clock", Exactly 2, word.Clock)
+    ∷ (codes "args", AtLeast 1, word.Args)
+    ∷ (codes "input", AtLeast 1, word.Input)
+    ∷ (codes "end", Exactly 0, word.End)
+    ∷ (codes "frame", Between 0 1, word.Frame)
+    ∷ (codes "key", Exactly 1, word.Key)
+    ∷ (codes "down", Exactly 1, word.Down)
+    ∷ (codes "up", Exactly 1, word.Up)
+    ∷ (codes "mouse", Exactly 2, word.Mouse)
+    ∷ (codes "press", Exactly 1, word.Press)
+    ∷ (codes "release", Exactly 1, word.Release)
+    ∷ (codes "scroll", Exactly 2, word.Scroll)
+    ∷ (codes "shot", Exactly 0, word.Shot)
+    ∷ []
+
+abbrev pub second_rows : Rows Keyword
+second_rows =
+    (codes "script", Exactly 1, word.Script)
+    ∷ (codes "clock", Exactly 2, word.Clock)
+    ∷ (codes "args", AtLeast 1, word.Args)
+    ∷ (codes "input", AtLeast 1, word.Input)
+    ∷ (codes "end", Exactly 0, word.End)
+    ∷ (codes "frame", Between 0 1, word.Frame)
+    ∷ (codes "key", Between 1 2, word.Key)
+    ∷ (codes "down", Between 1 2, word.Down)
+    ∷ (codes "up", Between 1 2, word.Up)
+    ∷ (codes "mouse", Exactly 2, word.Mouse)
+    ∷ (codes "press", Exactly 1, word.Press)
+    ∷ (codes "release", Exactly 1, word.Release)
+    ∷ (codes "scroll", Exactly 2, word.Scroll)
+    ∷ (codes "shot", Exactly 0, word.Shot)
+    ∷ (codes "expect", Exactly 2, word.Expect)
+    ∷ []
+
+unfoldable pub rows_of : Version → Rows Keyword
+rows_of First = first_rows
+rows_of Second = second_rows
+
+abbrev pub kind_of : LineFault → ScriptKind
+kind_of line.Unknown = Unknown
+kind_of line.Missing = Missing
+kind_of line.Extra = Extra
+
+abbrev pub made_by : Version → Result Keyword LineFault → List (List ℕ) → Result Meaning ScriptKind
+made_by number (Ok keyword) values = ok_or (made_of keyword number values) BadValue
+made_by number (Err fault) values = Err (kind_of fault)
+
+abbrev pub as_line : Result Meaning ScriptKind → Line Meaning ScriptKind
+as_line (Ok given) = Ok (Some given)
+as_line (Err kind) = Err kind
 
 -- what the words of a line mean, or what is wrong with them; a line without words or with `#` before its first means nothing
-unfoldable pub meaning_of : List (List ℕ) → Result Meaning ScriptKind
-meaning_of [] = Ok nothing
-meaning_of (name ∷ values) = if begins_with 35 name then Ok nothing else read_by (keyword_of name) values
+unfoldable pub line_of : Version → List (List ℕ) → Line Meaning ScriptKind
+line_of number [] = Ok None
+line_of number (name ∷ values) =
+    if begins_with 35 name then Ok None
+    else as_line (made_by number (counted (row_of (rows_of number) name) (length values)) values)

@@ -1,20 +1,47 @@
--- What a script is: the clock, the arguments and the events of its lines, or its first faulty line (profile).
-use Rattle.std.specs.Prelude.{ℕ, zero, suc, ◌+◌, Bool, false, nat_lt, if◌then◌else◌, pos, List, [], ◌∷◌, take}
-use Rattle.std.specs.Prelude.{length, map, Option, Some, None, option_map, Result, Ok, Err, slice_index_or}
-use Rattle.std.specs.Result.{result_ok}
-use Rattle.std.specs.List.{filter_map, flat_map}
+-- What a script is: its version, and the clock, the arguments and the events of its lines, or its first faulty line (profile).
+use Rattle.std.specs.Prelude.{◌≡◌, ℕ, ◌+◌, Bool, nat_lt, if◌then◌else◌, pos, List, [], ◌∷◌, codes, length, map}
+use Rattle.std.specs.Prelude.{Option, Some, None, Result, Ok, Err}
+use Rattle.std.specs.List.{flat_map}
+use Rattle.std.specs.Option.{unwrap_or}
+use Rattle.std.specs.Str.{bytes_eq}
+use Rattle.line_texts.specs.Lines.{lines_of, words_of}
+use Rattle.line_texts.specs.Numbers.{begins_with}
+use Rattle.line_texts.specs.Reading.{Line, given}
 use Rattle.play_script.specs.declared.script.Clock.{Clock}
 use Rattle.play_script.specs.declared.script.Event.{Event}
 use Rattle.play_script.specs.declared.script.ScriptKind.{ScriptKind}
 use Rattle.play_script.specs.declared.script.ScriptKind.TheVariants.{Late, ManyEvents, LongScript}
-use Rattle.play_script.specs.Lines.{lines_of, words_of}
-use Rattle.play_script.specs.Rows.{Meaning, nothing, clock, arguments, events, meaning_of}
+use Rattle.play_script.specs.declared.script.ScriptStop.{ScriptStop}
+use Rattle.play_script.specs.declared.script.ScriptStop.TheVariants.{Refused, NoMemory}
+use Rattle.play_script.specs.declared.script.Version.{Version}
+use Rattle.play_script.specs.declared.script.Version.TheVariants.{First, Second}
+use Rattle.play_script.specs.Rows.{Meaning, version, clock, arguments, events, line_of}
 
 -- what contracts see of a script
 pub record ScriptView : Type 0 where
+  pub version : Version
   pub clock : Clock
   pub arguments : List (List ℕ)
   pub events : List Event
+
+abbrev pub view : Version → Clock → List (List ℕ) → List Event → ScriptView
+view number time texts given = record { version = number; clock = time; arguments = texts; events = given }
+
+abbrev pub version_number : Version → ℕ
+version_number First = 1
+version_number Second = 2
+
+-- a script has version 2 where the first word of its first line with words is `script`
+abbrev pub version_at : List (List ℕ) → Option Version
+version_at [] = None
+version_at (name ∷ values) =
+    if begins_with 35 name then None
+    else if bytes_eq name (codes "script") then Some Second
+    else Some First
+
+abbrev pub version_in : List (List ℕ) → Version
+version_in [] = First
+version_in (line ∷ lines) = unwrap_or (version_at (words_of line)) (version_in lines)
 
 -- what a line gives
 abbrev pub clocks_in : Meaning → List Clock
@@ -39,60 +66,48 @@ arguments_of lines = flat_map arguments_in lines
 abbrev pub events_of : List Meaning → List Event
 events_of lines = flat_map events_in lines
 
--- `clock` and `args` stand before each line that gives an event, and each stands once at most
-abbrev pub is_late : List Meaning → Meaning → Bool
-is_late before (clock time) = nat_lt 0 (length (events_of before) + length (clocks_of before))
-is_late before (arguments texts) = nat_lt 0 (length (events_of before) + length (arguments_of before))
-is_late before _ = false
+-- what is wrong with a line behind these: `script` stands before all lines with words, `clock` and `args` before each line
+-- that gives an event, and each stands once at most
+abbrev pub late_if : Bool → Option ScriptKind
+late_if test = if test then Some Late else None
 
--- what is wrong with a line, by what the lines before it mean
-abbrev pub fault_after : List Meaning → Result Meaning ScriptKind → Option ScriptKind
-fault_after before (Err kind) = Some kind
-fault_after before (Ok line) =
-    if is_late before line then Some Late
-    else if nat_lt 1000000 (length (events_of before) + length (events_in line)) then Some ManyEvents
-    else None
-
--- the lines that mean something, of those that were read
-abbrev pub meanings : List (Result Meaning ScriptKind) → List Meaning
-meanings lines = filter_map result_ok lines
-
-abbrev pub fault_at : List (Result Meaning ScriptKind) → ℕ → Option ScriptKind
-fault_at lines at = fault_after (meanings (take at lines)) (slice_index_or lines at (Ok nothing))
-
--- the first faulty line among the first so many, numbered from 1, with its fault
-abbrev pub or_later : {A : Type 0} → Option A → Option A → Option A
-or_later None later = later
-or_later (Some first) later = Some first
-
-unfoldable pub first_fault : List (Result Meaning ScriptKind) → ℕ → Option (ℕ × ScriptKind)
-first_fault lines zero = None
-first_fault lines (suc at) = or_later (first_fault lines at) (option_map (λ kind. (at + 1, kind)) (fault_at lines at))
+abbrev pub fault_behind : List Meaning → Meaning → Option ScriptKind
+fault_behind before version = late_if (nat_lt 0 (length before))
+fault_behind before (clock time) = late_if (nat_lt 0 (length (events_of before) + length (clocks_of before)))
+fault_behind before (arguments texts) = late_if (nat_lt 0 (length (events_of before) + length (arguments_of before)))
+fault_behind before (events given) = if nat_lt 1000000 (length (events_of before) + length given) then Some ManyEvents else None
 
 -- the first of a list, or this where it is empty
 abbrev pub first_or : {A : Type 0} → A → List A → A
 first_or other [] = other
 first_or other (first ∷ more) = first
 
--- the script of lines without a fault
-abbrev pub script_from : List Meaning → ScriptView
-script_from lines = record {
+-- the script of what the lines give
+abbrev pub script_from : Version → List Meaning → ScriptView
+script_from number lines = record {
+  version = number;
   clock = first_or (record { seconds = pos 0; offset = pos 0 }) (clocks_of lines);
   arguments = first_or [] (arguments_of lines);
   events = events_of lines;
 }
 
-abbrev pub unless_faulty : Option (ℕ × ScriptKind) → ScriptView → Result ScriptView (ℕ × ScriptKind)
-unless_faulty None script = Ok script
-unless_faulty (Some fault) script = Err fault
+abbrev pub script_by : {K : Type 0} → Version → Result (List Meaning) K → Result ScriptView K
+script_by number (Ok lines) = Ok (script_from number lines)
+script_by number (Err fault) = Err fault
 
-abbrev pub script_of_lines : List (Result Meaning ScriptKind) → Result ScriptView (ℕ × ScriptKind)
-script_of_lines lines = unless_faulty (first_fault lines (length lines)) (script_from (meanings lines))
+-- each line by itself
+abbrev pub read_by : Version → List (List ℕ) → List (Line Meaning ScriptKind)
+read_by number lines = map (λ line. line_of number (words_of line)) lines
 
--- what each line of a text means
-abbrev pub read_lines : List ℕ → List (Result Meaning ScriptKind)
-read_lines text = map (λ line. meaning_of (words_of line)) (lines_of text)
+abbrev pub script_in : List (List ℕ) → Result ScriptView (ℕ × ScriptKind)
+script_in lines = script_by (version_in lines) (given fault_behind 1 [] (read_by (version_in lines) lines))
 
 -- the script of a text, or its first faulty line and the first fault there
 unfoldable pub script_of : List ℕ → Result ScriptView (ℕ × ScriptKind)
-script_of text = if nat_lt 4194304 (length text) then Err (1, LongScript) else script_of_lines (read_lines text)
+script_of text = if nat_lt 4194304 (length text) then Err (1, LongScript) else script_in (lines_of text)
+
+-- a script is read as it is defined, unless memory runs out
+abbrev pub Reads : Result ScriptView ScriptStop → Result ScriptView (ℕ × ScriptKind) → Type 0
+Reads (Ok script) defined = defined ≡ Ok script
+Reads (Err (Refused line kind)) defined = defined ≡ Err (line, kind)
+Reads (Err NoMemory) defined = Unit {0}

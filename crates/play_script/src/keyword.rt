@@ -1,11 +1,16 @@
-//! The first words of lines.
+//! The first words of lines, and how many values stand behind them.
 
 ghost use Rattle.std.specs.Prelude.{◌≡◌};
-ghost use Rattle.play_script.specs.Rows.{keyword_of};
+ghost use Rattle.line_texts.specs.Rows.{rows_in};
+ghost use Rattle.play_script.specs.Rows.{rows_of};
 
-// The first word of a line that gives something.
+use crate::script::Version;
+use line_texts::{Counts, Row};
+
+/// What the first word of a line says.
 #[derive(Debug, Clone, Copy, PartialEq, Eq)]
 pub(crate) enum Keyword {
+    Script,
     Clock,
     Args,
     Input,
@@ -19,28 +24,52 @@ pub(crate) enum Keyword {
     Release,
     Scroll,
     Shot,
+    Expect,
 }
 
-// The keyword that a word is.
-#[tactic(auto, unfolding(crate::specs::Rows::keyword_of))]
-pub(crate) fn keyword_of(name: &[u8]) -> Option<Keyword>
-    ensures { result ≡ keyword_of name.now }
+/// The lines of version 1.
+pub(crate) static FIRST_ROWS: [Row<Keyword>; 13] = [
+    Row("clock", Counts::Exactly(2), Keyword::Clock),
+    Row("args", Counts::AtLeast(1), Keyword::Args),
+    Row("input", Counts::AtLeast(1), Keyword::Input),
+    Row("end", Counts::Exactly(0), Keyword::End),
+    Row("frame", Counts::Between(0, 1), Keyword::Frame),
+    Row("key", Counts::Exactly(1), Keyword::Key),
+    Row("down", Counts::Exactly(1), Keyword::Down),
+    Row("up", Counts::Exactly(1), Keyword::Up),
+    Row("mouse", Counts::Exactly(2), Keyword::Mouse),
+    Row("press", Counts::Exactly(1), Keyword::Press),
+    Row("release", Counts::Exactly(1), Keyword::Release),
+    Row("scroll", Counts::Exactly(2), Keyword::Scroll),
+    Row("shot", Counts::Exactly(0), Keyword::Shot),
+];
+
+/// The lines of version 2.
+pub(crate) static SECOND_ROWS: [Row<Keyword>; 15] = [
+    Row("script", Counts::Exactly(1), Keyword::Script),
+    Row("clock", Counts::Exactly(2), Keyword::Clock),
+    Row("args", Counts::AtLeast(1), Keyword::Args),
+    Row("input", Counts::AtLeast(1), Keyword::Input),
+    Row("end", Counts::Exactly(0), Keyword::End),
+    Row("frame", Counts::Between(0, 1), Keyword::Frame),
+    Row("key", Counts::Between(1, 2), Keyword::Key),
+    Row("down", Counts::Between(1, 2), Keyword::Down),
+    Row("up", Counts::Between(1, 2), Keyword::Up),
+    Row("mouse", Counts::Exactly(2), Keyword::Mouse),
+    Row("press", Counts::Exactly(1), Keyword::Press),
+    Row("release", Counts::Exactly(1), Keyword::Release),
+    Row("scroll", Counts::Exactly(2), Keyword::Scroll),
+    Row("shot", Counts::Exactly(0), Keyword::Shot),
+    Row("expect", Counts::Exactly(2), Keyword::Expect),
+];
+
+// The lines of a version.
+#[tactic(auto, unfolding(crate::specs::Rows::rows_of))]
+pub(crate) fn rows_of(version: Version) -> &'static [Row<Keyword>]
+    ensures { rows_in result.now ≡ rows_of version }
 {
-    let keyword = match name {
-        b"clock" => Keyword::Clock,
-        b"args" => Keyword::Args,
-        b"input" => Keyword::Input,
-        b"end" => Keyword::End,
-        b"frame" => Keyword::Frame,
-        b"key" => Keyword::Key,
-        b"down" => Keyword::Down,
-        b"up" => Keyword::Up,
-        b"mouse" => Keyword::Mouse,
-        b"press" => Keyword::Press,
-        b"release" => Keyword::Release,
-        b"scroll" => Keyword::Scroll,
-        b"shot" => Keyword::Shot,
-        _ => return None,
-    };
-    Some(keyword)
+    match version {
+        Version::First => FIRST_ROWS.as_slice(),
+        Version::Second => SECOND_ROWS.as_slice(),
+    }
 }

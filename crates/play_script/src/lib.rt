@@ -9,10 +9,7 @@ mod script;
 #[cfg(test)]
 mod tests;
 mod values;
-mod words;
 
-pub use printing::{print_script, printed_scripts_are_read};
+pub use printing::{print_script, printed_scripts_are_read, version_2_reads_version_1};
 pub use reading::read_script;
-pub use script::{Clock, Event, Events, Script, ScriptKind, ScriptStop};
-pub use values::number_within;
-pub use words::{first_word, line_at};
+pub use script::{Clock, Event, Events, Script, ScriptKind, ScriptStop, Version};

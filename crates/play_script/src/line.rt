@@ -1,22 +1,26 @@
 //! What a line means.
 
-ghost use Rattle.std.specs.Prelude.{◌≡◌, ◌∷◌, [], ◌<◌, length, MatchResult};
-ghost use Rattle.play_script.specs.Held.{bytes_in};
-ghost use Rattle.play_script.specs.Lines.{words_of};
-ghost use Rattle.play_script.specs.Rows.{bare as bare_row, event, meaning_of, read_row, row_of};
-ghost use Rattle.play_script.specs.Steps.{shown, Fits, FitsLine, FitsTexts, IsMiscounted};
-ghost use Rattle.play_script.specs.Steps.{IsFixed, IsInput, IsOneValue};
-ghost use Rattle.play_script.specs.declared.keyword.Keyword.TheVariants as word;
+ghost use Rattle.std.specs.Prelude.{◌≡◌, ◌≢◌, ℕ, length, option_map, IfOk, IfSome};
+ghost use Rattle.line_texts.specs.Lines.{words_of};
+ghost use Rattle.input_ports.specs.declared.Input.{Input as DeviceInput};
+ghost use Rattle.play_script.specs.Gathered.{shown, FitsLine, IsRead};
+ghost use Rattle.play_script.specs.Held.{bytes_in, texts_if};
+ghost use Rattle.play_script.specs.Limits.{AreTexts, IsBit, IsEvent, IsFurther};
+ghost use Rattle.play_script.specs.Rows.{made_of, line_of, device_of, version_of, clock_of, keys_of, expect_of, further, buttons_of, down_of, up_of, mouse_buttons_of, mouse_of, scroll_of};
+ghost use Rattle.play_script.specs.Values.{one_or, texts_of};
+ghost use Rattle.play_script.specs.declared.line.Meaning.TheVariants as read;
 ghost use Rattle.play_script.specs.declared.script.Event.TheVariants.{Device};
+ghost use Rattle.play_script.specs.declared.script.Version.{Version};
+ghost use Rattle.play_script.specs.declared.script.Version.TheVariants.{First as first};
 
-use crate::keyword::{Keyword, keyword_of};
-use crate::script::{Clock, Event, LineStop, ScriptKind};
-use crate::values::{
-    begins_with, button_of, byte_of, integer_within, mouse_button_of, number_within, text_of,
-};
-use crate::words::first_word;
+use crate::keyword::{Keyword, rows_of};
+use crate::script::{Clock, Event, LineStop, ScriptKind, Version};
+use crate::values::{button_of, mouse_button_of, one_or, text_of};
 use input_ports::Input;
-use std::alloc::Global;
+use line_texts::{
+    LineFault, begins_with, byte_of, first_word, integer_within, keyword_line, number_within,
+};
+use std::alloc::{AllocError, Global};
 use uxn_io::Bytes;
 
 /// The greatest seconds of a script's clock.
@@ -25,217 +29,261 @@ const LAST_SECOND: u64 = 253_370_000_000;
 /// The greatest offset of a script's clock, in minutes, to either side of UTC.
 const LAST_OFFSET: u64 = 840;
 
-/// The most frames of one line.
-const MOST_FRAMES: u64 = 1_000_000;
+/// The most frames or keys of one line.
+const MOST_TIMES: u64 = 1_000_000;
+
+/// The players of a controller.
+const PLAYERS: u64 = 4;
 
 // What a line means.
 #[derive(Debug, Drop)]
 pub(crate) enum Meaning {
-    Nothing,
-    Clock(Clock),
+    VersionLine,
+    ClockLine(Clock),
     Arguments(Vec<Bytes>),
     Inputs(Vec<Bytes>),
-    Frames(u32),
-    One(Event),
+    Times(Event, u32),
 }
 
-// What a line means, or what is wrong with it by itself.
-#[tactic(auto, unfolding(crate::specs::Rows::meaning_of))]
-pub(crate) fn meaning_of(alloc: Global, line: &[u8]) -> Result<Meaning, LineStop>
-    ensures { FitsLine shown result (meaning_of (words_of line.now)) }
+impl From<LineFault> for ScriptKind {
+    ghost use Rattle.play_script.specs.Rows.{kind_of};
+
+    ghost from_gives = { λ fault kind. kind ≡ kind_of fault };
+
+    fn from(fault: LineFault) -> ScriptKind {
+        match fault {
+            LineFault::Unknown => ScriptKind::Unknown,
+            LineFault::Missing => ScriptKind::Missing,
+            LineFault::Extra => ScriptKind::Extra,
+        }
+    }
+}
+
+// What a line of a version means, if it has words, or what is wrong with it by itself.
+#[tactic(auto, unfolding(crate::specs::Rows::line_of))]
+pub(crate) fn line_of(
+    alloc: Global,
+    version: Version,
+    line: &[u8],
+) -> Result<Option<Meaning>, LineStop>
+    ensures fits { FitsLine result (line_of version (words_of line.now)) }
+    ensures limits { IfOk result (λ given. IfSome given (IsRead version (length line.now))) }
 {
     let Some((name, values)) = first_word(line) else {
-        return Ok(Meaning::Nothing);
+        return Ok(None);
     };
     if begins_with(b'#', name) {
-        return Ok(Meaning::Nothing);
+        return Ok(None);
     }
-    match keyword_of(name) {
-        Some(keyword) => read_values(alloc, keyword, values),
-        None => Err(LineStop::Faulty(ScriptKind::Unknown)),
+    match keyword_line(rows_of(version), name, values) {
+        Ok(keyword) => match made_of(alloc, version, keyword, values)? {
+            Some(meaning) => Ok(Some(meaning)),
+            None => Err(LineStop::Faulty(ScriptKind::BadValue)),
+        },
+        Err(fault) => Err(LineStop::Faulty(ScriptKind::from(fault))),
     }
 }
 
-// The values behind a keyword.
-#[tactic(auto, unfolding(crate::specs::Rows::row_of))]
-fn read_values(alloc: Global, keyword: Keyword, values: &[u8]) -> Result<Meaning, LineStop>
-    ensures { FitsLine shown result (read_row (row_of keyword) (words_of values.now)) }
+// What the values behind a first word make, as many as it takes; nothing where one is not of its form or range.
+#[tactic(auto, unfolding(crate::specs::Rows::made_of))]
+fn made_of(
+    alloc: Global,
+    version: Version,
+    keyword: Keyword,
+    values: &[u8],
+) -> Result<Option<Meaning>, AllocError>
+    ensures made { IfOk result (λ made. option_map shown made ≡ made_of keyword version (words_of values.now)) }
+    ensures limits { IfOk result (λ made. IfSome made (IsRead version (length values.now))) }
 {
     match keyword {
-        Keyword::Args => match texts(alloc, values) {
-            Ok(texts) => Ok(Meaning::Arguments(texts)),
-            Err(stop) => Err(stop),
+        Keyword::Script => Ok(version_of(version, values)),
+        Keyword::Clock => Ok(clock_of(values)),
+        Keyword::Args => match texts_of(alloc, values)? {
+            Some(texts) => Ok(Some(Meaning::Arguments(texts))),
+            None => Ok(None),
         },
-        Keyword::Input => match texts(alloc, values) {
-            Ok(texts) => Ok(Meaning::Inputs(texts)),
-            Err(stop) => Err(stop),
+        Keyword::Input => match texts_of(alloc, values)? {
+            Some(texts) => Ok(Some(Meaning::Inputs(texts))),
+            None => Ok(None),
         },
-        _ => match read_fixed(keyword, values) {
-            Ok(meaning) => Ok(meaning),
-            Err(kind) => Err(LineStop::Faulty(kind)),
+        Keyword::End => Ok(Some(Meaning::Times(Event::EndInput, 1))),
+        Keyword::Frame => match one_or(MOST_TIMES, values) {
+            Some(count) => Ok(Some(Meaning::Times(Event::Frame, count as u32))),
+            None => Ok(None),
+        },
+        Keyword::Key => Ok(keys_of(version, values)),
+        Keyword::Shot => Ok(Some(Meaning::Times(Event::Shot, 1))),
+        Keyword::Expect => Ok(expect_of(version, values)),
+        _ => match device_of(keyword, version, values) {
+            Some(input) => Ok(Some(Meaning::Times(Event::Device(input), 1))),
+            None => Ok(None),
         },
     }
 }
 
-// The values behind a keyword that takes no texts.
-#[tactic(auto, unfolding(crate::specs::Rows::row_of))]
-fn read_fixed(keyword: Keyword, values: &[u8]) -> Result<Meaning, ScriptKind>
-    requires { IsFixed keyword }
-    ensures { Fits shown result (read_row (row_of keyword) (words_of values.now)) }
+// What the player does by a keyword, if it is that of an input.
+#[tactic(auto, unfolding(crate::specs::Rows::device_of))]
+fn device_of(keyword: Keyword, version: Version, values: &[u8]) -> Option<Input>
+    ensures input { result ≡ device_of keyword version (words_of values.now) }
+    ensures limits { IfSome result (λ input. IsEvent version (Device input)) }
 {
     match keyword {
-        Keyword::Clock => clock(values),
-        Keyword::Frame => frames(values),
-        Keyword::End => bare(values, Event::EndInput),
-        Keyword::Shot => bare(values, Event::Shot),
-        _ => match input(keyword, values) {
-            Ok(input) => Ok(Meaning::One(Event::Device(input))),
-            Err(kind) => Err(kind),
+        Keyword::Down => down_of(version, values),
+        Keyword::Up => up_of(version, values),
+        Keyword::Mouse => mouse_of(values),
+        Keyword::Press => Some(Input::Press(mouse_button_in(values)?)),
+        Keyword::Release => Some(Input::Release(mouse_button_in(values)?)),
+        Keyword::Scroll => scroll_of(values),
+        _ => None,
+    }
+}
+
+#[tactic(auto, unfolding(crate::specs::Rows::version_of))]
+fn version_of(version: Version, values: &[u8]) -> Option<Meaning>
+    ensures made { option_map shown result ≡ version_of version (words_of values.now) }
+    ensures limits { IfSome result (λ m. m ≡ read.VersionLine) }
+{
+    match version {
+        Version::First => None,
+        Version::Second => match first_word(values)?.0 {
+            b"2" => Some(Meaning::VersionLine),
+            _ => None,
         },
     }
 }
 
-#[tactic(auto, unfolding(crate::specs::Rows::row_of))]
-fn clock(values: &[u8]) -> Result<Meaning, ScriptKind>
-    ensures { Fits shown result (read_row (row_of word.Clock) (words_of values.now)) }
+#[tactic(auto, unfolding(crate::specs::Rows::clock_of))]
+fn clock_of(values: &[u8]) -> Option<Meaning>
+    ensures made { option_map shown result ≡ clock_of (words_of values.now) }
+    ensures limits { IfSome result (IsRead first 0) }
 {
-    let (seconds, offset) = two_values(values)?;
-    match (
-        number_within(0, LAST_SECOND, seconds),
-        integer_within(LAST_OFFSET, LAST_OFFSET, offset),
-    ) {
-        (Some(seconds), Some(offset)) => Ok(Meaning::Clock(Clock {
-            seconds: seconds as i64,
-            offset: offset as i32,
-        })),
-        _ => Err(ScriptKind::BadValue),
+    let (seconds, more) = first_word(values)?;
+    let (offset, _) = first_word(more)?;
+    let seconds = number_within(0, LAST_SECOND, seconds)? as i64;
+    let offset = integer_within(LAST_OFFSET, LAST_OFFSET, offset)? as i32;
+    Some(Meaning::ClockLine(Clock { seconds, offset }))
+}
+
+#[tactic(auto, unfolding(crate::specs::Rows::keys_of))]
+fn keys_of(version: Version, values: &[u8]) -> Option<Meaning>
+    ensures made { option_map shown result ≡ keys_of version (words_of values.now) }
+    ensures limits { IfSome result (IsRead version 0) }
+{
+    let (word, more) = first_word(values)?;
+    let byte = byte_of(word)?;
+    let count = count_of(version, more)?;
+    Some(Meaning::Times(Event::Device(Input::Key(byte)), count))
+}
+
+#[tactic(auto, unfolding(crate::specs::Rows::expect_of))]
+fn expect_of(version: Version, values: &[u8]) -> Option<Meaning>
+    ensures made { option_map shown result ≡ expect_of version (words_of values.now) }
+    ensures limits { IfSome result (IsRead version 0) }
+{
+    match version {
+        Version::First => None,
+        Version::Second => {
+            let (port, more) = first_word(values)?;
+            let (byte, _) = first_word(more)?;
+            Some(Meaning::Times(Event::Expect(byte_of(port)?, byte_of(byte)?), 1))
+        }
     }
 }
 
-#[tactic(auto, unfolding(crate::specs::Rows::row_of))]
-fn frames(values: &[u8]) -> Result<Meaning, ScriptKind>
-    ensures { Fits shown result (read_row (row_of word.Frame) (words_of values.now)) }
+// How often a key is struck, which version 1 does not say.
+#[tactic(auto, unfolding(crate::specs::Values::one_or))]
+fn count_of(version: Version, values: &[u8]) -> Option<u32>
+    ensures { result ≡ one_or 1000000 (further version (words_of values.now)) }
 {
-    if first_word(values).is_none() {
-        return Ok(Meaning::Frames(1));
-    }
-    let count = one_value(values)?;
-    match number_within(1, MOST_FRAMES, count) {
-        Some(count) => Ok(Meaning::Frames(count as u32)),
-        None => Err(ScriptKind::BadValue),
+    match version {
+        Version::First => Some(1),
+        Version::Second => Some(one_or(MOST_TIMES, values)? as u32),
     }
 }
 
-// An event whose line has one word.
-fn bare(values: &[u8], given: Event) -> Result<Meaning, ScriptKind>
-    ensures { Fits shown result (read_row (bare_row (event given)) (words_of values.now)) }
+// The number of a player, which version 1 does not say.
+#[tactic(auto, unfolding(crate::specs::Values::one_or))]
+fn player_of(version: Version, values: &[u8]) -> Option<u8>
+    ensures number { result ≡ one_or 4 (further version (words_of values.now)) }
+    ensures limits { IfSome result (λ player. player ≢ 1 → IsFurther version player) }
 {
-    if first_word(values).is_some() {
-        return Err(ScriptKind::Extra);
-    }
-    Ok(Meaning::One(given))
-}
-
-// What a player does.
-#[tactic(auto, unfolding(crate::specs::Rows::row_of))]
-fn input(keyword: Keyword, values: &[u8]) -> Result<Input, ScriptKind>
-    requires { IsInput keyword }
-    ensures { Fits (λ given. event (Device given)) result (read_row (row_of keyword) (words_of values.now)) }
-{
-    match keyword {
-        Keyword::Mouse => mouse(values),
-        Keyword::Scroll => scroll(values),
-        _ => match one_value(values) {
-            Ok(value) => one_value_input(keyword, value),
-            Err(kind) => Err(kind),
-        },
+    match version {
+        Version::First => Some(1),
+        Version::Second => Some(one_or(PLAYERS, values)? as u8),
     }
 }
 
-// What a player does with a key or a button.
-#[tactic(auto, unfolding(crate::specs::Rows::row_of))]
-fn one_value_input(keyword: Keyword, value: &[u8]) -> Result<Input, ScriptKind>
-    requires { IsOneValue keyword }
-    ensures { Fits (λ given. event (Device given)) result (read_row (row_of keyword) (value.now ∷ [])) }
+#[tactic(auto, unfolding(crate::specs::Rows::buttons_of))]
+fn down_of(version: Version, values: &[u8]) -> Option<Input>
+    ensures input { result ≡ buttons_of down_of version (words_of values.now) }
+    ensures limits { IfSome result (λ input. IsEvent version (Device input)) }
 {
-    let input = match keyword {
-        Keyword::Key => Input::Key(byte_of(value).ok_or(ScriptKind::BadValue)?),
-        Keyword::Down => Input::Down(button_of(value).ok_or(ScriptKind::BadValue)?),
-        Keyword::Up => Input::Up(button_of(value).ok_or(ScriptKind::BadValue)?),
-        Keyword::Press => Input::Press(mouse_button_of(value).ok_or(ScriptKind::BadValue)?),
-        _ => Input::Release(mouse_button_of(value).ok_or(ScriptKind::BadValue)?),
-    };
-    Ok(input)
-}
-
-#[tactic(auto, unfolding(crate::specs::Rows::row_of))]
-fn mouse(values: &[u8]) -> Result<Input, ScriptKind>
-    ensures { Fits (λ given. event (Device given)) result (read_row (row_of word.Mouse) (words_of values.now)) }
-{
-    let (x, y) = two_values(values)?;
-    match (number_within(0, 65535, x), number_within(0, 65535, y)) {
-        (Some(x), Some(y)) => Ok(Input::Mouse(x as u16, y as u16)),
-        _ => Err(ScriptKind::BadValue),
+    let (word, more) = first_word(values)?;
+    let mask = button_of(word)?;
+    match player_of(version, more)? {
+        1 => Some(Input::Down(mask)),
+        player => Some(Input::DownOf(player, mask)),
     }
 }
 
-#[tactic(auto, unfolding(crate::specs::Rows::row_of))]
-fn scroll(values: &[u8]) -> Result<Input, ScriptKind>
-    ensures { Fits (λ given. event (Device given)) result (read_row (row_of word.Scroll) (words_of values.now)) }
+#[tactic(auto, unfolding(crate::specs::Rows::buttons_of))]
+fn up_of(version: Version, values: &[u8]) -> Option<Input>
+    ensures input { result ≡ buttons_of up_of version (words_of values.now) }
+    ensures limits { IfSome result (λ input. IsEvent version (Device input)) }
 {
-    let (x, y) = two_values(values)?;
-    match (
-        integer_within(32768, 32767, x),
-        integer_within(32768, 32767, y),
-    ) {
-        (Some(x), Some(y)) => Ok(Input::Scroll(x as i16, y as i16)),
-        _ => Err(ScriptKind::BadValue),
+    let (word, more) = first_word(values)?;
+    let mask = button_of(word)?;
+    match player_of(version, more)? {
+        1 => Some(Input::Up(mask)),
+        player => Some(Input::UpOf(player, mask)),
     }
 }
 
-// The one value of a line.
-fn one_value(values: &[u8]) -> Result<&[u8], ScriptKind>
-    ensures { MatchResult result (λ value. words_of values.now ≡ value.now ∷ [])
-        (IsMiscounted 1 1 (length (words_of values.now))) }
+#[tactic(auto, unfolding(crate::specs::Rows::mouse_buttons_of))]
+fn mouse_button_in(values: &[u8]) -> Option<u8>
+    ensures bit { IfSome result IsBit }
+    ensures input { (make : ℕ → DeviceInput) → option_map make result ≡ mouse_buttons_of make (words_of values.now) }
 {
-    let Some((value, more)) = first_word(values) else {
-        return Err(ScriptKind::Missing);
-    };
-    if first_word(more).is_some() {
-        return Err(ScriptKind::Extra);
-    }
-    Ok(value)
+    mouse_button_of(first_word(values)?.0)
 }
 
-// The two values of a line.
-fn two_values(values: &[u8]) -> Result<(&[u8], &[u8]), ScriptKind>
-    ensures { MatchResult result (λ both. words_of values.now ≡ both.0.now ∷ both.1.now ∷ [])
-        (IsMiscounted 2 2 (length (words_of values.now))) }
+#[tactic(auto, unfolding(crate::specs::Rows::mouse_of))]
+fn mouse_of(values: &[u8]) -> Option<Input>
+    ensures input { result ≡ mouse_of (words_of values.now) }
+    ensures limits { (version : Version) → IfSome result (λ input. IsEvent version (Device input)) }
 {
-    let Some((first, more)) = first_word(values) else {
-        return Err(ScriptKind::Missing);
-    };
-    match one_value(more) {
-        Ok(second) => Ok((first, second)),
-        Err(kind) => Err(kind),
-    }
+    let (x, more) = first_word(values)?;
+    let (y, _) = first_word(more)?;
+    let x = number_within(0, 65535, x)? as u16;
+    let y = number_within(0, 65535, y)? as u16;
+    Some(Input::Mouse(x, y))
 }
 
-// The texts of a line, at least one.
-fn texts(alloc: Global, values: &[u8]) -> Result<Vec<Bytes>, LineStop>
-    ensures { FitsTexts (λ texts. bytes_in texts.items) result (words_of values.now) }
+#[tactic(auto, unfolding(crate::specs::Rows::scroll_of))]
+fn scroll_of(values: &[u8]) -> Option<Input>
+    ensures input { result ≡ scroll_of (words_of values.now) }
+    ensures limits { (version : Version) → IfSome result (λ input. IsEvent version (Device input)) }
+{
+    let (x, more) = first_word(values)?;
+    let (y, _) = first_word(more)?;
+    let x = integer_within(32768, 32767, x)? as i16;
+    let y = integer_within(32768, 32767, y)? as i16;
+    Some(Input::Scroll(x, y))
+}
+
+// The texts of a line, if each of its words is one.
+fn texts_of(alloc: Global, values: &[u8]) -> Result<Option<Vec<Bytes>>, AllocError>
+    ensures texts { IfOk result (λ texts. texts_if texts ≡ texts_of (words_of values.now)) }
+    ensures limits { IfOk result (λ texts. IfSome texts (λ each. AreTexts (length values.now) (bytes_in each.items))) }
 {
     let mut texts = Vec::new(alloc);
     let mut left = values;
     while let Some((word, more)) = first_word(left) {
         match text_of(alloc, word)? {
             Some(text) => texts.push(text)?,
-            None => return Err(LineStop::Faulty(ScriptKind::BadValue)),
+            None => return Ok(None),
         }
         left = more;
     }
-    if texts.is_empty() {
-        return Err(LineStop::Faulty(ScriptKind::Missing));
-    }
-    Ok(texts)
+    Ok(Some(texts))
 }

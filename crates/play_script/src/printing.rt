@@ -1,13 +1,16 @@
 //! Printing a script.
 
-ghost use Rattle.std.specs.Prelude.{◌≡◌, ◌≤◌, [], ◌∷◌, ◌++◌, length, decimal, Ok, OnOk, IfOk};
+ghost use Rattle.std.specs.Prelude.{◌≡◌, ◌≤◌, ℕ, List, [], ◌∷◌, ◌++◌, codes, length, decimal, Ok, OnOk, IfOk};
 ghost use Rattle.play_script.specs.Held.{bytes_in};
 ghost use Rattle.play_script.specs.Limits.{IsScript};
-ghost use Rattle.play_script.specs.Scripts.{ScriptView, script_of};
+ghost use Rattle.play_script.specs.Scripts.{ScriptView, script_of, version_number};
+ghost use Rattle.play_script.specs.declared.script.Version.{Version};
+ghost use Rattle.play_script.specs.declared.script.Version.TheVariants.{First, Second};
 ghost use Rattle.std.specs.List.{flat_map};
 ghost use Rattle.std.specs.Fmt.{signed_decimal};
 ghost use Rattle.hex.specs.Hex.{encode_lower};
-ghost use Rattle.play_script.specs.PlainText.{argument_words, button_name, clock_words, event_words, line_text, mouse_button_number, plain_text, text_word};
+ghost use Rattle.play_script.specs.PlainText.{argument_words, clock_words, event_words, line_text, name_in, plain_text, text_word, version_words};
+ghost use Rattle.play_script.specs.Values.{buttons, mouse_buttons};
 ghost use Rattle.play_script.specs.declared.script.Event.TheVariants.{Device};
 
 use crate::script::{Clock, Event, Script};
@@ -15,17 +18,29 @@ use input_ports::Input;
 use std::alloc::{AllocError, Global};
 use uxn_io::{Bytes, decimal};
 
-/// The plain text of a script: a line for the clock, one for the arguments if there are any, and one for each event.
+/// The plain text of a script: `script 2` where that is its version, a line for the clock, one for the arguments if there are any, and one for each event.
 /// Where it has at most 4,194,304 bytes, reading it gives an equal script.
 #[tactic(auto, using(crate::proofs::LineTexts::plain_parts))]
 pub fn print_script(alloc: Global, script: &Script) -> Result<Vec<u8>, AllocError>
     ensures { IfOk result (λ text. text.items ≡ plain_text script.now) }
 {
     let mut text = Vec::new(alloc);
+    put_version(&mut text, script.version())?;
     put_clock(&mut text, script.clock())?;
     put_arguments(alloc, &mut text, script.args())?;
     put_events(&mut text, script.events())?;
     Ok(text)
+}
+
+// Puts the line of version 2.
+fn put_version(text: &mut Vec<u8>, version: u8) -> Result<(), AllocError>
+    ensures { OnOk result ((number : Version) → version ≡ version_number number
+        → text.new.items ≡ text.old.items ++ flat_map line_text (version_words number)) }
+{
+    if version == 2 {
+        text.extend_from_slice(b"script 2\n".as_slice())?;
+    }
+    Ok(())
 }
 
 // Puts the line of the clock.
@@ -95,6 +110,12 @@ fn put_event(text: &mut Vec<u8>, event: &Event) -> Result<(), AllocError>
         Event::Frame => text.extend_from_slice(b"frame\n".as_slice()),
         Event::Device(input) => put_input(text, &input),
         Event::Shot => text.extend_from_slice(b"shot\n".as_slice()),
+        Event::Expect(port, byte) => put_both(
+            text,
+            b"expect".as_slice(),
+            pair(port).as_slice(),
+            pair(byte).as_slice(),
+        ),
     }
 }
 
@@ -107,10 +128,21 @@ fn put_input(text: &mut Vec<u8>, input: &Input) -> Result<(), AllocError>
         Input::Down(mask) => put_one(text, b"down".as_slice(), button_name(mask)),
         Input::Up(mask) => put_one(text, b"up".as_slice(), button_name(mask)),
         Input::Mouse(x, y) => put_two(text, b"mouse".as_slice(), i64::from(x), i64::from(y)),
-        Input::Press(mask) => put_number(text, b"press".as_slice(), mouse_button_number(mask)),
-        Input::Release(mask) => put_number(text, b"release".as_slice(), mouse_button_number(mask)),
+        Input::Press(mask) => put_one(text, b"press".as_slice(), mouse_button_name(mask)),
+        Input::Release(mask) => put_one(text, b"release".as_slice(), mouse_button_name(mask)),
         Input::Scroll(x, y) => put_two(text, b"scroll".as_slice(), i64::from(x), i64::from(y)),
+        Input::DownOf(player, mask) => put_player(text, b"down".as_slice(), mask, player),
+        Input::UpOf(player, mask) => put_player(text, b"up".as_slice(), mask, player),
     }
+}
+
+// Puts a line of a player's button.
+fn put_player(text: &mut Vec<u8>, name: &[u8], mask: u8, player: u8) -> Result<(), AllocError>
+    ensures { OnOk result (text.new.items ≡ text.old.items
+        ++ line_text (name.now ∷ name_in buttons mask ∷ decimal player ∷ [])) }
+{
+    let player = decimal(u64::from(player));
+    put_both(text, name, button_name(mask), player.as_slice())
 }
 
 // Puts a line of a word and a value.
@@ -123,18 +155,32 @@ fn put_one(text: &mut Vec<u8>, name: &[u8], value: &[u8]) -> Result<(), AllocErr
     text.extend_from_slice(b"\n".as_slice())
 }
 
-fn put_byte(text: &mut Vec<u8>, name: &[u8], byte: u8) -> Result<(), AllocError>
-    ensures { OnOk result (text.new.items ≡ text.old.items ++ line_text (name.now ∷ encode_lower (byte ∷ []) ∷ [])) }
+// Puts a line of a word and two values.
+#[tactic(auto, using(crate::proofs::LineTexts::three_words))]
+fn put_both(text: &mut Vec<u8>, name: &[u8], first: &[u8], second: &[u8]) -> Result<(), AllocError>
+    ensures { OnOk result (text.new.items ≡ text.old.items ++ line_text (name.now ∷ first.now ∷ second.now ∷ [])) }
+{
+    text.extend_from_slice(name)?;
+    text.extend_from_slice(b" ".as_slice())?;
+    text.extend_from_slice(first)?;
+    text.extend_from_slice(b" ".as_slice())?;
+    text.extend_from_slice(second)?;
+    text.extend_from_slice(b"\n".as_slice())
+}
+
+// The two digits of a byte.
+fn pair(byte: u8) -> [u8; 2]
+    ensures { result ≡ encode_lower (byte ∷ []) }
 {
     let mut pair = [0; 2];
     let _ = hex::encode_to_slice([byte].as_slice(), &mut pair);
-    put_one(text, name, pair.as_slice())
+    pair
 }
 
-fn put_number(text: &mut Vec<u8>, name: &[u8], number: u8) -> Result<(), AllocError>
-    ensures { OnOk result (text.new.items ≡ text.old.items ++ line_text (name.now ∷ decimal number ∷ [])) }
+fn put_byte(text: &mut Vec<u8>, name: &[u8], byte: u8) -> Result<(), AllocError>
+    ensures { OnOk result (text.new.items ≡ text.old.items ++ line_text (name.now ∷ encode_lower (byte ∷ []) ∷ [])) }
 {
-    put_one(text, name, decimal(u64::from(number)).as_slice())
+    put_one(text, name, pair(byte).as_slice())
 }
 
 // Puts a line of a word and two numbers.
@@ -161,9 +207,9 @@ fn put_signed(text: &mut Vec<u8>, number: i64) -> Result<(), AllocError>
 }
 
 // The name of a controller's button.
-#[tactic(auto, unfolding(crate::specs::PlainText::button_name))]
+#[tactic(auto, unfolding(crate::specs::PlainText::name_in))]
 fn button_name(mask: u8) -> &'static [u8]
-    ensures { result.now ≡ button_name mask }
+    ensures { result.now ≡ name_in buttons mask }
 {
     match mask {
         0x01 => b"a".as_slice(),
@@ -179,24 +225,30 @@ fn button_name(mask: u8) -> &'static [u8]
 }
 
 // The number of a mouse's button.
-#[tactic(auto, unfolding(crate::specs::PlainText::mouse_button_number))]
-fn mouse_button_number(mask: u8) -> u8
-    ensures { result ≡ mouse_button_number mask }
+#[tactic(auto, unfolding(crate::specs::PlainText::name_in))]
+fn mouse_button_name(mask: u8) -> &'static [u8]
+    ensures { result.now ≡ name_in mouse_buttons mask }
 {
     match mask {
-        0x01 => 1,
-        0x02 => 2,
-        0x04 => 3,
-        0x08 => 4,
-        0x10 => 5,
-        0x20 => 6,
-        0x40 => 7,
-        0x80 => 8,
-        _ => 0,
+        0x01 => b"1".as_slice(),
+        0x02 => b"2".as_slice(),
+        0x04 => b"3".as_slice(),
+        0x08 => b"4".as_slice(),
+        0x10 => b"5".as_slice(),
+        0x20 => b"6".as_slice(),
+        0x40 => b"7".as_slice(),
+        0x80 => b"8".as_slice(),
+        _ => b"".as_slice(),
     }
 }
 
 /// The plain text of a script reads as an equal script, where it is not too long.
 pub fn printed_scripts_are_read()
     ensures { (script : ScriptView) → IsScript script → length (plain_text script) ≤ 4194304 → script_of (plain_text script) ≡ Ok script }
+{}
+
+/// A text of version 1 is read by version 2 too, with the same clock, arguments and events, where `script 2` stands before it.
+pub fn version_2_reads_version_1()
+    ensures { (text : List ℕ) (script : ScriptView) → length text ≤ 4194295 → script_of text ≡ Ok script → script.version ≡ First
+        → script_of (codes "script 2" ++ 10 ∷ text) ≡ Ok (record script { version = Second }) }
 {}

@@ -1,17 +1,17 @@
 //! Reading a script.
 
-ghost use Rattle.std.specs.Prelude.{◌≡◌, ◌+◌, ◌≤◌, ◌++◌, length, map, nat_le, OnOk};
+ghost use Rattle.std.specs.Prelude.{◌≡◌, ◌+◌, ◌≤◌, ◌++◌, length, map, nat_le, IfOk, OnOk};
 ghost use Rattle.std.specs.List.{sum_by};
+ghost use Rattle.line_texts.specs.Lines.{words_of, lines_of};
 ghost use Rattle.play_script.specs.Held.{bytes_in};
 ghost use Rattle.play_script.specs.Rows.{inputs_of};
-ghost use Rattle.play_script.specs.Lines.{words_of};
-ghost use Rattle.play_script.specs.Scripts.{script_of};
-ghost use Rattle.play_script.specs.Steps.{Reads, at_line};
+ghost use Rattle.play_script.specs.Scripts.{script_of, version_at, version_in, Reads};
+ghost use Rattle.play_script.specs.Gathered.{at_line};
 ghost use Rattle.play_script.specs.declared.script.Event.TheVariants.{Input};
 
-use crate::line::{Meaning, meaning_of};
-use crate::script::{Clock, Event, Events, LineStop, Script, ScriptKind, ScriptStop};
-use crate::words::line_at;
+use crate::line::{Meaning, line_of};
+use crate::script::{Clock, Event, Events, LineStop, Script, ScriptKind, ScriptStop, Version};
+use line_texts::{Lines, begins_with, first_word};
 use std::alloc::{AllocError, Global};
 use std::marker::Model;
 use uxn_io::Bytes;
@@ -34,19 +34,43 @@ pub fn read_script(alloc: Global, text: &[u8]) -> Result<Script, ScriptStop>
             kind: ScriptKind::LongScript,
         });
     }
-    let mut gathered = Gathered::new(alloc);
-    let mut number = 0;
-    let mut start = 0;
-    while start <= text.len() {
-        let line = line_at(text, start);
-        number += 1;
+    let mut gathered = Gathered::new(alloc, version_of(text));
+    let mut lines = Lines::new(text);
+    while let Some(line) = lines.next_line() {
         match gathered.take_line(alloc, line) {
             Ok(()) => {}
-            Err(stop) => return Err(at_line(number, stop)),
+            Err(stop) => return Err(at_line(lines.number(), stop)),
         }
-        start += line.len() + 1;
     }
     Ok(gathered.into_script(alloc))
+}
+
+// The version of a script: the first word of its first line with words tells it.
+fn version_of(text: &[u8]) -> Version
+    requires { length text.now ≤ 4194304 }
+    ensures { result ≡ version_in (lines_of text.now) }
+{
+    let mut lines = Lines::new(text);
+    while let Some(line) = lines.next_line() {
+        if let Some(version) = version_at(line) {
+            return version;
+        }
+    }
+    Version::First
+}
+
+// The version that a line with words tells, where it is the first.
+fn version_at(line: &[u8]) -> Option<Version>
+    ensures { result ≡ version_at (words_of line.now) }
+{
+    let (name, _) = first_word(line)?;
+    if begins_with(b'#', name) {
+        return None;
+    }
+    match name {
+        b"script" => Some(Version::Second),
+        _ => Some(Version::First),
+    }
 }
 
 // What stops a script whose line stops.
@@ -62,6 +86,8 @@ fn at_line(line: u32, stop: LineStop) -> ScriptStop
 // What the lines so far gave.
 #[derive(Drop)]
 struct Gathered {
+    version: Version,
+    begun: bool,
     clock: Option<Clock>,
     arguments: Option<Vec<Bytes>>,
     events: Vec<Event>,
@@ -71,32 +97,42 @@ impl Model for Gathered {
     ghost use Rattle.std.specs.Prelude.{◌≤◌, length};
     ghost use Rattle.std.specs.Option.{option_map};
     ghost use Rattle.play_script.specs.Held.{bytes_in};
-    ghost use Rattle.play_script.specs.Gathered.{GatheredView};
+    ghost use Rattle.play_script.specs.Gathered.{GatheredView, IsGathered};
 
     ghost Value = { GatheredView };
 
     ghost view = { λ g. record {
+      version = g.version;
+      begun = g.begun;
       clock = g.clock;
       arguments = option_map (λ texts. bytes_in texts.items) g.arguments;
       events = g.events.items;
     } };
 
-    ghost invariant = { λ g. length g.events.items ≤ 1000000 };
+    ghost invariant = { λ g. IsGathered (record {
+      version = g.version;
+      begun = g.begun;
+      clock = g.clock;
+      arguments = option_map (λ texts. bytes_in texts.items) g.arguments;
+      events = g.events.items;
+    }) };
 }
 
 impl Gathered {
-    ghost use Rattle.std.specs.Prelude.{[], replicate};
-    ghost use Rattle.play_script.specs.Rows.{clock, arguments, events, meaning_of};
-    ghost use Rattle.play_script.specs.Gathered.{gathered, finished, Takes, TakesRead};
+    ghost use Rattle.std.specs.Prelude.{◌≤◌, [], length, replicate};
+    ghost use Rattle.line_texts.specs.Lines.{words_of};
+    ghost use Rattle.play_script.specs.Rows.{version, clock, arguments, events, line_of};
+    ghost use Rattle.play_script.specs.Gathered.{gathered, finished, shown, IsRead, Takes, TakesLine};
     ghost use Rattle.play_script.specs.Held.{bytes_in};
-    ghost use Rattle.play_script.specs.Limits.{IsScript};
-    ghost use Rattle.play_script.specs.Steps.{shown};
+    ghost use Rattle.play_script.specs.Limits.{AreTexts, IsEvent, IsTime};
 
     // What no lines give.
-    fn new(alloc: Global) -> Gathered
-        ensures { result ≡ gathered [] }
+    fn new(alloc: Global, version: Version) -> Gathered
+        ensures { result ≡ gathered version [] }
     {
         Gathered {
+            version,
+            begun: false,
             clock: None,
             arguments: None,
             events: Vec::new(alloc),
@@ -105,84 +141,108 @@ impl Gathered {
 
     // Takes what a line gives. Nothing is taken of a line with a fault.
     fn take_line(&mut self, alloc: Global, line: &[u8]) -> Result<(), LineStop>
-        ensures { TakesRead self.old (meaning_of (words_of line.now)) result self.new }
+        requires { length line.now ≤ 4194304 }
+        ensures { TakesLine self.old (line_of self.old.version (words_of line.now)) result self.new }
     {
-        match meaning_of(alloc, line) {
-            Ok(meaning) => self.take(meaning),
+        match line_of(alloc, self.version, line) {
+            Ok(None) => Ok(()),
+            Ok(Some(meaning)) => self.take(alloc, meaning),
             Err(stop) => Err(stop),
         }
     }
 
-    fn take(&mut self, meaning: Meaning) -> Result<(), LineStop>
+    fn take(&mut self, alloc: Global, meaning: Meaning) -> Result<(), LineStop>
+        requires { IsRead self.old.version 4194304 meaning }
         ensures { Takes self.old (shown meaning) result self.new }
     {
         match meaning {
-            Meaning::Nothing => Ok(()),
-            Meaning::Clock(clock) => self.take_clock(clock),
+            Meaning::VersionLine => self.take_version(),
+            Meaning::ClockLine(clock) => self.take_clock(clock),
             Meaning::Arguments(arguments) => self.take_arguments(arguments),
-            Meaning::Inputs(texts) => self.take_inputs(texts),
-            Meaning::Frames(count) => self.take_times(Event::Frame, count as usize),
-            Meaning::One(event) => self.take_times(event, 1),
+            Meaning::Inputs(texts) => self.take_inputs(alloc, texts),
+            Meaning::Times(event, count) => self.take_times(event, count as usize),
         }
     }
 
+    fn take_version(&mut self) -> Result<(), LineStop>
+        ensures { Takes self.old version result self.new }
+    {
+        if self.begun {
+            return Err(LineStop::Faulty(ScriptKind::Late));
+        }
+        self.begun = true;
+        Ok(())
+    }
+
     fn take_clock(&mut self, time: Clock) -> Result<(), LineStop>
+        requires { IsTime time }
         ensures { Takes self.old (clock time) result self.new }
     {
         if !self.events.is_empty() || self.clock.is_some() {
             return Err(LineStop::Faulty(ScriptKind::Late));
         }
+        self.begun = true;
         self.clock = Some(time);
         Ok(())
     }
 
     fn take_arguments(&mut self, texts: Vec<Bytes>) -> Result<(), LineStop>
+        requires { AreTexts 4194304 (bytes_in texts.items) }
         ensures { Takes self.old (arguments (bytes_in texts.items)) result self.new }
     {
         if !self.events.is_empty() || self.arguments.is_some() {
             return Err(LineStop::Faulty(ScriptKind::Late));
         }
+        self.begun = true;
         self.arguments = Some(texts);
         Ok(())
     }
 
     #[tactic(auto, using(crate::proofs::LineTexts::held_inputs_length))]
-    fn take_inputs(&mut self, texts: Vec<Bytes>) -> Result<(), LineStop>
+    fn take_inputs(&mut self, alloc: Global, texts: Vec<Bytes>) -> Result<(), LineStop>
+        requires { AreTexts 4194304 (bytes_in texts.items) }
         ensures { Takes self.old (events (inputs_of (bytes_in texts.items))) result self.new }
     {
         if !have_room(&texts, MOST_EVENTS - self.events.len()) {
             return Err(LineStop::Faulty(ScriptKind::ManyEvents));
         }
-        push_inputs(&mut self.events, &texts)?;
+        self.begun = true;
+        let given = inputs_of(alloc, &texts)?;
+        self.events.extend_from_slice(&given)?;
         Ok(())
     }
 
+    #[tactic(auto, using(crate::proofs::Limits::pushed_times))]
     fn take_times(&mut self, given: Event, count: usize) -> Result<(), LineStop>
+        requires { IsEvent self.old.version given }
         ensures { Takes self.old (events (replicate count given)) result self.new }
     {
         if count > MOST_EVENTS - self.events.len() {
             return Err(LineStop::Faulty(ScriptKind::ManyEvents));
         }
         let all = self.events.len() + count;
+        self.begun = true;
         self.events.resize(all, given)?;
         Ok(())
     }
 
     // The script of all lines.
     fn into_script(self, alloc: Global) -> Script
-        requires { IsScript (finished self) }
         ensures { result ≡ finished self }
     {
         let Gathered {
+            version,
             clock,
             arguments,
             events,
+            ..
         } = self;
         let start = Clock {
             seconds: 0,
             offset: 0,
         };
         Script::new(
+            version,
             clock.unwrap_or(start),
             arguments.unwrap_or(Vec::new(alloc)),
             Events::from_vec(events),
@@ -204,21 +264,20 @@ fn have_room(texts: &Vec<Bytes>, room: usize) -> bool
     true
 }
 
-// Adds an event for each byte of texts.
-fn push_inputs(events: &mut Vec<Event>, texts: &Vec<Bytes>) -> Result<(), AllocError>
-    ensures pushed { OnOk result (events.new.items ≡ events.old.items ++ inputs_of (bytes_in texts.now.items)) }
-    ensures bound { length events.new.items ≤ length events.old.items + sum_by (λ text. length text.list) texts.now.items }
+// An event for each byte of texts.
+fn inputs_of(alloc: Global, texts: &Vec<Bytes>) -> Result<Vec<Event>, AllocError>
+    ensures { IfOk result (λ given. given.items ≡ inputs_of (bytes_in texts.now.items)) }
 {
+    let mut given = Vec::new(alloc);
     for text in texts {
-        push_bytes(events, text.as_slice())?;
+        push_bytes(&mut given, text.as_slice())?;
     }
-    Ok(())
+    Ok(given)
 }
 
 // Adds an event for each byte.
 fn push_bytes(events: &mut Vec<Event>, bytes: &[u8]) -> Result<(), AllocError>
-    ensures pushed { OnOk result (events.new.items ≡ events.old.items ++ map Input bytes.now) }
-    ensures bound { length events.new.items ≤ length events.old.items + length bytes.now }
+    ensures { OnOk result (events.new.items ≡ events.old.items ++ map Input bytes.now) }
 {
     for byte in bytes {
         events.push(Event::Input(*byte))?;

@@ -17,6 +17,15 @@ pub struct Clock {
     pub offset: i32,
 }
 
+/// Which lines a script may have.
+#[derive(Debug, Clone, Copy, PartialEq, Eq)]
+pub enum Version {
+    /// Version 1.
+    First,
+    /// Version 2, which has `script`, `expect`, counts of keys and the players 2 to 4.
+    Second,
+}
+
 /// What a program is given.
 #[derive(Debug, Clone, Copy, PartialEq, Eq)]
 pub enum Event {
@@ -30,6 +39,8 @@ pub enum Event {
     Device(Input),
     /// The picture is kept.
     Shot,
+    /// What a port reads is compared with a byte.
+    Expect(u8, u8),
 }
 
 /// Events in their order, which contracts see as a list.
@@ -70,9 +81,10 @@ impl Events {
     }
 }
 
-/// A script: a clock, the arguments of the program and the events.
+/// A script: its version, a clock, the arguments of the program and the events.
 #[derive(Debug, Drop)]
 pub struct Script {
+    version: Version,
     clock: Clock,
     arguments: Vec<Bytes>,
     events: Events,
@@ -85,23 +97,39 @@ impl Model for Script {
 
     ghost Value = { ScriptView };
 
-    ghost view = { λ s. record { clock = s.clock; arguments = bytes_in s.arguments.items; events = s.events } };
+    ghost view = { λ s. record {
+      version = s.version;
+      clock = s.clock;
+      arguments = bytes_in s.arguments.items;
+      events = s.events;
+    } };
 
-    ghost invariant = { λ s. IsScript (record { clock = s.clock; arguments = bytes_in s.arguments.items; events = s.events }) };
+    ghost invariant = { λ s. IsScript (record {
+      version = s.version;
+      clock = s.clock;
+      arguments = bytes_in s.arguments.items;
+      events = s.events;
+    }) };
 }
 
 impl Script {
+    ghost use Rattle.std.specs.Prelude.{◌≡◌};
     ghost use Rattle.play_script.specs.Held.{bytes_in};
     ghost use Rattle.play_script.specs.Limits.{IsScript};
+    ghost use Rattle.play_script.specs.Scripts.{version_number, view};
 
     /// A script of these parts.
-    pub(crate) fn new(clock: Clock, arguments: Vec<Bytes>, events: Events) -> Script
-        requires { IsScript (record { clock = clock; arguments = bytes_in arguments.items; events = events }) }
-        ensures clock { result.clock ≡ clock }
-        ensures arguments { result.arguments ≡ bytes_in arguments.items }
-        ensures events { result.events ≡ events }
+    pub(crate) fn new(
+        version: Version,
+        clock: Clock,
+        arguments: Vec<Bytes>,
+        events: Events,
+    ) -> Script
+        requires { IsScript (view version clock (bytes_in arguments.items) events) }
+        ensures { result ≡ view version clock (bytes_in arguments.items) events }
     {
         Script {
+            version,
             clock,
             arguments,
             events,
@@ -114,6 +142,16 @@ impl Script {
         ensures { IsScript self.now }
     {
         let _clock = self.clock;
+    }
+
+    /// The version, 1 or 2.
+    pub fn version(&self) -> u8
+        ensures { result ≡ version_number self.now.version }
+    {
+        match self.version {
+            Version::First => 1,
+            Version::Second => 2,
+        }
     }
 
     /// The arguments of the program, in order.
@@ -141,7 +179,7 @@ impl Script {
 /// What can be wrong with a line of a script, numbered from 1 in this order.
 #[derive(Clone, Copy, Debug, PartialEq, Eq)]
 pub enum ScriptKind {
-    /// The first word is no word of scripts.
+    /// The first word is none of the script's version.
     Unknown,
     /// A value is not of its form or not within its range.
     BadValue,
@@ -149,7 +187,8 @@ pub enum ScriptKind {
     Missing,
     /// There are too many values.
     Extra,
-    /// `args` or `clock` stands after a line that gives an event, or after a line of the same word.
+    /// `args` or `clock` stands after a line that gives an event, or after a line of the same word; or `script` stands on
+    /// another line than the first with words.
     Late,
     /// With this line there are more than 1,000,000 events.
     ManyEvents,

@@ -4,7 +4,7 @@ use super::*;
 use std::alloc::{AllocError, Global};
 
 // Texts and their plain texts.
-static SCRIPTS: [(&str, &str); 16] = [
+static SCRIPTS: [(&str, &str); 20] = [
     ("", "clock 0 0\n"),
     ("input \"hi", "clock 0 0\ninput 68\ninput 69\n"),
     ("clock 253370000000 -840", "clock 253370000000 -840\n"),
@@ -39,10 +39,23 @@ static SCRIPTS: [(&str, &str); 16] = [
         "clock 0 0\nscroll -32768 32767\nscroll 0 -1\n",
     ),
     ("shot\nend\nshot", "clock 0 0\nshot\nend\nshot\n"),
+    ("# none\n\nscript 2", "script 2\nclock 0 0\n"),
+    (
+        "script 2\nkey 6A 3\nkey 6b",
+        "script 2\nclock 0 0\nkey 6a\nkey 6a\nkey 6a\nkey 6b\n",
+    ),
+    (
+        "script 2\ndown a\ndown b 1\ndown start 2\nup left 4",
+        "script 2\nclock 0 0\ndown a\ndown b\ndown start 2\nup left 4\n",
+    ),
+    (
+        "script 2\nargs \"a\nexpect C0 0a\nframe 2",
+        "script 2\nclock 0 0\nargs 61\nexpect c0 0a\nframe\nframe\n",
+    ),
 ];
 
 // Texts with their first faulty lines.
-static FAULTS: [(&str, u32, ScriptKind); 46] = [
+static FAULTS: [(&str, u32, ScriptKind); 55] = [
     ("walk", 1, ScriptKind::Unknown),
     ("Frame", 1, ScriptKind::Unknown),
     ("frames 1 2 3", 1, ScriptKind::Unknown),
@@ -89,6 +102,15 @@ static FAULTS: [(&str, u32, ScriptKind); 46] = [
     ("release 9", 1, ScriptKind::BadValue),
     ("scroll 32768 0", 1, ScriptKind::BadValue),
     ("frame\nargs 6", 2, ScriptKind::BadValue),
+    ("script", 1, ScriptKind::Missing),
+    ("script 2 2", 1, ScriptKind::Extra),
+    ("script 3", 1, ScriptKind::BadValue),
+    ("frame\nscript 2", 2, ScriptKind::Unknown),
+    ("script 2\nscript 2", 2, ScriptKind::Late),
+    ("script 2\nscript 3", 2, ScriptKind::BadValue),
+    ("script 2\ndown a 5", 2, ScriptKind::BadValue),
+    ("script 2\nexpect 85", 2, ScriptKind::Missing),
+    ("script 2\nexpect 85 00\nclock 0 0", 3, ScriptKind::Late),
     ("frame\nargs \"x", 2, ScriptKind::Late),
     ("clock 0 0\n# again\nclock 0 0", 3, ScriptKind::Late),
     ("args \"a\nargs \"a", 2, ScriptKind::Late),

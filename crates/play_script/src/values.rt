@@ -1,103 +1,24 @@
 //! What the words behind a line's first word stand for.
 
-ghost use Rattle.std.specs.Prelude.{◌≡◌, ◌<◌, ◌≤◌, ◌^◌, pos, neg_ℤ, ◌≤ℤ◌, nat_lt, if◌then◌else◌, IfOk, IfSome, Some, None, IsTrue};
-ghost use Rattle.std.specs.List.{list_all};
-ghost use Rattle.std.specs.Str.Parse.{digits_value};
+ghost use Rattle.std.specs.Prelude.{◌≡◌, ◌+◌, ◌<◌, ◌≤◌, length, IfOk, IfSome};
+ghost use Rattle.std.specs.List.{All};
+ghost use Rattle.line_texts.specs.Lines.{words_of};
 ghost use Rattle.play_script.specs.Held.{bytes_if};
-ghost use Rattle.play_script.specs.Values.{is_digit, is_number, number_within, integer_within, byte_of, text_of, begins_with, button_of, mouse_button_of};
+ghost use Rattle.play_script.specs.Limits.{IsBit};
+ghost use Rattle.play_script.specs.Values.{text_of, bit_in, buttons, mouse_buttons, one_or};
 
 use hex::FromHexError;
+use line_texts::{begins_with, first_word, number_within};
 use std::alloc::{AllocError, Global};
 use uxn_io::Bytes;
-
-// Whether a word is a decimal number, without a leading zero but 0 itself.
-fn is_number(word: &[u8]) -> bool
-    ensures { result ≡ is_number word.now }
-{
-    if word.is_empty() || !are_digits(word) {
-        return false;
-    }
-    word.len() == 1 || word[0] != b'0'
-}
-
-fn are_digits(word: &[u8]) -> bool
-    ensures { result ≡ list_all is_digit word.now }
-{
-    word.iter().all(|byte| is_digit(*byte))
-}
-
-fn is_digit(byte: u8) -> bool
-    ensures { result ≡ is_digit byte }
-{
-    b'0' <= byte && byte <= b'9'
-}
-
-// The number that the digits spell, where it has at most 64 bits.
-fn spelled(word: &[u8]) -> Option<u64>
-    requires { IsTrue (is_number word.now) }
-    ensures { result ≡ (if nat_lt (digits_value 10 word.now) (2 ^ 64) then Some (digits_value 10 word.now) else None) }
-{
-    match str::from_utf8(word) {
-        Ok(text) => text.parse().ok(),
-        Err(_) => None,
-    }
-}
-
-/// The number from `low` to `high` that a word is, in decimal without a leading zero.
-#[tactic(auto, unfolding(crate::specs::Values::number_within))]
-pub fn number_within(low: u64, high: u64, word: &[u8]) -> Option<u64>
-    ensures number { result ≡ number_within low high word.now }
-    ensures within { IfSome result (λ number. (low ≤ number) × (number ≤ high)) }
-{
-    if !is_number(word) {
-        return None;
-    }
-    let number = spelled(word)?;
-    if number < low || number > high {
-        return None;
-    }
-    Some(number)
-}
-
-// Whether a word begins with a byte.
-pub(crate) fn begins_with(byte: u8, word: &[u8]) -> bool
-    ensures { result ≡ begins_with byte word.now }
-{
-    !word.is_empty() && word[0] == byte
-}
-
-// A number from `-below` to `high`.
-#[tactic(auto, unfolding(crate::specs::Values::integer_within))]
-pub(crate) fn integer_within(below: u64, high: u64, word: &[u8]) -> Option<i64>
-    requires below { below < 2 ^ 63 }
-    requires high { high < 2 ^ 63 }
-    ensures number { result ≡ integer_within below high word.now }
-    ensures within { IfSome result (λ number. (neg_ℤ (pos below) ≤ℤ number) × (number ≤ℤ pos high)) }
-{
-    if begins_with(b'-', word) {
-        let number = number_within(0, below, &word[1..])?;
-        return Some(-(number as i64));
-    }
-    let number = number_within(0, high, word)?;
-    Some(number as i64)
-}
-
-// Two hexadecimal digits.
-#[tactic(auto, unfolding(crate::specs::Values::byte_of))]
-pub(crate) fn byte_of(word: &[u8]) -> Option<u8>
-    ensures { result ≡ byte_of word.now }
-{
-    let mut byte = [0u8; 1];
-    match hex::decode_to_slice(word, &mut byte) {
-        Ok(()) => Some(byte[0]),
-        Err(_) => None,
-    }
-}
 
 // A text: `"` and bytes, or pairs of hexadecimal digits.
 #[tactic(auto, unfolding(crate::specs::Values::text_of))]
 pub(crate) fn text_of(alloc: Global, word: &[u8]) -> Result<Option<Bytes>, AllocError>
-    ensures { IfOk result (λ text. bytes_if text ≡ text_of word.now) }
+    requires { 0 < length word.now }
+    ensures text { IfOk result (λ text. bytes_if text ≡ text_of word.now) }
+    ensures short { IfOk result (λ text. IfSome text (λ bytes. length bytes.list + 1 ≤ length word.now)) }
+    ensures bytes { IfOk result (λ text. IfSome text (λ bytes. All (λ byte. byte < 256) bytes.list)) }
 {
     if begins_with(b'"', word) {
         return Ok(Some(Bytes::new(alloc, &word[1..])?));
@@ -109,10 +30,24 @@ pub(crate) fn text_of(alloc: Global, word: &[u8]) -> Result<Option<Bytes>, Alloc
     }
 }
 
+// The first word as a number from 1; it is 1 where there is no word.
+#[tactic(auto, unfolding(crate::specs::Values::one_or))]
+pub(crate) fn one_or(most: u64, values: &[u8]) -> Option<u64>
+    requires { 1 ≤ most }
+    ensures number { result ≡ one_or most (words_of values.now) }
+    ensures within { IfSome result (λ number. (1 ≤ number) × (number ≤ most)) }
+{
+    match first_word(values) {
+        None => Some(1),
+        Some((word, _)) => number_within(1, most, word),
+    }
+}
+
 // The bit of a controller's button.
-#[tactic(auto, unfolding(crate::specs::Values::button_of))]
+#[tactic(auto, unfolding(crate::specs::Values::bit_in))]
 pub(crate) fn button_of(word: &[u8]) -> Option<u8>
-    ensures { result ≡ button_of word.now }
+    ensures button { result ≡ bit_in buttons word.now }
+    ensures bit { IfSome result IsBit }
 {
     let mask = match word {
         b"a" => 0x01,
@@ -129,10 +64,21 @@ pub(crate) fn button_of(word: &[u8]) -> Option<u8>
 }
 
 // The bit of a mouse's button.
-#[tactic(auto, unfolding(crate::specs::Values::mouse_button_of))]
+#[tactic(auto, unfolding(crate::specs::Values::bit_in))]
 pub(crate) fn mouse_button_of(word: &[u8]) -> Option<u8>
-    ensures { result ≡ mouse_button_of word.now }
+    ensures button { result ≡ bit_in mouse_buttons word.now }
+    ensures bit { IfSome result IsBit }
 {
-    let number = number_within(1, 8, word)?;
-    Some(1 << (number - 1))
+    let mask = match word {
+        b"1" => 0x01,
+        b"2" => 0x02,
+        b"3" => 0x04,
+        b"4" => 0x08,
+        b"5" => 0x10,
+        b"6" => 0x20,
+        b"7" => 0x40,
+        b"8" => 0x80,
+        _ => return None,
+    };
+    Some(mask)
 }

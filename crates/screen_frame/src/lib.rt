@@ -1,7 +1,7 @@
 //! What a picture file is made of: the four colours, the pixel that is shown, and the bytes of a PPM file. No call takes memory.
 #![tactic(auto)]
 
-ghost use Rattle.std.specs.Prelude.{◌≡◌, ◌+◌, ◌*◌, ◌/◌, ◌%◌, ◌<◌, [], ◌∷◌, All, length, slice_index_or};
+ghost use Rattle.std.specs.Prelude.{ℕ, ◌≡◌, ◌+◌, ◌*◌, ◌/◌, ◌%◌, ◌<◌, ◌≤◌, [], ◌∷◌, ◌++◌, All, length, take, slice_index_or};
 ghost use Rattle.screen_frame.specs.Colours.{short_of, colours_of, shown};
 ghost use Rattle.screen_frame.specs.Ppm.{head_bytes, row_bytes};
 
@@ -36,6 +36,14 @@ impl Palette {
         }
     }
 
+    // The colours with one byte more behind each.
+    fn wide(&self) -> [[u8; 4]; 4]
+        ensures { (value : ℕ) → value < 4 → take 3 (slice_index_or result value []) ≡ slice_index_or self.now.colours value [] }
+    {
+        let [first, second, third, fourth] = self.colours;
+        [widen(first), widen(second), widen(third), widen(fourth)]
+    }
+
     // The colour of a value.
     fn colour(&self, value: u8) -> [u8; 3]
         requires { value < 4 }
@@ -44,6 +52,14 @@ impl Palette {
     {
         self.colours[usize::from(value)]
     }
+}
+
+// A colour with one byte more behind it.
+fn widen(colour: [u8; 3]) -> [u8; 4]
+    ensures { take 3 result ≡ colour }
+{
+    let [red, green, blue] = colour;
+    [red, green, blue, 0]
 }
 
 // The colour whose nibbles have this weight in their shorts.
@@ -98,10 +114,54 @@ pub fn ppm_row(palette: &Palette, row: &[u8], into: &mut [u8])
     requires room { length into.old ≡ 3 * length row.now }
     ensures { into.new ≡ row_bytes palette.now.colours row.now }
 {
-    for i in 0..row.len() {
-        let [red, green, blue] = palette.colour(row[i]);
-        into[3 * i] = red;
-        into[3 * i + 1] = green;
-        into[3 * i + 2] = blue;
+    let wide = palette.wide();
+    let mut i = 0;
+    while i + 5 <= row.len() {
+        put_two(
+            into,
+            3 * i,
+            wide_of(&wide, row[i]),
+            wide_of(&wide, row[i + 1]),
+        );
+        put_two(
+            into,
+            3 * i + 6,
+            wide_of(&wide, row[i + 2]),
+            wide_of(&wide, row[i + 3]),
+        );
+        i += 4;
     }
+    for at in i..row.len() {
+        let [red, green, blue] = palette.colour(row[at]);
+        into[3 * at] = red;
+        into[3 * at + 1] = green;
+        into[3 * at + 2] = blue;
+    }
+}
+
+// The colour of a value, with one byte more.
+fn wide_of(wide: &[[u8; 4]; 4], value: u8) -> [u8; 4]
+    requires { value < 4 }
+    ensures { result ≡ slice_index_or wide.now value [] }
+{
+    wide[usize::from(value)]
+}
+
+// Puts two colours at a place, and one byte behind them, since four bytes are put at once.
+fn put_two(into: &mut [u8], at: usize, first: [u8; 4], second: [u8; 4])
+    requires { at + 7 ≤ length into.old }
+    ensures front { take (at + 6) into.new ≡ take at into.old ++ (take 3 first ++ take 3 second) }
+    ensures length { length into.new ≡ length into.old }
+{
+    put_wide(into, at, first);
+    put_wide(into, at + 3, second);
+}
+
+// Puts the three bytes of a colour at a place, and one behind them.
+fn put_wide(into: &mut [u8], at: usize, colour: [u8; 4])
+    requires { at + 4 ≤ length into.old }
+    ensures front { take (at + 3) into.new ≡ take at into.old ++ take 3 colour }
+    ensures length { length into.new ≡ length into.old }
+{
+    into[at..at + 4].copy_from_slice(&colour);
 }

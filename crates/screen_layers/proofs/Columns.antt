@@ -36,14 +36,14 @@ whole-row row span corner low high flip_x blend a k short fits a_is k_is same_si
     let count : length span ≡ k = same_size ∙ length-span a k row (omega arith) in
     let keep = λ (o : Option ℕ). unwrap_or o (slice_index row i) in
     elim (cases_lt i a) [
-      | inl low_i ↦ put_mid-below a k row span i (omega arith) low_i ∙ sym (ap keep (row-miss corner low high flip_x blend i (omega arith)))
+      | inl low_i ↦ put_mid-below 0 a k row span i (omega arith) low_i ∙ sym (ap keep (row-miss corner low high flip_x blend i (omega arith)))
       | inr high_i ↦ elim (cases_lt i (a + k)) [
         | inl within ↦
             let place : a + (i - a) ≡ i = omega arith in
-            put_mid-within a k row span i (omega arith) high_i (omega arith) ∙ drawn (i - a) (omega arith)
+            put_mid-within 0 a k row span i (omega arith) high_i (omega arith) ∙ drawn (i - a) (omega arith)
             ∙ ap (λ p. unwrap_or (ink blend (value_of low high flip_x (i - a))) p)
             (get_or-take k (drop a row) (i - a) 0 (omega arith) ∙ get_or-drop a row (i - a) 0 ∙ ap (λ j. slice_index row j) place)
             ∙ sym (ap keep (row-hit corner low high flip_x blend i (i - a) (omega arith) (omega arith)))
-        | inr past ↦ put_mid-past a k row span i (omega arith) count past ∙ sym (ap keep (row-miss corner low high flip_x blend i (omega arith)))
+        | inr past ↦ put_mid-past 0 a k row span i (omega arith) count past ∙ sym (ap keep (row-miss corner low high flip_x blend i (omega arith)))
       ]
     ]

@@ -1,3 +1,4 @@
+mod Rows
 mod Spans
 mod FillLemmas
 mod DotLemmas
@@ -5,7 +6,9 @@ mod BlendLemmas
 mod ByteLemmas
 pub mod Columns
 pub mod TileLemmas
+mod MarkLemmas
 pub mod ScreenLemmas
 mod SpriteLemmas
-mod RowOfPicture
+pub mod RefreshLemmas
+mod ComposedLemmas
 mod InkLemmas

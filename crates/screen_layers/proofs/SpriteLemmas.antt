@@ -1,15 +1,19 @@
 -- The tiles of a sprite are drawn one after the other.
-use Rattle.std.proofs.Common.{◌≡◌, ℕ, ◌+◌, ◌*◌, ◌%◌, Bool, List, ◌∷◌, refl, subst, add-one}
+use Rattle.std.proofs.Common.{◌≡◌, ℕ, ◌+◌, ◌*◌, ◌%◌, Bool, List, ◌∷◌, ◌++◌, refl, subst, add-one}
 use Rattle.screen_layers.specs.declared.control.Layer.{Layer}
 use Rattle.screen_layers.specs.Control.{flips_x, flips_y, layer_of, has_two_bits, tile_size, step_of}
 use Rattle.screen_layers.specs.Drawings.{Drawing, tile, bytes_at, bytes_step, tile_of, newest_first}
-use Rattle.screen_layers.specs.Layers.{Layers, StandsFor, Draws}
+use Rattle.screen_layers.specs.Layers.{Layers, StandsFor, MarkedBy, Draws}
 use Rattle.screen_layers.specs.Pictures.{Picture, with_drawings}
-use Rattle.screen_layers.proofs.ScreenLemmas.{stands-more}
+use Rattle.screen_layers.proofs.ScreenLemmas.{stands-more, marked-more}
 
 pub sprite-none : (screen : Layers) (drawing : ℕ → Drawing) (picture : Picture) → StandsFor screen picture → StandsFor screen (with_drawings (newest_first drawing 0) picture)
 unfolding newest_first
 sprite-none screen drawing picture stands = stands
+
+pub none-drawn : (screen : Layers) (drawing : ℕ → Drawing) (since : List Drawing) → MarkedBy screen since → MarkedBy screen (newest_first drawing 0 ++ since)
+unfolding newest_first
+none-drawn screen drawing since marked = marked
 
 newest_first-more : (drawing : ℕ → Drawing) (i : ℕ) → newest_first drawing (i + 1) ≡ drawing i ∷ newest_first drawing i
 unfolding newest_first
@@ -24,14 +28,21 @@ tile-is : (memory : List ℕ) (x y addr auto control i : ℕ) (layer : Layer) (a
 unfolding tile_of
 tile-is memory x y addr auto control i layer at_x at_y at two_bits flip_x flip_y blend e f g h b p q r = rw (e, f, g, h, b, p, q, r) refl
 
-pub sprite-more : (before after : Layers) (memory : List ℕ) (x y addr auto control i : ℕ) (layer : Layer) (at_x at_y at : ℕ) (two_bits flip_x flip_y : Bool) (blend : ℕ)
+pub tile-drawn : (before after : Layers) (memory : List ℕ) (x y addr auto control i : ℕ) (layer : Layer) (at_x at_y at : ℕ) (two_bits flip_x flip_y : Bool) (blend : ℕ)
     → layer ≡ layer_of control → flip_x ≡ flips_x control → flip_y ≡ flips_y control → two_bits ≡ has_two_bits control → blend ≡ control % 16
     → at_x ≡ (x + i * step_of auto 2 (flips_x control)) % 65536 → at_y ≡ (y + i * step_of auto 1 (flips_y control)) % 65536 → at ≡ (addr + i * bytes_step auto control) % 65536
     → Draws before after (record { layer = layer; shape = tile at_x at_y (bytes_at memory at (tile_size two_bits)) flip_x flip_y blend })
-    → (picture : Picture) → StandsFor before (with_drawings (newest_first (tile_of memory x y addr auto control) i) picture)
-    → StandsFor after (with_drawings (newest_first (tile_of memory x y addr auto control) (i + 1)) picture)
-sprite-more before after memory x y addr auto control i layer at_x at_y at two_bits flip_x flip_y blend e f g h b p q r draws picture stands =
-    let drawing = tile_of memory x y addr auto control in
+    → Draws before after (tile_of memory x y addr auto control i)
+tile-drawn before after memory x y addr auto control i layer at_x at_y at two_bits flip_x flip_y blend e f g h b p q r draws =
     let D : Drawing → Type 0 = λ d. Draws before after d in
-    rw (newest_first-more drawing i)
-    (stands-more before after (drawing i) (newest_first drawing i) picture (subst D (tile-is memory x y addr auto control i layer at_x at_y at two_bits flip_x flip_y blend e f g h b p q r) draws) stands)
+    subst D (tile-is memory x y addr auto control i layer at_x at_y at two_bits flip_x flip_y blend e f g h b p q r) draws
+
+pub sprite-more : (before after : Layers) (drawing : ℕ → Drawing) (i : ℕ) → Draws before after (drawing i)
+    → (picture : Picture) → StandsFor before (with_drawings (newest_first drawing i) picture) → StandsFor after (with_drawings (newest_first drawing (i + 1)) picture)
+sprite-more before after drawing i draws picture stands =
+    rw (newest_first-more drawing i) (stands-more before after (drawing i) (newest_first drawing i) picture draws stands)
+
+pub one-drawn : (before after : Layers) (drawing : ℕ → Drawing) (i : ℕ) → Draws before after (drawing i)
+    → (since : List Drawing) → MarkedBy before (newest_first drawing i ++ since) → MarkedBy after (newest_first drawing (i + 1) ++ since)
+one-drawn before after drawing i draws since marked =
+    rw (newest_first-more drawing i) (marked-more before after (drawing i) (newest_first drawing i ++ since) draws marked)

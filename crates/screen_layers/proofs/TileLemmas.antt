@@ -6,8 +6,8 @@ use Rattle.std.proofs.lemmas.Bool.{cases_eq, cond-true, cond-false, lt-ltb, le-l
 use Rattle.std.proofs.lemmas.Bool.Decides.{nat_tests}
 use borrow.Rule.Slice.PartMut.{put_mid}
 use Rattle.screen_layers.specs.Drawings.{tile, painted, distance, row_painted, byte_of}
-use Rattle.screen_layers.specs.Layers.{IsPlane, PaintedOver, pixel_at}
-use Rattle.screen_layers.proofs.Spans.{length-span, pixel_in_span, pixel_off_span, plane-put_mid}
+use Rattle.screen_layers.specs.Layers.{PaintedOver, pixel_at}
+use Rattle.screen_layers.proofs.Spans.{length-span, pixel_in_span, pixel_off_span, All-put_mid}
 
 -- what a row of a tile paints
 abbrev pub row_of : ℕ → List ℕ → Bool → Bool → ℕ → ℕ → ℕ → Option ℕ
@@ -22,7 +22,7 @@ rows_painted at_x at_y bytes flip_x flip_y blend count x y =
 abbrev pub RowsPainted : List ℕ → List ℕ → ℕ → ℕ → ℕ → ℕ → List ℕ → Bool → Bool → ℕ → ℕ → Type 0
 RowsPainted before after width height at_x at_y bytes flip_x flip_y blend count =
     (x y : ℕ) → x < width → y < height
-    → pixel_at after x y ≡ unwrap_or (rows_painted at_x at_y bytes flip_x flip_y blend count x y) (pixel_at before x y)
+    → pixel_at width after x y ≡ unwrap_or (rows_painted at_x at_y bytes flip_x flip_y blend count x y) (pixel_at width before x y)
 
 same-test : (d row : ℕ) → d ≢ row → nat_lt d (row + 1) ≡ nat_lt d row
 same-test d row ne = grind (arith, nat_tests)
@@ -50,52 +50,50 @@ unfolding painted
 rows-end before after width height at_x at_y bytes flip_x flip_y blend all = all
 
 pub rows-more : (before after span : List ℕ) (width height at_x at_y : ℕ) (bytes : List ℕ) (flip_x flip_y : Bool) (blend row y low high a k : ℕ)
-    → IsPlane after → width ≤ 2047 → height ≤ 2047 → at_y < 65536 → row < 8 → y ≡ (at_y + row) % 65536 → y < height
-    → a ≡ y * 2047 → k ≡ width → length span ≡ length (take k (drop a after))
+    → a + k ≤ length after → at_y < 65536 → row < 8 → y ≡ (at_y + row) % 65536 → y < height → height < 65536
+    → a ≡ y * width → k ≡ width → length span ≡ length (take k (drop a after))
     → low ≡ slice_index bytes (byte_of flip_y row) → high ≡ slice_index bytes (8 + byte_of flip_y row)
     → ((x : ℕ) → x < length (take k (drop a after)) → slice_index span x ≡ unwrap_or (row_painted at_x low high flip_x blend x) (slice_index (take k (drop a after)) x))
     → RowsPainted before after width height at_x at_y bytes flip_x flip_y blend row
     → RowsPainted before (put_mid a k after span) width height at_x at_y bytes flip_x flip_y blend (row + 1)
-rows-more before after span width height at_x at_y bytes flip_x flip_y blend row y low high a k plane width_in height_in at_in row_in y_is y_in a_is k_is same_size low_is high_is drawn so_far px py in_x in_y =
-    let size = plane.size in
-    let count : length span ≡ width = same_size ∙ length-span a k after (omega arith) ∙ k_is in
-    let keep = λ (o : Option ℕ). unwrap_or o (pixel_at before px py) in
+rows-more before after span width height at_x at_y bytes flip_x flip_y blend row y low high a k room at_in row_in y_is y_in height_in a_is k_is same_size low_is high_is drawn so_far px py in_x in_y =
+    let count : length span ≡ width = same_size ∙ length-span a k after room ∙ k_is in
+    let keep = λ (o : Option ℕ). unwrap_or o (pixel_at width before px py) in
     elim (cases_eq py y) [
       | inl e ↦
           let far : distance at_y py ≡ row = omega arith in
-          let was : pixel_at after px py ≡ pixel_at before px py =
+          let was : pixel_at width after px py ≡ pixel_at width before px py =
           so_far px py in_x in_y ∙ ap keep (rows-none at_x at_y bytes flip_x flip_y blend row px py (omega arith)) in
           let same : px - 0 ≡ px = omega arith in
-          let place : a + px ≡ py * 2047 + px = omega arith in
-          let under : slice_index (take k (drop a after)) px ≡ pixel_at before px py =
+          let start : py * width ≡ y * width = ap (λ r. r * width) e in
+          let place : a + px ≡ py * width + px = omega arith in
+          let under : slice_index (take k (drop a after)) px ≡ pixel_at width before px py =
           get_or-take k (drop a after) px 0 (omega arith) ∙ get_or-drop a after px 0 ∙ ap (λ j. slice_index after j) place ∙ was in
-          pixel_in_span after span y 0 width px py a k size width_in (omega arith) (omega arith) (omega arith) (e, omega arith, in_x)
+          pixel_in_span after span width y 0 width px py a k room (omega arith) (omega arith) (e, omega arith, in_x)
           ∙ ap (λ j. slice_index span j) same
-          ∙ drawn px (omega (arith, length-span a k after (omega arith)))
+          ∙ drawn px (omega (arith, length-span a k after room))
           ∙ ap (λ p. unwrap_or (row_painted at_x low high flip_x blend px) p) under
           ∙ ap (λ b. keep (row_painted at_x b high flip_x blend px)) low_is
           ∙ ap (λ b. keep (row_painted at_x (slice_index bytes (byte_of flip_y row)) b flip_x blend px)) high_is
           ∙ sym (ap keep (rows-here at_x at_y bytes flip_x flip_y blend row px py far))
       | inr ne ↦
           let far : distance at_y py ≢ row = λ d. ne (omega arith) in
-          pixel_off_span after span y 0 width px py a k size (omega arith) width_in (omega arith) (omega arith) (omega arith) (omega arith) (omega arith) (λ e _. absurd (ne e))
+          pixel_off_span after span width y 0 width px py a k room (omega arith) (omega arith) in_x (omega arith) (omega arith) (omega arith) (λ e _. absurd (ne e))
           ∙ so_far px py in_x in_y ∙ sym (ap keep (rows-other at_x at_y bytes flip_x flip_y blend row px py far))
     ]
 
 -- a row off the screen paints nothing
 pub rows-off : (before after : List ℕ) (width height at_x at_y : ℕ) (bytes : List ℕ) (flip_x flip_y : Bool) (blend row y : ℕ)
-    → height ≤ 2047 → at_y < 65536 → row < 8 → y ≡ (at_y + row) % 65536 → height ≤ y
+    → height < 65536 → at_y < 65536 → row < 8 → y ≡ (at_y + row) % 65536 → height ≤ y
     → RowsPainted before after width height at_x at_y bytes flip_x flip_y blend row
     → RowsPainted before after width height at_x at_y bytes flip_x flip_y blend (row + 1)
 rows-off before after width height at_x at_y bytes flip_x flip_y blend row y height_in at_in row_in y_is off so_far px py in_x in_y =
     let far : distance at_y py ≢ row = λ d. absurd (omega arith) in
-    so_far px py in_x in_y ∙ sym (ap (λ o. unwrap_or o (pixel_at before px py)) (rows-other at_x at_y bytes flip_x flip_y blend row px py far))
+    so_far px py in_x in_y ∙ sym (ap (λ o. unwrap_or o (pixel_at width before px py)) (rows-other at_x at_y bytes flip_x flip_y blend row px py far))
 
--- the plane stays one
-pub rows-plane : (after span : List ℕ) (width y a k : ℕ) → IsPlane after → width ≤ 2047 → y < 2047 → a ≡ y * 2047 → k ≡ width → length span ≡ length (take k (drop a after))
-    → (All (λ colour. colour < 4) (take k (drop a after)) → All (λ colour. colour < 4) span) → IsPlane (put_mid a k after span)
-rows-plane after span width y a k plane width_in y_in a_is k_is same_size kept =
-    let size = plane.size in
-    let count : length span ≡ k = same_size ∙ length-span a k after (omega arith) in
-    plane-put_mid a k after span plane count (omega arith)
-    (kept (All-take (λ colour. colour < 4) k (drop a after) (All-drop (λ colour. colour < 4) a after plane.colours)))
+-- the values stay colours
+pub rows-colours : (after span : List ℕ) (a k : ℕ) → (All (λ colour. colour < 4) (take k (drop a after)) → All (λ colour. colour < 4) span)
+    → All (λ colour. colour < 4) after → All (λ colour. colour < 4) (put_mid a k after span)
+rows-colours after span a k kept each =
+    All-put_mid (λ colour. colour < 4) a k after span each
+    (kept (All-take (λ colour. colour < 4) k (drop a after) (All-drop (λ colour. colour < 4) a after each)))

@@ -1,8 +1,9 @@
 -- What is drawn, and the colour that it paints at a place (Varvara device reference: screen; that a fill takes x and y
 -- as unsigned shorts is the profile).
 use Rattle.std.specs.Prelude.{ℕ, zero, suc, ◌+◌, ◌-◌, ◌*◌, ◌/◌, ◌%◌, ◌^◌, ◌==◌, nat_lt, nat_le}
-use Rattle.std.specs.Prelude.{Bool, true, false, ◌&&◌}
+use Rattle.std.specs.Prelude.{Bool, true, false, ◌&&◌, ◌||◌}
 use Rattle.std.specs.Prelude.{if◌then◌else◌, List, [], ◌∷◌, ◌++◌, take, drop, slice_index, Option, Some, None}
+use Rattle.uxn_memory.specs.Bytes.{bank0}
 use Rattle.screen_layers.specs.declared.control.Layer.{Layer}
 use Rattle.screen_layers.specs.declared.control.Layer.TheVariants.{Background, Foreground}
 use Rattle.screen_layers.specs.declared.Moved.{Moved}
@@ -60,6 +61,17 @@ painted (tile at_x at_y bytes flip_x flip_y blend) x y =
     then row_painted at_x (slice_index bytes row) (slice_index bytes (8 + row)) flip_x blend x
     else None
 
+-- whether a shape covers a place, opaque there or not
+unfoldable pub covers : Shape → ℕ → ℕ → Bool
+covers (fill left right top bottom colour) x y = (nat_le left x && nat_lt x right) && (nat_le top y && nat_lt y bottom)
+covers (dot at_x at_y colour) x y = (x == at_x) && (y == at_y)
+covers (tile at_x at_y bytes flip_x flip_y blend) x y = nat_lt (distance at_x x) 8 && nat_lt (distance at_y y) 8
+
+-- whether one of these drawings covers a place of its layer
+abbrev pub is_covered : List Drawing → ℕ → ℕ → Bool
+is_covered [] x y = false
+is_covered (newest ∷ older) x y = covers newest.shape x y || is_covered older x y
+
 -- whether two layers are one
 abbrev pub same_layer : Layer → Layer → Bool
 same_layer Background Background = true
@@ -96,9 +108,9 @@ moved_by_pixel x y auto control =
     then (x, y)
     else ((x + (if has_bit auto 1 then 1 else 0)) % 65536, (y + (if has_bit auto 2 then 1 else 0)) % 65536)
 
--- so many bytes from an address on; memory follows itself, since addresses are modulo 65536
+-- so many bytes of bank 0 from an address on; the bank follows itself, since addresses are modulo 65536
 unfoldable pub bytes_at : List ℕ → ℕ → ℕ → List ℕ
-bytes_at memory at count = take count (drop at (memory ++ memory))
+bytes_at memory at count = take count (drop at (bank0 memory ++ bank0 memory))
 
 -- how far the bytes of one tile lie from those of the next: a tile's size where auto has 04, else 0
 abbrev pub bytes_step : ℕ → ℕ → ℕ

@@ -1,45 +1,101 @@
--- What a screen keeps, and the pictures that it stands for.
-use Rattle.std.specs.Prelude.{◌≡◌, ℕ, ◌+◌, ◌*◌, ◌<◌, All, List, length, slice_index, unwrap_or}
+-- What a screen keeps, the pictures that it stands for, and the rows that are marked.
+use Rattle.std.specs.Prelude.{◌≡◌, ◌⊎◌, ℕ, ◌+◌, ◌*◌, ◌<◌, Bool, true, false, List, [], length, take, count_by, slice_index, slice_index_or, unwrap_or}
+use Rattle.screen_frame.specs.Colours.{shown}
 use Rattle.screen_layers.specs.declared.control.Layer.{Layer}
 use Rattle.screen_layers.specs.declared.control.Layer.TheVariants.{Background, Foreground}
-use Rattle.screen_layers.specs.Drawings.{Shape, Drawing, painted, paint}
+use Rattle.screen_layers.specs.Drawings.{Shape, Drawing, painted, paint, covers, is_covered}
 use Rattle.screen_layers.specs.Pictures.{Picture, pixel_of}
 
--- the size and the pixels of both layers, in rows of 2047
+-- the size, the pixels of both layers and the composed values, all in rows of the width, and a mark for each row
 pub record Layers : Type 0 where
   pub width : ℕ
   pub height : ℕ
   pub background : List ℕ
   pub foreground : List ℕ
+  pub composed : List ℕ
+  pub marks : List Bool
 
--- the pixel of a layer's list at a place
-abbrev pub pixel_at : List ℕ → ℕ → ℕ → ℕ
-pixel_at pixels x y = slice_index pixels (y * 2047 + x)
+-- the value at a place of a list in rows of a width
+abbrev pub pixel_at : ℕ → List ℕ → ℕ → ℕ → ℕ
+pixel_at width pixels x y = slice_index pixels (y * width + x)
 
 abbrev pub pixels_of : Layers → Layer → List ℕ
 pixels_of screen Background = screen.background
 pixels_of screen Foreground = screen.foreground
 
--- a screen stands for a picture of its size whose pixels are those of its layers
+-- whether a row is marked
+abbrev pub mark_at : List Bool → ℕ → Bool
+mark_at marks y = slice_index_or marks y false
+
+-- A screen stands for a size and two lists of drawings, the newest first: those since the last refresh, and those before it. The
+-- picture has both, the first followed by the second. Its size and pixels are those of the screen ..
 pub record StandsFor (screen : Layers) (picture : Picture) : Type 0 where
   pub width : screen.width ≡ picture.width
   pub height : screen.height ≡ picture.height
   pub pixels : (layer : Layer) (x y : ℕ) → x < screen.width → y < screen.height
-      → pixel_at (pixels_of screen layer) x y ≡ pixel_of picture.drawings layer x y
+      → pixel_at screen.width (pixels_of screen layer) x y ≡ pixel_of picture.drawings layer x y
 
--- a layer's list has room for the greatest size, and each pixel is one of four colours
-pub record IsPlane (pixels : List ℕ) : Type 0 where
-  pub size : length pixels ≡ 4190209
-  pub colours : All (λ colour. colour < 4) pixels
+-- some place of a row, up to a width, is covered by one of these drawings
+pub record CoversRow (drawings : List Drawing) (width y : ℕ) : Type 0 where
+  pub x : ℕ
+  pub within : x < width
+  pub covered : is_covered drawings x y ≡ true
 
--- a layer's pixels after a shape was painted over them, at each place up to a width and a height
+-- .. and the marked rows are those of which a drawing since the last refresh covers a place on the screen
+pub record MarkedBy (screen : Layers) (since : List Drawing) : Type 0 where
+  pub covered : (y : ℕ) → y < screen.height → CoversRow since screen.width y → mark_at screen.marks y ≡ true
+  pub only : (y : ℕ) → y < screen.height → mark_at screen.marks y ≡ true → CoversRow since screen.width y
+
+-- a row has the values that are shown where its two layers lie over each other
+abbrev pub IsComposed : Layers → ℕ → Type 0
+IsComposed screen y = (x : ℕ) → x < screen.width
+    → pixel_at screen.width screen.composed x y
+    ≡ shown (pixel_at screen.width screen.foreground x y) (pixel_at screen.width screen.background x y)
+
+-- there is a column, the lists have the screen's size, and each row without a mark is composed
+pub record IsKept (screen : Layers) : Type 0 where
+  pub column : 0 < screen.width
+  pub background : length screen.background ≡ screen.height * screen.width
+  pub foreground : length screen.foreground ≡ screen.height * screen.width
+  pub composed : length screen.composed ≡ screen.height * screen.width
+  pub rows : (y : ℕ) → y < screen.height → mark_at screen.marks y ≡ false → IsComposed screen y
+
+-- a list in rows of a width, after a shape was painted over it, at each place up to the width and a height
 abbrev pub PaintedOver : List ℕ → List ℕ → ℕ → ℕ → Shape → Type 0
-PaintedOver before after width height shape =
-    (x y : ℕ) → x < width → y < height → pixel_at after x y ≡ unwrap_or (painted shape x y) (pixel_at before x y)
+PaintedOver before after width height shape = (x y : ℕ) → x < width → y < height
+    → pixel_at width after x y ≡ unwrap_or (painted shape x y) (pixel_at width before x y)
 
--- a screen after one more drawing: the size stays
+-- some place of a row, up to a width, is covered by a shape
+pub record RowCovered (shape : Shape) (width y : ℕ) : Type 0 where
+  pub x : ℕ
+  pub within : x < width
+  pub covered : covers shape x y ≡ true
+
+-- marks once the rows that a shape covers, up to a width and a height, are marked too
+pub record MarksMore (before after : List Bool) (width height : ℕ) (shape : Shape) : Type 0 where
+  pub covered : (x y : ℕ) → x < width → y < height → covers shape x y ≡ true → mark_at after y ≡ true
+  pub kept : (y : ℕ) → mark_at before y ≡ true → mark_at after y ≡ true
+  pub only : (y : ℕ) → y < height → mark_at after y ≡ true → (mark_at before y ≡ true) ⊎ RowCovered shape width y
+
+-- a screen after one more drawing: the size and the composed values stay
 pub record Draws (before after : Layers) (drawing : Drawing) : Type 0 where
   pub width : after.width ≡ before.width
   pub height : after.height ≡ before.height
   pub pixels : (layer : Layer) (x y : ℕ) → x < before.width → y < before.height
-      → pixel_at (pixels_of after layer) x y ≡ unwrap_or (paint drawing layer x y) (pixel_at (pixels_of before layer) x y)
+      → pixel_at before.width (pixels_of after layer) x y
+      ≡ unwrap_or (paint drawing layer x y) (pixel_at before.width (pixels_of before layer) x y)
+  pub marks : MarksMore before.marks after.marks before.width before.height drawing.shape
+
+-- the size and the pixels of both layers are the same
+pub record SamePixels (before after : Layers) : Type 0 where
+  pub width : after.width ≡ before.width
+  pub height : after.height ≡ before.height
+  pub background : after.background ≡ before.background
+  pub foreground : after.foreground ≡ before.foreground
+
+-- a refresh counts the marked rows, changes no pixel, and leaves no row marked
+pub record Refreshes (before after : Layers) (count : ℕ) : Type 0 where
+  pub counted : count ≡ count_by (λ mark. mark) (take before.height before.marks)
+  pub pixels : SamePixels before after
+  pub stands : (picture : Picture) → StandsFor before picture → StandsFor after picture
+  pub marked : MarkedBy after []

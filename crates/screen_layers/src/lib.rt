@@ -1,21 +1,25 @@
 //! The screen: two layers of pixels, drawn by the ports pixel and sprite.
 #![tactic(auto)]
 
-ghost use Rattle.std.specs.Prelude.{ℕ, ◌≡◌, ◌+◌, ◌*◌, ◌/◌, ◌%◌, ◌<◌, ◌≤◌, false, nat_le, nat_lt, ◌&&◌, if◌then◌else◌, ◌++◌, IfOk, length, drop, slice_index};
-ghost use Rattle.screen_frame.specs.Colours.{shown};
+ghost use Rattle.std.specs.Prelude.{ℕ, ◌≡◌, ◌==◌, ◌↔◌, ◌+◌, ◌*◌, ◌/◌, ◌%◌, ◌<◌, ◌≤◌, true, false, nat_le, nat_lt, ◌&&◌, if◌then◌else◌, List, [], ◌∷◌, ◌++◌, IfOk, All, length, take, drop, slice_index};
 ghost use Rattle.screen_layers.specs.Control.{has_bit, step_of, tile_size};
-ghost use Rattle.screen_layers.specs.Drawings.{tile, filled, dotted, moved_by_pixel, moved_by_sprite, bytes_at};
-ghost use Rattle.screen_layers.specs.Pictures.{Picture, new_picture, after_pixel, after_sprite, can_resize, resized, picture_row_of};
+ghost use Rattle.screen_layers.specs.Drawings.{Drawing, tile, filled, dotted, drawn_by_pixel, drawn_by_sprite, moved_by_pixel, moved_by_sprite, bytes_at};
+ghost use Rattle.screen_layers.specs.Layers.{mark_at};
+ghost use Rattle.screen_layers.specs.Pictures.{Picture, new_picture, after_pixel, after_sprite, can_resize, resized, values_of, picture_row_of};
 
 mod control;
+mod marks;
 mod plane;
+mod size;
 #[cfg(test)]
 mod tests;
 mod tile;
 
 use control::{Layer, has_bit, layer_of, step_of};
-use plane::{Area, Plane, STRIDE, Size, Tile};
-use screen_frame::{CHANNELS, Palette, compose, ppm_row};
+use marks::Marks;
+use plane::{Plane, Tile, compose_row};
+use screen_frame::{CHANNELS, Palette, ppm_row};
+use size::{Area, Size};
 use std::alloc::{AllocError, Global};
 use std::marker::Model;
 use tile::Look;
@@ -35,43 +39,68 @@ pub struct Moved {
     pub addr: u16,
 }
 
-/// A screen of two layers, 8 to 2047 pixels each way. Contracts see its size and its layers' pixels, and say which
-/// pictures these stand for.
+/// A screen of two layers, 8 to 2047 pixels each way, which keeps what is shown of each row that is not marked. Contracts
+/// see its size, its layers' pixels, the composed values and the marks, and say which pictures these stand for.
 #[derive(Drop)]
 pub struct Screen {
     size: Size,
     background: Plane,
     foreground: Plane,
+    composed: Plane,
+    marks: Marks,
 }
 
 impl Model for Screen {
     ghost use Rattle.std.specs.Prelude.{◌≤◌};
-    ghost use Rattle.screen_layers.specs.Layers.{Layers};
+    ghost use Rattle.screen_layers.specs.Layers.{Layers, IsKept};
 
     ghost Value = { Layers };
 
-    ghost view = { λ s. record { width = s.size.width; height = s.size.height; background = s.background; foreground = s.foreground } };
+    ghost view = { λ s. record {
+      width = s.size.width;
+      height = s.size.height;
+      background = s.background;
+      foreground = s.foreground;
+      composed = s.composed;
+      marks = s.marks;
+    } };
 
-    ghost invariant = { λ s. (s.size.width ≤ 2047) × (s.size.height ≤ 2047) };
+    ghost invariant = { λ s. (s.size.width ≤ 2047) × (s.size.height ≤ 2047) × IsKept (record {
+      width = s.size.width;
+      height = s.size.height;
+      background = s.background;
+      foreground = s.foreground;
+      composed = s.composed;
+      marks = s.marks;
+    }) };
 }
 
 impl Screen {
-    ghost use Rattle.screen_layers.specs.Layers.{StandsFor, Draws};
+    ghost use Rattle.screen_layers.specs.Layers.{StandsFor, MarkedBy, CoversRow, SamePixels, Refreshes, Draws};
 
-    /// A screen of 512 by 320 pixels, both layers 0. It takes the memory of both layers at the greatest size; no other
-    /// call takes any.
+    /// A screen of 512 by 320 pixels, both layers 0, no row marked. It takes the memory of both layers and of the composed
+    /// values at the greatest size; no other call takes any.
     pub fn new(alloc: Global) -> Result<Screen, AllocError>
-        ensures { IfOk result (λ screen. StandsFor screen new_picture) }
+        ensures picture { IfOk result (λ screen. StandsFor screen new_picture) }
+        ensures marked { IfOk result (λ screen. MarkedBy screen []) }
     {
-        let background = Plane::new(alloc)?;
-        let foreground = Plane::new(alloc)?;
+        let size = Size {
+            width: 512,
+            height: 320,
+        };
+        let mut background = Plane::new(alloc)?;
+        let mut foreground = Plane::new(alloc)?;
+        let mut composed = Plane::new(alloc)?;
+        let marks = Marks::new(alloc)?;
+        background.clear(size);
+        foreground.clear(size);
+        composed.clear(size);
         Ok(Screen {
-            size: Size {
-                width: 512,
-                height: 320,
-            },
+            size,
             background,
             foreground,
+            composed,
+            marks,
         })
     }
 
@@ -92,6 +121,8 @@ impl Screen {
     /// Does a write to the port pixel, and gives the next x and y. It colours the pixel at x and y, or fills.
     pub fn pixel(&mut self, x: u16, y: u16, auto: u8, control: u8) -> (u16, u16)
         ensures drawn { (picture : Picture) → StandsFor self.old picture → StandsFor self.new (after_pixel picture x y control) }
+        ensures marked { (since : List Drawing) → MarkedBy self.old since
+            → MarkedBy self.new (drawn_by_pixel self.old.width self.old.height x y control ∷ since) }
         ensures moved { result ≡ moved_by_pixel x y auto control }
     {
         if has_bit(control, 0x80) {
@@ -119,6 +150,8 @@ impl Screen {
     ) -> Moved
         ensures drawn { (picture : Picture) → StandsFor self.old picture → StandsFor self.new
             (after_sprite picture memory.now x y addr auto control) }
+        ensures marked { (since : List Drawing) → MarkedBy self.old since
+            → MarkedBy self.new (drawn_by_sprite memory.now x y addr auto control ++ since) }
         ensures moved { result ≡ moved_by_sprite x y addr auto control }
     {
         let look = Look::of(control);
@@ -130,10 +163,11 @@ impl Screen {
     }
 
     /// Asks for a size. True where each way lies in 8 to 2047 and one differs from the present size: the screen then
-    /// has that size, and both layers are 0. False changes nothing.
+    /// has that size, both layers are 0, and no row is marked. False changes nothing.
     pub fn resize(&mut self, width: u16, height: u16) -> bool
         ensures answer { result ≡ can_resize self.old.width self.old.height width height }
         ensures picture { (picture : Picture) → StandsFor self.old picture → StandsFor self.new (resized picture width height) }
+        ensures marked { result ≡ true → MarkedBy self.new [] }
         ensures refused { result ≡ false → self.new ≡ self.old }
     {
         if !is_size(width)
@@ -142,10 +176,47 @@ impl Screen {
         {
             return false;
         }
-        self.size = Size { width, height };
-        self.background.clear();
-        self.foreground.clear();
+        let size = Size { width, height };
+        self.size = size;
+        self.background.clear(size);
+        self.foreground.clear(size);
+        self.composed.clear(size);
+        self.marks.clear();
         true
+    }
+
+    /// Composes each marked row, takes its mark away, and gives the number of these rows.
+    pub fn refresh(&mut self) -> u16
+        ensures { Refreshes self.old self.new result }
+    {
+        let mut count = 0;
+        for y in 0..self.size.height {
+            if self.is_marked(y) {
+                self.compose(y);
+                count += 1;
+            }
+        }
+        count
+    }
+
+    /// Whether a row is marked: whether a drawing since the last refresh covers a place of it, opaque there or not.
+    pub fn is_marked(&self, y: u16) -> bool
+        requires { y < self.now.height }
+        ensures held { result ≡ mark_at self.now.marks y }
+        ensures exact { (since : List Drawing) → MarkedBy self.now since → (result ≡ true) ↔ CoversRow since self.now.width y }
+    {
+        self.marks.get(y)
+    }
+
+    /// What is shown of a row that is not marked, as it is kept: a value of 0 to 3 for each pixel.
+    pub fn composed(&self, y: u16) -> &[u8]
+        requires row { y < self.now.height }
+        requires composed { mark_at self.now.marks y ≡ false }
+        ensures held { result.now ≡ take self.now.width (drop (y * self.now.width) self.now.composed) }
+        ensures values { (picture : Picture) → StandsFor self.now picture → result.now ≡ values_of picture y }
+        ensures colours { All (λ value. value < 4) result.now }
+    {
+        self.composed.row(self.size, y)
     }
 
     /// Puts a row of the picture file into the front of a buffer, and gives the number of bytes: three a pixel.
@@ -157,17 +228,41 @@ impl Screen {
         ensures row { (picture : Picture) → StandsFor self.now picture →
             into.new ≡ picture_row_of palette.now.colours picture y ++ drop result into.old }
     {
-        let width = usize::from(self.size.width);
-        let count = CHANNELS * width;
-        let mut buffer = [0; STRIDE];
-        let values = &mut buffer[..width];
+        let count = CHANNELS * usize::from(self.size.width);
+        if self.is_marked(y) {
+            self.marked_row(y, palette, &mut into[..count]);
+        } else {
+            ppm_row(palette, self.composed(y), &mut into[..count]);
+        }
+        count
+    }
+
+    // Puts a row of the picture file into a buffer, from both layers.
+    #[inline(never)]
+    fn marked_row(&self, y: u16, palette: &Palette, into: &mut [u8])
+        requires row { y < self.now.height }
+        requires room { length into.old ≡ 3 * self.now.width }
+        ensures { (picture : Picture) → StandsFor self.now picture → into.new ≡ picture_row_of palette.now.colours picture y }
+    {
+        let mut buffer = [0; 2047];
+        let values = &mut buffer[..usize::from(self.size.width)];
         compose_row(
-            self.foreground.row(y, self.size.width),
-            self.background.row(y, self.size.width),
+            self.foreground.row(self.size, y),
+            self.background.row(self.size, y),
             values,
         );
-        ppm_row(palette, values, &mut into[..count]);
-        count
+        ppm_row(palette, values, into);
+    }
+
+    // Composes a row, and takes its mark away.
+    fn compose(&mut self, y: u16)
+        requires { y < self.old.height }
+        ensures picture { SamePixels self.old self.new }
+        ensures marks { (other : ℕ) → mark_at self.new.marks other ≡ (if other == y then false else mark_at self.old.marks other) }
+    {
+        self.composed
+            .compose(self.size, y, &self.foreground, &self.background);
+        self.marks.unset(y);
     }
 
     // Fills from x and y on, or up to them where flipped.
@@ -182,9 +277,11 @@ impl Screen {
             top,
             bottom,
         };
+        let size = self.size;
+        self.marks.set_fill(size, area);
         match layer_of(control) {
-            Layer::Background => self.background.fill(area, control % 4),
-            Layer::Foreground => self.foreground.fill(area, control % 4),
+            Layer::Background => self.background.fill(size, area, control % 4),
+            Layer::Foreground => self.foreground.fill(size, area, control % 4),
         }
     }
 
@@ -192,15 +289,17 @@ impl Screen {
     fn dot(&mut self, x: u16, y: u16, control: u8)
         ensures { Draws self.old self.new (dotted x y control) }
     {
-        if x < self.size.width && y < self.size.height {
+        let size = self.size;
+        if x < size.width && y < size.height {
+            self.marks.set_dot(size, x, y);
             match layer_of(control) {
-                Layer::Background => self.background.dot(x, y, control % 4),
-                Layer::Foreground => self.foreground.dot(x, y, control % 4),
+                Layer::Background => self.background.dot(size, x, y, control % 4),
+                Layer::Foreground => self.foreground.dot(size, x, y, control % 4),
             }
         }
     }
 
-    // Paints a tile on a layer.
+    // Paints a tile on a layer, if a column of it lies on the screen.
     fn tile(&mut self, memory: &Memory, place: Tile, layer: Layer, look: &Look)
         ensures { Draws self.old self.new (record {
           layer = layer;
@@ -209,6 +308,10 @@ impl Screen {
         }) }
     {
         let size = self.size;
+        if place.x >= size.width && place.x <= u16::MAX - 7 {
+            return;
+        }
+        self.marks.set_tile(size, place);
         match layer {
             Layer::Background => self.background.tile(size, memory, place, look),
             Layer::Foreground => self.foreground.tile(size, memory, place, look),
@@ -268,17 +371,5 @@ fn span(at: u16, size: u16, flip: bool) -> (u16, u16)
         (0, at.min(size))
     } else {
         (at.min(size), size)
-    }
-}
-
-// The values that are shown where two rows lie over each other.
-fn compose_row(foreground: &[u8], background: &[u8], into: &mut [u8])
-    requires foreground { length foreground.now ≡ length into.old }
-    requires background { length background.now ≡ length into.old }
-    ensures count { length into.new ≡ length foreground.now }
-    ensures values { (k : ℕ) → k < length foreground.now → slice_index into.new k ≡ shown (slice_index foreground.now k) (slice_index background.now k) }
-{
-    for i in 0..into.len() {
-        into[i] = compose(foreground[i], background[i]);
     }
 }

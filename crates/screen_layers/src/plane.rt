@@ -1,35 +1,22 @@
 //! A layer's pixels, and how shapes are painted on them.
-ghost use Rattle.std.specs.Prelude.{ℕ, ◌≡◌, ◌*◌, ◌<◌, ◌≤◌, All, IfOk, length, take, drop, slice_index, replicate};
+ghost use Rattle.std.specs.Prelude.{ℕ, ◌≡◌, ◌+◌, ◌*◌, ◌<◌, ◌≤◌, All, IfOk, length, take, drop, slice_index, replicate};
+ghost use Rattle.screen_frame.specs.Colours.{shown};
 ghost use Rattle.screen_layers.specs.Control.{tile_size};
 ghost use Rattle.screen_layers.specs.Drawings.{fill, dot, tile, bytes_at};
-ghost use Rattle.screen_layers.specs.Layers.{IsPlane, PaintedOver};
+ghost use Rattle.screen_layers.specs.Layers.{PaintedOver, pixel_at};
 
+use crate::size::{Area, Size};
 use crate::tile::{Look, paint_row};
+use screen_frame::compose;
 use std::alloc::{AllocError, Global};
 use std::marker::Model;
 use uxn_memory::Memory;
 
-/// The greatest width and height of a screen, and how far one row of a layer lies from the next.
-pub const STRIDE: usize = 2047;
-
 /// How many pixels a layer has at the greatest size.
-const PIXELS: usize = STRIDE * STRIDE;
+const PIXELS: usize = 2047 * 2047;
 
-/// The size of a screen in pixels.
-#[derive(Clone, Copy)]
-pub struct Size {
-    pub width: u16,
-    pub height: u16,
-}
-
-/// A rectangle: the first column and row in it, and the first ones past it.
-#[derive(Clone, Copy)]
-pub struct Area {
-    pub left: u16,
-    pub right: u16,
-    pub top: u16,
-    pub bottom: u16,
-}
+/// The most bytes that are filled at once: the C library fills more of them by an instruction that is slow to begin.
+const PIECE: usize = 2048;
 
 /// Where a tile stands, and the address of its bytes.
 #[derive(Clone, Copy)]
@@ -39,105 +26,179 @@ pub struct Tile {
     pub at: u16,
 }
 
-/// The pixels of a layer, in rows of the greatest width, which contracts see as a list.
+/// Values 0 to 3 in rows as wide as the screen, which contracts see as a list. It has room for the greatest size.
 #[derive(Drop)]
 pub struct Plane {
     pixels: Vec<u8>,
 }
 
 impl Model for Plane {
-    ghost use Rattle.std.specs.Prelude.{ℕ, List};
-    ghost use Rattle.screen_layers.specs.Layers.{IsPlane};
+    ghost use Rattle.std.specs.Prelude.{ℕ, List, All, ◌<◌, ◌≤◌};
+    ghost use Rattle.std.specs.Vec.{vec_capacity};
 
     ghost Value = { List ℕ };
 
     ghost view = { λ p. p.pixels.items };
 
-    ghost invariant = { λ p. IsPlane p.pixels.items };
+    ghost invariant = { λ p. (4190209 ≤ vec_capacity p.pixels) × All (λ colour. colour < 4) p.pixels.items };
 }
 
 impl Plane {
-    /// A layer whose pixels are all 0.
+    /// A plane without rows.
     pub fn new(alloc: Global) -> Result<Plane, AllocError>
-        ensures { IfOk result (λ plane. (k : ℕ) → slice_index plane k ≡ 0) }
+        ensures { IfOk result (λ plane. length plane ≡ 0) }
     {
-        let pixels = blank(alloc, PIXELS)?;
-        Ok(Plane { pixels })
+        Ok(Plane {
+            pixels: Vec::with_capacity(alloc, PIXELS)?,
+        })
     }
 
-    /// Makes all pixels 0.
-    pub fn clear(&mut self)
-        ensures { (k : ℕ) → slice_index self.new k ≡ 0 }
+    /// Takes a size: all values are 0.
+    pub fn clear(&mut self, size: Size)
+        requires { (size.width ≤ 2047) × (size.height ≤ 2047) }
+        ensures { self.new ≡ replicate (size.height * size.width) 0 }
     {
-        fill_span(&mut self.pixels, 0);
+        self.pixels.clear();
+        let _ = self.pixels.resize(size.start(size.height), 0);
     }
 
     /// Fills a rectangle.
-    pub fn fill(&mut self, area: Area, colour: u8)
-        requires across { area.left ≤ area.right × (area.right ≤ 2047) }
-        requires down { area.top ≤ area.bottom × (area.bottom ≤ 2047) }
+    pub fn fill(&mut self, size: Size, area: Area, colour: u8)
+        requires plane { length self.old ≡ size.height * size.width }
+        requires across { area.left ≤ area.right × (area.right ≤ size.width) }
+        requires down { area.top ≤ area.bottom × (area.bottom ≤ size.height) }
         requires colour { colour < 4 }
-        ensures { PaintedOver self.old self.new 2047 2047 (fill area.left area.right area.top area.bottom colour) }
+        ensures painted { PaintedOver self.old self.new size.width size.height (fill area.left area.right area.top area.bottom colour) }
+        ensures length { length self.new ≡ length self.old }
     {
-        fill_area(&mut self.pixels, area, colour);
+        fill_area(&mut self.pixels, size, area, colour);
     }
 
     /// Colours the pixel at a place.
-    pub fn dot(&mut self, x: u16, y: u16, colour: u8)
-        requires place { (x < 2047) × (y < 2047) }
+    pub fn dot(&mut self, size: Size, x: u16, y: u16, colour: u8)
+        requires plane { length self.old ≡ size.height * size.width }
+        requires place { (x < size.width) × (y < size.height) }
         requires colour { colour < 4 }
-        ensures { PaintedOver self.old self.new 2047 2047 (dot x y colour) }
+        ensures painted { PaintedOver self.old self.new size.width size.height (dot x y colour) }
+        ensures length { length self.new ≡ length self.old }
     {
-        self.pixels[usize::from(y) * STRIDE + usize::from(x)] = colour;
+        self.pixels[size.start(y) + usize::from(x)] = colour;
     }
 
     /// Paints a tile, as far as it lies within the size. Its coordinates wrap, and so do the addresses of its bytes.
     pub fn tile(&mut self, size: Size, memory: &Memory, place: Tile, look: &Look)
-        requires { (size.width ≤ 2047) × (size.height ≤ 2047) }
-        ensures { PaintedOver self.old self.new size.width size.height
+        requires plane { length self.old ≡ size.height * size.width }
+        requires size { size.width ≤ 2047 }
+        ensures painted { PaintedOver self.old self.new size.width size.height
             (tile place.x place.y (bytes_at memory.now place.at (tile_size look.now.two_bits)) look.now.columns look.now.flip_y look.now.inks) }
+        ensures length { length self.new ≡ length self.old }
     {
         paint_tile(&mut self.pixels, size, memory, place, look);
     }
 
-    /// The first pixels of a row.
-    pub fn row(&self, y: u16, width: u16) -> &[u8]
-        requires { (y < 2047) × (width ≤ 2047) }
-        ensures pixels { result.now ≡ take width (drop (y * 2047) self.now) }
-        ensures length { length result.now ≡ width }
+    /// A row.
+    pub fn row(&self, size: Size, y: u16) -> &[u8]
+        requires plane { length self.now ≡ size.height * size.width }
+        requires row { y < size.height }
+        ensures pixels { result.now ≡ take size.width (drop (y * size.width) self.now) }
+        ensures length { length result.now ≡ size.width }
         ensures colours { All (λ colour. colour < 4) result.now }
     {
-        let start = usize::from(y) * STRIDE;
-        &self.pixels[start..start + usize::from(width)]
+        let start = size.start(y);
+        &self.pixels[start..start + usize::from(size.width)]
+    }
+
+    /// Puts the values into a row that are shown where the rows of two layers lie over each other.
+    pub fn compose(&mut self, size: Size, y: u16, foreground: &Plane, background: &Plane)
+        requires plane { length self.old ≡ size.height * size.width }
+        requires foreground { length foreground.now ≡ size.height * size.width }
+        requires background { length background.now ≡ size.height * size.width }
+        requires row { y < size.height }
+        ensures row { (x : ℕ) → x < size.width → pixel_at size.width self.new x y
+            ≡ shown (pixel_at size.width foreground.now x y) (pixel_at size.width background.now x y) }
+        ensures others { (x other : ℕ) → x < size.width → (other ≡ y → ⊥) → pixel_at size.width self.new x other
+            ≡ pixel_at size.width self.old x other }
+        ensures length { length self.new ≡ length self.old }
+    {
+        compose_at(
+            &mut self.pixels,
+            size,
+            y,
+            foreground.row(size, y),
+            background.row(size, y),
+        );
     }
 }
 
-// So many pixels, all 0.
-fn blank(alloc: Global, count: usize) -> Result<Vec<u8>, AllocError>
-    ensures count { IfOk result (λ pixels. length pixels.items ≡ count) }
-    ensures blank { IfOk result (λ pixels. (k : ℕ) → slice_index pixels.items k ≡ 0) }
+// Puts a row in its place that is composed of two.
+fn compose_at(pixels: &mut [u8], size: Size, y: u16, foreground: &[u8], background: &[u8])
+    requires plane { length pixels.old ≡ size.height * size.width }
+    requires row { y < size.height }
+    requires foreground { length foreground.now ≡ size.width }
+    requires background { length background.now ≡ size.width }
+    ensures row { (x : ℕ) → x < size.width → pixel_at size.width pixels.new x y ≡ shown (slice_index foreground.now x) (slice_index background.now x) }
+    ensures others { (x other : ℕ) → x < size.width → (other ≡ y → ⊥) → pixel_at size.width pixels.new x other ≡ pixel_at size.width pixels.old x other }
+    ensures length { length pixels.new ≡ length pixels.old }
+    ensures colours { All (λ colour. colour < 4) foreground.now → All (λ colour. colour < 4) background.now
+        → All (λ colour. colour < 4) pixels.old → All (λ colour. colour < 4) pixels.new }
 {
-    vec![in alloc; 0u8; count]
+    let start = size.start(y);
+    compose_row(
+        foreground,
+        background,
+        &mut pixels[start..start + usize::from(size.width)],
+    );
 }
 
-// Makes all pixels of a span one colour.
+/// The values that are shown where two rows lie over each other.
+pub fn compose_row(foreground: &[u8], background: &[u8], into: &mut [u8])
+    requires foreground { length foreground.now ≡ length into.old }
+    requires background { length background.now ≡ length into.old }
+    ensures count { length into.new ≡ length foreground.now }
+    ensures values { (k : ℕ) → k < length foreground.now → slice_index into.new k ≡ shown (slice_index foreground.now k) (slice_index background.now k) }
+    ensures colours { All (λ colour. colour < 4) foreground.now → All (λ colour. colour < 4) background.now → All (λ colour. colour < 4) into.new }
+{
+    for i in 0..into.len() {
+        into[i] = compose(foreground[i], background[i]);
+    }
+}
+
+// Makes all pixels of a span one colour, a piece at a time.
 fn fill_span(span: &mut [u8], colour: u8)
     ensures { span.new ≡ replicate (length span.old) colour }
 {
-    span.fill(colour);
+    let mut from = 0;
+    while span.len() - from > PIECE {
+        fill_piece(&mut span[from..from + PIECE], colour);
+        from += PIECE;
+    }
+    fill_piece(&mut span[from..], colour);
 }
 
-// Fills a rectangle, a span of each row.
-fn fill_area(pixels: &mut [u8], area: Area, colour: u8)
-    requires plane { IsPlane pixels.old }
-    requires across { area.left ≤ area.right × (area.right ≤ 2047) }
-    requires down { area.top ≤ area.bottom × (area.bottom ≤ 2047) }
-    requires colour { colour < 4 }
-    ensures painted { PaintedOver pixels.old pixels.new 2047 2047 (fill area.left area.right area.top area.bottom colour) }
-    ensures plane { IsPlane pixels.new }
+// Not inlined, so that the pieces stay pieces.
+#[inline(never)]
+fn fill_piece(piece: &mut [u8], colour: u8)
+    ensures { piece.new ≡ replicate (length piece.old) colour }
 {
+    piece.fill(colour);
+}
+
+// Fills a rectangle: a span of each row, or whole rows together.
+fn fill_area(pixels: &mut [u8], size: Size, area: Area, colour: u8)
+    requires plane { length pixels.old ≡ size.height * size.width }
+    requires across { area.left ≤ area.right × (area.right ≤ size.width) }
+    requires down { area.top ≤ area.bottom × (area.bottom ≤ size.height) }
+    ensures painted { PaintedOver pixels.old pixels.new size.width size.height (fill area.left area.right area.top area.bottom colour) }
+    ensures length { length pixels.new ≡ length pixels.old }
+    ensures colours { colour < 4 → All (λ colour. colour < 4) pixels.old → All (λ colour. colour < 4) pixels.new }
+{
+    if area.left == 0 && area.right == size.width {
+        let (start, end) = (size.start(area.top), size.start(area.bottom));
+        fill_span(&mut pixels[start..end], colour);
+        return;
+    }
     for y in area.top..area.bottom {
-        let start = usize::from(y) * STRIDE;
+        let start = size.start(y);
         fill_span(
             &mut pixels[start + usize::from(area.left)..start + usize::from(area.right)],
             colour,
@@ -147,17 +208,18 @@ fn fill_area(pixels: &mut [u8], area: Area, colour: u8)
 
 // Paints the rows of a tile that lie on the screen.
 fn paint_tile(pixels: &mut [u8], size: Size, memory: &Memory, place: Tile, look: &Look)
-    requires plane { IsPlane pixels.old }
-    requires size { (size.width ≤ 2047) × (size.height ≤ 2047) }
+    requires plane { length pixels.old ≡ size.height * size.width }
+    requires size { size.width ≤ 2047 }
     ensures painted { PaintedOver pixels.old pixels.new size.width size.height
         (tile place.x place.y (bytes_at memory.now place.at (tile_size look.now.two_bits)) look.now.columns look.now.flip_y look.now.inks) }
-    ensures plane { IsPlane pixels.new }
+    ensures length { length pixels.new ≡ length pixels.old }
+    ensures colours { All (λ colour. colour < 4) pixels.old → All (λ colour. colour < 4) pixels.new }
 {
     for row in 0..8 {
         let y = place.y.wrapping_add(row);
         if y < size.height {
             let (low, high) = look.row_bytes(memory, place.at, row);
-            let start = usize::from(y) * STRIDE;
+            let start = size.start(y);
             let end = start + usize::from(size.width);
             paint_row(&mut pixels[start..end], place.x, low, high, look);
         }

@@ -67,6 +67,26 @@ enum Call {
     Blend(u8, [u8; 4]),
     /// The pixels of a row of the picture of 8 by 8, by the numbers of their colours.
     Row(u16, [usize; 8]),
+    /// How many rows were marked.
+    Refresh(u16),
+    /// A row that is marked.
+    Marked(u16),
+    /// A row that is not marked: its first values, and the one that all others have.
+    Composed(u16, &'static [u8], u8),
+}
+
+/// Says whether a row is kept composed so.
+fn keeps(screen: &Screen, y: u16, first: &[u8], other: u8) -> bool {
+    if y >= screen.height() || screen.is_marked(y) {
+        return false;
+    }
+    let values = screen.composed(y);
+    let mut same = values.len() == usize::from(screen.width());
+    for (x, value) in values.iter().enumerate() {
+        let want = if x < first.len() { first[x] } else { other };
+        same = same && *value == want;
+    }
+    same
 }
 
 /// Says whether a screen answers a call so.
@@ -82,6 +102,9 @@ fn answers(screen: &mut Screen, memory: &Memory, call: &Call) -> bool {
         Call::Shows(x, y, value) => shows(screen, *x, *y, *value),
         Call::Blend(control, values) => blends(screen, memory, *control, values),
         Call::Row(y, colours) => has_row(screen, *y, colours),
+        Call::Refresh(count) => screen.refresh() == *count,
+        Call::Marked(y) => *y < screen.height() && screen.is_marked(*y),
+        Call::Composed(y, first, other) => keeps(screen, *y, first, *other),
     }
 }
 
@@ -144,6 +167,53 @@ static PIXELS: [Call; 13] = [
     Call::Pixel(9, 0, 0x01, 0x03, (10, 0)),
     Call::Shows(9, 0, 3),
 ];
+
+/// What is marked and kept composed.
+static KEPT: [Call; 24] = [
+    Call::Composed(0, &[], 0),
+    Call::Refresh(0),
+    Call::Pixel(0xffff, 0, 0x03, 0x01, (0, 1)),
+    Call::Refresh(0),
+    Call::Pixel(2, 1, 0x00, 0xc1, (2, 1)),
+    Call::Composed(0, &[], 0),
+    Call::Marked(1),
+    Call::Refresh(319),
+    Call::Refresh(0),
+    Call::Composed(0, &[], 0),
+    Call::Composed(1, &[0, 0], 1),
+    Call::Pixel(1, 1, 0x00, 0x03, (1, 1)),
+    Call::Marked(1),
+    Call::Composed(2, &[0, 0], 1),
+    Call::Shows(1, 1, 3),
+    Call::Refresh(1),
+    Call::Composed(1, &[0, 3], 1),
+    Call::Pixel(512, 0, 0x00, 0x82, (512, 0)),
+    Call::Refresh(0),
+    Call::Pixel(0, 0, 0x00, 0x40, (0, 0)),
+    Call::Resize(8, 8, true),
+    Call::Refresh(0),
+    Call::Composed(1, &[], 0),
+    Call::Shows(1, 1, 0),
+];
+
+#[test]
+fn rows_are_marked_and_composed(rt: HostRuntime) -> Result<(), AllocError> {
+    ask(&rt, rt.alloc(), &[], &KEPT)
+}
+
+/// A sprite across the left side of a screen, on its own.
+static TILED: [Call; 5] = [
+    Call::Sprite(0xfffc, 0x0000, 0xfff8, 0x35, 0x91, (0xfff4, 0x0000, 0x0038)),
+    Call::Refresh(32),
+    Call::Refresh(0),
+    Call::Composed(0, &[3, 3, 1, 1], 0),
+    Call::Composed(31, &[], 0),
+];
+
+#[test]
+fn tiles_mark_the_rows_that_they_cover(rt: HostRuntime) -> Result<(), AllocError> {
+    ask(&rt, rt.alloc(), &[(0xfff8, 0xf0), (0x0000, 0x30)], &TILED)
+}
 
 #[test]
 fn pixels_and_fills(rt: HostRuntime) -> Result<(), AllocError> {

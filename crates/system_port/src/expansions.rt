@@ -1,14 +1,27 @@
 //! The expansion port: records that fill and copy memory.
-ghost use Rattle.std.specs.Prelude.{◌≡◌, ◌+◌, ◌%◌, ◌<◌};
+ghost use Rattle.std.specs.Prelude.{◌≡◌, ◌+◌, ◌%◌, ◌<◌, ◌≤◌, MatchOption};
 ghost use Rattle.system_port.specs.Expansion.{byte_in, short_in, place_in, record_at, done, expanded};
 
-use uxn_memory::Memory;
+use uxn_memory::{BANKS, Memory};
 
 /// A bank of memory and an address in it.
 #[derive(Clone, Copy)]
 pub(crate) struct Place {
     bank: u16,
     address: u16,
+}
+
+impl Place {
+    /// Its bank, where there is a bank of this number.
+    fn bank(self) -> Option<u8>
+        ensures { MatchOption result (16 ≤ self.bank) (λ bank. (bank ≡ self.bank) × (bank < 16)) }
+    {
+        if self.bank < u16::from(BANKS) {
+            Some(self.bank as u8)
+        } else {
+            None
+        }
+    }
 }
 
 /// What a record asks for.
@@ -61,24 +74,28 @@ impl Record {
         }
     }
 
-    /// Does what the record asks for, where all its banks are bank 0.
+    /// Does what the record asks for, where all its banks are there.
     fn perform(self, memory: &mut Memory)
         ensures { memory.new ≡ done self memory.old }
     {
         match self {
             Record::Fill(length, to, value) => {
-                if to.bank == 0 {
-                    memory.fill(length, to.address, value);
+                if let Some(bank) = to.bank() {
+                    memory.fill(length, bank, to.address, value);
                 }
             }
             Record::CopyUp(length, from, to) => {
-                if from.bank == 0 && to.bank == 0 {
-                    memory.copy_up(length, from.address, to.address);
+                if let Some(from_bank) = from.bank()
+                    && let Some(to_bank) = to.bank()
+                {
+                    memory.copy_up(length, from_bank, from.address, to_bank, to.address);
                 }
             }
             Record::CopyDown(length, from, to) => {
-                if from.bank == 0 && to.bank == 0 {
-                    memory.copy_down(length, from.address, to.address);
+                if let Some(from_bank) = from.bank()
+                    && let Some(to_bank) = to.bank()
+                {
+                    memory.copy_down(length, from_bank, from.address, to_bank, to.address);
                 }
             }
             Record::Unknown => {}
@@ -88,7 +105,7 @@ impl Record {
 
 /// Does what the record at an address says: its first byte 00 fills with a length, a bank, an address and a
 /// value; 01 copies upwards and 02 downwards with a length, a source and a target, each a bank and an address.
-/// The record is read whole before memory changes. Another first byte, or a bank other than 0, does nothing.
+/// The record is read whole from bank 0 before memory changes. Another first byte, or a bank above 15, does nothing.
 #[tactic(auto, unfolding(crate::specs::Expansion::expanded))]
 pub fn expansion(memory: &mut Memory, at: u16)
     ensures { memory.new ≡ expanded memory.old at }

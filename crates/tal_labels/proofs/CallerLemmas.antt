@@ -4,6 +4,7 @@ use Rattle.std.specs.Prelude.{is_some, ◌||◌}
 use Rattle.std.specs.List.{list_any}
 use Rattle.std.proofs.Math.Dec.{ltb}
 use Rattle.std.proofs.lemmas.Bool.{ltb-false, lt-ltb, cases_lt}
+use Rattle.std.proofs.lemmas.List.{take_more}
 use Rattle.tal_words.specs.declared.span.Expanded.{Expanded}
 use Rattle.tal_words.specs.declared.fault.Fault.{Fault}
 use Rattle.tal_words.specs.declared.fault.FaultKind.{FaultKind}
@@ -19,7 +20,7 @@ use Rattle.tal_labels.specs.Placing.{placing_fault, place_fault, lambda_address,
 use Rattle.tal_words.proofs.OrderLemmas.{get_or-each, length-each, no_word}
 use Rattle.tal_words.proofs.PassLemmas.{none-at}
 use Rattle.tal_labels.proofs.PlacedLemmas.{placed_well}
-use Rattle.tal_labels.proofs.LayingLemmas.{ends_of-more, or_false}
+use Rattle.tal_labels.proofs.LayingLemmas.{ends_of-append, or_false}
 
 or_later-none : (a b : Option Fault) → or_later a b ≡ None → (a ≡ None) × (b ≡ None)
 or_later-none None b e = (refl, e)
@@ -68,7 +69,7 @@ collected_at source before (word ∷ words) all (suc k) shape d within e =
     ∙ ap (λ b. placed_word source b (get_or words k no_word) (drop (k + 1) words) shape) (append_assoc before (word ∷ []) (take k words))
     ∙ ap (λ n. placed_word source (before ++ word ∷ take k words) (get_or words k no_word) (drop n (word ∷ words)) shape) (sym next)
 
-length-collected : (source : List ℕ) (before words : List Expanded) → ((k : ℕ) → k < length words → (shape : Form) × (form (expanded_text source (get_or words k no_word)) ≡ Ok shape)) → length (collected (placed_given source) before words) ≡ length words
+pub length-collected : (source : List ℕ) (before words : List Expanded) → ((k : ℕ) → k < length words → (shape : Form) × (form (expanded_text source (get_or words k no_word)) ≡ Ok shape)) → length (collected (placed_given source) before words) ≡ length words
 length-collected source before [] all = refl
 length-collected source before (word ∷ words) all =
     ap (λ f. length (placed_with source before word words f ++ collected (placed_given source) (before ++ word ∷ []) words)) (all 0 (omega arith)).1
@@ -92,7 +93,8 @@ ends_below : (source : List ℕ) (words : List Expanded) (place k : ℕ) → k �
 ends_below source words place zero inside none i below shape e some = absurd (omega arith)
 ends_below source words place (suc k) inside none i below shape e some =
     let next : suc k ≡ k + 1 = omega arith in
-    let parts = or_false _ _ (sym (ends_of-more source words k (omega arith) place) ∙ ap (λ n. list_any (λ end. ltb place end) (ends_of source (take n words))) (sym next) ∙ none) in
+    let more = ap (λ ws. list_any (λ end. ltb place end) (ends_of source ws)) (take_more words k no_word (omega arith)) ∙ ends_of-append source (take k words) (get_or words k no_word) place in
+    let parts = or_false _ _ (sym more ∙ ap (λ n. list_any (λ end. ltb place end) (ends_of source (take n words))) (sym next) ∙ none) in
     elim (cases_lt i k) [
       | inl earlier ↦ ends_below source words place k (omega arith) parts.0 i earlier shape e some
       | inr last ↦ (

@@ -7,4 +7,7 @@ pub mod PlacingLemmas
 pub mod LayingLemmas
 pub mod PlacedLemmas
 pub mod CallerLemmas
+pub mod OpenLemmas
+pub mod AddingLemmas
+pub mod KeptLemmas
 pub mod PlainLemmas

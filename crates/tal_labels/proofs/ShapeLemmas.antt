@@ -1,7 +1,7 @@
-use Rattle.std.proofs.Common.{◌≡◌, ℕ, ◌+◌, ◌<◌, ◌≤◌, Bool, true, false, not, List, [], ◌∷◌, ◌++◌, length, take, drop, get_or, map, length-take, Option, Some, None, Result, Ok, Err, cond, refl, sym, ◌∙◌, ap, arith}
+use Rattle.std.proofs.Common.{◌≡◌, ℕ, ◌+◌, ◌<◌, ◌≤◌, Bool, true, false, not, List, [], ◌∷◌, ◌++◌, length, take, drop, get_or, length-take, Option, Some, None, Result, Ok, Err, cond, refl, sym, ◌∙◌, ap, arith}
 use Rattle.std.specs.Prelude.{is_some, ◌&&◌, ◌==◌}
 use Rattle.std.specs.Option.{option_map}
-use Rattle.std.proofs.lemmas.List.{take_more, take_all, get_or-map, length-map, map-append}
+use Rattle.std.proofs.lemmas.List.{take_more}
 use Rattle.tal_words.specs.declared.span.Expanded.{Expanded}
 use Rattle.tal_words.specs.declared.fault.FaultKind.{FaultKind}
 use Rattle.tal_words.specs.declared.form.Form.{Form}
@@ -42,22 +42,9 @@ pub length-closers_of : (source : List ℕ) (words : List Expanded) → length (
 unfolding closers_of
 length-closers_of source words = length-each (closer_of source) [] words
 
-abbrev pub formed : Form → Result Form FaultKind
-formed shape = Ok shape
-
--- forms by their words
-pub forms-get : (source : List ℕ) (words : List Expanded) (forms : List Form) (k : ℕ) (d : Expanded) (f : Form) → map formed forms ≡ map (λ word. form (expanded_text source word)) words → k < length words → form (expanded_text source (get_or words k d)) ≡ Ok (get_or forms k f)
-forms-get source words forms k d f e h =
-    let size : length forms ≡ length words = sym (length-map forms formed) ∙ ap length e ∙ length-map words (λ word. form (expanded_text source word)) in
-    sym (get_or-map (λ word. form (expanded_text source word)) words k d (Ok f) h) ∙ sym (ap (λ xs. get_or xs k (Ok f)) e) ∙ get_or-map formed forms k f (Ok f) (omega arith)
-
-pub length-forms : (source : List ℕ) (words : List Expanded) (forms : List Form) → map formed forms ≡ map (λ word. form (expanded_text source word)) words → length forms ≡ length words
-length-forms source words forms e = sym (length-map forms formed) ∙ ap length e ∙ length-map words (λ word. form (expanded_text source word))
-
 -- what the loop over the words keeps
-pub record IsShapedSo (source : List ℕ) (words : List Expanded) (k : ℕ) (shapes : List Form) (open_ones : ℕ) : Type 0 where
+pub record IsShapedSo (source : List ℕ) (words : List Expanded) (k : ℕ) (open_ones : ℕ) : Type 0 where
   pub sound : phase_fault (each (judged_shape source) (take k words) (drop k words)) ≡ shape_fault source words
-  pub forms : map formed shapes ≡ map (λ word. form (expanded_text source word)) (take k words)
   pub depth : open_ones ≡ open_count source (take k words)
   pub small : open_ones ≤ k
 
@@ -73,39 +60,31 @@ read_kinds source words k text depth closed e closers within all read deep shut 
     ∙ shape_kinds-closer (form (expanded_text source word)) (expanded_text source word) depth k distance
     ∙ ap (λ n. shape_kinds (form (expanded_text source word)) (expanded_text source word) n (is_some distance)) deep
 
-pub nothing_shaped : (source : List ℕ) (words : List Expanded) (shapes : List Form) → shapes ≡ [] → IsShapedSo source words 0 shapes 0
+pub nothing_shaped : (source : List ℕ) (words : List Expanded) → IsShapedSo source words 0 0
 unfolding shape_fault open_count
-nothing_shaped source words shapes e = record { sound = refl; forms = ap (map formed) e; depth = refl; small = omega arith }
+nothing_shaped source words = record { sound = refl; depth = refl; small = omega arith }
 
-pub next_shaped : (source : List ℕ) (words : List Expanded) (k : ℕ) (shapes more : List Form) (shape : Form) (text : List ℕ) (depth next : ℕ) (closed : Bool) (e : Option ℕ) (closers : List (Option ℕ))
+pub next_shaped : (source : List ℕ) (words : List Expanded) (k : ℕ) (text : List ℕ) (depth next : ℕ) (closed : Bool) (e : Option ℕ) (closers : List (Option ℕ))
     → k < length words → closers ≡ closers_of source words → text ≡ expanded_text source (get_or words k no_word) → closed ≡ is_some (get_or closers k e)
-    → IsShapedSo source words k shapes depth → form text ≡ Ok shape → least (shape_kinds (form text) text depth closed) ≡ None
-    → more ≡ shapes ++ shape ∷ [] → next ≡ open_after depth text → next ≤ depth + 1
-    → IsShapedSo source words (k + 1) more next
-next_shaped source words k shapes more shape text depth next closed e closers within all read shut so formed_so none pushed deeper bound =
+    → IsShapedSo source words k depth → least (shape_kinds (form text) text depth closed) ≡ None
+    → next ≡ open_after depth text → next ≤ depth + 1
+    → IsShapedSo source words (k + 1) next
+next_shaped source words k text depth next closed e closers within all read shut so none deeper bound =
     let word = get_or words k no_word in
     let right = sym (ap least (read_kinds source words k text depth closed e closers within all read so.depth shut)) ∙ none in
     record {
       sound = fault-later (judged_shape source) words k no_word within right ∙ so.sound;
-      forms = ap (map formed) pushed ∙ map-append formed shapes (shape ∷ [])
-          ∙ ap (λ fs. fs ++ formed shape ∷ []) so.forms
-          ∙ ap (λ f. map (λ word. form (expanded_text source word)) (take k words) ++ f ∷ []) (sym (sym (ap form read) ∙ formed_so))
-          ∙ sym (map-append (λ word. form (expanded_text source word)) (take k words) (word ∷ []))
-          ∙ sym (ap (map (λ word. form (expanded_text source word))) (take_more words k no_word within));
       depth = deeper ∙ ap (open_after depth) read ∙ ap (λ n. open_after n (expanded_text source word)) so.depth ∙ sym (open_count-more source words k no_word within);
       small = omega (arith, so.small);
     }
 
-pub faulty_shape : (source : List ℕ) (words : List Expanded) (k : ℕ) (shapes : List Form) (text : List ℕ) (depth : ℕ) (closed : Bool) (kind : FaultKind) (e : Option ℕ) (closers : List (Option ℕ))
+pub faulty_shape : (source : List ℕ) (words : List Expanded) (k : ℕ) (text : List ℕ) (depth : ℕ) (closed : Bool) (kind : FaultKind) (e : Option ℕ) (closers : List (Option ℕ))
     → k < length words → closers ≡ closers_of source words → text ≡ expanded_text source (get_or words k no_word) → closed ≡ is_some (get_or closers k e)
-    → IsShapedSo source words k shapes depth → least (shape_kinds (form text) text depth closed) ≡ Some kind
+    → IsShapedSo source words k depth → least (shape_kinds (form text) text depth closed) ≡ Some kind
     → shape_fault source words ≡ Some (fault_at (get_or words k no_word).origin kind)
-faulty_shape source words k shapes text depth closed kind e closers within all read shut so some =
+faulty_shape source words k text depth closed kind e closers within all read shut so some =
     let right = sym (ap least (read_kinds source words k text depth closed e closers within all read so.depth shut)) ∙ some in
     sym so.sound ∙ fault-here (judged_shape source) words k no_word within kind right
 
-pub all_shaped : (source : List ℕ) (words : List Expanded) (k : ℕ) (shapes : List Form) (depth : ℕ) → k ≡ length words → IsShapedSo source words k shapes depth → (shape_fault source words ≡ None) × (map formed shapes ≡ map (λ word. form (expanded_text source word)) words)
-all_shaped source words k shapes depth whole so = (
-  sym so.sound ∙ ap phase_fault (each-end (judged_shape source) words k (omega arith)),
-  so.forms ∙ ap (map (λ word. form (expanded_text source word))) (take_all k words (omega arith)),
-)
+pub all_shaped : (source : List ℕ) (words : List Expanded) (k : ℕ) (depth : ℕ) → k ≡ length words → IsShapedSo source words k depth → shape_fault source words ≡ None
+all_shaped source words k depth whole so = sym so.sound ∙ ap phase_fault (each-end (judged_shape source) words k (omega arith))

@@ -1,6 +1,9 @@
 -- What the steps of the placing answer.
 use Rattle.std.specs.Prelude.{◌≡◌, ℕ, ◌+◌, Bool, true, false, List, [], ◌∷◌, drop, Option, Some, None, Result, Ok, Err}
 use Rattle.tal_words.specs.declared.fault.FaultKind.{FaultKind}
+use Rattle.tal_words.specs.declared.fault.Fault.{Fault}
+use Rattle.tal_words.specs.declared.fault.AsmStop.{AsmStop}
+use Rattle.tal_words.specs.declared.fault.AsmStop.TheVariants.{Refused, NoMemory}
 use Rattle.tal_words.specs.declared.form.Form.{Form}
 use Rattle.tal_words.specs.declared.form.Form.TheVariants.{Pad, LabelDef}
 use Rattle.tal_words.specs.declared.name.Label.{Label}
@@ -14,6 +17,12 @@ use Rattle.tal_labels.specs.Shapes.{shape_kinds}
 abbrev pub IsShape : List ℕ → ℕ → Bool → Result Form FaultKind → Type 0
 IsShape text depth is_closed (Ok shape) = (form text ≡ Ok shape) × (least (shape_kinds (form text) text depth is_closed) ≡ None)
 IsShape text depth is_closed (Err kind) = least (shape_kinds (form text) text depth is_closed) ≡ Some kind
+
+-- a search finds no fault, or the first, unless memory runs out
+abbrev pub FindsNone : Result (Unit {0}) AsmStop → Option Fault → Type 0
+FindsNone (Ok done) fault = fault ≡ None
+FindsNone (Err (Refused found)) fault = fault ≡ Some found
+FindsNone (Err NoMemory) fault = Unit {0}
 
 -- the place after a word of a form that has this place
 abbrev pub next_address : Form → List ℕ → ℕ → ℕ

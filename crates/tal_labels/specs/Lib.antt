@@ -4,4 +4,7 @@ pub mod Shapes
 pub mod Placing
 pub mod Answers
 pub mod Index
+pub mod Adding
+pub mod Scopes
+pub mod Placers
 pub mod PlainWords

@@ -1,16 +1,15 @@
 //! Labels by their full names.
 
-ghost use Rattle.std.specs.Prelude.{◌≡◌, ◌<◌, ◌^◌, ◌++◌, false, Ok, OnOk, IfOk, OnSome};
+ghost use Rattle.std.specs.Prelude.{◌≡◌, ◌<◌, ◌^◌, ◌++◌, false, Ok, OnOk, OnErr, IfOk, OnSome};
 ghost use Rattle.std.specs.Option.{option_map};
 ghost use Rattle.tal_words.specs.Names.{scope_of as scope_of_name, full_name as full_name_in};
-ghost use Rattle.tal_labels.specs.Index.{labels_in};
 ghost use Rattle.tal_labels.specs.Answers.{label_of, next_scope};
 ghost use Rattle.tal_labels.specs.Labels.{defined_name as name_defined};
 ghost use Rattle.tal_labels.specs.Placing.{is_defined as is_among};
 
-use indexmap::IndexMap;
+use crate::label_index::LabelIndex;
 use std::alloc::{AllocError, Global};
-use tal_words::{Form, Label, Name};
+use tal_words::Form;
 
 /// The scope before the first label.
 pub const FIRST_SCOPE: &[u8] = b"RESET";
@@ -19,7 +18,7 @@ pub const FIRST_SCOPE: &[u8] = b"RESET";
 const SLASH: u8 = b'/';
 
 /// The name up to the first `/`.
-fn scope_of(name: &[u8]) -> &[u8]
+pub fn scope_of(name: &[u8]) -> &[u8]
     ensures { result.now ≡ scope_of_name name.now }
 {
     for (length, byte) in name.iter().enumerate() {
@@ -76,48 +75,29 @@ pub fn full_name(alloc: Global, scope: &[u8], name: &[u8]) -> Result<Vec<u8>, Al
 }
 
 /// Whether a name is that of a label.
-pub fn is_defined(labels: &IndexMap<Vec<u8>, u16>, name: &Option<Vec<u8>>) -> bool
-    ensures { result ≡ is_among (labels_in labels.now) (option_map (λ bytes. bytes.items) name.now) }
+pub fn is_defined(labels: &LabelIndex, name: &Option<Vec<u8>>) -> bool
+    ensures { result ≡ is_among labels.now (option_map (λ bytes. bytes.items) name.now) }
 {
     match name {
-        Some(name) => labels.get(name.as_slice()).is_some(),
+        Some(name) => labels.has(name.as_slice()),
         None => false,
     }
 }
 
 /// Adds the label of a name that no label has.
 pub fn define(
-    labels: &mut IndexMap<Vec<u8>, u16>,
+    labels: &mut LabelIndex,
+    alloc: Global,
     name: Option<Vec<u8>>,
     address: u64,
 ) -> Result<(), AllocError>
     requires fits { OnSome name (address < 2 ^ 16) }
-    requires new { is_among (labels_in labels.old) (option_map (λ bytes. bytes.items) name) ≡ false }
-    ensures { OnOk result (labels_in labels.new ≡ labels_in labels.old ++ label_of (option_map (λ bytes. bytes.items) name) address) }
+    requires new { is_among labels.old (option_map (λ bytes. bytes.items) name) ≡ false }
+    ensures ok { OnOk result (labels.new ≡ labels.old ++ label_of (option_map (λ bytes. bytes.items) name) address) }
+    ensures err { OnErr result (labels.new ≡ labels.old) }
 {
     match name {
-        Some(name) => {
-            labels.insert(name, address as u16)?;
-            Ok(())
-        }
+        Some(name) => labels.define(alloc, name, address as u16),
         None => Ok(()),
     }
-}
-
-/// The labels in order.
-pub fn listed(alloc: Global, index: &IndexMap<Vec<u8>, u16>) -> Result<Vec<Label>, AllocError>
-    ensures { IfOk result (λ labels. labels.items ≡ labels_in index.now) }
-{
-    let mut labels = Vec::new(alloc);
-    for k in 0..index.len() {
-        let Some((name, address)) = index.get_index(k) else {
-            unreachable!()
-        };
-        let name = Name::new(alloc, name)?;
-        labels.push(Label {
-            name,
-            address: *address,
-        })?;
-    }
-    Ok(labels)
 }

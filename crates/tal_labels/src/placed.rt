@@ -2,7 +2,7 @@
 
 ghost use Rattle.std.specs.Prelude.{◌≡◌};
 
-use indexmap::IndexMap;
+use crate::label_index::LabelIndex;
 use std::marker::Model;
 use tal_words::{Expanded, Form, Label};
 
@@ -25,40 +25,25 @@ pub struct PlacedWord {
 #[derive(Drop)]
 pub struct Placed {
     words: Vec<PlacedWord>,
-    labels: Vec<Label>,
-    addresses: IndexMap<Vec<u8>, u16>,
+    labels: LabelIndex,
 }
 
 impl Model for Placed {
-    ghost use Rattle.std.specs.Prelude.{◌≡◌};
     ghost use Rattle.tal_labels.specs.Placing.{Layout};
-    ghost use Rattle.tal_labels.specs.Index.{labels_in};
 
     ghost Value = { Layout };
 
-    ghost view = { λ placed. record { words = placed.words.items; labels = placed.labels.items } };
-
-    ghost invariant = { λ placed. labels_in placed.addresses ≡ placed.labels.items };
+    ghost view = { λ placed. record { words = placed.words.items; labels = placed.labels } };
 }
 
 impl Placed {
-    ghost use Rattle.tal_labels.specs.Index.{labels_in};
     ghost use Rattle.tal_words.specs.Labels.{address_named};
 
-    /// The words and the labels, which the index has by their names.
-    pub(crate) fn new(
-        words: Vec<PlacedWord>,
-        labels: Vec<Label>,
-        addresses: IndexMap<Vec<u8>, u16>,
-    ) -> Placed
-        requires { labels_in addresses ≡ labels.items }
-        ensures { result ≡ record { words = words.items; labels = labels.items } }
+    /// The words and the labels.
+    pub(crate) fn new(words: Vec<PlacedWord>, labels: LabelIndex) -> Placed
+        ensures { result ≡ record { words = words.items; labels = labels } }
     {
-        Placed {
-            words,
-            labels,
-            addresses,
-        }
+        Placed { words, labels }
     }
 
     /// The words in order, each with its address.
@@ -72,13 +57,13 @@ impl Placed {
     pub fn labels(&self) -> &[Label]
         ensures { result.now ≡ self.now.labels }
     {
-        &self.labels
+        self.labels.as_slice()
     }
 
     /// The address of the label of a full name.
     pub fn address_of(&self, name: &[u8]) -> Option<u16>
         ensures { result ≡ address_named self.now.labels name.now }
     {
-        self.addresses.get(name).copied()
+        self.labels.address_of(name)
     }
 }

@@ -1,38 +1,31 @@
 //! What is wrong with words by themselves and with their braces.
 
 ghost use Rattle.std.specs.Prelude.{◌≡◌, ◌==◌, not, true, List, ℕ, map, Ok, ◌+◌, ◌<◌, ◌≤◌, ◌^◌};
-ghost use Rattle.tal_words.specs.Faults.{Gives};
 ghost use Rattle.tal_words.specs.Forms.{form as form_of_text};
 ghost use Rattle.tal_words.specs.Source.{expanded_text};
 ghost use Rattle.tal_labels.specs.Shapes.{closers_of, shape_fault, open_after, open_count, closes_one_of};
-ghost use Rattle.tal_labels.specs.Answers.{IsShape};
+ghost use Rattle.tal_labels.specs.Answers.{IsShape, FindsNone};
 ghost use Rattle.tal_words.specs.declared.span.Expanded.{Expanded as ExpandedWord};
 ghost use Rattle.tal_words.specs.Braces.{closes as closes_brace};
 
+use crate::closing::closers_of;
 use std::alloc::Global;
 use tal_words::{AsmStop, Expanded, Fault, FaultKind, Form, closes, form_of, opens};
 
-/// The forms of the words, or the first fault of their shapes.
-pub fn forms_of(
-    alloc: Global,
-    source: &[u8],
-    words: &[Expanded],
-    closers: &[Option<usize>],
-) -> Result<Vec<Form>, AsmStop>
-    requires { closers.now ≡ closers_of source.now words.now }
-    ensures { Gives (λ forms. map Ok forms.items) result (shape_fault source.now words.now) (map (λ word. form_of_text (expanded_text source.now word)) words.now) }
+/// Finds the first fault of the shapes of words.
+pub fn check_shapes(alloc: Global, source: &[u8], words: &[Expanded]) -> Result<(), AsmStop>
+    ensures { FindsNone result (shape_fault source.now words.now) }
 {
-    let mut forms = Vec::new(alloc);
+    let closers = closers_of(alloc, source, words)?;
     let mut depth = 0usize;
     for (k, word) in words.iter().enumerate() {
         let text = word.text.text(source);
-        match shape_of(text, depth, closers[k].is_some()) {
-            Ok(form) => forms.push(form)?,
-            Err(kind) => return Err(AsmStop::Refused(Fault::new(&word.origin, kind))),
+        if let Err(kind) = shape_of(text, depth, closers[k].is_some()) {
+            return Err(AsmStop::Refused(Fault::new(&word.origin, kind)));
         }
         depth = open_after(depth, text);
     }
-    Ok(forms)
+    Ok(())
 }
 
 /// How many lambdas are open after a word.
@@ -52,7 +45,7 @@ fn open_after(depth: usize, text: &[u8]) -> usize
 
 /// The form of a word, or what is wrong with its shape, where so many lambdas are open before it, by
 /// whether its own is closed.
-fn shape_of(text: &[u8], depth: usize, is_closed: bool) -> Result<Form, FaultKind>
+pub fn shape_of(text: &[u8], depth: usize, is_closed: bool) -> Result<Form, FaultKind>
     ensures { IsShape text.now depth is_closed result }
 {
     match form_of(text) {

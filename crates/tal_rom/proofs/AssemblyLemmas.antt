@@ -7,18 +7,19 @@ use Rattle.tal_words.specs.declared.fault.AsmStop.{AsmStop}
 use Rattle.tal_words.specs.declared.fault.AsmStop.TheVariants.{Refused, NoMemory}
 use Rattle.tal_words.specs.declared.name.Label.{Label}
 use Rattle.tal_words.specs.Source.{expanded_text}
+use Rattle.tal_words.specs.declared.span.Expanded.{Expanded}
 use Rattle.tal_words.specs.Faults.{Gives, or_later}
 use Rattle.tal_words.specs.Comments.{word_fault}
 use Rattle.tal_words.proofs.FormLemmas.{length-encoded}
 use Rattle.tal_words.proofs.OrderLemmas.{get_or-each}
 use Rattle.tal_macros.specs.Expansion.{expanded_of, expansion_fault}
 use Rattle.tal_labels.specs.declared.placed.PlacedWord.{PlacedWord}
-use Rattle.tal_labels.specs.Placing.{LieApart, place_fault}
+use Rattle.tal_labels.specs.Placing.{Layout, layout_of, LieApart, place_fault}
 use Rattle.tal_labels.proofs.CallerLemmas.{place_fault-none, lie_apart}
 use Rattle.tal_rom.specs.References.{reference_fault}
-use Rattle.tal_rom.specs.Rom.{Piece, covers, piece_given, pieces_of}
+use Rattle.tal_rom.specs.Rom.{Piece, covers, piece_given, pieces_of, rom_image}
 use Rattle.tal_rom.specs.Answers.{CoverOnce}
-use Rattle.tal_rom.specs.Assembly.{first_fault, layout, IsAssembled}
+use Rattle.tal_rom.specs.Assembly.{first_fault, layout, rom_of, IsAssembled}
 use Rattle.tal_rom.proofs.Laying.{no_placed_word}
 
 -- a pass that stops with a fault stops with that of the source, where that is the source's
@@ -47,6 +48,25 @@ module _ (source : List ℕ) where
           → reference_fault source (layout source).labels (layout source).words ≡ answer → first_fault source ≡ answer
       unfolding first_fault
       references_first places_sound answer e = rw (words_sound, expansion_sound, places_sound, e) refl
+
+-- the words are laid out as the source's
+pub laid_out : (source : List ℕ) (expanded : List Expanded) (placed : Layout) → expanded ≡ expanded_of source → placed ≡ layout_of source expanded → placed ≡ layout source
+unfolding layout
+laid_out source expanded placed listed e = e ∙ ap (layout_of source) listed
+
+-- where no phase has a fault the bytes of the words are the source's
+pub assembled : (source : List ℕ) (expanded : List Expanded) (placed : Layout) (rom : List ℕ) → word_fault source ≡ None → expansion_fault source ≡ None
+    → expanded ≡ expanded_of source → place_fault source expanded ≡ None → placed ≡ layout_of source expanded
+    → reference_fault source placed.labels placed.words ≡ None → rom ≡ rom_image (pieces_of source placed.labels placed.words)
+    → (first_fault source ≡ None) × (rom ≡ rom_of source) × (placed.words ≡ (layout source).words) × (placed.labels ≡ (layout source).labels)
+unfolding rom_of
+assembled source expanded placed rom words_sound expansion_sound listed places_sound e references_sound bytes =
+    let laid = laid_out source expanded placed listed e in (
+      references_first source words_sound expansion_sound (ap (place_fault source) (sym listed) ∙ places_sound) None (ap (λ (l : Layout). reference_fault source l.labels l.words) (sym laid) ∙ references_sound),
+      bytes ∙ ap (λ (l : Layout). rom_image (pieces_of source l.labels l.words)) laid,
+      ap (λ l. l.words) laid,
+      ap (λ l. l.labels) laid,
+    )
 
 -- no fault in a phase and none in the later ones
 or_later-none : (fault later : Option Fault) → or_later fault later ≡ None → (fault ≡ None) × (later ≡ None)

@@ -1,16 +1,17 @@
 //! From a source to its ROM.
 
-ghost use Rattle.std.specs.Prelude.{◌≡◌, ◌≤◌, List, None, length, ℕ};
+ghost use Rattle.std.specs.Prelude.{◌≡◌, ◌≤◌, List, None, IfOk, IfSome, length, ℕ};
+ghost use Rattle.tal_words.specs.Comments.{words_of, word_fault, source_limit};
 ghost use Rattle.tal_rom.specs.Rom.{rom_limit};
 ghost use Rattle.tal_rom.specs.Assembly.{IsAssembled, first_fault, layout};
 ghost use Rattle.tal_rom.specs.Answers.{CoverOnce};
 
 use crate::rom::rom_of;
-use std::alloc::Global;
+use std::alloc::{AllocError, Global};
 use std::marker::Model;
-use tal_labels::{Placed, PlacedWord, place};
-use tal_macros::expand;
-use tal_words::{AsmStop, Label, words};
+use tal_labels::{Placed, PlacedWord, Placer, place};
+use tal_macros::{Expander, expand};
+use tal_words::{AsmStop, Label, Word, words};
 
 /// What a source without a fault is assembled to.
 #[derive(Drop)]
@@ -57,12 +58,58 @@ impl Assembly {
 
 /// The assembly of a source, or its first fault: that of the first phase that has one, at its first
 /// faulty word, of the least kind there. The phases are the cutting into words, the macros, the forms
-/// and braces of words, the labels and places, and the references.
+/// and braces of words, the labels and places, and the references. A source without a fault is assembled in one
+/// pass over its words, which is given up at a fault; then the phases find it one after the other.
 pub fn assemble(alloc: Global, source: &[u8]) -> Result<Assembly, AsmStop>
     ensures { IsAssembled source.now result }
 {
     let words = words(alloc, source)?;
-    let expanded = expand(alloc, source, &words)?;
+    match in_one_pass(alloc, source, &words)? {
+        Some(assembly) => Ok(assembly),
+        None => by_phases(alloc, source, &words),
+    }
+}
+
+/// The assembly of a source, which has these words and no fault before that of a macro, in one pass; none where the pass
+/// meets a fault.
+fn in_one_pass(alloc: Global, source: &[u8], words: &[Word]) -> Result<Option<Assembly>, AllocError>
+    requires words { words.now ≡ words_of source.now }
+    requires sound { word_fault source.now ≡ None }
+    requires short { length source.now ≤ source_limit }
+    ensures { IfOk result (λ found. IfSome found (λ assembly. IsAssembled source.now (Ok assembly))) }
+{
+    let mut expander = Expander::new(alloc, source, words);
+    let mut placer = Placer::new(alloc);
+    loop {
+        match expander.next() {
+            Ok(Some(word)) => {
+                if placer.add(source, word)?.is_none() {
+                    return Ok(None);
+                }
+            }
+            Ok(None) => break,
+            Err(AsmStop::Refused(_)) => return Ok(None),
+            Err(AsmStop::NoMemory) => return Err(AllocError),
+        }
+    }
+    let Some(placed) = placer.finish() else {
+        return Ok(None);
+    };
+    match rom_of(alloc, source, &placed) {
+        Ok(rom) => Ok(Some(Assembly { rom, placed })),
+        Err(AsmStop::Refused(_)) => Ok(None),
+        Err(AsmStop::NoMemory) => Err(AllocError),
+    }
+}
+
+/// The assembly of a source, which has these words and no fault before that of a macro, phase by phase, or its first fault.
+fn by_phases(alloc: Global, source: &[u8], words: &[Word]) -> Result<Assembly, AsmStop>
+    requires words { words.now ≡ words_of source.now }
+    requires sound { word_fault source.now ≡ None }
+    requires short { length source.now ≤ source_limit }
+    ensures { IsAssembled source.now result }
+{
+    let expanded = expand(alloc, source, words)?;
     let placed = place(alloc, source, &expanded)?;
     let rom = rom_of(alloc, source, &placed)?;
     Ok(Assembly { rom, placed })

@@ -1,4 +1,4 @@
-use Rattle.std.proofs.Common.{◌≡◌, ℕ, ◌≤◌, ◌⊎◌, Bool, true, false, List, [], refl, ap, sym, ◌∙◌, inl, inr, subst, arith}
+use Rattle.std.proofs.Common.{◌≡◌, ℕ, ◌≤◌, ◌⊎◌, Bool, true, false, List, [], codes, refl, ap, sym, ◌∙◌, inl, inr, subst, arith}
 use Rattle.std.specs.Prelude.{Option, Some, None, Result, Ok, Err, IfSome}
 use Rattle.tal_rom.specs.Assembly.{first_fault, rom_of}
 use Rattle.uxn_io.specs.declared.trees.FileBytes.{FileBytes}
@@ -7,7 +7,7 @@ use Rattle.uxn_io.specs.ByteList.{ByteList}
 use Rattle.uxn_io.specs.Files.{Nodes}
 use Rattle.uxn_opcodes.specs.declared.Stop.TheVariants.{TreeFault, SinkFault, NoMemory}
 use Rattle.uxn_words.specs.declared.words.Command.{Command}
-use Rattle.uxn_words.specs.declared.words.Command.TheVariants.{Play, Debug, Assemble, Disassemble}
+use Rattle.uxn_words.specs.declared.words.Command.TheVariants.{Play, Debug, Assemble, Disassemble, Generate}
 use Rattle.uxn_words.specs.declared.task.Task.{Task}
 use Rattle.uxn_cli.specs.declared.refusal.Refusal.{Refusal}
 use Rattle.uxn_cli.specs.declared.refusal.Refusal.TheVariants.{NotUnderstood, NoPath, NoOutput, Missing, Faulty, LongRom, BadSymbols, BadScript, BadCommands}
@@ -19,13 +19,15 @@ use Rattle.uxn_io.specs.Outside.{World, changed_by-err}
 use Rattle.play_script.specs.declared.script.ScriptKind.{ScriptKind}
 use Rattle.play_script.specs.Scripts.{ScriptView, script_of}
 use Rattle.tal_words.specs.declared.name.Label.{Label}
+use Rattle.tal_words.specs.declared.fault.Fault.{Fault}
+use Rattle.uxn_workload.specs.Source.{source_of}
 use Rattle.uxn_debugger.specs.declared.command.DebugCommand.{DebugCommand}
 use Rattle.uxn_debugger.specs.declared.command.CommandKind.{CommandKind}
 use Rattle.uxn_debugger.specs.Reading.{commands_of_text}
 use Rattle.system_port.specs.DebugText.{exit_code_of}
 use Rattle.varvara_bus.specs.History.{stored}
 use Rattle.uxn_cli.specs.Job.{Job, trail_of}
-use Rattle.uxn_cli.specs.Verdict.{and_then, View, Work, Run, Write, Print, view_of, source_by, source_in, rom_in, labels_by, labels_at, labels_in, given_in, debug_labels, commands_from, commands_in, script_from, script_in, home_by, job_of, program_in, texts_of, work_of, made_by, judged, verdict}
+use Rattle.uxn_cli.specs.Verdict.{and_then, View, Work, Run, Write, Print, view_of, source_by, source_in, rom_in, labels_by, labels_at, labels_in, given_in, debug_labels, commands_from, commands_in, script_from, script_in, home_by, job_of, program_in, texts_of, summary_in, work_of, made_by, judged, verdict}
 use Rattle.uxn_cli.specs.Outcome.{outcome_of}
 use Rattle.uxn_cli.specs.Answer.{IsUntold, IsViewOf, Judges, HasOutcome, HasEnded, EndsEarly, IsCut, MayStop, Answers}
 use Rattle.uxn_cli.specs.Causes.{IsEarly, IsExactly, verdict_on, IsIllegal, IsPathless, IsMissing, IsFaulty, IsUnfit, IsBadScript, IsBadCommands, IsBlocked, EndsWith, PutsLine}
@@ -115,10 +117,14 @@ then-later : {A B : Type 0} (said : Result A Refusal) (next : A → Result B Ref
 then-later (Ok value) next h later = later value
 then-later (Err refusal) next h later = h
 
+judged-source : (source : List ℕ) (fault : Option Fault) → IsLater (source_by source fault)
+judged-source source None = tt
+judged-source source (Some fault) = omega arith
+
 source-later : (path : List ℕ) (file : FileBytes) → IsLater (source_in path file)
 source-later path NoFile = omega arith
 source-later path (TooLong length) = omega arith
-source-later path (Found source) = elim (first_fault source.list) as (λ f. IsLater (source_by source.list f)) [ None ↦ tt | Some fault ↦ (let le : 130 ≤ 131 = omega arith in le) ]
+source-later path (Found source) = judged-source source.list (first_fault source.list)
 
 rom-later : (path : List ℕ) (file : FileBytes) → IsLater (rom_in path file)
 rom-later path NoFile = omega arith
@@ -164,6 +170,11 @@ program-later : (rom : Bool) (path : List ℕ) (file : FileBytes) → IsLater (p
 program-later true path file = rom-later path file
 program-later false path file = then-later (source_in path file) (λ source. Ok (rom_of source)) (source-later path file) (λ source. tt)
 
+summary-later : (count : ℕ) → IsLater (summary_in count)
+summary-later count =
+    then-later (source_by (source_of count) (first_fault (source_of count))) _ (judged-source (source_of count) (first_fault (source_of count)))
+    (λ source. then-later (script_from (script_of (codes "frame 60"))) _ (from-later (script_of (codes "frame 60"))) (λ script. tt))
+
 work-later : (command : Command) (task : Task) (view : View) → IsLater (work_of command task view)
 work-later Play task view =
     then-later (program_in task.rom task.file view.file) (λ rom. and_then (script_in task.script view.script) (λ script. Ok (Run (job_of task (home_by task.root view.part view.parent) rom script None))))
@@ -180,6 +191,7 @@ work-later Disassemble task view =
     then-later (rom_in task.file view.file) (λ rom. and_then (labels_in task.symbols view.symbols) (λ labels. Ok (Print (disassembly rom labels))))
     (rom-later task.file view.file)
     (λ rom. then-later (labels_in task.symbols view.symbols) (λ labels. Ok (Print (disassembly rom labels))) (labels-later task.symbols view.symbols) (λ labels. tt))
+work-later Generate task view = then-later (summary_in task.count) (λ text. Ok (Print text)) (summary-later task.count) (λ text. tt)
 
 made-later : (blocked : Option (List ℕ)) (work : Work) → IsLater (made_by blocked work)
 made-later None work = tt

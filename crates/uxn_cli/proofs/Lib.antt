@@ -14,3 +14,4 @@ pub mod RootLemmas
 pub mod ObservationLemmas
 pub mod DoneLemmas
 pub mod IsolationLemmas
+pub mod WorkloadLemmas

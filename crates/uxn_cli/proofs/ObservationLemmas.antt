@@ -224,7 +224,7 @@ unfolding running
 log-around job debugging =
     let first = creating (option_to_list debugging.log) in
     let made = creating (outputs_in (unwatched job)) in
-    let run = reporting job.report (trail_of job) in
+    let run = reporting job.report job.script.version (trail_of job) in
     let log = filling_all (log_by (Some debugging) (trail_of job)) in
     ap (λ made. made ++ (run ++ log)) (map-append (λ path. Creates path) (option_to_list debugging.log) (outputs_in (unwatched job)))
     ∙ append_assoc first made (run ++ log)

@@ -15,7 +15,7 @@ use Rattle.varvara_bus.specs.Bus.{IsOutside}
 use Rattle.varvara_bus.specs.Touching.{Spares, Each, StandsApart, each-append, each-map, told_at, spared, spared-front, kept-node}
 use Rattle.uxn_opcodes.specs.Rule.{new_core}
 use Rattle.uxn_words.specs.declared.words.Command.{Command}
-use Rattle.uxn_words.specs.declared.words.Command.TheVariants.{Play, Debug, Assemble, Disassemble}
+use Rattle.uxn_words.specs.declared.words.Command.TheVariants.{Play, Debug, Assemble, Disassemble, Generate}
 use Rattle.uxn_words.specs.declared.task.Task.{Task}
 use Rattle.uxn_cli.specs.declared.refusal.Refusal.{Refusal}
 use Rattle.uxn_opcodes.specs.declared.Core.{Core}
@@ -23,7 +23,7 @@ use Rattle.vector_loop.specs.declared.output.Outputs.{Outputs}
 use Rattle.vector_loop.specs.Trail.{Trail}
 use Rattle.vector_loop.specs.Touching.{IsOther, run-leaves}
 use Rattle.uxn_cli.specs.Job.{Debugging, Job, Home, log_in, outputs_in, outputs_by as run_outputs_by, trail_of, trail_by, devices_with, start_with, text_at, log_by}
-use Rattle.uxn_cli.specs.Verdict.{and_then, View, Work, Run, Write, Print, source_in, rom_in, labels_in, program_in, script_in, given_in, debug_labels, commands_in, debugging, home_by, job_of, texts_of, outputs_by, root_by, work_of, made_by, verdict}
+use Rattle.uxn_cli.specs.Verdict.{and_then, View, Work, Run, Write, Print, source_in, rom_in, labels_in, program_in, script_in, given_in, debug_labels, commands_in, debugging, home_by, job_of, texts_of, summary_in, outputs_by, root_by, work_of, made_by, verdict}
 use Rattle.uxn_cli.specs.Outcome.{outcome_of, creating, filling_all, reporting, running}
 use Rattle.uxn_cli.specs.Answer.{IsUntold, HasCut, IsCut, Answers}
 use Rattle.uxn_cli.specs.Causes.{IsAside, KeepsOthers}
@@ -85,6 +85,9 @@ work-writes Disassemble task view work e =
     written_by (rom_in task.file view.file) (λ rom. and_then (labels_in task.symbols view.symbols) (λ labels. Ok (Print (disassembly rom labels)))) (Writes Disassemble task) work
     (λ rom f. written_by (labels_in task.symbols view.symbols) (λ labels. Ok (Print (disassembly rom labels))) (Writes Disassemble task) work
     (λ labels h. same_work (Print (disassembly rom labels)) work (Writes Disassemble task) (record { paths = refl; root = refl }) h) f) e
+work-writes Generate task view work e =
+    written_by (summary_in task.count) (λ text. Ok (Print text)) (Writes Generate task) work
+    (λ text h. same_work (Print text) work (Writes Generate task) (record { paths = refl; root = refl }) h) e
 
 -- ---- which paths it leaves alone
 
@@ -127,7 +130,7 @@ job-spares path job none outside =
     let runs = any-last path (log_in job.debug) (frames ++ samples ++ report) none in
     let first = any-first path (frames ++ samples) report runs in
     each-append (Spares path) (creating (outputs_in job)) _ (creating-spares path (outputs_in job) none)
-    (each-append (Spares path) (reporting job.report (trail_of job)) _
+    (each-append (Spares path) (reporting job.report job.script.version (trail_of job)) _
     (each-append (Spares path) (trail_of job).changes _
     (trail-spares path job.budget (run_outputs_by job.frames job.samples) job.script job.home (new_core job.rom) (other-output path job.frames (any-first path frames samples first)) (other-output path job.samples (any-last path frames samples first)) outside)
     (text-spares path job.report _ (any-last path (frames ++ samples) report runs)))

@@ -18,6 +18,7 @@ use Rattle.uxn_opcodes.specs.declared.Stop.TheVariants.{TreeFault, SinkFault, No
 use Rattle.varvara_bus.specs.declared.bus.Bus.{Bus}
 use Rattle.varvara_bus.specs.declared.devices.Devices.{Devices}
 use Rattle.varvara_bus.specs.Bus.{BusStandsFor, FilesStay, IsFileWhereTold}
+use Rattle.play_script.specs.declared.script.Version.{Version}
 use Rattle.play_script.specs.Scripts.{ScriptView}
 use Rattle.varvara_bus.specs.State.{HasFiles}
 use Rattle.varvara_bus.proofs.Appends.{appended-stays}
@@ -86,22 +87,23 @@ stays-if root None before now f there = tt
 stays-if root (Some path) before now f there = f.stays path there.outside there.file
 
 -- a run and its report
-same-report : (trail : Trail) (ended : Ended) → ended.exit ≡ exit_in trail.last → ended.tally ≡ trail.last.tally → report_text ended.exit ended.tally ≡ report_text (exit_in trail.last) trail.last.tally
-same-report trail ended exit tally = ap (λ e. report_text e ended.tally) exit ∙ ap (λ t. report_text (exit_in trail.last) t) tally
+same-report : (version : Version) (trail : Trail) (ended : Ended) → ended.exit ≡ exit_in trail.last → ended.tally ≡ trail.last.tally
+    → report_text version ended.exit ended.tally ≡ report_text version (exit_in trail.last) trail.last.tally
+same-report version trail ended exit tally = ap (λ e. report_text version e ended.tally) exit ∙ ap (λ t. report_text version (exit_in trail.last) t) tally
 
-pub reported : (before middle now : Around) (report : Option (List ℕ)) (trail : Trail) (ended : Ended) → HasRun before middle trail ended
-    → WasDone middle now (filling_all (text_at report (report_text ended.exit ended.tally))) → HasFinished before now trail (reporting report trail) ended.exit
-reported before middle now report trail ended ran done = record {
+pub reported : (before middle now : Around) (report : Option (List ℕ)) (version : Version) (trail : Trail) (ended : Ended) → HasRun before middle trail ended
+    → WasDone middle now (filling_all (text_at report (report_text version ended.exit ended.tally))) → HasFinished before now trail (reporting report version trail) ended.exit
+reported before middle now report version trail ended ran done = record {
   status = ran.exit;
-  done = done-both before middle now trail.changes (filling_all (text_at report (report_text (exit_in trail.last) trail.last.tally))) ran.done
-      (subst (λ text. WasDone middle now (filling_all (text_at report text))) (same-report trail ended ran.exit ran.tally) done);
+  done = done-both before middle now trail.changes (filling_all (text_at report (report_text version (exit_in trail.last) trail.last.tally))) ran.done
+      (subst (λ text. WasDone middle now (filling_all (text_at report text))) (same-report version trail ended ran.exit ran.tally) done);
 }
 
-pub report-cut-after : (before middle now : Around) (report : Option (List ℕ)) (trail : Trail) (ended : Ended) (stop : Stop) → HasRun before middle trail ended
-    → FellShort middle now (filling_all (text_at report (report_text ended.exit ended.tally))) stop → FellShort before now (reporting report trail) stop
-report-cut-after before middle now report trail ended stop ran short =
-    short-later before middle now trail.changes (filling_all (text_at report (report_text (exit_in trail.last) trail.last.tally))) stop ran.done
-    (subst (λ text. FellShort middle now (filling_all (text_at report text)) stop) (same-report trail ended ran.exit ran.tally) short)
+pub report-cut-after : (before middle now : Around) (report : Option (List ℕ)) (version : Version) (trail : Trail) (ended : Ended) (stop : Stop) → HasRun before middle trail ended
+    → FellShort middle now (filling_all (text_at report (report_text version ended.exit ended.tally))) stop → FellShort before now (reporting report version trail) stop
+report-cut-after before middle now report version trail ended stop ran short =
+    short-later before middle now trail.changes (filling_all (text_at report (report_text version (exit_in trail.last) trail.last.tally))) stop ran.done
+    (subst (λ text. FellShort middle now (filling_all (text_at report text)) stop) (same-report version trail ended ran.exit ran.tally) short)
 
 -- what a debugger held in the end has the log of the whole run
 shown-fold : (states : List State) (held : Watching) → shown_all after_moment held states ≡ fold shown_to held (map shown_of states)
@@ -245,6 +247,7 @@ module _ (task : Task) (tree : Option Nodes) where
       same_work Debug = refl
       same_work Rattle.uxn_words.specs.declared.words.Command.TheVariants.Assemble = refl
       same_work Rattle.uxn_words.specs.declared.words.Command.TheVariants.Disassemble = refl
+      same_work Rattle.uxn_words.specs.declared.words.Command.TheVariants.Generate = refl
 
   -- the inputs were refused, or could not be read
   pub unprepared : (new : Option Nodes) (out err : Option (List ℕ)) (halt : Halt) → Unready tree task halt → new ≡ tree
@@ -299,7 +302,7 @@ module _ (task : Task) (tree : Option Nodes) where
         go (Some nodes) run sure takes = λ s p.
             run (sure (let files = left.files s.some in let some = s.some in omega (arith, files, some)) p)
             (λ all. not-taken (Some nodes) start here (creating (outputs_of task)) left (takes p)
-            (rw outs (takes-first start nodes (creating (outputs_in job)) (reporting job.report (trail_of job) ++ filling_all (log_by job.debug (trail_of job))) all))) s
+            (rw outs (takes-first start nodes (creating (outputs_in job)) (reporting job.report job.script.version (trail_of job) ++ filling_all (log_by job.debug (trail_of job))) all))) s
 
     half_made : (new : Option Nodes) (out err : Option (List ℕ)) → HalfMade (outputs_of task) tree new → HasCut (Ok task) (world tree out err) (world new out err) TreeFault
     unfolding running
@@ -334,7 +337,7 @@ module _ (task : Task) (tree : Option Nodes) where
       ready = around made left out out_sure err err_sure
 
       abbrev rest : List Change
-      rest = reporting job.report (trail_of job) ++ filling_all (log_by job.debug (trail_of job))
+      rest = reporting job.report job.script.version (trail_of job) ++ filling_all (log_by job.debug (trail_of job))
 
       begun : WasDone entry ready (creating (outputs_in job))
       begun = rw outs at (begins out err out_sure err_sure)
@@ -435,7 +438,7 @@ module _ (tree : Option Nodes) (task : Task) (debug : Option Debugging) (machine
   ready-trail = ap (trail_by task.budget (outputs_for task) machine.script ready.home) ready.core
 
   abbrev behind : Trail → List Change
-  behind trail = reporting task.report trail ++ filling_all (log_by debug trail)
+  behind trail = reporting task.report machine.script.version trail ++ filling_all (log_by debug trail)
 
   module _ (outs : outputs_of task ≡ outputs_in ready-job) (told : Option Nodes) (same : told ≡ tree) (new : Option Nodes) where
     pub ready-unmade : (out err : Option (List ℕ)) (halt : Halt) → MakesOutputs (outputs_of task) told new (Err halt) → Performs (Ok task) (world tree out err) (world new out err) (Err halt)

@@ -42,7 +42,7 @@ failed_then seen seen_last said next (Refused refusal) f = ap (λ s. and_then s 
 failed_then seen seen_last said next (Stopped stop) f = f
 
 -- nothing more to do
-then_ok : (said : Result Work Refusal) → and_then said (made_by None) ≡ said
+pub then_ok : (said : Result Work Refusal) → and_then said (made_by None) ≡ said
 then_ok (Ok work) = refl
 then_ok (Err refusal) = refl
 

@@ -8,6 +8,8 @@ use Rattle.uxn_opcodes.specs.declared.Core.{Core}
 use Rattle.uxn_opcodes.specs.Rule.{new_core}
 use Rattle.system_port.specs.DebugText.{exit_code_of}
 use Rattle.play_script.specs.declared.script.Clock.{Clock as ScriptClock}
+use Rattle.play_script.specs.declared.script.Version.{Version}
+use Rattle.play_script.specs.declared.script.Version.TheVariants.{First, Second}
 use Rattle.play_script.specs.Scripts.{ScriptView}
 use Rattle.varvara_bus.specs.declared.time.Clock.{Clock}
 use Rattle.varvara_bus.specs.History.{stored}
@@ -94,9 +96,14 @@ exit_of job = exit_in (trail_of job).last
 abbrev pub report_line : List ℕ → ℕ → List ℕ
 report_line name count = name ++ codes " " ++ decimal count ++ codes "\n"
 
+-- the lines of what only version 2 has
+abbrev pub further_lines : Version → Tally → List ℕ
+further_lines First tally = []
+further_lines Second tally = report_line (codes "expects") tally.expects ++ report_line (codes "misses") tally.misses
+
 -- the report of a run: its exit code and what was counted
-unfoldable pub report_text : ℕ → Tally → List ℕ
-report_text exit tally =
+unfoldable pub report_text : Version → ℕ → Tally → List ℕ
+report_text version exit tally =
     report_line (codes "exit") exit
     ++ report_line (codes "instructions") tally.instructions
     ++ report_line (codes "vectors") tally.vectors
@@ -104,14 +111,15 @@ report_text exit tally =
     ++ report_line (codes "events") tally.events
     ++ report_line (codes "frames") tally.frames
     ++ report_line (codes "shots") tally.shots
+    ++ further_lines version tally
 
 -- a text in a file, where the file is asked for
 abbrev pub text_at : Option (List ℕ) → List ℕ → List Text
 text_at None bytes = []
 text_at (Some path) bytes = record { path = path; bytes = bytes } ∷ []
 
-abbrev pub report_of : Option (List ℕ) → State → List Text
-report_of path end = text_at path (report_text (exit_in end) end.tally)
+abbrev pub report_of : Option (List ℕ) → Version → State → List Text
+report_of path version end = text_at path (report_text version (exit_in end) end.tally)
 
 -- what a debugger is shown of a state, and its log over a whole run
 abbrev pub shown_of : State → Shown

@@ -14,3 +14,5 @@ pub mod Causes
 pub mod OpcodeNames
 pub mod Observation
 pub mod Isolation
+pub mod Workload
+pub mod Ended

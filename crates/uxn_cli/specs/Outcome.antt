@@ -6,6 +6,7 @@ use Rattle.uxn_cli.specs.declared.refusal.Refusal.{Refusal}
 use Rattle.uxn_cli.specs.Lines.{status_of, line_of}
 use Rattle.uxn_cli.specs.World.{Text}
 use Rattle.vector_loop.specs.Trail.{Trail}
+use Rattle.play_script.specs.declared.script.Version.{Version}
 use Rattle.uxn_cli.specs.Job.{Job, outputs_in, trail_of, exit_of, report_of, log_by}
 use Rattle.uxn_cli.specs.Verdict.{Work, Run, Write, Print}
 
@@ -33,12 +34,12 @@ abbrev pub printing : List ℕ → List Change
 printing text = map (λ byte. ToOut byte) text
 
 -- a run, and then its report
-abbrev pub reporting : Option (List ℕ) → Trail → List Change
-reporting report trail = trail.changes ++ filling_all (report_of report trail.last)
+abbrev pub reporting : Option (List ℕ) → Version → Trail → List Change
+reporting report version trail = trail.changes ++ filling_all (report_of report version trail.last)
 
 -- a run: its files are made, it runs, its report is written, and then the log of a debugger
 unfoldable pub running : Job → List Change
-running job = creating (outputs_in job) ++ (reporting job.report (trail_of job) ++ filling_all (log_by job.debug (trail_of job)))
+running job = creating (outputs_in job) ++ (reporting job.report job.script.version (trail_of job) ++ filling_all (log_by job.debug (trail_of job)))
 
 abbrev pub outcome_of : Result Work Refusal → Outcome
 outcome_of (Err refusal) = record { status = status_of refusal; changes = map (λ byte. ToErr byte) (line_of refusal) }

@@ -208,7 +208,7 @@ trail_for task machine home = trail_by task.budget (outputs_for task) machine.sc
 
 -- what is done by a run and behind it: its report is written, and then the log of a debugger
 abbrev pub reporting_for : Task → Machine → Home → List Change
-reporting_for task machine home = reporting task.report (trail_for task machine home)
+reporting_for task machine home = reporting task.report machine.script.version (trail_for task machine home)
 
 abbrev pub debugging_for : Task → Session → Home → List Change
 debugging_for task session home =

@@ -48,6 +48,7 @@ paths_in task =
     Ok (record {
       command = task.command;
       file = file;
+      count = task.count;
       rom = task.rom;
       budget = task.budget;
       out = out;

@@ -1,5 +1,5 @@
 -- What the words and the view of the tree determine before anything is done: a refusal, or the work.
-use Rattle.std.specs.Prelude.{ℕ, Bool, true, false, not, List, [], ◌++◌}
+use Rattle.std.specs.Prelude.{ℕ, Bool, true, false, not, List, [], ◌++◌, codes}
 use Rattle.std.specs.Prelude.{find, Option, Some, None, Result, Ok, Err}
 use Rattle.std.specs.Prelude.{if◌then◌else◌, unwrap_or}
 use Rattle.tal_words.specs.declared.fault.Fault.{Fault}
@@ -27,12 +27,14 @@ use Rattle.uxn_io.specs.Changes.{can_create}
 use Rattle.uxn_io.specs.Files.{Nodes, file_at}
 use Rattle.uxn_io.specs.WholeFile.{whole_file}
 use Rattle.uxn_words.specs.declared.words.Command.{Command}
-use Rattle.uxn_words.specs.declared.words.Command.TheVariants.{Play, Debug, Assemble, Disassemble}
+use Rattle.uxn_words.specs.declared.words.Command.TheVariants.{Play, Debug, Assemble, Disassemble, Generate}
 use Rattle.uxn_words.specs.declared.task.Task.{Task}
 use Rattle.uxn_cli.specs.declared.refusal.Refusal.{Refusal}
 use Rattle.uxn_cli.specs.declared.refusal.Refusal.TheVariants.{NoOutput, Missing, Faulty, LongRom, BadSymbols, BadScript, BadCommands}
 use Rattle.uxn_cli.specs.Job.{Debugging, Job, Home, no_home, text_at}
+use Rattle.uxn_workload.specs.Source.{source_of}
 use Rattle.uxn_cli.specs.World.{Text}
+use Rattle.uxn_cli.specs.Workload.{workload_text}
 pub use Rattle.uxn_cli.specs.Request.{and_then}
 pub use Rattle.uxn_words.specs.Places.{inputs_by, outputs_by, outputs_of, root_by, clashes, HasApartOutputs}
 
@@ -53,12 +55,25 @@ limit_by Play rom = if rom then 65280 else 4194304
 limit_by Debug rom = if rom then 65280 else 4194304
 limit_by Assemble rom = 4194304
 limit_by Disassemble rom = 65280
+limit_by Generate rom = 0
 
 abbrev pub file_limit : Task → ℕ
 file_limit task = limit_by task.command task.rom
 
+-- the file that a command is about; a workload reads none
+abbrev pub file_input : Command → Task → Option (List ℕ)
+file_input Play task = Some task.file
+file_input Debug task = Some task.file
+file_input Assemble task = Some task.file
+file_input Disassemble task = Some task.file
+file_input Generate task = None
+
+abbrev pub input_by : Nodes → Option (List ℕ) → ℕ → FileBytes
+input_by nodes None limit = NoFile
+input_by nodes (Some path) limit = whole_file (file_at nodes path) limit
+
 abbrev pub file_seen : Nodes → Task → FileBytes
-file_seen nodes task = whole_file (file_at nodes task.file) (file_limit task)
+file_seen nodes task = input_by nodes (file_input task.command task) (file_limit task)
 
 -- the file of symbols, where it is an input
 abbrev pub symbols_by : Nodes → Option (List ℕ) → FileBytes
@@ -70,6 +85,7 @@ symbols_input Play task = None
 symbols_input Debug task = task.symbols
 symbols_input Assemble task = None
 symbols_input Disassemble task = task.symbols
+symbols_input Generate task = None
 
 abbrev pub symbols_seen : Nodes → Task → FileBytes
 symbols_seen nodes task = symbols_by nodes (symbols_input task.command task)
@@ -214,6 +230,13 @@ job_of task home rom script debug = record {
   report = task.report;
 }
 
+-- the summary of a workload: its source has no fault, and is run over 60 frames
+abbrev pub summary_in : ℕ → Result (List ℕ) Refusal
+summary_in count =
+    and_then (source_by (source_of count) (first_fault (source_of count))) (λ source.
+    and_then (script_from (script_of (codes "frame 60"))) (λ script.
+    Ok (workload_text source (rom_of source) script)))
+
 -- what is to be done: a ROM is run, files are written, or a text is printed
 pub data Work : Type 0 where
   Run : (job : Job) → Work
@@ -237,6 +260,7 @@ work_of Assemble task view = and_then (source_in task.file view.file) (λ source
 work_of Disassemble task view =
     and_then (rom_in task.file view.file) (λ rom.
     and_then (labels_in task.symbols view.symbols) (λ labels. Ok (Print (disassembly rom labels))))
+work_of Generate task view = and_then (summary_in task.count) (λ text. Ok (Print text))
 
 -- then each output can be made (135)
 abbrev pub made_by : Option (List ℕ) → Work → Result Work Refusal

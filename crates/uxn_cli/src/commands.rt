@@ -131,7 +131,7 @@ fn accept_labels(alloc: Global, path: &Option<Path>, file: FileBytes) -> Result<
 }
 
 /// Prints a text.
-fn print<O: Sink>(text: &[u8], out: &mut O) -> Result<u8, Halt>
+pub fn print<O: Sink>(text: &[u8], out: &mut O) -> Result<u8, Halt>
     ensures ok { IfOk result (λ status. status ≡ 0) }
     ensures put { OnOk result (O.told out.new ≡ extended (O.told out.old) text.now) }
     ensures front { OnErr result (HasTakenFront (O.told out.old) (O.told out.new) text.now) }

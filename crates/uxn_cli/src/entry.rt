@@ -16,6 +16,7 @@ ghost use Rattle.uxn_cli.specs.Observation.{HaveSameItems, IsOutcomeButLog};
 use super::assembling::assemble_files;
 use super::commands::disassemble_rom;
 use super::debugging::debug;
+use super::generating::generate;
 use super::paths::{apart, paths_in};
 use super::playing::play;
 use super::refusal::{Halt, Refusal};
@@ -64,6 +65,7 @@ fn perform<T: Tree, O: Sink, E: Sink>(
         Command::Debug => debug(alloc, &task, tree, out, err),
         Command::Assemble => assemble_files(alloc, &task, tree),
         Command::Disassemble => disassemble_rom(alloc, &task, tree, out, err),
+        Command::Generate => generate(alloc, &task, tree, out, err),
     }
 }
 
@@ -135,6 +137,7 @@ fn status_of<T: Tree, O: Sink, E: Sink>(
 /// - `debug SRC --commands C --log P` does the same, follows the commands on the way, and writes the log.
 /// - `asm SRC --out P` writes a ROM, and a symbol file and a listing where they are asked for.
 /// - `dis ROM` prints a disassembly.
+/// - `gen N` makes a source of N routines, runs it over 60 frames with a tree and sinks of its own, and prints a summary.
 ///
 /// The status of a run is its exit code, 0 to 127, and else 0. A refusal puts its one line on `err` and nothing
 /// else: 128 for words that are not legal, 129 for a word that is no path, 130 for an input that is no file, 131

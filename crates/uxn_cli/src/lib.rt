@@ -5,6 +5,7 @@ mod assembling;
 mod commands;
 mod debugging;
 mod entry;
+mod generating;
 mod laws;
 mod machine;
 mod making;

@@ -50,6 +50,7 @@ pub fn paths_in(alloc: Global, settings: &Settings<'_>) -> Result<Task, Halt>
     Ok(Task {
         command: settings.command,
         file,
+        count: settings.count,
         rom: settings.rom,
         budget: settings.budget,
         out,

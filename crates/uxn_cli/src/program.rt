@@ -1,9 +1,9 @@
 //! The program that is run: a ROM, or a source that is assembled.
-ghost use Rattle.std.specs.Prelude.{◌≡◌, ◌<◌, ◌≤◌, true, false, length, IfOk, OnOk};
+ghost use Rattle.std.specs.Prelude.{◌≡◌, ◌<◌, ◌≤◌, true, false, Some, length, IfOk, OnOk};
 ghost use Rattle.uxn_io.specs.Faults.{Ledger, TheTree, counts};
 ghost use Rattle.uxn_io.specs.Room.{Leaves};
 ghost use Rattle.uxn_cli.specs.Blame.{blame_in};
-ghost use Rattle.uxn_cli.specs.Verdict.{limit_by};
+ghost use Rattle.uxn_cli.specs.Verdict.{limit_by, file_input};
 ghost use Rattle.uxn_cli.specs.Prepared.{Loads, rom_in_program, labels_in_program};
 
 use super::commands::{Accepted, ROM_LIMIT, SOURCE_LIMIT, accept_rom, accept_source};
@@ -47,6 +47,7 @@ impl Program {
 /// The ROM file that a task is about, where it is accepted.
 fn load_rom<T: Tree>(alloc: Global, task: &Task, tree: &mut T) -> Result<Program, Halt>
     requires rom { task.now.rom ≡ true }
+    requires file { file_input task.now.command task.now ≡ Some task.now.file }
     requires limit { limit_by task.now.command true ≡ 65280 }
     ensures loads { Loads (T.told tree.old) task.now result }
     ensures room { IfOk result (λ program. length (rom_in_program program) ≤ 65280) }
@@ -62,6 +63,7 @@ fn load_rom<T: Tree>(alloc: Global, task: &Task, tree: &mut T) -> Result<Program
 /// The source that a task is about, where it is accepted.
 fn load_source<T: Tree>(alloc: Global, task: &Task, tree: &mut T) -> Result<Program, Halt>
     requires rom { task.now.rom ≡ false }
+    requires file { file_input task.now.command task.now ≡ Some task.now.file }
     requires limit { limit_by task.now.command false ≡ 4194304 }
     ensures loads { Loads (T.told tree.old) task.now result }
     ensures room { IfOk result (λ program. length (rom_in_program program) ≤ 65280) }
@@ -76,6 +78,7 @@ fn load_source<T: Tree>(alloc: Global, task: &Task, tree: &mut T) -> Result<Prog
 
 /// The program that a task is about, where it is accepted.
 pub fn load<T: Tree>(alloc: Global, task: &Task, tree: &mut T) -> Result<Program, Halt>
+    requires file { file_input task.now.command task.now ≡ Some task.now.file }
     requires rom { limit_by task.now.command true ≡ 65280 }
     requires source { limit_by task.now.command false ≡ 4194304 }
     ensures loads { Loads (T.told tree.old) task.now result }

@@ -1,6 +1,8 @@
 //! The report of a run.
 ghost use Rattle.std.specs.Prelude.{◌≡◌, ◌+◌, ◌≤◌, ◌++◌, length};
 ghost use Rattle.arrayvec.specs.ArrayVec.{array_vec_len};
+ghost use Rattle.play_script.specs.declared.script.Version.{Version};
+ghost use Rattle.play_script.specs.Scripts.{version_number};
 ghost use Rattle.uxn_cli.specs.Job.{report_line, report_text};
 
 use arrayvec::ArrayVec;
@@ -19,10 +21,10 @@ fn push_line(text: &mut ArrayVec<u8, 256>, name: &[u8], count: u64)
     let _ = text.try_extend_from_slice(b"\n");
 }
 
-/// What is told of a run: seven lines, its exit code and what was counted.
+/// What is told of a run: seven lines, its exit code and what was counted, and two more for a script of version 2.
 #[tactic(auto, unfolding(crate::specs::Job::report_text))]
-pub fn report(exit: u8, tally: &Tally) -> ArrayVec<u8, 256>
-    ensures { result.items ≡ report_text exit tally.now }
+pub fn report(version: u8, exit: u8, tally: &Tally) -> ArrayVec<u8, 256>
+    ensures { (number : Version) → version ≡ version_number number → result.items ≡ report_text number exit tally.now }
 {
     let mut text = ArrayVec::new();
     push_line(&mut text, b"exit", u64::from(exit));
@@ -32,5 +34,9 @@ pub fn report(exit: u8, tally: &Tally) -> ArrayVec<u8, 256>
     push_line(&mut text, b"events", tally.events);
     push_line(&mut text, b"frames", tally.frames);
     push_line(&mut text, b"shots", tally.shots);
+    if version == 2 {
+        push_line(&mut text, b"expects", tally.expects);
+        push_line(&mut text, b"misses", tally.misses);
+    }
     text
 }

@@ -18,7 +18,7 @@ use uxn_opcodes::Stop;
 const SCRIPT_LIMIT: u32 = 4_194_304;
 
 /// The script of a text.
-fn script_of(alloc: Global, text: &[u8]) -> Result<Script, Halt>
+pub fn script_of(alloc: Global, text: &[u8]) -> Result<Script, Halt>
     ensures { Follows (λ script. script) result (script_from (script_of text.now)) }
 {
     match read_script(alloc, text) {

@@ -225,20 +225,38 @@ fn refuses_with_one_line(rt: HostRuntime) {
     all_give(&rt, rt.alloc(), &REFUSALS);
 }
 
-/// A disassembly.
-static DISASSEMBLY: [Call; 1] = [Call {
-    words: &["dis", "a.tal"],
-    file: &[0x80, 0x41, 0x80, 0x18, 0x17],
-    faults: NONE,
-    status: 0,
-    out: b"|0100\nLIT 41 ( 0100 )\nLIT 18 ( 0102 )\nDEO ( 0104 )\n",
-    err: b"",
-    made: None,
-}];
+/// A disassembly, and the summary of a workload, which asks the tree nothing.
+static PRINTED: [Call; 2] = [
+    Call {
+        words: &["dis", "a.tal"],
+        file: &[0x80, 0x41, 0x80, 0x18, 0x17],
+        faults: NONE,
+        status: 0,
+        out: b"|0100\nLIT 41 ( 0100 )\nLIT 18 ( 0102 )\nDEO ( 0104 )\n",
+        err: b"",
+        made: None,
+    },
+    Call {
+        words: &["gen", "1"],
+        file: b"",
+        faults: Faults {
+            tree: &[
+                (TreeCall::Kind, 0),
+                (TreeCall::Read, 0),
+                (TreeCall::Create, 0),
+            ],
+            ..NONE
+        },
+        status: 0,
+        out: b"source 95\nrom 30\ninstructions 253\nvectors 61\ncuts 0\nframes 60\nconsole 0100\nexit 0\n",
+        err: b"",
+        made: None,
+    },
+];
 
 #[test]
-fn prints_a_disassembly(rt: HostRuntime) {
-    all_give(&rt, rt.alloc(), &DISASSEMBLY);
+fn prints_a_disassembly_and_a_summary(rt: HostRuntime) {
+    all_give(&rt, rt.alloc(), &PRINTED);
 }
 
 /// A source that puts a byte on each output.

@@ -3,4 +3,3 @@ pub mod BitSets
 pub mod Tables
 pub mod Nearest
 pub mod Obeying
-pub mod FirstFault

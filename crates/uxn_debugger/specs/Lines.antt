@@ -1,10 +1,13 @@
--- What a line of commands means (profile), a row for each first word. Lines are cut into words as those of scripts are.
-use Rattle.std.specs.Prelude.{◌≡◌, ℕ, ◌<◌, ◌&&◌, nat_lt, if◌then◌else◌, List, [], ◌∷◌, codes, drop, length}
-use Rattle.std.specs.Prelude.{Option, Some, None, option_map, Result, Ok, Err, ◌⊎◌}
-use Rattle.std.specs.List.{find}
+-- What a line of commands means (profile), a row for each first word.
+use Rattle.std.specs.Prelude.{ℕ, ◌&&◌, nat_lt, if◌then◌else◌, List, [], ◌∷◌, codes, drop, length}
+use Rattle.std.specs.Prelude.{Option, Some, None, option_map, Result, Ok, Err}
 use Rattle.std.specs.Option.{ok_or}
-use Rattle.std.specs.Str.{bytes_eq}
-use Rattle.play_script.specs.Values.{begins_with, number_within}
+use Rattle.line_texts.specs.declared.row.Counts.TheVariants.{Exactly}
+use Rattle.line_texts.specs.declared.row.LineFault.{LineFault}
+use Rattle.line_texts.specs.declared.row.LineFault.TheVariants as line
+use Rattle.line_texts.specs.Numbers.{begins_with, number_within}
+use Rattle.line_texts.specs.Reading.{Line}
+use Rattle.line_texts.specs.Rows.{Rows, row_of, counted}
 use Rattle.tal_words.specs.declared.name.Label.{Label}
 use Rattle.tal_words.specs.Digits.{is_short_number, number_of}
 use Rattle.tal_words.specs.Labels.{address_named}
@@ -35,54 +38,43 @@ abbrev pub bytes_from : Judged ℕ → Option ℕ → Judged DebugCommand
 bytes_from address None = Err BadValue
 bytes_from address (Some count) = made (λ at. Mem at count) address
 
--- the values that a line has behind its first word, and what they make
-pub data Row : Type 0 where
-  bare : DebugCommand → Row
-  one : (List ℕ → Judged DebugCommand) → Row
-  two : (List ℕ → List ℕ → Judged DebugCommand) → Row
+-- the first words, with how many values each takes
+abbrev pub rows : Rows Keyword
+rows =
+    (codes "break", Exactly 1, word.Break)
+    ∷ (codes "delete", Exactly 1, word.Delete)
+    ∷ (codes "run", Exactly 0, word.Run)
+    ∷ (codes "step", Exactly 1, word.Step)
+    ∷ (codes "where", Exactly 0, word.Where)
+    ∷ (codes "stacks", Exactly 0, word.Stacks)
+    ∷ (codes "mem", Exactly 2, word.Mem)
+    ∷ (codes "ports", Exactly 0, word.Ports)
+    ∷ []
 
--- a row with these values: Missing with too few, Extra with too many
-abbrev pub read_row : Row → List (List ℕ) → Judged DebugCommand
-read_row (bare command) [] = Ok command
-read_row (bare command) (a ∷ more) = Err Extra
-read_row (one make) [] = Err Missing
-read_row (one make) (a ∷ []) = make a
-read_row (one make) (a ∷ b ∷ more) = Err Extra
-read_row (two make) [] = Err Missing
-read_row (two make) (a ∷ []) = Err Missing
-read_row (two make) (a ∷ b ∷ []) = make a b
-read_row (two make) (a ∷ b ∷ c ∷ more) = Err Extra
+-- the command that the values behind a first word make, as many as it takes
+unfoldable pub made_of : List Label → Keyword → List (List ℕ) → Judged DebugCommand
+made_of labels word.Break (a ∷ more) = made Break (address_in labels a)
+made_of labels word.Delete (a ∷ more) = made Delete (address_in labels a)
+made_of labels word.Run values = Ok Run
+made_of labels word.Step (n ∷ more) = ok_or (option_map Step (number_within 1 4294967295 n)) BadValue
+made_of labels word.Where values = Ok Here
+made_of labels word.Stacks values = Ok Stacks
+made_of labels word.Mem (a ∷ n ∷ more) = bytes_from (address_in labels a) (number_within 1 256 n)
+made_of labels word.Ports values = Ok PortPage
+made_of labels _ values = Err BadValue
 
--- the first words of lines
-abbrev pub keywords : List (List ℕ × Keyword)
-keywords =
-    (codes "break", word.Break) ∷ (codes "delete", word.Delete) ∷ (codes "run", word.Run) ∷ (codes "step", word.Step)
-    ∷ (codes "where", word.Where) ∷ (codes "stacks", word.Stacks) ∷ (codes "mem", word.Mem) ∷ (codes "ports", word.Ports) ∷ []
+abbrev pub kind_of : LineFault → CommandKind
+kind_of line.Unknown = Unknown
+kind_of line.Missing = Missing
+kind_of line.Extra = Extra
 
-unfoldable pub keyword_of : List ℕ → Option Keyword
-keyword_of name = option_map (λ row. row.1) (find (λ row. bytes_eq name row.0) keywords)
-
--- the rows
-unfoldable pub row_of : List Label → Keyword → Row
-row_of labels word.Break = one (λ a. made Break (address_in labels a))
-row_of labels word.Delete = one (λ a. made Delete (address_in labels a))
-row_of labels word.Run = bare Run
-row_of labels word.Step = one (λ n. ok_or (option_map Step (number_within 1 4294967295 n)) BadValue)
-row_of labels word.Where = bare Here
-row_of labels word.Stacks = bare Stacks
-row_of labels word.Mem = two (λ a n. bytes_from (address_in labels a) (number_within 1 256 n))
-row_of labels word.Ports = bare PortPage
-
-abbrev pub read_by : List Label → Option Keyword → List (List ℕ) → Judged DebugCommand
-read_by labels None values = Err Unknown
-read_by labels (Some keyword) values = read_row (row_of labels keyword) values
+abbrev pub made_by : List Label → Result Keyword LineFault → List (List ℕ) → Judged DebugCommand
+made_by labels (Ok keyword) values = made_of labels keyword values
+made_by labels (Err fault) values = Err (kind_of fault)
 
 -- the command that the words of a line give, or what is wrong with them; a line without words or with `#` before its
 -- first gives none
-unfoldable pub line_of : List Label → List (List ℕ) → Judged (Option DebugCommand)
+unfoldable pub line_of : List Label → List (List ℕ) → Line DebugCommand CommandKind
 line_of labels [] = Ok None
-line_of labels (name ∷ values) = if begins_with 35 name then Ok None else made Some (read_by labels (keyword_of name) values)
-
--- there are fewer values than this, or more
-abbrev pub IsMiscounted : ℕ → ℕ → CommandKind → Type 0
-IsMiscounted wanted count kind = ((kind ≡ Missing) × (count < wanted)) ⊎ ((kind ≡ Extra) × (wanted < count))
+line_of labels (name ∷ values) =
+    if begins_with 35 name then Ok None else made Some (made_by labels (counted (row_of rows name) (length values)) values)

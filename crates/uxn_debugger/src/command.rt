@@ -2,6 +2,7 @@
 
 ghost use Rattle.std.specs.Prelude.{◌≡◌};
 
+use line_texts::LineFault;
 use std::alloc::{AllocError, AllocFailed};
 use thiserror::Error;
 
@@ -60,6 +61,20 @@ impl CommandKind {
             CommandKind::Extra => "Extra",
             CommandKind::ManyCommands => "ManyCommands",
             CommandKind::LongCommands => "LongCommands",
+        }
+    }
+}
+
+impl From<LineFault> for CommandKind {
+    ghost use Rattle.uxn_debugger.specs.Lines.{kind_of};
+
+    ghost from_gives = { λ fault kind. kind ≡ kind_of fault };
+
+    fn from(fault: LineFault) -> CommandKind {
+        match fault {
+            LineFault::Unknown => CommandKind::Unknown,
+            LineFault::Missing => CommandKind::Missing,
+            LineFault::Extra => CommandKind::Extra,
         }
     }
 }

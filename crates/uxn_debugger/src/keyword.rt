@@ -1,9 +1,8 @@
-//! The first words of lines.
+//! The first words of lines, and how many values stand behind them.
 
-ghost use Rattle.std.specs.Prelude.{◌≡◌};
-ghost use Rattle.uxn_debugger.specs.Lines.{keyword_of};
+use line_texts::{Counts, Row};
 
-// The first word of a line that gives a command.
+/// The first word of a line that gives a command.
 #[derive(Clone, Copy, Debug, PartialEq, Eq)]
 pub(crate) enum Keyword {
     Break,
@@ -16,21 +15,14 @@ pub(crate) enum Keyword {
     Ports,
 }
 
-// The keyword that a word is.
-#[tactic(auto, unfolding(crate::specs::Lines::keyword_of))]
-pub(crate) fn keyword_of(name: &[u8]) -> Option<Keyword>
-    ensures { result ≡ keyword_of name.now }
-{
-    let keyword = match name {
-        b"break" => Keyword::Break,
-        b"delete" => Keyword::Delete,
-        b"run" => Keyword::Run,
-        b"step" => Keyword::Step,
-        b"where" => Keyword::Where,
-        b"stacks" => Keyword::Stacks,
-        b"mem" => Keyword::Mem,
-        b"ports" => Keyword::Ports,
-        _ => return None,
-    };
-    Some(keyword)
-}
+/// The lines of commands.
+pub(crate) static ROWS: [Row<Keyword>; 8] = [
+    Row("break", Counts::Exactly(1), Keyword::Break),
+    Row("delete", Counts::Exactly(1), Keyword::Delete),
+    Row("run", Counts::Exactly(0), Keyword::Run),
+    Row("step", Counts::Exactly(1), Keyword::Step),
+    Row("where", Counts::Exactly(0), Keyword::Where),
+    Row("stacks", Counts::Exactly(0), Keyword::Stacks),
+    Row("mem", Counts::Exactly(2), Keyword::Mem),
+    Row("ports", Counts::Exactly(0), Keyword::Ports),
+];

@@ -1,14 +1,13 @@
 //! What a line of commands means.
 
-ghost use Rattle.std.specs.Prelude.{◌≡◌, ◌<◌, ◌∷◌, [], length, if◌then◌else◌, MatchResult, IfSome, Some, None};
-ghost use Rattle.play_script.specs.Lines.{words_of};
-ghost use Rattle.play_script.specs.Values.{begins_with};
+ghost use Rattle.std.specs.Prelude.{◌≡◌, ◌<◌, if◌then◌else◌, IfSome, Some, None};
+ghost use Rattle.line_texts.specs.Lines.{words_of};
 ghost use Rattle.tal_words.specs.Digits.{is_digit, digit_value, is_short_number, number_of};
-ghost use Rattle.uxn_debugger.specs.Lines.{address_in, line_of, read_row, row_of, IsMiscounted, bare};
+ghost use Rattle.uxn_debugger.specs.Lines.{address_in, line_of, made_of};
 
 use crate::command::{CommandKind, DebugCommand};
-use crate::keyword::{Keyword, keyword_of};
-use play_script::{first_word, number_within};
+use crate::keyword::{Keyword, ROWS};
+use line_texts::{begins_with, first_word, keyword_line, number_within};
 use tal_symbols::{Label, address_of};
 
 /// The most moments that one command goes on.
@@ -28,60 +27,39 @@ pub(crate) fn line_of(labels: &[Label], line: &[u8]) -> Result<Option<DebugComma
     if begins_with(b'#', name) {
         return Ok(None);
     }
-    let Some(keyword) = keyword_of(name) else {
-        return Err(CommandKind::Unknown);
-    };
-    match read_values(labels, keyword, values) {
-        Ok(command) => Ok(Some(command)),
-        Err(kind) => Err(kind),
+    match keyword_line(ROWS.as_slice(), name, values) {
+        Ok(keyword) => match made_of(labels, keyword, values) {
+            Ok(command) => Ok(Some(command)),
+            Err(kind) => Err(kind),
+        },
+        Err(fault) => Err(CommandKind::from(fault)),
     }
 }
 
-// Whether a word begins with a byte.
-fn begins_with(byte: u8, word: &[u8]) -> bool
-    ensures { result ≡ begins_with byte word.now }
-{
-    !word.is_empty() && word[0] == byte
-}
-
-// The values behind a keyword.
-#[tactic(auto, unfolding(crate::specs::Lines::row_of))]
-fn read_values(
-    labels: &[Label],
-    keyword: Keyword,
-    values: &[u8],
-) -> Result<DebugCommand, CommandKind>
-    ensures { result ≡ read_row (row_of labels.now keyword) (words_of values.now) }
+// The command that the values behind a keyword make, as many as it takes.
+#[tactic(auto, unfolding(crate::specs::Lines::made_of))]
+fn made_of(labels: &[Label], keyword: Keyword, values: &[u8]) -> Result<DebugCommand, CommandKind>
+    ensures { result ≡ made_of labels.now keyword (words_of values.now) }
 {
     match keyword {
-        Keyword::Run => no_value(values, DebugCommand::Run),
-        Keyword::Where => no_value(values, DebugCommand::Here),
-        Keyword::Stacks => no_value(values, DebugCommand::Stacks),
-        Keyword::Ports => no_value(values, DebugCommand::PortPage),
-        Keyword::Break => {
-            let word = one_value(values)?;
-            let address = address_in(labels, word)?;
-            Ok(DebugCommand::Break(address))
-        }
-        Keyword::Delete => {
-            let word = one_value(values)?;
-            let address = address_in(labels, word)?;
-            Ok(DebugCommand::Delete(address))
-        }
-        Keyword::Step => {
-            let word = one_value(values)?;
-            match number_within(1, MOST_STEPS, word) {
-                Some(count) => Ok(DebugCommand::Step(count as u32)),
-                None => Err(CommandKind::BadValue),
-            }
-        }
-        Keyword::Mem => {
-            let (first, second) = two_values(values)?;
-            let Some(count) = number_within(1, MOST_BYTES, second) else {
-                return Err(CommandKind::BadValue);
-            };
-            let address = address_in(labels, first)?;
-            Ok(DebugCommand::Mem(address, count as u16))
+        Keyword::Run => return Ok(DebugCommand::Run),
+        Keyword::Where => return Ok(DebugCommand::Here),
+        Keyword::Stacks => return Ok(DebugCommand::Stacks),
+        Keyword::Ports => return Ok(DebugCommand::PortPage),
+        _ => {}
+    }
+    let (word, more) = first_word(values).ok_or(CommandKind::BadValue)?;
+    match keyword {
+        Keyword::Break => Ok(DebugCommand::Break(address_in(labels, word)?)),
+        Keyword::Delete => Ok(DebugCommand::Delete(address_in(labels, word)?)),
+        Keyword::Step => match number_within(1, MOST_STEPS, word) {
+            Some(count) => Ok(DebugCommand::Step(count as u32)),
+            None => Err(CommandKind::BadValue),
+        },
+        _ => {
+            let (count, _) = first_word(more).ok_or(CommandKind::BadValue)?;
+            let count = number_within(1, MOST_BYTES, count).ok_or(CommandKind::BadValue)?;
+            Ok(DebugCommand::Mem(address_in(labels, word)?, count as u16))
         }
     }
 }
@@ -126,43 +104,5 @@ fn digit_of(byte: u8) -> Option<u16>
         b'0'..=b'9' => Some(u16::from(byte - b'0')),
         b'a'..=b'f' => Some(u16::from(byte - b'a') + 10),
         _ => None,
-    }
-}
-
-// A command whose line has one word.
-fn no_value(values: &[u8], command: DebugCommand) -> Result<DebugCommand, CommandKind>
-    ensures { result ≡ read_row (bare command) (words_of values.now) }
-{
-    if first_word(values).is_some() {
-        return Err(CommandKind::Extra);
-    }
-    Ok(command)
-}
-
-// The one value of a line.
-fn one_value(values: &[u8]) -> Result<&[u8], CommandKind>
-    ensures { MatchResult result (λ value. words_of values.now ≡ value.now ∷ [])
-        (IsMiscounted 1 (length (words_of values.now))) }
-{
-    let Some((value, more)) = first_word(values) else {
-        return Err(CommandKind::Missing);
-    };
-    if first_word(more).is_some() {
-        return Err(CommandKind::Extra);
-    }
-    Ok(value)
-}
-
-// The two values of a line.
-fn two_values(values: &[u8]) -> Result<(&[u8], &[u8]), CommandKind>
-    ensures { MatchResult result (λ both. words_of values.now ≡ both.0.now ∷ both.1.now ∷ [])
-        (IsMiscounted 2 (length (words_of values.now))) }
-{
-    let Some((first, more)) = first_word(values) else {
-        return Err(CommandKind::Missing);
-    };
-    match one_value(more) {
-        Ok(second) => Ok((first, second)),
-        Err(kind) => Err(kind),
     }
 }

@@ -1,13 +1,10 @@
 //! Reading commands.
 
-ghost use Rattle.std.specs.Prelude.{◌≤◌, length};
-ghost use Rattle.play_script.specs.Lines.{words_of};
-ghost use Rattle.uxn_debugger.specs.Lines.{line_of};
-ghost use Rattle.uxn_debugger.specs.Reading.{commands_of_text, Reads, Takes};
+ghost use Rattle.uxn_debugger.specs.Reading.{commands_of_text, Reads};
 
 use crate::command::{CommandKind, CommandStop, DebugCommand};
 use crate::line::line_of;
-use play_script::line_at;
+use line_texts::Lines;
 use std::alloc::Global;
 use tal_symbols::Label;
 
@@ -34,42 +31,22 @@ pub fn read_commands(
         });
     }
     let mut commands = Vec::new(alloc);
-    let mut number = 0;
-    let mut start = 0;
-    while start <= text.len() {
-        let line = line_at(text, start);
-        number += 1;
-        match take_line(&mut commands, labels, line, number) {
-            Ok(()) => {}
-            Err(stop) => return Err(stop),
-        }
-        start += line.len() + 1;
-    }
-    Ok(commands)
-}
-
-// Takes the command of a line, if it gives one. Nothing is taken of a line with a fault, whose number is answered.
-fn take_line(
-    commands: &mut Vec<DebugCommand>,
-    labels: &[Label],
-    line: &[u8],
-    number: u32,
-) -> Result<(), CommandStop>
-    requires { length commands.old.items ≤ 65536 }
-    ensures { Takes commands.old.items (line_of labels.now (words_of line.now)) number result commands.new.items }
-{
-    match line_of(labels, line) {
-        Ok(None) => Ok(()),
-        Ok(Some(command)) => {
-            if commands.len() == MOST_COMMANDS {
+    let mut lines = Lines::new(text);
+    while let Some(line) = lines.next_line() {
+        match line_of(labels, line) {
+            Ok(Some(_)) if commands.len() == MOST_COMMANDS => {
                 return Err(CommandStop::Refused {
-                    line: number,
+                    line: lines.number(),
                     kind: CommandKind::ManyCommands,
                 });
             }
-            commands.push(command)?;
-            Ok(())
+            Ok(Some(command)) => commands.push(command)?,
+            Ok(None) => {}
+            Err(kind) => {
+                let line = lines.number();
+                return Err(CommandStop::Refused { line, kind });
+            }
         }
-        Err(kind) => Err(CommandStop::Refused { line: number, kind }),
     }
+    Ok(commands)
 }

@@ -15,3 +15,4 @@ pub mod Places
 pub mod TreeInMemory
 pub mod Appending
 pub mod Taking
+pub mod Nothing

@@ -1,10 +1,11 @@
 //! What the program meets outside itself: sinks that take bytes, trees of files, and paths in them;
-//! and sinks and trees in memory, which tell what they hold and fail on demand.
+//! sinks and trees in memory, which tell what they hold and fail on demand; and an outside that is not there.
 #![tactic(auto)]
 
 mod bytes;
 mod memory_sinks;
 mod memory_trees;
+mod nothing;
 mod paths;
 mod places;
 mod sinks;
@@ -16,6 +17,7 @@ mod trees;
 pub use bytes::Bytes;
 pub use memory_sinks::MemSink;
 pub use memory_trees::{MemTree, Node, TreeCall};
+pub use nothing::{NoSink, NoTree};
 pub use paths::{Path, PathFault};
 pub use sinks::{Failed, Sink, put_all};
 pub use texts::{decimal, hex_byte, hex_short};

@@ -406,3 +406,19 @@ fn a_file_longer_than_it_was_said_is_too_long(rt: HostRuntime) -> Result<(), Fai
     assert!(rt; length_of(read) == Ok(Err(10001)));
     Ok(())
 }
+
+/// Says whether the calls of an outside that is not there answer so for a path and a piece.
+fn is_not_there(path: &Path, piece: &[u8]) -> bool {
+    let mut tree = NoTree;
+    NoSink.put(piece) == Ok(piece.len())
+        && tree.create(path) == Ok(false)
+        && tree.append(path, piece) == Ok(piece.len())
+        && tree.kind(path) == Ok(Kind::Missing)
+        && tree.remove(path) == Ok(false)
+}
+
+#[test]
+fn an_outside_that_is_not_there_takes_every_piece(rt: HostRuntime) -> Result<(), Fail> {
+    assert!(rt; is_not_there(&Path::read(b"a/b")?, b"abc"));
+    Ok(())
+}

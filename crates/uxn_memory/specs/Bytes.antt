@@ -1,10 +1,41 @@
--- Memory is a list of 65,536 bytes, and every address is taken modulo 65536 (Uxntal opcode reference).
-use Rattle.std.specs.Prelude.{ℕ, zero, suc, ◌+◌, ◌*◌, ◌/◌, ◌%◌, List, ◌++◌, length, take, drop, replicate}
-use Rattle.std.specs.Prelude.{slice_index, slice_set}
+-- Memory is 16 banks of 65,536 bytes, one list of 1,048,576 bytes from bank 0 on (Varvara device reference). Instructions
+-- and devices address bank 0, and every address is taken modulo 65536 within its bank (Uxntal opcode reference).
+use Rattle.std.specs.Prelude.{ℕ, zero, suc, ◌+◌, ◌-◌, ◌*◌, ◌/◌, ◌%◌, ◌≤◌, List, ◌++◌, length, take, drop, replicate}
+use Rattle.std.specs.Prelude.{slice_index, slice_set, Bool, nat_lt, ◌==◌, ◌&&◌}
+
+-- how many bytes all banks have together
+abbrev pub memory_size : ℕ
+memory_size = 1048576
+
+-- the greatest program: it begins at 0100 of bank 0 and ends with the last bank
+abbrev pub largest_rom : ℕ
+largest_rom = 1048320
 
 -- this many bytes, all 0
 unfoldable pub zeros : ℕ → List ℕ
 zeros size = replicate size 0
+
+-- all bytes where these are the first of them, and the rest is 0
+unfoldable pub all_bytes : List ℕ → List ℕ
+all_bytes first = first ++ zeros (memory_size - length first)
+
+-- how much of a memory is kept: all of bank 0, and room for all banks
+pub record IsKept (first capacity : ℕ) : Type 0 where
+  pub bank0 : 65536 ≤ first
+  pub within : first ≤ memory_size
+  pub room : memory_size ≤ capacity
+
+-- the bytes that instructions and devices address
+unfoldable pub bank0 : List ℕ → List ℕ
+bank0 memory = take 65536 memory
+
+-- where the byte at an address of a bank stands among all bytes
+abbrev pub place_in : ℕ → ℕ → ℕ
+place_in bank at = bank * 65536 + at % 65536
+
+-- a place among all bytes is one of so many addresses of a bank, from an address on
+abbrev pub in_run : ℕ → ℕ → ℕ → ℕ → Bool
+in_run bank at count place = place / 65536 == bank && nat_lt ((place % 65536 + 65536 - at) % 65536) count
 
 -- the short at an address: its high byte there, its low byte at the next address
 abbrev pub short_at : List ℕ → ℕ → ℕ
@@ -26,21 +57,23 @@ with_zero_short memory at value = slice_set (slice_set memory at (value / 256)) 
 abbrev pub with_bytes : List ℕ → ℕ → List ℕ → List ℕ
 with_bytes memory at bytes = take at memory ++ bytes ++ drop (at + length bytes) memory
 
--- the byte at one address put at another
-abbrev pub copied : List ℕ → ℕ → ℕ → List ℕ
-copied memory from to = slice_set memory (to % 65536) (slice_index memory (from % 65536))
+-- the byte at an address of one bank put at an address of another
+abbrev pub copied : List ℕ → ℕ → ℕ → ℕ → ℕ → List ℕ
+copied memory from_bank from to_bank to = slice_set memory (place_in to_bank to) (slice_index memory (place_in from_bank from))
 
 -- the first bytes of a run are set to a value, one address after the other
-unfoldable pub filled : List ℕ → ℕ → ℕ → ℕ → List ℕ
-filled memory zero at value = memory
-filled memory (suc count) at value = slice_set (filled memory count at value) ((at + count) % 65536) value
+unfoldable pub filled : List ℕ → ℕ → ℕ → ℕ → ℕ → List ℕ
+filled memory zero bank at value = memory
+filled memory (suc count) bank at value = slice_set (filled memory count bank at value) (place_in bank (at + count)) value
 
 -- the bytes of a run copied one after the other, the lowest address first
-unfoldable pub copied_up : List ℕ → ℕ → ℕ → ℕ → List ℕ
-copied_up memory zero from to = memory
-copied_up memory (suc count) from to = copied (copied_up memory count from to) (from + count) (to + count)
+unfoldable pub copied_up : List ℕ → ℕ → ℕ → ℕ → ℕ → ℕ → List ℕ
+copied_up memory zero from_bank from to_bank to = memory
+copied_up memory (suc count) from_bank from to_bank to =
+    copied (copied_up memory count from_bank from to_bank to) from_bank (from + count) to_bank (to + count)
 
 -- the bytes of a run copied one after the other, the highest address first
-unfoldable pub copied_down : List ℕ → ℕ → ℕ → ℕ → List ℕ
-copied_down memory zero from to = memory
-copied_down memory (suc count) from to = copied_down (copied memory (from + count) (to + count)) count from to
+unfoldable pub copied_down : List ℕ → ℕ → ℕ → ℕ → ℕ → ℕ → List ℕ
+copied_down memory zero from_bank from to_bank to = memory
+copied_down memory (suc count) from_bank from to_bank to =
+    copied_down (copied memory from_bank (from + count) to_bank (to + count)) count from_bank from to_bank to

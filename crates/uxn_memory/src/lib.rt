@@ -1,10 +1,9 @@
-//! The memory of the machine: 65,536 bytes, whose addresses wrap.
+//! The memory of the machine: sixteen banks of 65,536 bytes, whose addresses wrap. Instructions and devices address bank 0.
 #![tactic(auto)]
 
 ghost use Rattle.std.specs.Prelude.{
   ℕ,
-  ◌-◌,
-  nat_lt,
+  false,
   if◌then◌else◌,
   ◌≡◌,
   ◌+◌,
@@ -17,18 +16,29 @@ ghost use Rattle.std.specs.Prelude.{
   length,
   take,
   drop,
+  vec_len,
+  vec_capacity,
   IfOk,
   slice_index,
   slice_set,
   EachIndex,
 };
+ghost use Rattle.uxn_memory.specs.Banks.{Bank0Law};
 ghost use Rattle.uxn_memory.specs.Bytes.{
+  memory_size,
+  largest_rom,
   zeros,
+  all_bytes,
+  IsKept,
+  bank0,
+  place_in,
+  in_run,
   short_at,
   zero_short_at,
   with_short,
   with_zero_short,
   with_bytes,
+  copied,
   filled,
   copied_up,
   copied_down,
@@ -40,54 +50,63 @@ mod tests;
 use std::alloc::{AllocError, Global};
 use std::marker::Model;
 
-/// How many bytes a memory has.
-pub const SIZE: usize = 65536;
+/// How many banks a memory has.
+pub const BANKS: u8 = 16;
 
-/// Where a program is loaded and begins.
+/// How many bytes a bank has.
+pub const BANK_SIZE: usize = 65536;
+
+/// How many bytes all banks have together.
+pub const SIZE: usize = 1_048_576;
+
+/// Where a program is loaded and begins, in bank 0.
 pub const START: u16 = 0x0100;
 
-/// The 65,536 bytes of the machine, which contracts see as a list.
+/// How many bytes a program has at most: from `START` to the end of the last bank.
+pub const LARGEST_ROM: usize = 1_048_320;
+
+/// The bytes of all banks, which contracts see as one list.
+///
+/// The first bytes of the list are kept, at least bank 0, and those behind them are 0. So the pages of a bank are not
+/// written before a byte of it is.
 #[derive(Drop)]
 pub struct Memory {
     bytes: Vec<u8>,
 }
 
 impl Model for Memory {
-    ghost use Rattle.std.specs.Prelude.{◌≡◌, ℕ, List, length};
+    ghost use Rattle.std.specs.Prelude.{ℕ, List, vec_len, vec_capacity};
+    ghost use Rattle.uxn_memory.specs.Bytes.{all_bytes, IsKept};
 
     ghost Value = { List ℕ };
 
-    ghost view = { λ m. m.bytes.items };
+    ghost view = { λ m. all_bytes m.bytes.items };
 
-    ghost invariant = { λ m. length m.bytes.items ≡ 65536 };
-}
-
-#[tactic(auto, unfolding(crate::specs::Bytes::zeros))]
-fn zero_bytes(alloc: Global, size: usize) -> Result<Vec<u8>, AllocError>
-    ensures items { IfOk result (λ v. v.items ≡ zeros size) }
-    ensures len { IfOk result (λ v. length v.items ≡ size) }
-{
-    vec![in alloc; 0u8; size]
+    ghost invariant = { λ m. IsKept (vec_len m.bytes) (vec_capacity m.bytes) };
 }
 
 impl Memory {
     /// A memory whose bytes are all 0. This is the one call of this crate that takes memory.
+    #[tactic(auto, using(crate::proofs::Kept::kept))]
     pub fn new(alloc: Global) -> Result<Memory, AllocError>
-        ensures { IfOk result (λ memory. memory ≡ zeros 65536) }
+        ensures { IfOk result (λ memory. memory ≡ zeros memory_size) }
     {
-        let bytes = zero_bytes(alloc, SIZE)?;
+        let mut bytes = Vec::with_capacity(alloc, SIZE)?;
+        reach(&mut bytes, BANK_SIZE);
         Ok(Memory { bytes })
     }
 
     /// Tells contracts what holds of every memory.
+    #[tactic(auto, using(crate::proofs::Kept::kept))]
     pub fn known(&self)
-        ensures size { length self.now ≡ 65536 }
+        ensures size { length self.now ≡ memory_size }
         ensures bytes { EachIndex self.now (λ k. slice_index self.now k < 256) }
     {
         bytes_fit(&self.bytes);
     }
 
     /// The byte at an address.
+    #[tactic(auto, using(crate::proofs::Kept::kept))]
     pub fn get(&self, at: u16) -> u8
         ensures { result ≡ slice_index self.now at }
     {
@@ -95,6 +114,7 @@ impl Memory {
     }
 
     /// Stores a byte at an address.
+    #[tactic(auto, using(crate::proofs::Kept::kept))]
     pub fn set(&mut self, at: u16, value: u8)
         ensures { self.new ≡ slice_set self.old at value }
     {
@@ -132,15 +152,19 @@ impl Memory {
         self.set(u16::from(at.wrapping_add(1)), (value % 256) as u8);
     }
 
-    /// Puts a program of at most 65,280 bytes from `0100` on.
+    /// Puts a program of at most 1,048,320 bytes from `0100` of bank 0 on; from the end of a bank it goes on at `0000` of
+    /// the next.
+    #[tactic(auto, using(crate::proofs::Kept::kept))]
     pub fn load(&mut self, rom: &[u8])
-        requires { length rom.now ≤ 65280 }
+        requires { length rom.now ≤ largest_rom }
         ensures { self.new ≡ with_bytes self.old 256 rom.now }
     {
-        self.put(START, rom);
+        reach(&mut self.bytes, usize::from(START) + rom.len());
+        put_bytes(&mut self.bytes, usize::from(START), rom);
     }
 
     /// Puts bytes from an address on; they end at `ffff` or before.
+    #[tactic(auto, using(crate::proofs::Kept::kept))]
     pub fn put(&mut self, at: u16, bytes: &[u8])
         requires { at + length bytes.now ≤ 65536 }
         ensures { self.new ≡ with_bytes self.old at bytes.now }
@@ -148,54 +172,127 @@ impl Memory {
         put_bytes(&mut self.bytes, usize::from(at), bytes);
     }
 
-    /// The bytes from an address on, at most `length` of them and none past `ffff`.
+    /// The bytes of bank 0 from an address on, at most `length` of them and none past `ffff`.
+    #[tactic(auto, using(crate::proofs::Kept::kept))]
     pub fn slice(&self, at: u16, length: u16) -> &[u8]
-        ensures { result.now ≡ take length (drop at self.now) }
+        ensures { result.now ≡ take length (drop at (bank0 self.now)) }
     {
         let from = usize::from(at);
-        let to = SIZE.min(from + usize::from(length));
+        let to = BANK_SIZE.min(from + usize::from(length));
         &self.bytes[from..to]
     }
 
-    /// Sets `length` bytes from an address on to a value. Addresses wrap.
+    /// The byte at an address of a bank below 16.
+    #[tactic(auto, using(crate::proofs::Kept::kept))]
+    pub fn bank_byte(&self, bank: u8, at: u16) -> u8
+        requires { bank < 16 }
+        ensures { result ≡ slice_index self.now (place_in bank at) }
+    {
+        let place = place_in(bank, at);
+        if place < self.bytes.len() {
+            self.bytes[place]
+        } else {
+            0
+        }
+    }
+
+    /// Stores a byte at an address of a bank below 16.
+    #[tactic(auto, using(crate::proofs::Kept::kept))]
+    fn set_bank_byte(&mut self, bank: u8, at: u16, value: u8)
+        requires { bank < 16 }
+        ensures { self.new ≡ slice_set self.old (place_in bank at) value }
+    {
+        reach(&mut self.bytes, place_in(bank, 0xffff) + 1);
+        self.bytes[place_in(bank, at)] = value;
+    }
+
+    /// Puts the byte at an address of one bank below 16 at an address of another.
+    fn copy_byte(&mut self, from_bank: u8, from: u16, to_bank: u8, to: u16)
+        requires from { from_bank < 16 }
+        requires to { to_bank < 16 }
+        ensures { self.new ≡ copied self.old from_bank from to_bank to }
+    {
+        let byte = self.bank_byte(from_bank, from);
+        self.set_bank_byte(to_bank, to, byte);
+    }
+
+    /// Sets `length` bytes from an address of a bank below 16 on to a value. Addresses wrap within the bank.
     #[tactic(auto, using(crate::proofs::Runs::runs))]
-    pub fn fill(&mut self, length: u16, at: u16, value: u8)
-        ensures run { self.new ≡ filled self.old length at value }
-        ensures each { (k : ℕ) → k < 65536 → slice_index self.new k
-            ≡ (if nat_lt ((k + 65536 - at) % 65536) length then value else slice_index self.old k) }
+    pub fn fill(&mut self, length: u16, bank: u8, at: u16, value: u8)
+        requires { bank < 16 }
+        ensures run { self.new ≡ filled self.old length bank at value }
+        ensures each { (k : ℕ) → k < memory_size → slice_index self.new k
+            ≡ (if in_run bank at length k then value else slice_index self.old k) }
     {
         self.known();
         for i in 0..length {
-            self.set(at.wrapping_add(i), value);
+            self.set_bank_byte(bank, at.wrapping_add(i), value);
         }
     }
 
-    /// Copies `length` bytes one after the other, the lowest address first. Addresses wrap.
+    /// Copies `length` bytes from one bank below 16 to another one after the other, the lowest address first. Addresses wrap
+    /// within their bank.
     #[tactic(auto, using(crate::proofs::Runs::runs))]
-    pub fn copy_up(&mut self, length: u16, from: u16, to: u16)
-        ensures { self.new ≡ copied_up self.old length from to }
+    pub fn copy_up(&mut self, length: u16, from_bank: u8, from: u16, to_bank: u8, to: u16)
+        requires from { from_bank < 16 }
+        requires to { to_bank < 16 }
+        ensures run { self.new ≡ copied_up self.old length from_bank from to_bank to }
+        ensures others { (k : ℕ) → in_run to_bank to length k ≡ false → slice_index self.new k ≡ slice_index self.old k }
     {
         for i in 0..length {
-            let byte = self.get(from.wrapping_add(i));
-            self.set(to.wrapping_add(i), byte);
+            self.copy_byte(from_bank, from.wrapping_add(i), to_bank, to.wrapping_add(i));
         }
     }
 
-    /// Copies `length` bytes one after the other, the highest address first. Addresses wrap.
+    /// Copies `length` bytes from one bank below 16 to another one after the other, the highest address first. Addresses wrap
+    /// within their bank.
     #[tactic(auto, using(crate::proofs::Runs::runs))]
-    pub fn copy_down(&mut self, length: u16, from: u16, to: u16)
-        ensures { self.new ≡ copied_down self.old length from to }
+    pub fn copy_down(&mut self, length: u16, from_bank: u8, from: u16, to_bank: u8, to: u16)
+        requires from { from_bank < 16 }
+        requires to { to_bank < 16 }
+        ensures run { self.new ≡ copied_down self.old length from_bank from to_bank to }
+        ensures others { (k : ℕ) → in_run to_bank to length k ≡ false → slice_index self.new k ≡ slice_index self.old k }
     {
         for i in (0..length).rev() {
-            let byte = self.get(from.wrapping_add(i));
-            self.set(to.wrapping_add(i), byte);
+            self.copy_byte(from_bank, from.wrapping_add(i), to_bank, to.wrapping_add(i));
         }
     }
 }
 
-fn put_bytes(memory: &mut [u8], at: usize, bytes: &[u8])
-    requires { at + length bytes.now ≤ length memory.old }
-    ensures { memory.new ≡ with_bytes memory.old at bytes.now }
+/// What a change does to bank 0: one of its own bytes changes it as a memory of its own, and one of another bank not at all.
+pub fn bank0_changes()
+    ensures { Bank0Law }
+{}
+
+/// Where the byte at an address of a bank stands among all bytes.
+fn place_in(bank: u8, at: u16) -> usize
+    ensures { result ≡ place_in bank at }
+{
+    usize::from(bank) * BANK_SIZE + usize::from(at)
+}
+
+/// Keeps at least so many bytes: those that are kept more are 0. There is room for them, and so it takes no memory.
+#[tactic(auto, using(crate::proofs::Kept::kept))]
+fn reach(bytes: &mut Vec<u8>, count: usize)
+    requires count { count ≤ memory_size }
+    requires within { vec_len bytes.old ≤ memory_size }
+    requires room { memory_size ≤ vec_capacity bytes.old }
+    ensures same { all_bytes bytes.new.items ≡ all_bytes bytes.old.items }
+    ensures reached { count ≤ vec_len bytes.new }
+    ensures grown { vec_len bytes.old ≤ vec_len bytes.new }
+    ensures within { vec_len bytes.new ≤ memory_size }
+    ensures room { memory_size ≤ vec_capacity bytes.new }
+{
+    if bytes.len() < count {
+        bytes.resize(count, 0).unwrap();
+    }
+}
+
+fn put_bytes(memory: &mut Vec<u8>, at: usize, bytes: &[u8])
+    requires { at + length bytes.now ≤ vec_len memory.old }
+    ensures items { memory.new.items ≡ with_bytes memory.old.items at bytes.now }
+    ensures size { vec_len memory.new ≡ vec_len memory.old }
+    ensures room { vec_capacity memory.new ≡ vec_capacity memory.old }
 {
     memory[at..at + bytes.len()].copy_from_slice(bytes);
 }

@@ -1,7 +1,7 @@
 -- One rule for short, return and keep mode in four moments, and the instructions with an immediate (Uxntal opcode reference).
 use Rattle.std.specs.Prelude.{◌≡◌, ◌≢◌, ℕ, ◌+◌, ◌%◌, ◌==◌, Bool, true, false, if◌then◌else◌, List, [], Option, Some}
 use Rattle.std.specs.Prelude.{None, slice_index}
-use Rattle.uxn_memory.specs.Bytes.{zeros, short_at, with_bytes}
+use Rattle.uxn_memory.specs.Bytes.{memory_size, zeros, short_at, with_bytes}
 use Rattle.uxn_stacks.specs.Cells.{Cells, new_ring, byte_below, lowered}
 use Rattle.uxn_opcodes.specs.declared.Core.{Core}
 use Rattle.uxn_opcodes.specs.declared.operation.Width.TheVariants.{Short}
@@ -15,9 +15,9 @@ use Rattle.uxn_opcodes.specs.Table.{op_of, mode_of, Row, taken, made, Pushes}
 use Rattle.uxn_opcodes.specs.Table.{increment_row, shift_row, arithmetic_row, stack_row, compare_row}
 use Rattle.uxn_opcodes.specs.Table.{jump_row, stash_row, load_row, store_row, read_row, write_row}
 
--- the machine at the start: memory 0 but for the program at 0100, new rings, at 0100
+-- the machine at the start: memory 0 but for the program from 0100 of bank 0 on, across the banks; new rings, at 0100
 unfoldable pub new_core : List ℕ → Core
-new_core rom = record { memory = with_bytes (zeros 65536) 256 rom; working = new_ring; returns = new_ring; at = 256 }
+new_core rom = record { memory = with_bytes (zeros memory_size) 256 rom; working = new_ring; returns = new_ring; at = 256 }
 
 -- memory, the address after the opcode, this ring and the other ring
 pub record Sides : Type 0 where

@@ -2,6 +2,7 @@
 #![tactic(auto)]
 
 ghost use Rattle.std.specs.Prelude.{◌≡◌, ◌≢◌, ◌↔◌, ℕ, ◌+◌, ◌≤◌, ◌%◌, ◌*◌, ◌/◌, length, Result, IfOk, OnOk, IfErr};
+ghost use Rattle.uxn_memory.specs.Bytes.{largest_rom};
 ghost use Rattle.uxn_opcodes.specs.Words.{pushed};
 ghost use Rattle.uxn_opcodes.specs.Rule.{
   new_core,
@@ -46,7 +47,7 @@ use uxn_stacks::Ring;
 /// The machine without its ports.
 #[derive(Drop)]
 pub struct Core {
-    /// The 65,536 bytes of memory.
+    /// The bytes of all banks of memory.
     pub memory: Memory,
     /// The working ring.
     pub working: Ring,
@@ -78,7 +79,7 @@ pub enum Turn {
 
 /// The ports of the machine: what is read at them, and what writing them does.
 pub trait Ports {
-    ghost use Rattle.std.specs.Prelude.{ℕ, OnOk, IfErr};
+    ghost use Rattle.std.specs.Prelude.{◌≡◌, ℕ, List, OnOk, IfErr};
     ghost use Rattle.uxn_io.specs.Faults.{Counts, Ledger};
     ghost use Rattle.uxn_opcodes.specs.declared.Core.{Core};
     ghost use Rattle.uxn_opcodes.specs.declared.Stop.{Stop};
@@ -90,6 +91,9 @@ pub trait Ports {
     /// How many faults were counted of the tree, of the standard output and of the error output.
     ghost faults: { Self → Counts };
 
+    /// The bytes last stored at the 256 ports.
+    ghost stored: { Self → List ℕ };
+
     /// Reads a port.
     fn dei(&self, core: &Core, port: u8) -> u8
         ensures { rules.reads self.now core.now port result };
@@ -100,13 +104,17 @@ pub trait Ports {
         ensures ok { OnOk result (rules.wrote self.old core.old port value self.new core.new) }
         ensures err { IfErr result (λ stop. rules.stopped self.old core.old port value stop self.new core.new) }
         ensures ledger { Ledger (faults self.old) (faults self.new) (blame_of result) };
+
+    /// The bytes last stored, whatever the ports read. No instruction asks for them.
+    fn stored_page(&self) -> &[u8; 256]
+        ensures { result.now ≡ stored self.now };
 }
 
 impl Core {
-    /// The machine at the start: a program of at most 65,280 bytes at `0100`, all else 0.
+    /// The machine at the start: a program of at most 1,048,320 bytes from `0100` of bank 0 on, across the banks; all else 0.
     #[tactic(auto, unfolding(crate::specs::Rule::new_core))]
     pub fn new(alloc: Global, rom: &[u8]) -> Result<Core, AllocError>
-        requires { length rom.now ≤ 65280 }
+        requires { length rom.now ≤ largest_rom }
         ensures { IfOk result (λ core. core ≡ new_core rom.now) }
     {
         let mut memory = Memory::new(alloc)?;

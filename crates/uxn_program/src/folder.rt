@@ -17,11 +17,31 @@ const CHUNK: usize = 4096;
 /// How many entries a folder that is listed has at most.
 const MOST_ENTRIES: usize = 65_536;
 
-/// The current folder of the process. It tells nothing of what the files hold, and promises nothing.
+/// What a file was opened for.
+#[derive(Clone, Copy, Debug, PartialEq, Eq)]
+enum Way {
+    Reads,
+    Appends,
+}
+
+/// A file that was opened, and where.
 #[derive(Drop)]
-pub struct CurrentFolder<'a, R> {
+struct OpenedFile<F: Drop> {
+    path: Path,
+    way: Way,
+    file: F,
+    /// Where the next byte is read, in a file that is read.
+    place: u64,
+}
+
+/// The current folder of the process. It tells nothing of what the files hold, and promises nothing. The file that was
+/// last read from or appended to stays open: a call of the same kind at the same path goes on with it, and each other
+/// call lets it go first. Nothing is held back in a buffer.
+#[derive(Drop)]
+pub struct CurrentFolder<'a, R: Files> {
     rt: &'a R,
     faults: u64,
+    opened: Option<OpenedFile<R::File>>,
 }
 
 /// The text of a path.
@@ -32,10 +52,44 @@ fn text(path: &Path) -> io::Result<&str> {
     }
 }
 
-impl<'a, R> CurrentFolder<'a, R> {
-    /// The current folder, with no fault so far.
+impl<'a, R: Files> CurrentFolder<'a, R> {
+    /// The current folder, with no fault so far and no file open.
     pub fn new(rt: &'a R) -> CurrentFolder<'a, R> {
-        CurrentFolder { rt, faults: 0 }
+        CurrentFolder {
+            rt,
+            faults: 0,
+            opened: None,
+        }
+    }
+
+    /// Lets the file go that is open.
+    fn let_go(&mut self)
+        ensures { self.new.faults ≡ self.old.faults }
+    {
+        self.opened = None;
+    }
+
+    /// Lets the file go that is open, unless it is the one at a path.
+    fn let_others_go(&mut self, path: &Path)
+        ensures { self.new.faults ≡ self.old.faults }
+    {
+        let stays = match &self.opened {
+            Some(opened) => opened.path == *path,
+            None => true,
+        };
+        if !stays {
+            self.opened = None;
+        }
+    }
+
+    /// The open file, if it is the one at a path and was opened for this; any other is let go.
+    fn take_opened(&mut self, path: &Path, way: Way) -> Option<OpenedFile<R::File>>
+        ensures { self.new.faults ≡ self.old.faults }
+    {
+        match self.opened.take() {
+            Some(opened) if opened.path == *path && opened.way == way => Some(opened),
+            _ => None,
+        }
     }
 
     /// What was done, or one fault more.
@@ -76,16 +130,48 @@ impl<R: Files> CurrentFolder<'_, R> {
         }
     }
 
-    /// Some bytes of the file at a path, from a place on: how many there are in the chunk.
-    fn read_chunk(&self, path: &Path, from: u64, chunk: &mut [u8; CHUNK]) -> io::Result<usize>
-        ensures { IfOk result (λ taken. taken ≤ 4096) }
-    {
+    /// The file at a path opened for reading, if one is there.
+    fn open_to_read(&self, path: &Path) -> io::Result<Option<OpenedFile<R::File>>> {
         if let Kind::Missing | Kind::Folder = self.kind_of(path)? {
-            return Ok(0);
+            return Ok(None);
         }
-        let mut file = File::open(self.rt, text(path)?)?;
-        file.seek(SeekFrom::Start(from))?;
-        file.read(chunk)
+        Ok(Some(OpenedFile {
+            path: *path,
+            way: Way::Reads,
+            file: File::open(self.rt, text(path)?)?,
+            place: 0,
+        }))
+    }
+
+    /// The file at a path opened for appending.
+    fn open_to_append(&self, path: &Path) -> io::Result<OpenedFile<R::File>> {
+        Ok(OpenedFile {
+            path: *path,
+            way: Way::Appends,
+            file: OpenOptions::new().append(true).open(self.rt, text(path)?)?,
+            place: 0,
+        })
+    }
+
+    /// Some bytes of the file at a path, from a place on: how many there are in the chunk.
+    fn read_chunk(&mut self, path: &Path, from: u64, chunk: &mut [u8; CHUNK]) -> io::Result<usize>
+        ensures count { IfOk result (λ taken. taken ≤ 4096) }
+        ensures faults { self.new.faults ≡ self.old.faults }
+    {
+        let opened = match self.take_opened(path, Way::Reads) {
+            Some(opened) => Some(opened),
+            None => self.open_to_read(path)?,
+        };
+        let Some(mut opened) = opened else {
+            return Ok(0);
+        };
+        if opened.place != from {
+            opened.file.seek(SeekFrom::Start(from))?;
+        }
+        let taken = opened.file.read(chunk)?;
+        opened.place = from.saturating_add(taken as u64);
+        self.opened = Some(opened);
+        Ok(taken)
     }
 
     /// Makes the path an empty file, unless its parent is no folder or it is a folder.
@@ -98,14 +184,19 @@ impl<R: Files> CurrentFolder<'_, R> {
     }
 
     /// Writes some bytes of the piece behind those of the file at a path: how many.
-    fn append_some(&self, path: &Path, piece: &[u8]) -> io::Result<usize>
-        ensures { IfOk result (λ taken. (taken ≤ length piece.now) × (0 < length piece.now → 0 < taken)) }
+    fn append_some(&mut self, path: &Path, piece: &[u8]) -> io::Result<usize>
+        ensures count { IfOk result (λ taken. (taken ≤ length piece.now) × (0 < length piece.now → 0 < taken)) }
+        ensures faults { self.new.faults ≡ self.old.faults }
     {
-        let mut file = OpenOptions::new().append(true).open(self.rt, text(path)?)?;
-        let taken = file.write(piece)?;
+        let mut opened = match self.take_opened(path, Way::Appends) {
+            Some(opened) => opened,
+            None => self.open_to_append(path)?,
+        };
+        let taken = opened.file.write(piece)?;
         if taken == 0 && !piece.is_empty() {
             return Err(io::Error::from(ErrorKind::WriteZero));
         }
+        self.opened = Some(opened);
         Ok(taken)
     }
 
@@ -200,6 +291,7 @@ impl<R: Files + AllocGlobal + Clone + Drop> Tree for CurrentFolder<'_, R> {
     ghost sure = { λ _. no_promise };
 
     fn kind(&mut self, path: &Path) -> Result<Kind, Failed> {
+        self.let_others_go(path);
         let kind = self.kind_of(path);
         self.counted(kind)
     }
@@ -212,6 +304,7 @@ impl<R: Files + AllocGlobal + Clone + Drop> Tree for CurrentFolder<'_, R> {
     }
 
     fn create(&mut self, path: &Path) -> Result<bool, Failed> {
+        self.let_go();
         let made = self.create_file(path);
         self.counted(made)
     }
@@ -222,11 +315,13 @@ impl<R: Files + AllocGlobal + Clone + Drop> Tree for CurrentFolder<'_, R> {
     }
 
     fn remove(&mut self, path: &Path) -> Result<bool, Failed> {
+        self.let_go();
         let gone = self.remove_file(path);
         self.counted(gone)
     }
 
     fn names(&mut self, alloc: Global, folder: &Path) -> Result<Vec<Entry>, NamesStop> {
+        self.let_go();
         match self.list(alloc, folder) {
             Ok(entries) => Ok(entries),
             Err(e) if e.kind() == ErrorKind::OutOfMemory => Err(NamesStop::NoMemory),

@@ -12,8 +12,8 @@ use Rattle.clap.specs.declared.error.kind.ErrorKind.TheVariants.{OutOfMemory}
 use Rattle.clap.specs.declared.parser.matches.ArgMatches.{ArgMatches}
 use Rattle.clap.proofs.WalkLemmas.{first_value-rows}
 use Rattle.uxn_words.specs.declared.words.Command.{Command}
-use Rattle.uxn_words.specs.declared.words.Command.TheVariants.{Play, Debug, Assemble, Disassemble}
-use Rattle.uxn_words.specs.Words.{Given, asked_by, asked_with, budget_in, choices_of, command_of, file_name, is_legal, is_on, is_whole, items_of, settings, task_in, value_in, value_of}
+use Rattle.uxn_words.specs.declared.words.Command.TheVariants.{Play, Debug, Assemble, Disassemble, Generate}
+use Rattle.uxn_words.specs.Words.{Given, asked_by, asked_with, budget_in, choices_of, command_of, count_in, file_name, is_legal, is_on, is_whole, items_of, settings, task_in, value_in, value_of}
 use Rattle.uxn_words.specs.Asked.{parser_for}
 use Rattle.uxn_words.proofs.ArgumentLemmas.{blind, has_only_switch, is_apart, items_first, no_switch_unseen, row, unseen, with_defaults}
 use Rattle.uxn_words.proofs.LineLemmas.{Reads, Rejects, illegal, parsed}
@@ -25,18 +25,21 @@ is_plain_parser Play = refl
 is_plain_parser Debug = refl
 is_plain_parser Assemble = refl
 is_plain_parser Disassemble = refl
+is_plain_parser Generate = refl
 
 simple_parser : (command : Command) → is_simple (parser_for (choices_of command)) ≡ true
 simple_parser Play = refl
 simple_parser Debug = refl
 simple_parser Assemble = refl
 simple_parser Disassemble = refl
+simple_parser Generate = refl
 
 apart_choices : (command : Command) → is_apart (choices_of command) ≡ true
 apart_choices Play = refl
 apart_choices Debug = refl
 apart_choices Assemble = refl
 apart_choices Disassemble = refl
+apart_choices Generate = refl
 
 -- the one switch of a command is `--rom`
 has_one_switch : (command : Command) → has_only_switch (codes "rom") (choices_of command) ≡ true
@@ -44,6 +47,7 @@ has_one_switch Play = refl
 has_one_switch Debug = refl
 has_one_switch Assemble = refl
 has_one_switch Disassemble = refl
+has_one_switch Generate = refl
 
 -- ---- the values
 
@@ -64,9 +68,10 @@ module _ (command : Command) (m : ArgMatches) (items : List Given) (rows : rows_
 
   task_is : task_in command (λ name. first_value (found_of m) name) ≡ task_in command (λ name. value_of name items)
   task_is = λ i.
-      option_and_then (λ file. option_map (λ budget. record {
+      option_and_then (λ file. option_and_then (λ count. option_map (λ budget. record {
         command = command;
         file = file;
+        count = count;
         rom = on_is (codes "rom") i;
         budget = budget;
         out = first_is (codes "out") refl i;
@@ -79,7 +84,7 @@ module _ (command : Command) (m : ArgMatches) (items : List Given) (rows : rows_
         frames = first_is (codes "frames") refl i;
         samples = first_is (codes "samples") refl i;
         report = first_is (codes "report") refl i;
-      }) (budget_in (first_is (codes "budget") refl i))) (first_is file_name refl i)
+      }) (budget_in (first_is (codes "budget") refl i))) (count_in command file)) (first_is file_name refl i)
 
 -- ---- the outcomes
 

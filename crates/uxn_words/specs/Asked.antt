@@ -10,6 +10,7 @@ abbrev pub asked : Settings → Task
 asked settings = record {
   command = settings.command;
   file = settings.file.now;
+  count = settings.count;
   rom = settings.rom;
   budget = settings.budget;
   out = option_map (λ word. word.now) settings.out;

@@ -5,9 +5,9 @@ use Rattle.std.specs.Prelude.{if◌then◌else◌}
 use Rattle.std.specs.List.{list_any, before_first, after_first}
 use Rattle.std.specs.Option.{option_map_or}
 use Rattle.std.specs.Str.{bytes_eq}
-use Rattle.play_script.specs.Values.{number_within}
+use Rattle.line_texts.specs.Numbers.{number_within}
 use Rattle.uxn_words.specs.declared.words.Command.{Command}
-use Rattle.uxn_words.specs.declared.words.Command.TheVariants.{Play, Debug, Assemble, Disassemble}
+use Rattle.uxn_words.specs.declared.words.Command.TheVariants.{Play, Debug, Assemble, Disassemble, Generate}
 use Rattle.uxn_words.specs.declared.task.Task.{Task}
 
 -- the commands by name
@@ -17,6 +17,7 @@ command_of name =
     else if bytes_eq name (codes "debug") then Some Debug
     else if bytes_eq name (codes "asm") then Some Assemble
     else if bytes_eq name (codes "dis") then Some Disassemble
+    else if bytes_eq name (codes "gen") then Some Generate
     else None
 
 -- an option of a command: its name, whether it has a value or is a switch, and whether it may not be missing
@@ -46,6 +47,7 @@ choices_of Play = run_choices
 choices_of Debug = required (codes "commands") ∷ required (codes "log") ∷ optional (codes "symbols") ∷ run_choices
 choices_of Assemble = required (codes "out") ∷ optional (codes "symbols") ∷ optional (codes "listing") ∷ []
 choices_of Disassemble = optional (codes "symbols") ∷ []
+choices_of Generate = []
 
 -- a word that names a file or is the value of an option: it is not empty and does not begin with `-` (45)
 abbrev pub is_plain : List ℕ → Bool
@@ -151,11 +153,20 @@ abbrev pub budget_in : Option (List ℕ) → Option ℕ
 budget_in None = Some 4000000
 budget_in (Some word) = number_within 1 4294967295 word
 
+-- the count of a workload, 1 to 8,000, that its command's own item says; 0 for other commands
+abbrev pub count_in : Command → List ℕ → Option ℕ
+count_in Play word = Some 0
+count_in Debug word = Some 0
+count_in Assemble word = Some 0
+count_in Disassemble word = Some 0
+count_in Generate word = number_within 1 8000 word
+
 -- what the values of a file and of options ask for, by their names
-abbrev pub task_with : Command → (List ℕ → Option (List ℕ)) → List ℕ → ℕ → Task
-task_with command value_at file budget = record {
+abbrev pub task_with : Command → (List ℕ → Option (List ℕ)) → List ℕ → ℕ → ℕ → Task
+task_with command value_at file count budget = record {
   command = command;
   file = file;
+  count = count;
   rom = is_on (value_at (codes "rom"));
   budget = budget;
   out = value_at (codes "out");
@@ -170,10 +181,12 @@ task_with command value_at file budget = record {
   report = value_at (codes "report");
 }
 
--- there is a file, and the budget is a number
+-- there is a file, or the count of a workload, and the budget is a number
 abbrev pub task_in : Command → (List ℕ → Option (List ℕ)) → Option Task
 task_in command value_at =
-    option_and_then (λ file. option_map (task_with command value_at file) (budget_in (value_at (codes "budget")))) (value_at file_name)
+    option_and_then (λ file.
+    option_and_then (λ count. option_map (task_with command value_at file count) (budget_in (value_at (codes "budget"))))
+    (count_in command file)) (value_at file_name)
 
 abbrev pub asked_by : Command → List Given → Option Task
 asked_by command items = if is_whole (choices_of command) items then task_in command (λ name. value_of name items) else None

@@ -13,8 +13,10 @@ use uxn_io::Path;
 pub struct Task {
     /// The command.
     pub command: Command,
-    /// The file that it is about.
+    /// The command's own item: the file that it is about, or of `gen` the digits of its count.
     pub file: Path,
+    /// How many routines a workload has, 1 to 8,000; 0 of other commands.
+    pub count: u16,
     /// Whether the file is a ROM.
     pub rom: bool,
     /// The greatest number of instructions of a vector.
@@ -67,7 +69,7 @@ impl Task {
                 push_some(&mut paths, self.symbols)?;
                 push_some(&mut paths, self.listing)?;
             }
-            Command::Disassemble => {}
+            Command::Disassemble | Command::Generate => {}
         }
         Ok(paths)
     }
@@ -78,7 +80,7 @@ impl Task {
     {
         match self.command {
             Command::Play | Command::Debug => self.root,
-            Command::Assemble | Command::Disassemble => None,
+            Command::Assemble | Command::Disassemble | Command::Generate => None,
         }
     }
 
@@ -97,17 +99,19 @@ impl Task {
     fn has_input(&self, path: &Path) -> bool
         ensures { result ≡ list_any (bytes_eq path.now) (inputs_by self.now.command self.now) }
     {
-        is_same(path, &self.file)
-            || match self.command {
-                Command::Play => is_some(path, &self.script),
-                Command::Debug => {
-                    is_some(path, &self.symbols)
-                        || is_some(path, &self.script)
-                        || is_some(path, &self.commands)
-                }
-                Command::Assemble => false,
-                Command::Disassemble => is_some(path, &self.symbols),
+        let is_file = is_same(path, &self.file);
+        match self.command {
+            Command::Play => is_file || is_some(path, &self.script),
+            Command::Debug => {
+                is_file
+                    || is_some(path, &self.symbols)
+                    || is_some(path, &self.script)
+                    || is_some(path, &self.commands)
             }
+            Command::Assemble => is_file,
+            Command::Disassemble => is_file || is_some(path, &self.symbols),
+            Command::Generate => false,
+        }
     }
 
     /// Whether an output clashes with another one or the root, or is an input.

@@ -3,12 +3,12 @@ ghost use Rattle.std.specs.Prelude.{◌≡◌, ◌≤◌, IfSome, ◌+◌, ◌==
 ghost use Rattle.std.specs.Option.{option_map, option_map_or};
 ghost use Rattle.std.specs.List.{list_all, fold};
 ghost use Rattle.clap.specs.Words.{app_of, found_of, first_value, with_rule};
-ghost use Rattle.uxn_words.specs.Words.{command_of, is_plain, is_legal, option_text, value_in, run_choices, choices_of, budget_in, task_in, asked_with, settings};
+ghost use Rattle.uxn_words.specs.Words.{command_of, is_plain, is_legal, option_text, value_in, run_choices, choices_of, budget_in, count_in, task_in, asked_with, settings};
 ghost use Rattle.uxn_words.specs.Asked.{asked, argument, choice_argument, file_argument, parser_of, parser_for};
 
 use clap::error::ErrorKind;
 use clap::{Arg, ArgAction, ArgMatches};
-use play_script::number_within;
+use line_texts::number_within;
 use std::alloc::{AllocError, Global};
 
 /// What the program is asked to do.
@@ -24,6 +24,8 @@ pub enum Command {
     Assemble,
     /// `dis ROM [--symbols P]`: writes the disassembly of a ROM file to the standard output.
     Disassemble,
+    /// `gen N`: makes a workload of N routines, runs it, and writes a summary to the standard output.
+    Generate,
 }
 
 /// What legal words ask for: the words that name files, and what else they say.
@@ -31,8 +33,10 @@ pub enum Command {
 pub struct Settings<'a> {
     /// The command.
     pub command: Command,
-    /// The file that it is about.
+    /// The command's own item: the file that it is about, or of `gen` the digits of its count.
     pub file: &'a [u8],
+    /// How many routines a workload has, 1 to 8,000; 0 of other commands.
+    pub count: u16,
     /// Whether the file is a ROM.
     pub rom: bool,
     /// The greatest number of instructions of a vector.
@@ -71,6 +75,8 @@ fn command_named(name: &[u8]) -> Option<Command>
         Some(Command::Assemble)
     } else if name == b"dis".as_slice() {
         Some(Command::Disassemble)
+    } else if name == b"gen".as_slice() {
+        Some(Command::Generate)
     } else {
         None
     }
@@ -228,17 +234,33 @@ impl Command {
                 with_option(alloc, parser, "listing", false)
             }
             Command::Disassemble => with_option(alloc, parser, "symbols", false),
+            Command::Generate => Ok(parser),
         }
     }
 
-    /// What the parsed words ask for, where the budget is a number.
+    /// The count of a workload, 1 to 8,000, that its command's own item says; 0 for other commands.
+    fn count_in(self, word: &[u8]) -> Option<u16>
+        ensures { result ≡ count_in self word.now }
+    {
+        match self {
+            Command::Generate => {
+                let count = number_within(1, 8000, word)?;
+                Some(count as u16)
+            }
+            Command::Play | Command::Debug | Command::Assemble | Command::Disassemble => Some(0),
+        }
+    }
+
+    /// What the parsed words ask for, where the budget and the count are numbers.
     fn settings<'a>(self, matches: &ArgMatches<'a>) -> Option<Settings<'a>>
         ensures asked { option_map asked result ≡ task_in self (λ name. first_value (found_of matches.now) name) }
         ensures budget { IfSome result (λ settings. 1 ≤ settings.budget) }
     {
+        let file = value_of(matches, "file")?;
         Some(Settings {
             command: self,
-            file: value_of(matches, "file")?,
+            file,
+            count: self.count_in(file)?,
             rom: matches.get_str("rom") == Some("true"),
             budget: budget_in(value_of(matches, "budget"))?,
             out: value_of(matches, "out"),

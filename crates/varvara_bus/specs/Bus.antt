@@ -74,9 +74,12 @@ pub record BusStandsFor {T O E : Type 0} (told_tree : T → Option Nodes) (bus :
   pub devices : StandFor bus.devices.now state
   pub files : HasFiles (told_tree bus.tree.now) state.root state.part state.parent
 
--- the byte that was last stored in a port, and the number of frames begun, as the bus holds them
+-- the bytes that were last stored in the ports, that of one port, and the number of frames begun, as the bus holds them
+abbrev pub held_page : {T O E : Type 0} → Bus T O E → List ℕ
+held_page bus = bus.devices.now.page
+
 abbrev pub held : {T O E : Type 0} → Bus T O E → ℕ → ℕ
-held bus port = slice_index bus.devices.now.page port
+held bus port = slice_index (held_page bus) port
 
 abbrev pub frames_begun : {T O E : Type 0} → Bus T O E → ℕ
 frames_begun bus = bus.devices.now.time.frames

@@ -7,8 +7,8 @@ use Rattle.std.proofs.lemmas.Bool.Decides.{nat_tests}
 use Rattle.std.proofs.lemmas.Grind.{common_steps}
 use Rattle.std.proofs.lemmas.List.{get_or_past, get_or-replicate, length-replicate, length-set}
 use Rattle.input_ports.specs.declared.Input.{Input}
-use Rattle.input_ports.specs.declared.Input.TheVariants.{Key, Down, Up, Mouse, Press, Release, Scroll}
-use Rattle.input_ports.specs.Page.{with_bits, without_bits, stores_of, stores_after, with_stores}
+use Rattle.input_ports.specs.declared.Input.TheVariants.{Key, Down, Up, Mouse, Press, Release, Scroll, DownOf, UpOf}
+use Rattle.input_ports.specs.Page.{buttons_port, bits_set, bits_cleared, with_bits, without_bits, stores_of, stores_after, with_stores}
 use Rattle.std.specs.FinMap as nodes_map
 use Rattle.uxn_io.specs.declared.trees.Kind.TheVariants.{File as FileOf}
 use Rattle.uxn_io.specs.Files.{Node, Nodes, File, Folder, bytes_of, kind_of, kind_at}
@@ -101,15 +101,27 @@ pub page_size : (page now : List ℕ) (stores : List Store) → now ≡ with_sto
 page_size page now stores is size = sym (length-with_stores page stores) ∙ ap length (sym is) ∙ size
 
 -- an input is stored at ports, by what they hold
+same_set : (a b : ℕ → ℕ) (port mask : ℕ) → ((port : ℕ) → a port ≡ b port) → bits_set a port mask ≡ bits_set b port mask
+same_set a b port mask same = ap (λ held. (port, with_bits held mask) ∷ []) (same port)
+
+same_cleared : (a b : ℕ → ℕ) (port mask : ℕ) → ((port : ℕ) → a port ≡ b port) → bits_cleared a port mask ≡ bits_cleared b port mask
+same_cleared a b port mask same = ap (λ held. (port, without_bits held mask) ∷ []) (same port)
+
 pub same_stores : (a b : ℕ → ℕ) (input : Input) → ((port : ℕ) → a port ≡ b port) → stores_of a input ≡ stores_of b input
 unfolding stores_of
 same_stores a b (Key byte) same = refl
-same_stores a b (Down mask) same = ap (λ held. (0x82, with_bits held mask) ∷ []) (same 0x82)
-same_stores a b (Up mask) same = ap (λ held. (0x82, without_bits held mask) ∷ []) (same 0x82)
+same_stores a b (Down mask) same = same_set a b 0x82 mask same
+same_stores a b (Up mask) same = same_cleared a b 0x82 mask same
 same_stores a b (Mouse x y) same = refl
-same_stores a b (Press mask) same = ap (λ held. (0x96, with_bits held mask) ∷ []) (same 0x96)
-same_stores a b (Release mask) same = ap (λ held. (0x96, without_bits held mask) ∷ []) (same 0x96)
+same_stores a b (Press mask) same = same_set a b 0x96 mask same
+same_stores a b (Release mask) same = same_cleared a b 0x96 mask same
 same_stores a b (Scroll x y) same = refl
+same_stores a b (DownOf player mask) same = same_set a b (buttons_port player) mask same
+same_stores a b (UpOf player mask) same = same_cleared a b (buttons_port player) mask same
+
+-- a player's buttons stand at a port
+buttons_at_port : (player : ℕ) → buttons_port player < 256
+buttons_at_port player = grind (arith, nat_tests, common_steps)
 
 input-ports : (held : ℕ → ℕ) (input : Input) → AreAtPorts (stores_of held input)
 unfolding stores_of
@@ -120,6 +132,8 @@ input-ports held (Mouse x y) = (lit< tt, (lit< tt, (lit< tt, (lit< tt, tt))))
 input-ports held (Press mask) = (lit< tt, tt)
 input-ports held (Release mask) = (lit< tt, tt)
 input-ports held (Scroll x y) = (lit< tt, (lit< tt, (lit< tt, (lit< tt, tt))))
+input-ports held (DownOf player mask) = (buttons_at_port player, tt)
+input-ports held (UpOf player mask) = (buttons_at_port player, tt)
 
 settling-ports : (input : Input) → AreAtPorts (stores_after input)
 unfolding stores_after
@@ -130,6 +144,8 @@ settling-ports (Mouse x y) = tt
 settling-ports (Press mask) = tt
 settling-ports (Release mask) = tt
 settling-ports (Scroll x y) = (lit< tt, (lit< tt, (lit< tt, (lit< tt, tt))))
+settling-ports (DownOf player mask) = tt
+settling-ports (UpOf player mask) = tt
 
 -- devices that an input was stored at, and that it was settled at
 pub stand-applied : (devices : Devices) (state : DeviceState) (input : Input) → length devices.page ≡ 256 → StandFor devices state

@@ -1,9 +1,10 @@
 //! The bus: what the machine's ports are.
-ghost use Rattle.std.specs.Prelude.{◌≡◌, ◌+◌, ◌<◌, ◌≤◌, [], ◌∷◌, map, length, Err, IsOk, OnOk, OnErr, IfErr, is_err};
+ghost use Rattle.std.specs.Prelude.{◌≡◌, ℕ, slice_index, ◌+◌, ◌<◌, ◌≤◌, true, false, [], ◌∷◌, map, length, Err, IsOk, OnOk, OnErr, IfErr, is_err};
 ghost use Rattle.varvara_bus.specs.State.{DeviceState, storing, next_frame, rendered};
 ghost use Rattle.screen_frame.specs.Colours.{colours_of};
 ghost use Rattle.screen_layers.specs.Layers as layers;
 ghost use Rattle.audio_mixer.specs.Sounds.{frame_of, endings};
+ghost use Rattle.audio_mixer.specs.Voices.{all_play_on};
 ghost use Rattle.input_ports.specs.Page.{stores_of, stores_after};
 ghost use Rattle.varvara_bus.specs.History.{stored, stored_short, colour_bytes};
 ghost use Rattle.uxn_io.specs.Faults.{Counted, Ledger};
@@ -18,6 +19,7 @@ ghost use Rattle.varvara_bus.specs.Bus.{
   IsFileWhereTold,
   IsOutside,
   held,
+  held_page,
   frames_begun,
   screen_of,
   bus_faults,
@@ -34,8 +36,8 @@ use crate::page::{
     apply as apply_to, give as give_to, settle as settle_to, shown, store, stored, stored_short,
 };
 use crate::ports::{Action, Source};
-use crate::screen::{ask_height, ask_width, draw_pixel, draw_sprite, palette, size_shown};
-use crate::voices::{render, start_note, voice_shown};
+use crate::screen::{ask_height, ask_width, draw_pixel, draw_sprite, palette, refresh, size_shown};
+use crate::voices::{is_endless, pass_frame, render, start_note, voice_shown};
 use console_port::console_write;
 use input_ports::Input;
 use screen_frame::Palette;
@@ -188,6 +190,17 @@ impl<'a, T: Tree, O: Sink, E: Sink> Bus<'a, T, O, E> {
         &self.devices.screen
     }
 
+    /// Composes the marked rows of the screen, takes their marks away, and says how many rows there were. It changes no pixel.
+    pub fn refresh(&mut self) -> u16
+        ensures screen { layers.Refreshes (screen_of self.old) (screen_of self.new) result }
+        ensures devices { (state : DeviceState) → BusStandsFor T.told self.old state → BusStandsFor T.told self.new state }
+        ensures held { (port : ℕ) → held self.new port ≡ held self.old port }
+        ensures others { ChangesDevices self.old self.new }
+        ensures frames { frames_begun self.new ≡ frames_begun self.old }
+    {
+        refresh(self.devices)
+    }
+
     /// The four colours that ports 08 to 0d hold.
     pub fn palette(&self) -> Palette
         ensures { (state : DeviceState) → BusStandsFor T.told self.now state → result.colours ≡ colours_of (colour_bytes state.history) }
@@ -204,6 +217,25 @@ impl<'a, T: Tree, O: Sink, E: Sink> Bus<'a, T, O, E> {
         ensures frames { frames_begun self.new ≡ frames_begun self.old }
     {
         render(self.devices, memory, into)
+    }
+
+    /// Whether no voice plays a note that will end.
+    pub fn is_endless(&self) -> bool
+        ensures { result ≡ all_play_on self.now.devices.now.mixer }
+    {
+        is_endless(self.devices)
+    }
+
+    /// Lets a frame pass of which no samples are asked for and in which no note can end.
+    pub fn pass_frame(&mut self)
+        requires { all_play_on self.old.devices.now.mixer ≡ true }
+        ensures ends { (state : DeviceState) → BusStandsFor T.told self.old state
+            → endings 735 state.sounds ≡ false ∷ false ∷ false ∷ false ∷ [] }
+        ensures devices { (state : DeviceState) → BusStandsFor T.told self.old state → BusStandsFor T.told self.new (rendered state) }
+        ensures others { ChangesDevices self.old self.new }
+        ensures frames { frames_begun self.new ≡ frames_begun self.old }
+    {
+        pass_frame(self.devices);
     }
 
     /// Appends the whole piece to the file at the path. After `TreeFault` a front of it was appended.
@@ -230,11 +262,13 @@ impl<'a, T: Tree, O: Sink, E: Sink> Bus<'a, T, O, E> {
 }
 
 impl<'a, T: Tree, O: Sink, E: Sink> Ports for Bus<'a, T, O, E> {
-    ghost use Rattle.varvara_bus.specs.Bus.{meaning_of, bus_rules, bus_faults};
+    ghost use Rattle.varvara_bus.specs.Bus.{meaning_of, bus_rules, bus_faults, held_page};
 
     ghost rules = { bus_rules (meaning_of T.told O.told E.told T.sure O.sure E.sure) };
 
     ghost faults = { bus_faults T.faults O.faults E.faults };
+
+    ghost stored = { held_page };
 
     #[tactic(auto, unfolding(crate::specs::Reads::read_of))]
     fn dei(&self, core: &Core, port: u8) -> u8 {
@@ -255,6 +289,14 @@ impl<'a, T: Tree, O: Sink, E: Sink> Ports for Bus<'a, T, O, E> {
             Ok(()) => Ok(()),
             Err(stop) => Err(stop),
         }
+    }
+
+    fn stored_page(&self) -> &[u8; 256]
+        ensures held { result.now ≡ held_page self.now }
+        ensures stored { (state : DeviceState) → BusStandsFor T.told self.now state
+            → (port : ℕ) → slice_index result.now port ≡ stored state.history port }
+    {
+        &self.devices.page
     }
 }
 

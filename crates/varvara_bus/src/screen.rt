@@ -3,6 +3,7 @@ ghost use Rattle.std.specs.Prelude.{◌≡◌, ◌<◌};
 ghost use Rattle.varvara_bus.specs.State.{DeviceState, StandFor, clock_of};
 ghost use Rattle.varvara_bus.specs.Reads.{size_byte};
 ghost use Rattle.screen_frame.specs.Colours.{colours_of};
+ghost use Rattle.screen_layers.specs.Layers.{Refreshes};
 ghost use Rattle.varvara_bus.specs.History.{colour_bytes};
 ghost use Rattle.varvara_bus.specs.Effect.{width_asked, height_asked, pixel_drawn, sprite_drawn};
 
@@ -129,4 +130,16 @@ pub(crate) fn draw_sprite(devices: &mut Devices, memory: &Memory, control: u8)
     store_short(devices, X, next.x);
     store_short(devices, Y, next.y);
     store_short(devices, ADDR, next.addr);
+}
+
+/// Composes the marked rows of the screen, and says how many there were.
+pub(crate) fn refresh(devices: &mut Devices) -> u16
+    ensures screen { Refreshes devices.old.screen devices.new.screen result }
+    ensures others { devices.new ≡ record devices.old { screen = devices.new.screen } }
+    ensures stands { (state : DeviceState) → StandFor devices.old state → StandFor devices.new state }
+    ensures frames { devices.new.time.frames ≡ devices.old.time.frames }
+    ensures clock { clock_of devices.new ≡ clock_of devices.old }
+    ensures root { devices.new.root ≡ devices.old.root }
+{
+    devices.screen.refresh()
 }

@@ -1,5 +1,6 @@
 //! The ports of the voices.
-ghost use Rattle.std.specs.Prelude.{◌≡◌, ◌≤◌};
+ghost use Rattle.std.specs.Prelude.{◌≡◌, ◌≤◌, true, false, [], ◌∷◌};
+ghost use Rattle.audio_mixer.specs.Voices.{all_play_on};
 ghost use Rattle.audio_mixer.specs.Sounds.{frame_of, endings};
 ghost use Rattle.varvara_bus.specs.State.{DeviceState, StandFor, clock_of, rendered};
 ghost use Rattle.varvara_bus.specs.Voices.{number_of, note_at, voice_byte};
@@ -61,4 +62,23 @@ pub(crate) fn render(devices: &mut Devices, memory: &Memory, into: &mut [i16; 14
     ensures root { devices.new.root ≡ devices.old.root }
 {
     devices.mixer.render(memory, into)
+}
+
+/// Whether no voice plays a note that will end.
+pub(crate) fn is_endless(devices: &Devices) -> bool
+    ensures { result ≡ all_play_on devices.now.mixer }
+{
+    devices.mixer.is_endless()
+}
+
+/// Lets a frame pass of which no samples are asked for and in which no note can end.
+pub(crate) fn pass_frame(devices: &mut Devices)
+    requires { all_play_on devices.old.mixer ≡ true }
+    ensures ends { (state : DeviceState) → StandFor devices.old state → endings 735 state.sounds ≡ false ∷ false ∷ false ∷ false ∷ [] }
+    ensures stands { (state : DeviceState) → StandFor devices.old state → StandFor devices.new (rendered state) }
+    ensures frames { devices.new.time.frames ≡ devices.old.time.frames }
+    ensures clock { clock_of devices.new ≡ clock_of devices.old }
+    ensures root { devices.new.root ≡ devices.old.root }
+{
+    devices.mixer.pass();
 }

@@ -6,10 +6,11 @@ use Rattle.uxn_io.specs.Taking.{remains-all}
 use Rattle.uxn_opcodes.specs.declared.Core.{Core}
 use Rattle.uxn_opcodes.specs.declared.Stop.{Stop}
 use Rattle.input_ports.specs.declared.Input.{Input}
-use Rattle.input_ports.specs.declared.Input.TheVariants.{Key, Down, Up, Mouse, Press, Release, Scroll}
+use Rattle.input_ports.specs.declared.Input.TheVariants.{Key, Down, Up, Mouse, Press, Release, Scroll, DownOf, UpOf}
 use Rattle.input_ports.specs.Page.{stores_of, stores_after, vector_of}
 use Rattle.varvara_bus.specs.declared.bus.Bus.{Bus}
 use Rattle.varvara_bus.specs.History.{stored, stored_short}
+use Rattle.varvara_bus.specs.Reads.{read_of}
 use Rattle.varvara_bus.specs.State.{DeviceState}
 use Rattle.varvara_bus.specs.Bus.{ChangesDevices, FilesStay, BusStandsFor, Meaning, Makes, sure_of}
 use Rattle.varvara_bus.specs.InstructionLaws.{makes-none, makes-both, stops-later}
@@ -17,10 +18,10 @@ use Rattle.vector_loop.specs.declared.output.Outputs.{Outputs}
 use Rattle.vector_loop.specs.declared.tally.Tally.{Tally}
 use Rattle.vector_loop.specs.declared.watch.Moment.{Moment}
 use Rattle.play_script.specs.declared.script.Event.{Event}
-use Rattle.vector_loop.specs.State.{State, with_stored, with_counted, counting_event}
+use Rattle.vector_loop.specs.State.{State, with_stored, with_counted, counting_event, counting_expect}
 use Rattle.vector_loop.specs.Trail.{Trail, stays, followed_by}
 use Rattle.vector_loop.specs.Vector.{vector}
-use Rattle.vector_loop.specs.Event.{vector_at, vector_in, unless_over, device, happens, give}
+use Rattle.vector_loop.specs.Event.{vector_at, vector_in, unless_over, device, expected, happens, give}
 use Rattle.vector_loop.specs.Watch.{shown_all}
 use Rattle.vector_loop.specs.Follows.{Running, running, state_of, FollowsFrom, FallsShortFrom}
 use Rattle.vector_loop.proofs.Along.{follows-both, short-later, short-first}
@@ -60,6 +61,8 @@ its-ports (Mouse x y) = lit< tt
 its-ports (Press mask) = lit< tt
 its-ports (Release mask) = lit< tt
 its-ports (Scroll x y) = lit< tt
+its-ports (DownOf player mask) = lit< tt
+its-ports (UpOf player mask) = lit< tt
 
 -- where the tree is as it was each file is there still
 pub files-kept : {T O E : Type 0} (told_tree : T → Option Nodes) (before now : Bus T O E) → ChangesDevices before now
@@ -187,6 +190,15 @@ module _ {T O E W H : Type 0} (meaning : Meaning T O E) (held : W → H) (shown 
   pub follows-nothing : (now : Running T O E W) → FollowsFrom meaning held shown now now stays
   follows-nothing now = record {
     from = λ devices stands. record { core = refl; devices = stands; tally = refl; makes = makes-none meaning now.bus; watcher = refl };
+  }
+
+  -- what a port reads is compared with a byte
+  pub follows-expect : (core : Core) (bus : Bus T O E) (before now : Tally) (watcher : W) (port byte : ℕ)
+      → ((devices : DeviceState) → BusStandsFor meaning.tree bus devices → now ≡ counting_expect (read_of devices core port == byte) before)
+      → FollowsFrom meaning held shown (running core bus before watcher) (running core bus now watcher) (expected port byte)
+  unfolding expected
+  follows-expect core bus before now watcher port byte counts = record {
+    from = λ devices stands. record { core = refl; devices = stands; tally = counts devices stands; makes = makes-none meaning bus; watcher = refl };
   }
 
   -- the same under another name

@@ -1,4 +1,4 @@
-use Rattle.std.proofs.Common.{◌≡◌, ℕ, ◌+◌, ◌*◌, ◌<◌, get_or, Bool, true, false, cond, List, [], ◌∷◌, map, refl, ap, sym, ◌∙◌, arith}
+use Rattle.std.proofs.Common.{◌≡◌, ℕ, ◌+◌, ◌*◌, ◌<◌, get_or, Bool, true, false, cond, List, [], ◌∷◌, slice_index_or, None, map, refl, ap, sym, ◌∙◌, arith}
 use Rattle.std.specs.Prelude.{ℤ}
 use Rattle.std.proofs.lemmas.List.FromFn.{get_or-range_with_len}
 use Rattle.uxn_opcodes.specs.declared.Core.{Core}
@@ -15,7 +15,7 @@ use Rattle.vector_loop.specs.declared.tally.Tally.{Tally}
 use Rattle.vector_loop.specs.State.{State, with_rendered, is_over}
 use Rattle.vector_loop.specs.Trail.{Trail, stays, makes, followed_by}
 use Rattle.vector_loop.specs.Outputs.{appended_to, samples_bytes, picture_bytes}
-use Rattle.vector_loop.specs.Event.{vector_in, unless_over, samples_kept, vector_where, ended_vectors, heard, shown_and_heard, shot}
+use Rattle.vector_loop.specs.Event.{vector_in, unless_over, give_each, samples_kept, vector_where, ended_vectors, heard, shown_and_heard, shot}
 use Rattle.vector_loop.specs.Making.{Made, CutShort}
 use Rattle.vector_loop.specs.Follows.{Running, running, state_of}
 use Rattle.vector_loop.specs.Answers.{Telling, Done, Stopped}
@@ -68,7 +68,46 @@ shot-is outputs state = refl
 no-memory : (stop : Stop) → stop ≡ TreeFault → stop ≡ NoMemory → ⊥
 no-memory stop fault wanted = cc
 
+one-none : (given : ℕ → State → Trail) (voice : ℕ) (voices : List ℕ) (state : State) → unless_over (given voice) state ≡ stays state
+    → give_each given (voice ∷ voices) state ≡ give_each given voices state
+unfolding give_each
+one-none given voice voices state none = ap (λ t. followed_by t (give_each given voices)) none
+
+none-given : (given : ℕ → State → Trail) (state : State) → give_each given [] state ≡ stays state
+unfolding give_each
+none-given given state = refl
+
+-- no vector is run where no note has ended
+none-ended : (budget : ℕ) (state : State) → ended_vectors budget (false ∷ false ∷ false ∷ false ∷ []) state ≡ stays state
+none-ended budget state =
+    let given = λ (voice : ℕ). vector_where budget (slice_index_or (false ∷ false ∷ false ∷ false ∷ []) voice false) voice in
+    one-none given 0 (1 ∷ 2 ∷ 3 ∷ []) state (not-ended budget 0 false state refl)
+    ∙ one-none given 1 (2 ∷ 3 ∷ []) state (not-ended budget 1 false state refl)
+    ∙ one-none given 2 (3 ∷ []) state (not-ended budget 2 false state refl)
+    ∙ one-none given 3 [] state (not-ended budget 3 false state refl)
+    ∙ none-given given state
+
+-- what is heard of a frame of which no samples are asked for and in which no note ends
+passed-as : (budget : ℕ) (outputs : Outputs) (state : State) → outputs.samples ≡ None → endings 735 state.devices.sounds ≡ false ∷ false ∷ false ∷ false ∷ []
+    → heard budget outputs state ≡ stays (with_rendered state)
+passed-as budget outputs state none ends =
+    heard-is budget outputs state
+    ∙ ap (λ e. followed_by (samples_kept outputs state) (ended_vectors budget e)) ends
+    ∙ ap (λ o. followed_by (makes (appended_to o (samples_bytes (frame_of state.core.memory state.devices.sounds))) (with_rendered state)) (ended_vectors budget (false ∷ false ∷ false ∷ false ∷ []))) none
+    ∙ none-ended budget (with_rendered state)
+
 module _ {T O E W H : Type 0} (telling : Telling T O E W H) where
+  pub done-passed : (core : Core) (bus passed : Bus T O E) (tally : Tally) (watcher : W) (budget : ℕ) (outputs : Outputs) → outputs.samples ≡ None
+      → ((devices : DeviceState) → BusStandsFor telling.meaning.tree bus devices → endings 735 devices.sounds ≡ false ∷ false ∷ false ∷ false ∷ [])
+      → Prepared telling.meaning (running core bus tally watcher) (running core passed tally watcher) with_rendered → frames_begun passed ≡ frames_begun bus
+      → Done telling (running core bus tally watcher) (running core passed tally watcher) (heard budget outputs) 4 0 budget
+  done-passed core bus passed tally watcher budget outputs none ends prepared frames =
+      done-within telling (running core bus tally watcher) (running core passed tally watcher) (heard budget outputs) 0 0 4 0 budget (omega arith) (omega arith)
+      (done-where telling (running core bus tally watcher) (running core passed tally watcher) (λ s. stays (with_rendered s)) (heard budget outputs) 0 0 budget
+      (λ devices stands. passed-as budget outputs (state_of (running core bus tally watcher) devices) none (ends devices stands))
+      (done-prepared telling core bus passed tally watcher (running core passed tally watcher) with_rendered stays 0 0 budget prepared frames
+      (done-nothing telling (running core passed tally watcher) budget)))
+
   pub done-not_ended : (now : Running T O E W) (ended : Bool) (voice budget : ℕ) → ended ≡ false → Done telling now now (unless_over (vector_where budget ended voice)) 1 0 budget
   done-not_ended now ended voice budget is = done-within telling now now (unless_over (vector_where budget ended voice)) 0 0 1 0 budget (omega arith) (omega arith)
       (done-as telling now now stays (unless_over (vector_where budget ended voice)) 0 0 budget (λ s. not-ended budget voice ended s is) (done-nothing telling now budget))

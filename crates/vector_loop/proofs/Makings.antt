@@ -80,7 +80,7 @@ module _ {T O E : Type 0} (meaning : Meaning T O E) (of_tree : T → ℕ) (of_ou
   made-nothing bus = record {
     makes = λ s stands. makes-none meaning bus;
     stands = λ s stands. stands;
-    devices = refl;
+    height = refl;
     faults = refl;
     same = same-itself meaning.tree bus;
   }
@@ -91,7 +91,7 @@ module _ {T O E : Type 0} (meaning : Meaning T O E) (of_tree : T → ℕ) (of_ou
   made-where a b changes other same made = record {
     makes = λ s stands. rw (← same s stands) (made.makes s stands);
     stands = made.stands;
-    devices = made.devices;
+    height = made.height;
     faults = made.faults;
     same = made.same;
   }
@@ -125,7 +125,7 @@ module _ {T O E : Type 0} (meaning : Meaning T O E) (of_tree : T → ℕ) (of_ou
           (makes-both meaning a b c (to_file path (putting.done s)) (to_file path (piece s)) (putting.made.makes s stands)
           (made.makes s (putting.made.stands s stands)));
       stands = λ s stands. made.stands s (putting.made.stands s stands);
-      devices = made.devices ∙ putting.made.devices;
+      height = made.height ∙ putting.made.height;
       faults = made.faults ∙ putting.made.faults;
       same = same-again meaning.tree a b c putting.made.same made.same;
     };

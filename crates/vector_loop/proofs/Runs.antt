@@ -136,11 +136,13 @@ grown-both a b c b1 g1 b2 g2 budget p q = record {
   events = omega (arith, p.events, q.events);
   frames = omega (arith, p.frames, q.frames);
   shots = omega (arith, p.shots, q.shots);
+  expects = omega (arith, p.expects, q.expects);
+  misses = omega (arith, p.misses, q.misses);
   later = omega (arith, p.later, q.later);
 }
 
 pub grown-none : (a : Tally) (budget : ℕ) → HasGrown a a 0 0 budget
-grown-none a budget = record { instructions = omega arith; vectors = omega arith; cuts = omega arith; events = omega arith; frames = omega arith; shots = omega arith; later = omega arith }
+grown-none a budget = record { instructions = omega arith; vectors = omega arith; cuts = omega arith; events = omega arith; frames = omega arith; shots = omega arith; expects = omega arith; misses = omega arith; later = omega arith }
 
 pub grown-within : (a b : Tally) (b1 g1 b2 g2 budget : ℕ) → b1 ≤ b2 → g1 ≤ g2 → HasGrown a b b1 g1 budget → HasGrown a b b2 g2 budget
 grown-within a b b1 g1 b2 g2 budget p q h = record {
@@ -150,6 +152,8 @@ grown-within a b b1 g1 b2 g2 budget p q h = record {
   events = omega (arith, h.events, q);
   frames = omega (arith, h.frames, q);
   shots = omega (arith, h.shots, q);
+  expects = omega (arith, h.expects, q);
+  misses = omega (arith, h.misses, q);
   later = h.later;
 }
 
@@ -162,6 +166,8 @@ room-left limit a b b1 g1 b2 g2 budget r h = record {
   events = omega (arith, r.events, h.events);
   frames = omega (arith, r.frames, h.frames);
   shots = omega (arith, r.shots, h.shots);
+  expects = omega (arith, r.expects, h.expects);
+  misses = omega (arith, r.misses, h.misses);
 }
 
 pub room-within : (limit : ℕ) (a : Tally) (b1 g1 b2 g2 budget : ℕ) → b1 ≤ b2 → g1 ≤ g2 → HasRoom limit a b2 g2 budget → HasRoom limit a b1 g1 budget
@@ -172,6 +178,8 @@ room-within limit a b1 g1 b2 g2 budget p q r = record {
   events = omega (arith, r.events, q);
   frames = omega (arith, r.frames, q);
   shots = omega (arith, r.shots, q);
+  expects = omega (arith, r.expects, q);
+  misses = omega (arith, r.misses, q);
 }
 
 -- a script's vectors and events can be counted from nothing
@@ -185,6 +193,8 @@ room-new begun given budget p q r =
       events = omega (arith, q);
       frames = omega (arith, q);
       shots = omega (arith, q);
+      expects = omega (arith, q);
+      misses = omega (arith, q);
     }
 
 -- an output that is there is there still

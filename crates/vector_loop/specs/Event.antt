@@ -3,11 +3,12 @@ use Rattle.std.specs.Prelude.{ℕ, ◌+◌, ◌*◌, ◌==◌, Bool, false, List
 use Rattle.input_ports.specs.declared.Input.{Input as DeviceInput}
 use Rattle.input_ports.specs.Page.{stores_of, stores_after, vector_of}
 use Rattle.play_script.specs.declared.script.Event.{Event}
-use Rattle.play_script.specs.declared.script.Event.TheVariants.{Input, EndInput, Frame, Device, Shot}
+use Rattle.play_script.specs.declared.script.Event.TheVariants.{Input, EndInput, Frame, Device, Shot, Expect}
 use Rattle.audio_mixer.specs.Sounds.{frame_of, endings}
 use Rattle.varvara_bus.specs.History.{stored, stored_short}
+use Rattle.varvara_bus.specs.Reads.{read_of}
 use Rattle.vector_loop.specs.declared.output.Outputs.{Outputs}
-use Rattle.vector_loop.specs.State.{State, with_stored, with_next_frame, with_rendered, with_counted, is_over}
+use Rattle.vector_loop.specs.State.{State, counting_expect, with_stored, with_next_frame, with_rendered, with_counted, is_over}
 use Rattle.vector_loop.specs.Trail.{Trail, stays, makes, followed_by}
 use Rattle.vector_loop.specs.Outputs.{appended_to, picture_bytes, samples_bytes}
 use Rattle.vector_loop.specs.Vector.{vector}
@@ -67,6 +68,10 @@ frame budget outputs state = shown_and_heard budget outputs (with_next_frame sta
 unfoldable pub shot : Outputs → State → Trail
 shot outputs state = makes (appended_to outputs.frames (picture_bytes state.devices)) state
 
+-- what a port reads is compared with a byte: that changes the tally alone
+unfoldable pub expected : ℕ → ℕ → State → Trail
+expected port byte state = stays (record state { tally = counting_expect (read_of state.devices state.core port == byte) state.tally })
+
 -- what each event of a script does, once it is counted
 abbrev pub happens : ℕ → Outputs → Event → State → Trail
 happens budget outputs (Input byte) = console budget byte 1
@@ -74,6 +79,7 @@ happens budget outputs EndInput = console budget 0 4
 happens budget outputs (Device input) = device budget input
 happens budget outputs Frame = frame budget outputs
 happens budget outputs Shot = shot outputs
+happens budget outputs (Expect port byte) = expected port byte
 
 unfoldable pub give : ℕ → Outputs → Event → State → Trail
 give budget outputs event state = happens budget outputs event (with_counted event state)

@@ -35,7 +35,20 @@ pub record HasGrown (before now : Tally) (begun given budget : ℕ) : Type 0 whe
   pub events : now.events ≤ before.events + given
   pub frames : now.frames ≤ before.frames + given
   pub shots : now.shots ≤ before.shots + given
+  pub expects : now.expects ≤ before.expects + given
+  pub misses : now.misses ≤ before.misses + given
   pub later : before.instructions ≤ now.instructions
+
+-- one expect was counted
+pub record IsCompared (before now : Tally) : Type 0 where
+  pub instructions : now.instructions ≡ before.instructions
+  pub vectors : now.vectors ≡ before.vectors
+  pub cuts : now.cuts ≡ before.cuts
+  pub events : now.events ≡ before.events
+  pub frames : now.frames ≡ before.frames
+  pub shots : now.shots ≡ before.shots
+  pub expects : now.expects ≤ before.expects + 1
+  pub misses : now.misses ≤ before.misses + 1
 
 -- so many more vectors, each of at most so many instructions, and so many events can be counted up to a limit
 pub record HasRoom (limit : ℕ) (tally : Tally) (begun given budget : ℕ) : Type 0 where
@@ -45,6 +58,8 @@ pub record HasRoom (limit : ℕ) (tally : Tally) (begun given budget : ℕ) : Ty
   pub events : tally.events + given ≤ limit
   pub frames : tally.frames + given ≤ limit
   pub shots : tally.shots + given ≤ limit
+  pub expects : tally.expects + given ≤ limit
+  pub misses : tally.misses + given ≤ limit
 
 module _ {T O E W : Type 0} (meaning : Meaning T O E) (refuses : Type 0) where
   -- not all of a trail was done: a front of its changes is made, and whoever is to blame for the stop did not surely take all of

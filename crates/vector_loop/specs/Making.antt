@@ -7,14 +7,14 @@ use Rattle.uxn_opcodes.specs.declared.Stop.TheVariants.{TreeFault}
 use Rattle.uxn_opcodes.specs.Ports.{blame_of}
 use Rattle.varvara_bus.specs.declared.bus.Bus.{Bus}
 use Rattle.varvara_bus.specs.State.{DeviceState}
-use Rattle.varvara_bus.specs.Bus.{SameBus, BusStandsFor, Meaning, Makes, StopsShort, bus_faults}
+use Rattle.varvara_bus.specs.Bus.{SameBus, BusStandsFor, Meaning, Makes, StopsShort, bus_faults, screen_of}
 
 module _ {T O E : Type 0} (meaning : Meaning T O E) (of_tree : T → ℕ) (of_out : O → ℕ) (of_err : E → ℕ) where
-  -- the changes were made, from each state that the bus stood for, and nothing else was done
+  -- the changes were made, from each state that the bus stood for, which it still stands for
   pub record Made (before now : Bus T O E) (changes : DeviceState → List Change) : Type 0 where
     pub makes : (state : DeviceState) → BusStandsFor meaning.tree before state → Makes meaning before now (changes state)
     pub stands : (state : DeviceState) → BusStandsFor meaning.tree before state → BusStandsFor meaning.tree now state
-    pub devices : now.devices.now ≡ before.devices.now
+    pub height : (screen_of now).height ≡ (screen_of before).height
     pub faults : bus_faults of_tree of_out of_err now ≡ bus_faults of_tree of_out of_err before
     pub same : SameBus meaning.tree before now
 

@@ -1,5 +1,5 @@
 -- A machine in the middle of a run.
-use Rattle.std.specs.Prelude.{◌+◌, ◌==◌, Bool, not, List}
+use Rattle.std.specs.Prelude.{◌+◌, ◌==◌, Bool, true, false, not, List}
 use Rattle.uxn_opcodes.specs.declared.Core.{Core}
 use Rattle.varvara_bus.specs.History.{Store, stored}
 use Rattle.varvara_bus.specs.State.{DeviceState, storing, next_frame, rendered}
@@ -15,7 +15,7 @@ pub record State : Type 0 where
 
 -- nothing is counted yet
 abbrev pub new_tally : Tally
-new_tally = record { instructions = 0; vectors = 0; cuts = 0; events = 0; frames = 0; shots = 0 }
+new_tally = record { instructions = 0; vectors = 0; cuts = 0; events = 0; frames = 0; shots = 0; expects = 0; misses = 0 }
 
 -- bytes are stored in ports, a frame begins, and its samples are rendered
 abbrev pub with_stored : List Store → State → State
@@ -46,6 +46,11 @@ abbrev pub counting_event : Event → Tally → Tally
 counting_event Frame tally = record tally { events = tally.events + 1; frames = tally.frames + 1 }
 counting_event Shot tally = record tally { events = tally.events + 1; shots = tally.shots + 1 }
 counting_event _ tally = record tally { events = tally.events + 1 }
+
+-- an expect is counted, and a miss where the port does not read the byte
+abbrev pub counting_expect : Bool → Tally → Tally
+counting_expect true tally = record tally { expects = tally.expects + 1 }
+counting_expect false tally = record tally { expects = tally.expects + 1; misses = tally.misses + 1 }
 
 abbrev pub with_counted : Event → State → State
 with_counted event state = record state { tally = counting_event event state.tally }

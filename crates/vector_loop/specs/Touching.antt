@@ -6,7 +6,7 @@ use Rattle.std.proofs.Common.{cond, true, false}
 use Rattle.input_ports.specs.declared.Input.{Input as DeviceInput}
 use Rattle.input_ports.specs.Page.{stores_of, stores_after, vector_of}
 use Rattle.play_script.specs.declared.script.Event.{Event}
-use Rattle.play_script.specs.declared.script.Event.TheVariants.{Input, EndInput, Frame, Device, Shot}
+use Rattle.play_script.specs.declared.script.Event.TheVariants.{Input, EndInput, Frame, Device, Shot, Expect}
 use Rattle.play_script.specs.Scripts.{ScriptView}
 use Rattle.varvara_bus.specs.History.{stored, stored_short}
 use Rattle.varvara_bus.specs.Touching.{Spares, Each, each-append, each-map, StandsApart, instruction-spares}
@@ -17,7 +17,7 @@ use Rattle.audio_mixer.specs.Sounds.{endings}
 use Rattle.uxn_io.specs.Outside.{ToFile}
 use Rattle.vector_loop.specs.declared.output.Outputs.{Outputs}
 use Rattle.vector_loop.specs.Outputs.{appended_to, picture_bytes}
-use Rattle.vector_loop.specs.Event.{vector_in, unless_over, give_each, console, device, samples_kept, vector_where, ended_vectors}
+use Rattle.vector_loop.specs.Event.{vector_in, unless_over, give_each, console, device, expected, samples_kept, vector_where, ended_vectors}
 use Rattle.vector_loop.specs.Event.{heard, shown_and_heard, frame, shot, happens, give}
 use Rattle.vector_loop.specs.Run.{console_byte, arguments_given, made_ready, run}
 
@@ -139,12 +139,17 @@ module _ (path : List ℕ) where
     unfolding shot
     shot-leaves = record { alone = λ state apart. (appended-spares outputs.frames (picture_bytes state.devices) frames, apart) }
 
+    expected-leaves : (port byte : ℕ) → Leaves path (expected port byte)
+    unfolding expected
+    expected-leaves port byte = record { alone = λ state apart. (tt, apart) }
+
     happens-leaves : (budget : ℕ) (event : Event) → Leaves path (happens budget outputs event)
     happens-leaves budget (Input byte) = console-leaves budget byte 1
     happens-leaves budget EndInput = console-leaves budget 0 4
     happens-leaves budget (Device input) = device-leaves budget input
     happens-leaves budget Frame = frame-leaves budget
     happens-leaves budget Shot = shot-leaves
+    happens-leaves budget (Expect port byte) = expected-leaves port byte
 
     give-leaves : (budget : ℕ) (event : Event) → Leaves path (give budget outputs event)
     unfolding give

@@ -1,12 +1,15 @@
 //! Events.
-ghost use Rattle.std.specs.Prelude.{◌≡◌, ◌+◌, ◌*◌, ◌^◌, ◌<◌, ◌≤◌, ◌⊎◌, OnOk, IfErr};
+ghost use Rattle.std.specs.Prelude.{◌≡◌, ◌==◌, ◌+◌, ◌*◌, ◌^◌, ◌<◌, ◌≤◌, ◌⊎◌, OnOk, IfErr};
 ghost use Rattle.play_script.specs.declared.script.Event.TheVariants as events;
 ghost use Rattle.uxn_io.specs.Faults.{Ledger};
 ghost use Rattle.uxn_opcodes.specs.Ports.{blame_of};
-ghost use Rattle.varvara_bus.specs.Bus.{SameLent, SameBus, FilesStay, HasRoot, meaning_of, frames_begun, bus_faults};
+ghost use Rattle.varvara_bus.specs.Bus.{BusStandsFor, SameLent, SameBus, FilesStay, HasRoot, meaning_of, frames_begun, bus_faults};
+ghost use Rattle.varvara_bus.specs.Reads.{read_of};
+ghost use Rattle.varvara_bus.specs.State.{DeviceState};
+ghost use Rattle.vector_loop.specs.State.{counting_expect};
 ghost use Rattle.vector_loop.specs.Event.{vector_in, console, device, give};
 ghost use Rattle.vector_loop.specs.Outputs.{OutputsThere};
-ghost use Rattle.vector_loop.specs.Follows.{running, FollowsFrom, FallsShortFrom, HasGrown};
+ghost use Rattle.vector_loop.specs.Follows.{running, FollowsFrom, FallsShortFrom, HasGrown, IsCompared};
 
 use crate::frame::give_frame;
 use crate::output::{Outputs, keep_picture};
@@ -16,7 +19,7 @@ use crate::watch::Watcher;
 use input_ports::{Input, vector_port};
 use play_script::Event;
 use uxn_io::{Sink, Tree};
-use uxn_opcodes::{Core, Stop};
+use uxn_opcodes::{Core, Ports, Stop};
 use varvara_bus::Bus;
 
 /// The port of the console's vector.
@@ -128,6 +131,27 @@ fn give_device<'a, T: Tree, O: Sink, E: Sink, W: Watcher>(
     }
 }
 
+/// Compares what a port reads with a byte. No port is stored, and no vector is run.
+fn compare<'a, T: Tree, O: Sink, E: Sink>(
+    core: &Core,
+    bus: &Bus<'a, T, O, E>,
+    port: u8,
+    byte: u8,
+    tally: &mut Tally,
+)
+    requires expects { tally.old.expects ≤ 2 ^ 61 }
+    requires misses { tally.old.misses ≤ 2 ^ 61 }
+    ensures counted { (devices : DeviceState) → BusStandsFor T.told bus.now devices
+        → tally.new ≡ counting_expect (read_of devices core.now port == byte) tally.old }
+    ensures grown { IsCompared tally.old tally.new }
+{
+    let read = bus.dei(core, port);
+    tally.expects += 1;
+    if read != byte {
+        tally.misses += 1;
+    }
+}
+
 /// Gives one event of a script: its ports are stored, its vector is run unless it is 0, and what is 0 again
 /// after the vector is stored, unless the state is then not 0.
 pub fn run_event<'a, T: Tree, O: Sink, E: Sink, W: Watcher>(
@@ -148,6 +172,8 @@ pub fn run_event<'a, T: Tree, O: Sink, E: Sink, W: Watcher>(
     requires event_count { tally.old.events ≤ 2 ^ 61 }
     requires frame_count { tally.old.frames ≤ 2 ^ 61 }
     requires shot_count { tally.old.shots ≤ 2 ^ 61 }
+    requires expect_count { tally.old.expects ≤ 2 ^ 61 }
+    requires miss_count { tally.old.misses ≤ 2 ^ 61 }
 
     // From each state that the bus stood for, all of the event was done, or a front of what it does.
     ensures ok { OnOk result (FollowsFrom (meaning_of T.told O.told E.told T.sure O.sure E.sure) W.held W.shown
@@ -185,6 +211,10 @@ pub fn run_event<'a, T: Tree, O: Sink, E: Sink, W: Watcher>(
                 Ok(()) => Ok(()),
                 Err(stop) => Err(stop),
             }
+        }
+        Event::Expect(port, byte) => {
+            compare(core, bus, *port, *byte, tally);
+            Ok(())
         }
         Event::Shot => {
             tally.shots += 1;

@@ -84,8 +84,35 @@ fn run_all_ended<'a, T: Tree, O: Sink, E: Sink, W: Watcher>(
     Ok(())
 }
 
+/// Gives the samples of a frame, or lets it pass where none are asked for and no note can end.
+fn give_sound<'a, T: Tree, O: Sink, E: Sink, W: Watcher>(
+    core: &mut Core,
+    bus: &mut Bus<'a, T, O, E>,
+    outputs: &Outputs,
+    budget: u32,
+    tally: &mut Tally,
+    watcher: &mut W,
+) -> Result<(), Stop>
+    requires outputs { OutputsThere outputs.now bus.old.devices.now.root (T.told bus.old.tree.now) }
+    requires budget { 1 ≤ budget }
+    requires room { HasRoom (2 ^ 62) tally.old 4 0 budget }
+    ensures { Answers (telling_of (meaning_of T.told O.told E.told T.sure O.sure E.sure) T.faults O.faults E.faults W.held W.shown W.may_refuse)
+        (running core.old bus.old tally.old watcher.old) (running core.new bus.new tally.new watcher.new)
+        (heard budget outputs.now) 4 0 budget result }
+{
+    if outputs.samples.is_none() && bus.is_endless() {
+        bus.pass_frame();
+        return Ok(());
+    }
+    match give_samples(core, bus, outputs, budget, tally, watcher) {
+        Ok(()) => Ok(()),
+        Err(stop) => Err(stop),
+    }
+}
+
 /// Renders the samples of a frame, keeps them where they are asked for, and runs the vectors of the voices whose notes
-/// have ended.
+/// have ended. Not inlined, so that a frame without sound does not pay for the buffer.
+#[inline(never)]
 fn give_samples<'a, T: Tree, O: Sink, E: Sink, W: Watcher>(
     core: &mut Core,
     bus: &mut Bus<'a, T, O, E>,
@@ -136,7 +163,7 @@ fn show_and_sound<'a, T: Tree, O: Sink, E: Sink, W: Watcher>(
     if bus.stored(STATE) != 0 {
         return Ok(());
     }
-    match give_samples(core, bus, outputs, budget, tally, watcher) {
+    match give_sound(core, bus, outputs, budget, tally, watcher) {
         Ok(()) => Ok(()),
         Err(stop) => Err(stop),
     }

@@ -101,10 +101,13 @@ pub(crate) fn keep_picture<'a, T: Tree, O: Sink, E: Sink>(
 {
     match output {
         None => Ok(()),
-        Some(path) => match append_picture(bus, path) {
-            Ok(()) => Ok(()),
-            Err(stop) => Err(stop),
-        },
+        Some(path) => {
+            let _ = bus.refresh();
+            match append_picture(bus, path) {
+                Ok(()) => Ok(()),
+                Err(stop) => Err(stop),
+            }
+        }
     }
 }
 

@@ -232,6 +232,8 @@ pub fn run_script<'a, T: Tree, O: Sink, E: Sink, W: Watcher>(
         events: 0,
         frames: 0,
         shots: 0,
+        expects: 0,
+        misses: 0,
     };
     make_ready(bus, script.args());
     match run_vector(core, bus, RESET, budget, &mut tally, watcher) {

@@ -24,4 +24,8 @@ pub struct Tally {
     pub frames: u64,
     /// The shots among them.
     pub shots: u64,
+    /// The expects among them.
+    pub expects: u64,
+    /// The expects whose port did not read the byte.
+    pub misses: u64,
 }

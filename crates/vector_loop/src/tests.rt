@@ -153,6 +153,8 @@ fn runs_put_and_count(rt: HostRuntime) -> Result<(), Fail> {
                 events,
                 frames,
                 shots,
+                expects: 0,
+                misses: 0,
             }),
             "{text:?}"
         );

@@ -7,7 +7,7 @@ use Rattle.file_ports.proofs.signs.put_digits.Given as goal
 abbrev pub invariant-loop-left : goal.invariant-loop-left
 invariant-loop-left l = record {
   within : l.left ≤ l.count;
-  size : length l.memory ≡ 65536;
+  size : length l.memory ≡ 1048576;
   digits : with_bytes l.memory l.at (hex_digits l.left l.rest) ≡ with_bytes l.fn.memory l.at (hex_digits l.count l.value);
 }
 

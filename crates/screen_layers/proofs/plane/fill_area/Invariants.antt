@@ -1,10 +1,12 @@
+use Rattle.std.proofs.Common.{◌≡◌, ◌<◌, All, length}
 use Rattle.screen_layers.specs.Drawings.{fill}
-use Rattle.screen_layers.specs.Layers.{IsPlane, PaintedOver}
+use Rattle.screen_layers.specs.Layers.{PaintedOver}
 use Rattle.screen_layers.proofs.plane.fill_area.Given as goal
 
 abbrev pub invariant-loop-y : goal.invariant-loop-y
 invariant-loop-y l =
     record {
-      painted : PaintedOver l.fn.pixels l.pixels 2047 2047 (fill l.area.left l.area.right l.area.top l.y l.colour);
-      plane : IsPlane l.pixels;
+      painted : PaintedOver l.fn.pixels l.pixels l.size.width l.size.height (fill l.area.left l.area.right l.area.top l.y l.colour);
+      length : length l.pixels ≡ length l.fn.pixels;
+      colours : l.colour < 4 → All (λ value. value < 4) l.fn.pixels → All (λ value. value < 4) l.pixels;
     }

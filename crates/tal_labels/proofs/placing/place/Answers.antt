@@ -1,41 +1,103 @@
-use Rattle.std.proofs.Common.{ap, ◌∙◌, List, Some, None, map}
-use Rattle.std.specs.Global.{Vec}
+use Rattle.std.proofs.Common.{◌≡◌, ap, sym, ◌∙◌, List, Option, Some, None, false, Err, length, take, drop, get_or, arith, refl, ℕ, ◌<◌, ◌≤◌, cond, length-take}
+use Rattle.std.specs.Prelude.{is_some}
 use Rattle.std.proofs.lemmas.Result.{err_from_is_err_and}
-use Rattle.tal_words.specs.declared.form.Form.{Form}
-use Rattle.tal_words.specs.declared.name.Label.{Label}
-use Rattle.tal_labels.specs.declared.placed.PlacedWord.{PlacedWord}
-use Rattle.tal_labels.specs.Placing.{Layout}
-use Rattle.tal_labels.specs.Index.{labels_in}
-use Rattle.tal_labels.proofs.IndexLemmas.{Index}
-use Rattle.tal_labels.proofs.ShapeLemmas.{formed}
-use Rattle.tal_labels.proofs.PlacedLemmas.{gives_stop, shape_first, placing_next}
+use Rattle.std.proofs.lemmas.List.{take_more, take_all}
+use Rattle.tal_words.specs.declared.span.Expanded.{Expanded}
+use Rattle.tal_words.specs.declared.fault.Fault.{Fault}
+use Rattle.tal_words.specs.declared.fault.AsmStop.{AsmStop}
+use Rattle.tal_words.specs.declared.fault.AsmStop.TheVariants.{Refused, NoMemory}
+use Rattle.tal_words.specs.Faults.{Gives, phase_fault}
+use Rattle.tal_words.specs.Order.{each}
+use Rattle.tal_words.proofs.OrderLemmas.{no_word, each-end}
+use Rattle.tal_labels.specs.declared.placer.Placer.{Placer}
+use Rattle.tal_labels.specs.Answers.{FindsNone}
+use Rattle.tal_labels.specs.Adding.{added_fault}
+use Rattle.tal_labels.specs.Shapes.{shape_fault}
+use Rattle.tal_labels.specs.Placing.{Layout, layout_of, judged_place, placing_fault, place_fault}
+use Rattle.tal_labels.specs.Placers.{Kept, IsKept, WereAdded, PlacesNext, kept_by}
+use Rattle.tal_labels.proofs.PlacedLemmas.{shape_first, placing_next}
+use Rattle.tal_labels.proofs.AddingLemmas.{place-later, place-here}
 use Rattle.tal_labels.proofs.CallerLemmas.{lie_apart}
 use Rattle.tal_labels.proofs.placing.place.Goals as goal
 
-pub returns-in_err-forms-clause-value : goal.returns-in_err-forms-clause-value
-returns-in_err-forms-clause-value c =
-    let p = err_from_is_err_and c.from_residual-in_err-forms.result c.from_residual-in_err-forms.ensures.1 in
-    rw (p.1, p.2)
-    (gives_stop {X = Vec Form} {V = Layout} (λ forms. map formed forms.items) (λ placed. placed) c.in_err-forms.field-0.0 _ _ _ _
-    (shape_first c.args.source.now c.args.words.now) c.in_err-forms.ensures)
+abbrev same : Layout → Layout
+same layout = layout
 
-pub returns-in_err-index-clause-value : goal.returns-in_err-index-clause-value
-returns-in_err-index-clause-value c =
-    let p = err_from_is_err_and c.from_residual-in_err-index.result c.from_residual-in_err-index.ensures.1 in
-    rw (p.1, p.2)
-    (gives_stop {X = Index} {V = Layout} labels_in (λ placed. placed) c.in_err-index.field-0.0 _ _ _ _
-    (λ f e. placing_next c.args.source.now c.args.words.now (Some f) c.in_ok-forms.ensures.0 e) c.in_err-index.ensures)
+stopped_shape : (source : List ℕ) (words : List Expanded) (stop : AsmStop) → FindsNone (Err stop) (shape_fault source words) → Gives same (Err stop) (place_fault source words) (layout_of source words)
+stopped_shape source words (Refused found) e = shape_first source words found e
+stopped_shape source words NoMemory e = tt
+
+stopped_place : (source : List ℕ) (words : List Expanded) (k : ℕ) (new : Kept) (stop : AsmStop) → shape_fault source words ≡ None → k < length words
+    → phase_fault (each (judged_place source) (take k words) (drop k words)) ≡ placing_fault source words
+    → PlacesNext source (take k words) (get_or words k no_word) (Err stop) new → Gives same (Err stop) (place_fault source words) (layout_of source words)
+stopped_place source words k new (Refused found) shaped within so e = placing_next source words (Some found) shaped (sym so ∙ place-here source words k found shaped within e)
+stopped_place source words k new NoMemory shaped within so e = tt
+
+-- after the last word
+module _ (source : List ℕ) (words : List Expanded) (k : ℕ) (placer : Placer) (past : length words ≤ k) (kept : IsKept source (take k words) (kept_by placer)) (flag : placer.is_faulty ≡ false) where
+  all_added : WereAdded source words placer
+  all_added =
+      let whole = rw (take_all k words past) at kept in
+      record { faulty = flag ∙ sym (ap is_some whole.sound); kept = λ _. whole }
+
+  module _ (shaped : shape_fault source words ≡ None) (so : phase_fault (each (judged_place source) (take k words) (drop k words)) ≡ placing_fault source words) where
+    all_placed : placing_fault source words ≡ None
+    all_placed = sym so ∙ ap phase_fault (each-end (judged_place source) words k past)
+
+    all_sound : place_fault source words ≡ None
+    all_sound = placing_next source words None shaped all_placed
+
+    -- the answer of the placer
+    finished : (o : Option Layout) → ((source : List ℕ) (words : List Expanded) → WereAdded source words placer → o ≡ cond (is_some (place_fault source words)) None (Some (layout_of source words)))
+        → o ≡ Some (layout_of source words)
+    finished o e = e source words all_added ∙ ap (λ (f : Option Fault). cond (is_some f) None (Some (layout_of source words))) all_sound
+
+pub loop-word-init : goal.loop-word-init
+unfolding added_fault placing_fault
+loop-word-init c =
+    let new = c.new-placer.ensures c.args.source.now in
+    record { kept = new.kept refl; flag = new.faulty; sound = refl }
+
+pub loop-word-preserved : goal.loop-word-preserved
+loop-word-preserved c =
+    let k = c.loop-word.word-index in
+    let few : length (take k c.args.words.now) < 2147483647 = omega (arith, c.requires.few, length-take k c.args.words.now) in
+    let placed = c.in_ok-place_next.ensures.value (take k c.args.words.now) few c.loop-word.invariant.kept in
+    record {
+      kept = rw (take_more c.args.words.now k no_word c.loop-word-test.true) placed.3;
+      flag = c.in_ok-place_next.ensures.flag ∙ c.loop-word.invariant.flag;
+      sound = place-later c.args.source.now c.args.words.now k c.in_ok-check_shapes.ensures c.loop-word-test.true placed.0 ∙ c.loop-word.invariant.sound;
+    }
+
+pub returns-in_err-check_shapes-clause-value : goal.returns-in_err-check_shapes-clause-value
+returns-in_err-check_shapes-clause-value c =
+    let p = err_from_is_err_and c.from_residual.result c.from_residual.ensures.1 in
+    rw (p.1, p.2) (stopped_shape c.args.source.now c.args.words.now c.in_err-check_shapes.field-0.0 c.in_err-check_shapes.ensures)
+
+pub returns-in_err-place_next-clause-value : goal.returns-in_err-place_next-clause-value
+returns-in_err-place_next-clause-value c =
+    let p = err_from_is_err_and c.from_residual-in_err-place_next.result c.from_residual-in_err-place_next.ensures.1 in
+    let k = c.loop-word.word-index in
+    let few : length (take k c.args.words.now) < 2147483647 = omega (arith, c.requires.few, length-take k c.args.words.now) in
+    rw (p.1, p.2) (stopped_place c.args.source.now c.args.words.now k (kept_by c.place_next.new.self) c.in_err-place_next.field-0.0 c.in_ok-check_shapes.ensures c.loop-word-test.true
+    c.loop-word.invariant.sound (c.in_err-place_next.ensures.value (take k c.args.words.now) few c.loop-word.invariant.kept))
+
+pub unreachable-requires : goal.unreachable-requires
+unreachable-requires c =
+    let so = c.loop-word.invariant in
+    let never = finished c.args.source.now c.args.words.now c.loop-word.word-index c.loop-word.placer c.loop-word-test.false so.kept so.flag c.in_ok-check_shapes.ensures so.sound None c.in-None.ensures in
+    cc
 
 pub returns-clause-value : goal.returns-clause-value
 returns-clause-value c =
-    let layout : List PlacedWord → List Label → Layout = λ words labels. record { words = words; labels = labels } in (
-      placing_next c.args.source.now c.args.words.now None c.in_ok-forms.ensures.0 c.in_ok-index.ensures.0,
-      c.new.ensures
-          ∙ ap (λ words. layout words c.in_ok-labels.labels.items) c.in_ok-words.ensures
-          ∙ ap (layout _) (c.in_ok-labels.ensures ∙ c.in_ok-index.ensures.1),
-    )
+    let so = c.loop-word.invariant in
+    let equal = finished c.args.source.now c.args.words.now c.loop-word.word-index c.loop-word.placer c.loop-word-test.false so.kept so.flag c.in_ok-check_shapes.ensures so.sound (Some c.in-Some.placed) c.in-Some.ensures in
+    (all_sound c.args.source.now c.args.words.now c.loop-word.word-index c.loop-word.placer c.loop-word-test.false so.kept so.flag c.in_ok-check_shapes.ensures so.sound, cc)
 
 pub returns-clause-apart : goal.returns-clause-apart
 returns-clause-apart c =
-    let placed = ap (λ (layout : Layout). layout.words) c.new.ensures ∙ c.in_ok-words.ensures in
-    rw placed (lie_apart c.args.source.now c.args.words.now c.in_ok-forms.ensures.0 c.in_ok-index.ensures.0)
+    let so = c.loop-word.invariant in
+    let equal = finished c.args.source.now c.args.words.now c.loop-word.word-index c.loop-word.placer c.loop-word-test.false so.kept so.flag c.in_ok-check_shapes.ensures so.sound (Some c.in-Some.placed) c.in-Some.ensures in
+    let laid : c.in-Some.placed ≡ layout_of c.args.source.now c.args.words.now = cc in
+    rw (ap (λ (layout : Layout). layout.words) laid) (lie_apart c.args.source.now c.args.words.now c.in_ok-check_shapes.ensures
+    (all_placed c.args.source.now c.args.words.now c.loop-word.word-index c.loop-word.placer c.loop-word-test.false so.kept so.flag c.in_ok-check_shapes.ensures so.sound))

@@ -43,9 +43,9 @@ write_text-requires g c =
 pub returns-in-Ok-clause-ok : goal.returns-in-Ok-clause-ok
 returns-in-Ok-clause-ok g c = λ home root files.
     let held = (c.requires.devices fin.empty false).root in
-    reported _ _ _ c.args.task.now.report (trail_for c.args.task.now c.args.machine home) c.in_ok-ended.ended
+    reported _ _ _ c.args.task.now.report c.args.machine.script.version (trail_for c.args.task.now c.args.machine home) c.in_ok-ended.ended
     (rw (c.settings_of-settings.ensures.outputs, c.settings_of-settings.ensures.budget) at (c.in_ok-ended.ensures.ok home (root ∙ sym held) files))
-    (rw (c.deref.ensures.0 ∙ c.report.ensures) at (c.in-Ok.ensures.ok (g.O.Sink.told c.run_machine.new.out) (g.E.Sink.told c.run_machine.new.err) (g.O.Sink.sure c.run_machine.new.out) (g.E.Sink.sure c.run_machine.new.err)))
+    (rw (c.deref.ensures.0 ∙ c.report.ensures c.args.machine.script.version c.version.ensures) at (c.in-Ok.ensures.ok (g.O.Sink.told c.run_machine.new.out) (g.E.Sink.told c.run_machine.new.err) (g.O.Sink.sure c.run_machine.new.out) (g.E.Sink.sure c.run_machine.new.err)))
 
 pub returns-in-Ok-clause-watcher : goal.returns-in-Ok-clause-watcher
 returns-in-Ok-clause-watcher g c = λ home root files.
@@ -60,6 +60,6 @@ returns-in-Ok-clause-stay g c =
 pub returns-clause-err : goal.returns-clause-err
 returns-clause-err g c = λ home root files.
     let held = (c.requires.devices fin.empty false).root in
-    report-cut-after _ _ _ c.args.task.now.report (trail_for c.args.task.now c.args.machine home) c.in_ok-ended.ended TreeFault
+    report-cut-after _ _ _ c.args.task.now.report c.args.machine.script.version (trail_for c.args.task.now c.args.machine home) c.in_ok-ended.ended TreeFault
     (rw (c.settings_of-settings.ensures.outputs, c.settings_of-settings.ensures.budget) at (c.in_ok-ended.ensures.ok home (root ∙ sym held) files))
-    (rw (c.deref.ensures.0 ∙ c.report.ensures) at (c.in-Err.ensures.err (g.O.Sink.told c.run_machine.new.out) (g.E.Sink.told c.run_machine.new.err) (g.O.Sink.sure c.run_machine.new.out) (g.E.Sink.sure c.run_machine.new.err)))
+    (rw (c.deref.ensures.0 ∙ c.report.ensures c.args.machine.script.version c.version.ensures) at (c.in-Err.ensures.err (g.O.Sink.told c.run_machine.new.out) (g.E.Sink.told c.run_machine.new.err) (g.O.Sink.sure c.run_machine.new.out) (g.E.Sink.sure c.run_machine.new.err)))

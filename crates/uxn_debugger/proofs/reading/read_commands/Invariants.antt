@@ -1,17 +1,14 @@
-use Rattle.std.proofs.Common.{◌≡◌, ◌-◌, ◌+◌, ◌≤◌, length, take, None}
-use Rattle.uxn_debugger.specs.Reading.{first_fault, commands_of, read_lines}
-use Rattle.uxn_debugger.proofs.FirstFault.{Left}
+use Rattle.std.proofs.Common.{◌≡◌, ◌+◌, ◌≤◌, [], length}
+use Rattle.line_texts.specs.Lines.{lines_of}
+use Rattle.line_texts.specs.Reading.{given}
+use Rattle.uxn_debugger.specs.Reading.{fault_behind, read_by}
 use Rattle.uxn_debugger.proofs.reading.read_commands.Given as goal
 
-abbrev pub invariant-loop-start : goal.invariant-loop-start
-invariant-loop-start l = record {
-  left : Left l.labels l.text l.number l.start;
-  so_far : l.commands.items ≡ commands_of (take l.number (read_lines l.labels l.text));
-  faultless : first_fault (read_lines l.labels l.text) l.number ≡ None;
+abbrev pub invariant-loop-line : goal.invariant-loop-line
+invariant-loop-line l = record {
+  rest : given fault_behind (l.lines.number + 1) l.commands.items (read_by l.labels l.lines.left) ≡ given fault_behind 1 [] (read_by l.labels (lines_of l.text));
   few : length l.commands.items ≤ 65536;
-  within : l.start ≤ length l.text + 1;
-  counted : l.number ≤ length (read_lines l.labels l.text);
 }
 
-abbrev pub decreases-loop-start : goal.decreases-loop-start
-decreases-loop-start l = length l.text + 1 - l.start
+abbrev pub decreases-loop-line : goal.decreases-loop-line
+decreases-loop-line l = length l.lines.left

@@ -5,6 +5,6 @@ use Rattle.uxn_memory.proofs.Memory.fill.Goals as goal
 
 pub returns-clause-each : goal.returns-clause-each
 returns-clause-each c = λ k h.
-    let each = filled-at c.args.self.now c.args.length c.args.at c.args.value k c.known.ensures.size (omega arith) (omega arith) h in
+    let each = filled-at c.args.self.now c.args.length c.args.bank c.args.at c.args.value k (omega arith) (omega arith) (omega arith) in
     let whole : c.loop-i.i ≡ c.args.length = omega arith in
     rw (c.loop-i.invariant, whole) each

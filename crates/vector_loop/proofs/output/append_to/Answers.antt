@@ -1,4 +1,5 @@
-use Rattle.std.proofs.Common.{refl}
+use Rattle.std.proofs.Common.{refl, ap}
+use Rattle.varvara_bus.specs.declared.devices.Devices.{Devices}
 use Rattle.vector_loop.proofs.Makings.{same-stop}
 use Rattle.vector_loop.proofs.output.append_to.Goals as goal
 
@@ -6,7 +7,7 @@ pub returns-in-Ok : goal.returns-in-Ok
 returns-in-Ok g c = record {
   makes = λ s stands. c.in-Ok.ensures.ok;
   stands = c.in-Ok.ensures.stands;
-  devices = c.in-Ok.ensures.devices;
+  height = ap (λ (d : Devices). d.screen.height) c.in-Ok.ensures.devices;
   faults = c.in-Ok.ensures.ledger;
   same = c.in-Ok.ensures.same;
 }

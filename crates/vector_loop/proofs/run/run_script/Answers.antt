@@ -30,7 +30,7 @@ returns-in-Err-clause-err g c =
 
 pub give_arguments-requires-clause-room : goal.give_arguments-requires-clause-room
 give_arguments-requires-clause-room g c =
-    let size : length (arguments_given (bytes_in c.args-3.result.now)) ≤ 4194304 = omega (arith, ap (λ texts. length (arguments_given texts)) c.args-3.ensures, all-given c.args.script.now.arguments, c.known.ensures.arguments_short) in
+    let size : length (arguments_given (bytes_in c.args-3.result.now)) ≤ 4194304 = omega (arith, ap (λ texts. length (arguments_given texts)) c.args-3.ensures, all-given c.args.script.now.arguments, c.known.ensures.arguments.0) in
     room-left _ new_tally _ 1 0 _ 0 c.args.budget (room-new _ _ c.args.budget (omega (arith, size)) (omega arith) (omega (arith, c.ranges.budget.fits))) c.in-Ok.ensures.grown
 
 pub returns-in-Err-give_arguments-clause-err : goal.returns-in-Err-give_arguments-clause-err
@@ -45,7 +45,7 @@ returns-in-Err-give_arguments-clause-err g c =
 
 pub give_events-requires-clause-room : goal.give_events-requires-clause-room
 give_events-requires-clause-room g c =
-    let size : length (arguments_given (bytes_in c.args-3.result.now)) ≤ 4194304 = omega (arith, ap (λ texts. length (arguments_given texts)) c.args-3.ensures, all-given c.args.script.now.arguments, c.known.ensures.arguments_short) in
+    let size : length (arguments_given (bytes_in c.args-3.result.now)) ≤ 4194304 = omega (arith, ap (λ texts. length (arguments_given texts)) c.args-3.ensures, all-given c.args.script.now.arguments, c.known.ensures.arguments.0) in
     let few : length c.events.result.now ≤ 1000000 = omega (arith, ap (λ events. length events) c.events.ensures, c.known.ensures.events_few) in
     room-left _ new_tally _ (1 + length (arguments_given (bytes_in c.args-3.result.now))) (0 + 0) _ _ c.args.budget
     (room-new _ _ c.args.budget (omega (arith, size, few)) (omega (arith, few)) (omega (arith, c.ranges.budget.fits)))

@@ -1,5 +1,7 @@
 use Rattle.std.specs.Prelude.{◌≡◌}
-use Rattle.std.proofs.Common.{arith, subst}
+use Rattle.std.specs.Prelude.{replicate, pos}
+use Rattle.std.proofs.Common.{arith, subst, sym, ap, ◌∙◌}
+use Rattle.audio_mixer.proofs.Passing.{are-stopped, stopped-frame, stopped-endings, stopped-stands}
 use Rattle.audio_mixer.proofs.mixer.Mixer.render.Goals as goal
 use Rattle.audio_mixer.proofs.Frames.{Rendered, rendered-none, rendered-more, rendered-whole, rendered-endings}
 
@@ -27,3 +29,13 @@ pub returns-clause-ends : goal.returns-clause-ends
 returns-clause-ends c = λ sounds stands.
     let last : c.loop-place.place ≡ 735 = omega arith in
     rendered-endings _ _ _ _ _ _ _ sounds (subst (λ n. Rendered c.loop-place.self c.args.memory.now c.loop-place.into c.loop-place.first c.loop-place.second c.loop-place.third c.loop-place.fourth n sounds) last (c.loop-place.invariant sounds stands))
+
+pub returns-then-is_stopped-clause-frame : goal.returns-then-is_stopped-clause-frame
+returns-then-is_stopped-clause-frame c = λ sounds stands.
+    stopped-frame c.args.self.now c.args.memory.now _ sounds (are-stopped c.args.self.now (sym c.if-is_stopped.ensures)) stands (c.fill.ensures.after (λ x e. e) ∙ ap (λ n. replicate n (pos 0)) c.told-into)
+
+pub returns-then-is_stopped-clause-ends : goal.returns-then-is_stopped-clause-ends
+returns-then-is_stopped-clause-ends c = λ sounds stands. stopped-endings c.args.self.now sounds (are-stopped c.args.self.now (sym c.if-is_stopped.ensures)) stands
+
+pub returns-then-is_stopped-clause-sounds : goal.returns-then-is_stopped-clause-sounds
+returns-then-is_stopped-clause-sounds c = λ sounds stands. stopped-stands c.args.self.now sounds (are-stopped c.args.self.now (sym c.if-is_stopped.ensures)) stands

@@ -1,7 +1,0 @@
-use Rattle.std.proofs.Common.{◌≡◌, take}
-use Rattle.std.specs.List.{All}
-use Rattle.play_script.specs.Lines.{is_blank}
-use Rattle.play_script.proofs.words.front.Given as goal
-
-abbrev pub invariant-loop-at : goal.invariant-loop-at
-invariant-loop-at l = All (λ byte. is_blank byte ≡ l.blank) (take l.at l.line)

@@ -1,0 +1,147 @@
+//! The marks of a screen's rows.
+ghost use Rattle.std.specs.Prelude.{ℕ, ◌≡◌, ◌⊎◌, ◌+◌, ◌==◌, ◌<◌, ◌≤◌, ◌&&◌, ◌||◌, Bool, true, false, nat_le, nat_lt, if◌then◌else◌, List, IfOk, length};
+ghost use Rattle.screen_layers.specs.Layers.{MarksMore, mark_at};
+ghost use Rattle.screen_layers.specs.Drawings.{fill, dot, tile, distance};
+
+use crate::plane::Tile;
+use crate::size::{Area, Size};
+use std::alloc::{AllocError, Global};
+use std::marker::Model;
+
+/// How many rows the greatest screen has.
+const ROWS: usize = 2047;
+
+/// A mark for each row of the greatest screen, which contracts see as a list.
+#[derive(Drop)]
+pub struct Marks {
+    rows: Vec<bool>,
+}
+
+impl Model for Marks {
+    ghost use Rattle.std.specs.Prelude.{◌≡◌, List, Bool, length};
+
+    ghost Value = { List Bool };
+
+    ghost view = { λ m. m.rows.items };
+
+    ghost invariant = { λ m. length m.rows.items ≡ 2047 };
+}
+
+impl Marks {
+    /// No row is marked.
+    pub fn new(alloc: Global) -> Result<Marks, AllocError>
+        ensures { IfOk result (λ marks. (y : ℕ) → mark_at marks y ≡ false) }
+    {
+        Ok(Marks {
+            rows: vec![in alloc; false; ROWS]?,
+        })
+    }
+
+    /// Takes all marks away.
+    pub fn clear(&mut self)
+        ensures { (y : ℕ) → mark_at self.new y ≡ false }
+    {
+        self.rows.fill(false);
+    }
+
+    /// Whether a row is marked.
+    pub fn get(&self, y: u16) -> bool
+        requires { y < 2047 }
+        ensures { result ≡ mark_at self.now y }
+    {
+        self.rows[usize::from(y)]
+    }
+
+    /// Takes the mark of a row away.
+    pub fn unset(&mut self, y: u16)
+        requires { y < 2047 }
+        ensures { (other : ℕ) → mark_at self.new other ≡ (if other == y then false else mark_at self.old other) }
+    {
+        self.rows[usize::from(y)] = false;
+    }
+
+    /// Marks the row of a place.
+    pub fn set_dot(&mut self, size: Size, x: u16, y: u16)
+        requires { (x < size.width) × (y < 2047) }
+        ensures { (colour : ℕ) → MarksMore self.old self.new size.width size.height (dot x y colour) }
+    {
+        mark_row(&mut self.rows, usize::from(y));
+    }
+
+    /// Marks the rows of a rectangle, if it has a column.
+    pub fn set_fill(&mut self, size: Size, area: Area)
+        requires across { area.left ≤ area.right × (area.right ≤ size.width) }
+        requires down { area.top ≤ area.bottom × (area.bottom ≤ 2047) }
+        ensures { (colour : ℕ) → MarksMore self.old self.new size.width size.height (fill area.left area.right area.top area.bottom colour) }
+    {
+        if area.left < area.right {
+            mark_span(
+                &mut self.rows,
+                usize::from(area.top),
+                usize::from(area.bottom),
+            );
+        }
+    }
+
+    /// Marks the rows of a tile that has a column on the screen.
+    pub fn set_tile(&mut self, size: Size, place: Tile)
+        requires height { size.height ≤ 2047 }
+        requires column { (place.x < size.width) ⊎ (65528 < place.x) }
+        requires width { 0 < size.width }
+        ensures { (bytes : List ℕ) → (flip_x flip_y : Bool) → (blend : ℕ)
+            → MarksMore self.old self.new size.width size.height (tile place.x place.y bytes flip_x flip_y blend) }
+    {
+        mark_tile(&mut self.rows, place.y, size.height);
+    }
+}
+
+// Marks one row.
+fn mark_row(rows: &mut [bool], y: usize)
+    requires { y < length rows.old }
+    ensures marks { (other : ℕ) → mark_at rows.new other ≡ (if other == y then true else mark_at rows.old other) }
+    ensures length { length rows.new ≡ length rows.old }
+{
+    rows[y] = true;
+}
+
+// Marks rows from one up to another.
+fn mark_span(rows: &mut [bool], top: usize, bottom: usize)
+    requires { top ≤ bottom × (bottom ≤ length rows.old) }
+    ensures marks { (y : ℕ) → mark_at rows.new y ≡ ((nat_le top y && nat_lt y bottom) || mark_at rows.old y) }
+    ensures length { length rows.new ≡ length rows.old }
+{
+    rows[top..bottom].fill(true);
+}
+
+// Marks those of the eight rows from one on, which wrap, that lie above a height.
+fn mark_tile(rows: &mut [bool], y: u16, height: u16)
+    requires length { length rows.old ≡ 2047 }
+    requires height { height ≤ 2047 }
+    ensures marks { (row : ℕ) → row < height → mark_at rows.new row ≡ (nat_lt (distance y row) 8 || mark_at rows.old row) }
+    ensures kept { (row : ℕ) → mark_at rows.old row ≡ true → mark_at rows.new row ≡ true }
+    ensures length { length rows.new ≡ 2047 }
+{
+    let from = usize::from(y);
+    if from + 8 <= usize::from(height) {
+        mark_span(rows, from, from + 8);
+    } else {
+        mark_rows(rows, y, height);
+    }
+}
+
+// Marks those of the eight rows from one on, which wrap, that lie above a height.
+#[inline(never)]
+fn mark_rows(rows: &mut [bool], y: u16, height: u16)
+    requires length { length rows.old ≡ 2047 }
+    requires height { height ≤ 2047 }
+    ensures marks { (row : ℕ) → row < height → mark_at rows.new row ≡ (nat_lt (distance y row) 8 || mark_at rows.old row) }
+    ensures kept { (row : ℕ) → mark_at rows.old row ≡ true → mark_at rows.new row ≡ true }
+    ensures length { length rows.new ≡ 2047 }
+{
+    for row in 0..8 {
+        let at = y.wrapping_add(row);
+        if at < height {
+            rows[usize::from(at)] = true;
+        }
+    }
+}

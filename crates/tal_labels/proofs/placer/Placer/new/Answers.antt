@@ -1,0 +1,25 @@
+use Rattle.std.proofs.Common.{refl, sym, ap, length, arith}
+use Rattle.std.proofs.lemmas.Bool.{le-ltb}
+use Rattle.tal_labels.specs.Adding.{added_fault, open_ones}
+use Rattle.tal_labels.specs.Labels.{scope_after, labels_of}
+use Rattle.tal_labels.specs.Places.{address_after}
+use Rattle.tal_labels.specs.Placing.{ends_of, placed_of}
+use Rattle.tal_labels.specs.Shapes.{open_count}
+use Rattle.tal_labels.proofs.placer.Placer.new.Goals as goal
+
+pub returns : goal.returns
+unfolding added_fault open_ones scope_after labels_of address_after ends_of placed_of open_count
+returns c source = record {
+  faulty = refl;
+  kept = λ _. record {
+    sound = refl;
+    placed = c.new.ensures.items;
+    labels = c.new-2.ensures;
+    openers = c.new-3.ensures.items;
+    depth = ap length c.new-3.ensures.items;
+    scope = c.first.ensures source;
+    address = refl;
+    top = λ place. sym (le-ltb place 0 (omega arith));
+    small = omega arith;
+  };
+}

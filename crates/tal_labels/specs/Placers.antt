@@ -1,0 +1,95 @@
+-- What a placer stands for.
+use Rattle.std.specs.Prelude.{◌≡◌, ◌≤◌, ℕ, ◌+◌, ◌*◌, ◌-◌, nat_lt, Bool, true, false, List, [], ◌∷◌, ◌++◌, length, take}
+use Rattle.std.specs.Prelude.{zero, suc, Option, Some, None, is_some, Result, Ok, Err}
+use Rattle.tal_words.specs.declared.span.Expanded.{Expanded}
+use Rattle.tal_words.specs.declared.name.Label.{Label}
+use Rattle.tal_words.specs.declared.fault.Fault.{Fault}
+use Rattle.tal_words.specs.declared.fault.AsmStop.{AsmStop}
+use Rattle.tal_words.specs.declared.fault.AsmStop.TheVariants.{Refused, NoMemory}
+use Rattle.tal_words.specs.Faults.{least, fault_or, or_later}
+use Rattle.tal_words.specs.Forms.{form}
+use Rattle.tal_words.specs.Order.{last_of}
+use Rattle.tal_words.specs.Source.{expanded_text}
+use Rattle.tal_labels.specs.declared.placed.PlacedWord.{PlacedWord}
+use Rattle.tal_labels.specs.declared.placer.Placer.{Placer}
+use Rattle.tal_labels.specs.declared.scope.Scope.{Scope}
+use Rattle.tal_labels.specs.Places.{address_after}
+use Rattle.tal_labels.specs.Labels.{scope_after, labels_of}
+use Rattle.tal_labels.specs.Placing.{ends_above, placed_of, judged_place}
+use Rattle.tal_labels.specs.Shapes.{open_count}
+use Rattle.tal_labels.specs.Adding.{shape_added, added_fault, open_word, open_ones}
+use Rattle.tal_labels.specs.Scopes.{scope_text}
+
+-- what is kept of words
+pub record Kept : Type 0 where
+  pub words : List PlacedWord
+  pub labels : List Label
+  pub openers : List ℕ
+  pub scope : Scope
+  pub address : ℕ
+  pub top : ℕ
+
+abbrev pub kept_by : Placer → Kept
+kept_by placer = record {
+  words = placer.words.items;
+  labels = placer.labels;
+  openers = placer.openers.items;
+  scope = placer.scope;
+  address = placer.address;
+  top = placer.top;
+}
+
+-- of words without a fault the places, each lambda that is closed so far with its end; the labels; the words whose lambdas are
+-- open; the scope, the address and the greatest end behind the words
+pub record IsKept (source : List ℕ) (words : List Expanded) (kept : Kept) : Type 0 where
+  pub sound : added_fault source words ≡ None
+  pub placed : kept.words ≡ placed_of source words
+  pub labels : kept.labels ≡ labels_of source words
+  pub openers : kept.openers ≡ open_ones source words
+  pub depth : length kept.openers ≡ open_count source words
+  pub scope : scope_text source kept.scope ≡ scope_after source words
+  pub address : kept.address ≡ address_after source words
+  pub top : (place : ℕ) → ends_above source words place ≡ nat_lt place kept.top
+  pub small : kept.address ≤ 256 + 4294967296 * length words
+
+-- these words were added to a placer
+pub record WereAdded (source : List ℕ) (words : List Expanded) (placer : Placer) : Type 0 where
+  pub faulty : placer.is_faulty ≡ is_some (added_fault source words)
+  pub kept : added_fault source words ≡ None → IsKept source words (kept_by placer)
+
+-- the fault of a word behind others: of its shape, or else of its place
+abbrev pub next_fault : List ℕ → List Expanded → Expanded → Option Fault
+next_fault source words word =
+    or_later (fault_or word.origin (least (shape_added source words word)) None)
+    (fault_or word.origin (least (judged_place source words word []).kinds) None)
+
+-- what one word more does: it is placed, and what is kept becomes that of all, or it is refused with its fault, or memory runs out
+abbrev pub PlacesNext : List ℕ → List Expanded → Expanded → Result PlacedWord AsmStop → Kept → Type 0
+PlacesNext source words word (Ok placed) new =
+    (next_fault source words word ≡ None)
+    × (form (expanded_text source word) ≡ Ok placed.form)
+    × (placed ≡ open_word source words word placed.form)
+    × IsKept source (words ++ word ∷ []) new
+PlacesNext source words word (Err (Refused fault)) new = next_fault source words word ≡ Some fault
+PlacesNext source words word (Err NoMemory) new = Unit {0}
+
+-- the word at an index, with the end of its lambda
+abbrev pub closed_at : ℕ → ℕ → List PlacedWord → List PlacedWord
+closed_at at address [] = []
+closed_at zero address (word ∷ words) = record word { lambda = Some address } ∷ words
+closed_at (suc at) address (word ∷ words) = word ∷ closed_at at address words
+
+abbrev pub closed_by : Option ℕ → ℕ → List PlacedWord → List PlacedWord
+closed_by (Some at) address words = closed_at at address words
+closed_by None address words = words
+
+-- the index of the opener that a word closes: the last of those that are open
+abbrev pub closed_opener : Bool → Bool → List ℕ → Option ℕ
+closed_opener false true openers = last_of (λ at. Some at) openers
+closed_opener opening closing openers = None
+
+-- the openers that are open after a word
+abbrev pub openers_step : Bool → Bool → ℕ → List ℕ → List ℕ
+openers_step true closing at openers = openers ++ at ∷ []
+openers_step false true at openers = take (length openers - 1) openers
+openers_step false false at openers = openers

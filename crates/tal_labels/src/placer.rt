@@ -1,0 +1,205 @@
+//! Words that are placed one by one.
+
+ghost use Rattle.std.specs.Prelude.{◌≡◌, ◌<◌, ◌^◌, ◌++◌, ◌∷◌, [], ℕ, List, None, Some, length, nat_lt, is_some, IfOk, IfSome, OnOk, OnErr, OnSome, true, false, ◌+◌, ◌-◌, ◌≤◌, if◌then◌else◌};
+ghost use Rattle.std.specs.Option.{option_map};
+ghost use Rattle.std.specs.Vec.{vec_len, vec_capacity};
+ghost use Rattle.tal_labels.specs.Places.{memory_end};
+ghost use Rattle.tal_words.specs.Braces.{opens as opens_brace, closes as closes_brace};
+ghost use Rattle.tal_words.specs.Faults.{least};
+ghost use Rattle.tal_words.specs.Forms.{size as size_of, form as form_of_text};
+ghost use Rattle.tal_words.specs.Source.{expanded_text};
+ghost use Rattle.tal_words.specs.declared.span.Expanded.{Expanded as ExpandedWord};
+ghost use Rattle.tal_labels.specs.Answers.{label_of, next_address as address_behind, next_scope as scope_behind};
+ghost use Rattle.tal_labels.specs.Placing.{is_defined as is_among, place_kinds, is_mark_form as is_mark, place_fault, layout_of};
+ghost use Rattle.tal_labels.specs.Adding.{word_added};
+ghost use Rattle.tal_labels.specs.Scopes.{scope_text};
+ghost use Rattle.tal_labels.specs.Placers.{Kept, IsKept, WereAdded, PlacesNext, kept_by, closed_by, closed_opener, openers_step};
+
+use crate::label_index::LabelIndex;
+use crate::labels::{define, defined_name, is_defined};
+use crate::placed::{Placed, PlacedWord};
+use crate::placing::{FIRST_ADDRESS, is_mark_form, next_address, next_top, placing_kind, size};
+use crate::scope::Scope;
+use crate::shapes::shape_of;
+use std::alloc::{AllocError, Global};
+use tal_words::{AsmStop, Expanded, Fault, FaultKind, Form, closes, opens};
+
+/// Places words one by one: where each lies is known as it is added.
+#[derive(Drop)]
+pub struct Placer {
+    alloc: Global,
+    words: Vec<PlacedWord>,
+    labels: LabelIndex,
+    openers: Vec<usize>,
+    scope: Scope,
+    address: u64,
+    top: u64,
+    is_faulty: bool,
+}
+
+impl Placer {
+    /// A placer to which no word was added.
+    pub fn new(alloc: Global) -> Placer
+        ensures { (source : List ℕ) → WereAdded source [] result }
+    {
+        Placer {
+            alloc,
+            words: Vec::new(alloc),
+            labels: LabelIndex::new(alloc),
+            openers: Vec::new(alloc),
+            scope: Scope::first(),
+            address: FIRST_ADDRESS,
+            top: 0,
+            is_faulty: false,
+        }
+    }
+
+    /// Adds the next word of a source, and gives it with its place; the end of a lambda is not told. It gives
+    /// None where one of the words added so far is faulty, by its shape (but for lambdas that are open), its label or its
+    /// address. The source has fewer than 2^32 bytes, and fewer than 2^31 - 1 words are added. Where memory runs
+    /// out the word is not added.
+    pub fn add(&mut self, source: &[u8], word: Expanded) -> Result<Option<PlacedWord>, AllocError>
+        requires source { length source.now < 2 ^ 32 }
+        ensures value { IfOk result (λ placed. (words : List ExpandedWord) → length words < 2 ^ 31 - 1 → WereAdded source.now words self.old → placed ≡ word_added source.now words word) }
+        ensures added { OnOk result ((words : List ExpandedWord) → length words < 2 ^ 31 - 1 → WereAdded source.now words self.old → WereAdded source.now (words ++ word ∷ []) self.new) }
+        ensures err { OnErr result ((words : List ExpandedWord) → WereAdded source.now words self.old → WereAdded source.now words self.new) }
+    {
+        if self.is_faulty {
+            return Ok(None);
+        }
+        match self.place_next(source, word) {
+            Ok(placed) => Ok(Some(placed)),
+            Err(AsmStop::Refused(_)) => {
+                self.is_faulty = true;
+                Ok(None)
+            }
+            Err(AsmStop::NoMemory) => Err(AllocError),
+        }
+    }
+
+    /// The words that were added with their places, and their labels. It gives None where one of them is faulty, by its
+    /// shape, its label or its address.
+    pub fn finish(self) -> Option<Placed>
+        ensures { (source : List ℕ) (words : List ExpandedWord) → WereAdded source words self → result ≡ (if is_some (place_fault source words) then None else Some (layout_of source words)) }
+    {
+        if self.is_faulty || !self.openers.is_empty() {
+            return None;
+        }
+        Some(Placed::new(self.words, self.labels))
+    }
+
+    /// Places the next word, or says what is wrong with it. Where it is not placed all stays as it was.
+    pub(crate) fn place_next(
+        &mut self,
+        source: &[u8],
+        word: Expanded,
+    ) -> Result<PlacedWord, AsmStop>
+        requires source { length source.now < 2 ^ 32 }
+        ensures flag { self.new.is_faulty ≡ self.old.is_faulty }
+        ensures value { (words : List ExpandedWord) → length words < 2 ^ 31 - 1 → IsKept source.now words (kept_by self.old) → PlacesNext source.now words word result (kept_by self.new) }
+        ensures err { OnErr result (kept_by self.new ≡ kept_by self.old) }
+    {
+        let text = word.text.text(source);
+        let form = match shape_of(text, self.openers.len(), true) {
+            Ok(form) => form,
+            Err(kind) => return Err(AsmStop::Refused(Fault::new(&word.origin, kind))),
+        };
+        let name = defined_name(self.alloc, form, self.scope.text(source), text)?;
+        if let Some(kind) = kind_at(self, form, text, &name) {
+            return Err(AsmStop::Refused(Fault::new(&word.origin, kind)));
+        }
+        let placed = PlacedWord {
+            word,
+            form,
+            address: self.address,
+            size: size(form, text) as u16,
+            lambda: None,
+        };
+        self.keep(source, placed, text, name)?;
+        Ok(placed)
+    }
+
+    /// Keeps a word without a fault, of this text, which defines this name.
+    fn keep(
+        &mut self,
+        source: &[u8],
+        placed: PlacedWord,
+        text: &[u8],
+        name: Option<Vec<u8>>,
+    ) -> Result<(), AllocError>
+        requires here { placed.address ≡ self.old.address }
+        requires size { placed.size ≡ size_of placed.form text.now }
+        requires read { text.now ≡ expanded_text source.now placed.word }
+        requires shape { form_of_text (expanded_text source.now placed.word) ≡ Ok placed.form }
+        requires new { is_among self.old.labels (option_map (λ bytes. bytes.items) name) ≡ false }
+        requires named { OnSome name (placed.address < 2 ^ 16) }
+        requires closing { closes_brace text.now ≡ true → placed.address < 2 ^ 16 }
+        requires within { 0 < placed.size → placed.address + placed.size ≤ memory_end }
+        ensures flag { self.new.is_faulty ≡ self.old.is_faulty }
+        ensures err { OnErr result (kept_by self.new ≡ kept_by self.old) }
+        ensures words { OnOk result (self.new.words.items ≡ closed_by (closed_opener (opens_brace text.now) (closes_brace text.now) self.old.openers.items) placed.address (self.old.words.items ++ placed ∷ [])) }
+        ensures labels { OnOk result (self.new.labels ≡ self.old.labels ++ label_of (option_map (λ bytes. bytes.items) name) placed.address) }
+        ensures openers { OnOk result (self.new.openers.items ≡ openers_step (opens_brace text.now) (closes_brace text.now) (length self.old.words.items) self.old.openers.items) }
+        ensures scope { OnOk result (scope_text source.now self.new.scope ≡ scope_behind placed.form (scope_text source.now self.old.scope) text.now) }
+        ensures address { OnOk result (self.old.address < 2 ^ 63 → length text.now < 2 ^ 32 → self.new.address ≡ address_behind placed.form text.now self.old.address) }
+        ensures small { OnOk result (length text.now < 2 ^ 32 → self.new.address < self.old.address + 2 ^ 32) }
+        ensures top { OnOk result (self.new.top ≡ (if nat_lt 0 placed.size then placed.address + placed.size else self.old.top)) }
+    {
+        let at = self.words.len();
+        self.words.reserve(1)?;
+        self.openers.reserve(1)?;
+        define(&mut self.labels, self.alloc, name, placed.address)?;
+        self.words.push(placed)?;
+        let opener = match_brace(&mut self.openers, text, at);
+        close(&mut self.words, opener, placed.address);
+        self.scope = self.scope.after(source, placed.form, placed.word.text);
+        self.address = next_address(placed.form, text, placed.address);
+        self.top = next_top(self.top, placed.address, placed.size as usize);
+        Ok(())
+    }
+}
+
+/// What is wrong with the address of a word of this form and text that comes next and defines this name.
+fn kind_at(placer: &Placer, form: Form, text: &[u8], name: &Option<Vec<u8>>) -> Option<FaultKind>
+    ensures { result ≡ least (place_kinds (is_among placer.now.labels (option_map (λ bytes. bytes.items) name.now)) placer.now.address (size_of form text.now) (is_mark form) (nat_lt placer.now.address placer.now.top)) }
+{
+    placing_kind(
+        is_defined(&placer.labels, name),
+        placer.address,
+        size(form, text),
+        is_mark_form(form),
+        placer.address < placer.top,
+    )
+}
+
+/// Takes the word at an index as an opener, or gives the index of the opener that it closes, by its text.
+fn match_brace(openers: &mut Vec<usize>, text: &[u8], at: usize) -> Option<usize>
+    requires room { vec_len openers.old < vec_capacity openers.old }
+    ensures value { result ≡ closed_opener (opens_brace text.now) (closes_brace text.now) openers.old.items }
+    ensures rest { openers.new.items ≡ openers_step (opens_brace text.now) (closes_brace text.now) at openers.old.items }
+{
+    if opens(text) {
+        let Ok(()) = openers.push(at) else {
+            unreachable!()
+        };
+        return None;
+    }
+    if closes(text) {
+        return openers.pop();
+    }
+    None
+}
+
+/// Tells the word at an index the address of the end of its lambda.
+fn close(words: &mut Vec<PlacedWord>, opener: Option<usize>, address: u64)
+    requires { IfSome opener (λ _. address < 2 ^ 16) }
+    ensures { words.new.items ≡ closed_by opener address words.old.items }
+{
+    if let Some(at) = opener {
+        if at < words.len() {
+            let mut word = words[at];
+            word.lambda = Some(address as u16);
+            words[at] = word;
+        }
+    }
+}

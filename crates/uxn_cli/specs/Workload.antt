@@ -1,0 +1,37 @@
+-- The run of a workload, and what is told of it (profile).
+use Rattle.std.specs.Prelude.{ℕ, List, [], length, Some, None, unwrap_or}
+use Rattle.std.specs.FinMap as nodes_map
+use Rattle.uxn_io.specs.Outside.{World, changed_by}
+use Rattle.uxn_opcodes.specs.Rule.{new_core}
+use Rattle.play_script.specs.Scripts.{ScriptView}
+use Rattle.vector_loop.specs.Trail.{Trail}
+use Rattle.uxn_workload.specs.Summary.{Summary, summary_text}
+use Rattle.uxn_cli.specs.Job.{no_home, outputs_by, trail_by, exit_in}
+
+-- its own outside before the run: nothing was put, and there is no file
+abbrev pub empty_world : World
+empty_world = record { out = Some []; err = Some []; files = Some nodes_map.empty }
+
+-- it runs with no root, keeps neither pictures nor samples, and a vector has at most 4,000,000 instructions
+abbrev pub workload_trail : List ℕ → ScriptView → Trail
+workload_trail rom script = trail_by 4000000 (outputs_by None None) script no_home (new_core rom)
+
+-- the bytes that a run puts on the standard output
+abbrev pub console_of : Trail → List ℕ
+console_of trail = unwrap_or (changed_by empty_world trail.changes).out []
+
+abbrev pub told_of : List ℕ → List ℕ → Trail → Summary
+told_of source rom trail = record {
+  source = length source;
+  rom = length rom;
+  instructions = trail.last.tally.instructions;
+  vectors = trail.last.tally.vectors;
+  cuts = trail.last.tally.cuts;
+  frames = trail.last.tally.frames;
+  console = console_of trail;
+  exit = exit_in trail.last;
+}
+
+-- the summary of a source, its ROM, and its run over a script
+unfoldable pub workload_text : List ℕ → List ℕ → ScriptView → List ℕ
+workload_text source rom script = summary_text (told_of source rom (workload_trail rom script))

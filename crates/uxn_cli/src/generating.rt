@@ -1,0 +1,117 @@
+//! What `gen` does: a workload is made, run and summed up.
+ghost use Rattle.std.specs.Prelude.{◌≡◌, ◌≤◌, Ok, length, IfOk, IfSome};
+ghost use Rattle.uxn_io.specs.Faults.{Ledger, TheTree, ASink, counts};
+ghost use Rattle.uxn_cli.specs.World.{world};
+ghost use Rattle.uxn_workload.specs.Summary.{summary_text};
+ghost use Rattle.uxn_cli.specs.Ended.{told_by_run};
+ghost use Rattle.uxn_cli.specs.Workload.{workload_text};
+ghost use Rattle.uxn_cli.specs.Verdict.{summary_in};
+ghost use Rattle.uxn_cli.specs.Follows.{Follows};
+ghost use Rattle.uxn_cli.specs.Answer.{Performs};
+ghost use Rattle.uxn_cli.specs.Blame.{blame_in, OnRefused};
+ghost use Rattle.uxn_cli.specs.Causes.{verdict_on};
+ghost use Rattle.uxn_cli.specs.Room.{SinksSuffice};
+
+use super::commands::{Accepted, accept_source, print};
+use super::machine::new_machine;
+use super::refusal::Halt;
+use super::running::{Ended, Settings, run_machine};
+use super::scripts::script_of;
+use play_script::Script;
+use std::alloc::{AllocError, Global};
+use uxn_io::{Bytes, FileBytes, MemTree, Sink, Tree};
+use uxn_words::{Command, Task};
+use uxn_workload::{GrowingSink, Ran, source};
+use vector_loop::{NoWatch, Outputs};
+
+/// The script of a workload.
+const SCRIPT: &[u8] = b"frame 60";
+
+/// The greatest number of instructions of a vector of a workload.
+const BUDGET: u32 = 4_000_000;
+
+/// What is told of a workload that ran, and of the bytes that it printed.
+#[tactic(auto, unfolding(crate::specs::Workload::workload_text))]
+fn sum_up(
+    alloc: Global,
+    accepted: &Accepted,
+    ended: &Ended,
+    out: &GrowingSink,
+) -> Result<Vec<u8>, AllocError>
+    ensures { IfOk result (λ text. text.items ≡ summary_text (told_by_run accepted.now.source.list accepted.now.assembly.rom ended.now out.now.taken)) }
+{
+    let ran = Ran {
+        source: accepted.source.as_slice().len() as u64,
+        rom: accepted.assembly.rom().len() as u64,
+        instructions: ended.tally.instructions,
+        vectors: ended.tally.vectors,
+        cuts: ended.tally.cuts,
+        frames: ended.tally.frames,
+        console: out.bytes(),
+        exit: ended.exit,
+    };
+    ran.summary(alloc)
+}
+
+/// Runs a workload on a machine of its own, with a tree and sinks of its own, and sums it up. A fault of these is want of memory.
+fn run_workload(alloc: Global, accepted: &Accepted, script: Script) -> Result<Vec<u8>, AllocError>
+    requires { length accepted.now.assembly.rom ≤ 65280 }
+    ensures { IfOk result (λ text. text.items ≡ workload_text accepted.now.source.list accepted.now.assembly.rom script) }
+{
+    let mut machine = new_machine(alloc, None, accepted.assembly.rom(), script)?;
+    let settings = Settings {
+        outputs: Outputs {
+            frames: None,
+            samples: None,
+        },
+        budget: BUDGET,
+    };
+    let mut tree = MemTree::new(alloc, &[], 0, 0, &[])?;
+    let mut out = GrowingSink::new(alloc);
+    let mut err = GrowingSink::new(alloc);
+    match run_machine(
+        &mut machine.core,
+        &mut machine.devices,
+        &machine.script,
+        &settings,
+        &mut tree,
+        &mut out,
+        &mut err,
+        &mut NoWatch,
+    ) {
+        Ok(ended) => sum_up(alloc, accepted, &ended, &out),
+        Err(_) => Err(AllocError),
+    }
+}
+
+/// The summary of a workload.
+fn summarize(alloc: Global, task: &Task) -> Result<Vec<u8>, Halt>
+    ensures { Follows (λ text. text.items) result (summary_in task.now.count) }
+{
+    let text = source(alloc, task.count)?;
+    let accepted = accept_source(alloc, &task.file, FileBytes::Found(Bytes::from(text)))?;
+    let script = script_of(alloc, SCRIPT)?;
+    Ok(run_workload(alloc, &accepted, script)?)
+}
+
+/// Makes a workload, runs it, and prints its summary.
+pub fn generate<T: Tree, O: Sink, E: Sink>(
+    alloc: Global,
+    task: &Task,
+    tree: &mut T,
+    out: &mut O,
+    err: &mut E,
+) -> Result<u8, Halt>
+    requires { task.now.command ≡ Command.Generate }
+    ensures performs { Performs (Ok task.now) (world (T.told tree.old) (O.told out.old) (E.told err.old))
+        (world (T.told tree.new) (O.told out.new) (E.told err.new)) result }
+    ensures ledger { Ledger (counts (T.faults tree.old) (O.faults out.old) (E.faults err.old))
+        (counts (T.faults tree.new) (O.faults out.new) (E.faults err.new)) (blame_in result) }
+    ensures kept { OnRefused result (err.new ≡ err.old) }
+    ensures sure_tree { blame_in result ≡ TheTree → ⊥ }
+    ensures sure_out { IfSome (T.told tree.old) (λ nodes. SinksSuffice (verdict_on nodes (Ok task.now)) (O.sure out.old) (E.sure err.old)
+        → blame_in result ≡ ASink → ⊥) }
+{
+    let text = summarize(alloc, task)?;
+    print(&text, out)
+}

@@ -1,0 +1,3 @@
+pub mod Source
+pub mod Summary
+pub mod Growing

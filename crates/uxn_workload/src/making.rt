@@ -1,0 +1,78 @@
+//! The source of a workload.
+ghost use Rattle.std.specs.Prelude.{◌≡◌, ◌+◌, ◌*◌, ◌%◌, ◌++◌, IfOk, OnOk};
+ghost use Rattle.uxn_workload.specs.Source.{name_of, call, calls, routine, routines, source_of};
+
+use std::alloc::{AllocError, Global};
+use uxn_io::{decimal, hex_short};
+
+/// The number after this one.
+fn next_number(value: u16) -> u16
+    ensures { result ≡ (25173 * value + 13849) % 65536 }
+{
+    value.wrapping_mul(25173).wrapping_add(13849)
+}
+
+/// Puts the name of a routine behind a text.
+#[tactic(auto, unfolding(crate::specs::Source::name_of))]
+fn push_name(text: &mut Vec<u8>, i: u16) -> Result<(), AllocError>
+    ensures { OnOk result (text.new.items ≡ text.old.items ++ name_of i) }
+{
+    text.extend_from_slice(b"w-")?;
+    text.extend_from_slice(&decimal(u64::from(i)))
+}
+
+/// Puts the line that calls a routine behind a text.
+fn push_call(text: &mut Vec<u8>, i: u16) -> Result<(), AllocError>
+    ensures { OnOk result (text.new.items ≡ text.old.items ++ call i) }
+{
+    push_name(text, i)?;
+    text.extend_from_slice(b"\n")
+}
+
+/// Puts the line of a routine, which adds a number, behind a text.
+fn push_routine(text: &mut Vec<u8>, i: u16, value: u16) -> Result<(), AllocError>
+    ensures { OnOk result (text.new.items ≡ text.old.items ++ routine i value) }
+{
+    text.extend_from_slice(b"@")?;
+    push_name(text, i)?;
+    text.extend_from_slice(b" #")?;
+    text.extend_from_slice(&hex_short(value))?;
+    text.extend_from_slice(b" ADD2 JMP2r\n")
+}
+
+/// Puts the lines that call the first `count` routines behind a text.
+#[tactic(auto, unfolding(crate::specs::Source::calls))]
+fn push_calls(text: &mut Vec<u8>, count: u16) -> Result<(), AllocError>
+    ensures { OnOk result (text.new.items ≡ text.old.items ++ calls count) }
+{
+    for i in 0..count {
+        push_call(text, i)?;
+    }
+    Ok(())
+}
+
+/// Puts the lines of all routines behind a text.
+#[tactic(auto, unfolding(crate::specs::Source::routines))]
+fn push_routines(text: &mut Vec<u8>, count: u16) -> Result<(), AllocError>
+    ensures { OnOk result (text.new.items ≡ text.old.items ++ routines count count) }
+{
+    let mut value = count;
+    for i in 0..count {
+        push_routine(text, i, value)?;
+        value = next_number(value);
+    }
+    Ok(())
+}
+
+/// The source of a workload of `count` routines. Errors with want of memory.
+#[tactic(auto, unfolding(crate::specs::Source::source_of))]
+pub fn source(alloc: Global, count: u16) -> Result<Vec<u8>, AllocError>
+    ensures { IfOk result (λ text. text.items ≡ source_of count) }
+{
+    let mut text = Vec::new(alloc);
+    text.extend_from_slice(b"|0100 #0000\n")?;
+    push_calls(&mut text, count)?;
+    text.extend_from_slice(b"#18 DEO #18 DEO\n;tick #20 DEO2 BRK\n@tick #01 #2e DEO BRK\n")?;
+    push_routines(&mut text, count)?;
+    Ok(text)
+}
