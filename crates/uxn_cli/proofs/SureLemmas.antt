@@ -1,7 +1,8 @@
-use Rattle.std.proofs.Common.{◌≡◌, ℕ, zero, suc, ◌+◌, ◌<◌, ◌≤◌, true, false, cond, List, [], ◌∷◌, ◌++◌, take, drop, length, get_or, refl, ap, ◌∙◌, arith}
+use Rattle.std.proofs.Common.{◌≡◌, ℕ, zero, suc, ◌+◌, ◌<◌, ◌≤◌, true, false, cond, List, [], ◌∷◌, ◌++◌, take, drop, length, get_or, inl, inr, refl, ap, ◌∙◌, arith}
 use Rattle.std.specs.Prelude.{Option, Some, None, IfSome, option_map}
 use Rattle.std.proofs.lemmas.List.{length-append, length-map}
 use Rattle.std.specs.FinMap as fin
+use Rattle.uxn_io.specs.Faults.{Blame, Nobody, TheTree, ASink, Ledger, counts}
 use Rattle.uxn_io.specs.Changes.{makes_file, new_files, can_create, with_created, with_appended}
 use Rattle.uxn_io.specs.Files.{Nodes, File, bytes_at}
 use Rattle.uxn_io.specs.Outside.{Change, ToOut, ToErr, Creates, ToFile, Removes, changed_files}
@@ -147,3 +148,14 @@ sure_written texts count start here (Some nodes) (Some there) P e left sure = λ
 pub never : (tree : Option Nodes) (A : Nodes → Type 0) (P Q : Type 0) → (P → Q) → IfSome tree (λ nodes. A nodes → P) → IfSome tree (λ nodes. A nodes → Q)
 never None A P Q f h = tt
 never (Some nodes) A P Q f h = λ a. f (h a)
+
+pub always : (tree : Option Nodes) (A : Nodes → Type 0) (Q : Type 0) → Q → IfSome tree (λ nodes. A nodes → Q)
+always None A Q q = tt
+always (Some nodes) A Q q = λ a. q
+
+-- what is done to the tree alone is no fault of a sink
+pub no-sink : (before now : ℕ) (blame : Blame) → Ledger (counts before 0 0) (counts now 0 0) blame → blame ≡ ASink → ⊥
+no-sink before now Nobody ledger e = cc e
+no-sink before now TheTree ledger e = cc e
+no-sink before now ASink (inl rose) e = let risen = rose.out.risen in omega arith
+no-sink before now ASink (inr rose) e = let risen = rose.err.risen in omega arith

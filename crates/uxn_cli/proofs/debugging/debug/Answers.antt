@@ -1,5 +1,8 @@
 use Rattle.std.proofs.Common.{◌≡◌, refl, inl, rules}
-use Rattle.std.specs.Prelude.{Some, Err}
+use Rattle.std.specs.Prelude.{Some, Ok, Err}
+use Rattle.uxn_cli.specs.Causes.{verdict_on}
+use Rattle.uxn_cli.specs.Room.{SinksSuffice}
+use Rattle.uxn_cli.proofs.SureLemmas.{always, no-sink}
 use Rattle.uxn_cli.specs.Prepared.{debugging_of}
 use Rattle.uxn_cli.proofs.RunLemmas.{unprepared, debug-outputs, debug-root, debug-files, debug-log, ready-unmade, ready-unmade-tree, ready-run, ready-cut, ready-tree, ready-sinks}
 use Rattle.uxn_cli.proofs.debugging.debug.Goals as goal
@@ -20,6 +23,12 @@ returns-in_err-make_outputs-clause-sure_tree g c =
     let result : c.from_residual-in_err-make_outputs.result ≡ Err c.in_err-make_outputs.field-0.0 = search rules in
     rw result (ready-unmade-tree (g.T.Tree.told c.args.tree.now) c.args.task.now (Some (debugging_of c.args.task.now c.in_ok-session.session)) c.in_ok-session.session.machine c.in_ok-session.ensures.prepares (debug-outputs c.args.task.now c.requires.command)
     _ c.in_ok-session.ensures.same (g.T.Tree.told c.make_outputs.new.tree) _ _ _ c.in_ok-session.ensures.left c.in_err-make_outputs.ensures.sure c.in_err-make_outputs.ensures.takes)
+
+pub returns-in_err-make_outputs-clause-sure_sinks : goal.returns-in_err-make_outputs-clause-sure_sinks
+returns-in_err-make_outputs-clause-sure_sinks g c =
+    let result : c.from_residual-in_err-make_outputs.result ≡ Err c.in_err-make_outputs.field-0.0 = search rules in
+    rw result (always (g.T.Tree.told c.args.tree.now) (λ nodes. SinksSuffice (verdict_on nodes (Ok c.args.task.now)) (g.O.Sink.sure c.args.out.now) (g.E.Sink.sure c.args.err.now)) _
+    (no-sink _ _ _ c.in_err-make_outputs.ensures.ledger))
 
 pub returns-in-Ok-clause-performs : goal.returns-in-Ok-clause-performs
 returns-in-Ok-clause-performs g c =
