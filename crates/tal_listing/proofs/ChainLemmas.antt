@@ -1,10 +1,8 @@
 -- Chains of labels, one label at a time, and the lines of a chain.
-use Rattle.std.proofs.Common.{◌≡◌, ◌≢◌, ℕ, zero, suc, ◌+◌, ◌-◌, ◌<◌, ◌≤◌, true, false, List, [], ◌∷◌, ◌++◌, length, drop, get_or, set, replicate, inl, inr, refl, ap, sym, subst, ◌∙◌, arith, append_assoc, append-nil, get_or-set_same, get_or-set_other}
-use Rattle.std.specs.Prelude.{◌==◌, codes}
-use Rattle.std.specs.List.{flat_map, range_with_len}
-use Rattle.std.proofs.lemmas.Bool.{cases_eq, eq-eqb, ne_eqb}
+use Rattle.std.proofs.Common.{◌≡◌, ◌≢◌, ℕ, ◌+◌, ◌<◌, ◌≤◌, false, List, ◌++◌, length, drop, get_or, set, replicate, inl, inr, refl, ap, sym, subst, ◌∙◌, arith, get_or-set_same, get_or-set_other}
+use Rattle.std.specs.Prelude.{◌==◌}
+use Rattle.std.proofs.lemmas.Bool.{cases_eq, ne_eqb}
 use Rattle.std.proofs.lemmas.List.{drop_more, get_or-replicate, length-replicate, length-set, get_or_default}
-use Rattle.std.proofs.lemmas.List.Concat.{flat_map-append}
 use Rattle.tal_words.specs.declared.name.Label.{Label}
 use Rattle.tal_listing.specs.LabelChains.{IsNext, AreChained}
 use Rattle.tal_words.specs.PlainTexts.{text_of_items}

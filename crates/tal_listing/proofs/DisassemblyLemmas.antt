@@ -1,5 +1,5 @@
 -- That a disassembly assembles to its ROM.
-use Rattle.std.proofs.Common.{◌≡◌, ℕ, zero, suc, ◌+◌, ◌-◌, ◌*◌, ◌/◌, ◌%◌, ◌<◌, ◌≤◌, ◌⊎◌, inl, inr, Bool, true, false, not, List, [], ◌∷◌, ◌++◌, length, take, drop, get_or, map, refl, ap, sym, subst, ◌∙◌, arith, append_assoc, append-nil, length-append, length-take, length-drop}
+use Rattle.std.proofs.Common.{◌≡◌, ℕ, zero, suc, ◌+◌, ◌-◌, ◌*◌, ◌/◌, ◌%◌, ◌<◌, ◌≤◌, ◌⊎◌, inl, inr, Bool, true, false, not, List, [], ◌∷◌, ◌++◌, length, take, drop, get_or, map, refl, ap, sym, subst, ◌∙◌, arith, append_assoc, append-nil, length-take, length-drop}
 use Rattle.std.specs.Prelude.{if◌then◌else◌, ◌==◌, ◌||◌, slice_index, nat_lt}
 use Rattle.std.specs.List.{flat_map, list_any, AllByRecursion}
 use Rattle.std.proofs.lemmas.Bool.{and_parts, not-true, cases_lt}
@@ -17,7 +17,7 @@ use Rattle.tal_labels.specs.PlainWords.{Coded, texts_of_coded, bytes_of_coded, p
 use Rattle.tal_symbols.specs.SymbolFile.{is_readable, are_readable}
 use Rattle.tal_rom.specs.PlainWords.{AssemblesTo}
 use Rattle.tal_rom.proofs.PlainLemmas.{plain_assembles}
-use Rattle.uxn_io.specs.NumberText.{hex_of_byte, hex_of_short}
+use Rattle.uxn_io.specs.NumberText.{hex_of_short}
 use Rattle.tal_listing.specs.Texts.{hex_of_bytes, behind_name}
 use Rattle.tal_listing.specs.LabelChains.{labels_of_address}
 use Rattle.tal_listing.specs.Disassembly.{Instruction, immediate_length, instructions_from, immediate_items, instruction_items, label_item, label_items, items_of, rom_start, disassembly_items, disassembly}

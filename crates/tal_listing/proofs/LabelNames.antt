@@ -9,7 +9,7 @@ use Rattle.tal_words.specs.declared.span.Expanded.{Expanded}
 use Rattle.tal_words.specs.declared.fault.FaultKind.{FaultKind}
 use Rattle.tal_words.specs.declared.fault.FaultKind.TheVariants.{BadNumber, NoName}
 use Rattle.tal_words.specs.declared.form.Form.{Form}
-use Rattle.tal_words.specs.declared.form.Form.TheVariants.{Pad, Skip, Lit1, Lit2, Raw1, Raw2, Op, Text, LabelDef, SubDef, Refer, LambdaEnd, Ignored}
+use Rattle.tal_words.specs.declared.form.Form.TheVariants.{Text, LabelDef, SubDef, Refer, LambdaEnd, Ignored}
 use Rattle.tal_words.specs.declared.form.Rune.{Rune}
 use Rattle.tal_words.specs.declared.form.Rune.TheVariants.{Jsi}
 use Rattle.tal_words.specs.Source.{is_blank, begins, expanded_text}
@@ -114,20 +114,8 @@ IsPlainName None = Unit {0}
 IsPlainName (Some name) = IsBlankFree name
 
 label_plain : (answer : Result Form FaultKind) (text : List ℕ) → IsBlankFree text → IsPlainName (label_name answer text)
-label_plain (Err kind) text plain = tt
-label_plain (Ok (Pad n)) text plain = tt
-label_plain (Ok (Skip n)) text plain = tt
-label_plain (Ok (Lit1 n)) text plain = tt
-label_plain (Ok (Lit2 n)) text plain = tt
-label_plain (Ok (Raw1 n)) text plain = tt
-label_plain (Ok (Raw2 n)) text plain = tt
-label_plain (Ok (Op n)) text plain = tt
-label_plain (Ok Text) text plain = tt
 label_plain (Ok LabelDef) text plain = drop_plain text plain
-label_plain (Ok SubDef) text plain = tt
-label_plain (Ok (Refer rune)) text plain = tt
-label_plain (Ok LambdaEnd) text plain = tt
-label_plain (Ok Ignored) text plain = tt
+label_plain _ text plain = tt
 
 module _ (source : List ℕ) where
   last_plain : (words : List Expanded) → AllByRecursion (IsFree source) words → IsPlainName (last_label source words)
@@ -150,24 +138,13 @@ module _ (source : List ℕ) where
 
   given_readable : (before : List Expanded) (answer : Result Form FaultKind) (scope text : List ℕ) → form text ≡ answer → IsBlankFree text → IsBlankFree scope
       → are_readable (label_at source before (defined_name answer scope text)) ≡ true
-  given_readable before (Err kind) scope text e plain scoped = refl
-  given_readable before (Ok (Pad n)) scope text e plain scoped = refl
-  given_readable before (Ok (Skip n)) scope text e plain scoped = refl
-  given_readable before (Ok (Lit1 n)) scope text e plain scoped = refl
-  given_readable before (Ok (Lit2 n)) scope text e plain scoped = refl
-  given_readable before (Ok (Raw1 n)) scope text e plain scoped = refl
-  given_readable before (Ok (Raw2 n)) scope text e plain scoped = refl
-  given_readable before (Ok (Op n)) scope text e plain scoped = refl
-  given_readable before (Ok Text) scope text e plain scoped = refl
   given_readable before (Ok LabelDef) scope text e plain scoped =
       let readable = readable_name (drop 1 text) 0 (label_named text e) (drop_plain text plain) in
       rw readable refl
   given_readable before (Ok SubDef) scope text e plain scoped =
       let readable = readable_name (full_name scope text) 0 (full_some scope text (not_empty text e)) (full_plain scope text scoped plain) in
       rw readable refl
-  given_readable before (Ok (Refer rune)) scope text e plain scoped = refl
-  given_readable before (Ok LambdaEnd) scope text e plain scoped = refl
-  given_readable before (Ok Ignored) scope text e plain scoped = refl
+  given_readable before _ scope text e plain scoped = refl
 
   collected_readable : (before words : List Expanded) → AllByRecursion (IsFree source) before → AllByRecursion (IsFree source) words
       → are_readable (collected (labels_given source) before words) ≡ true

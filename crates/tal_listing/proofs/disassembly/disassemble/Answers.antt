@@ -1,4 +1,4 @@
-use Rattle.std.proofs.Common.{ℕ, ◌+◌, List, length, drop, get_or, ap, sym, subst, ◌∙◌, arith, rules, length-take, length-drop}
+use Rattle.std.proofs.Common.{ℕ, ◌+◌, List, length, drop, get_or, ap, sym, subst, arith, rules, length-take, length-drop}
 use Rattle.tal_rom.specs.PlainWords.{AssemblesTo}
 use Rattle.tal_listing.specs.Disassembly.{immediate_length}
 use Rattle.tal_listing.proofs.DisassemblyLemmas.{disassembly_assembles, disassembled_start, disassembled_more, disassembled_end}
