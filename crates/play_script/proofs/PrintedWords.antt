@@ -2,7 +2,7 @@
 use Rattle.std.proofs.Common.{◌≡◌, ℕ, zero, suc, ◌/◌, ◌%◌, ◌<◌, ◌≤◌, Bool, true, false, ◌&&◌, ◌||◌, ◌^◌, eqb, ltb, not, ℤ, pos, negsuc, neg_ℤ, ◌≤ℤ◌, List, [], ◌∷◌, ◌++◌, length, get_or, Some, inl, inr, refl, ap, ◌∙◌, arith}
 use Rattle.std.specs.Prelude.{decimal}
 use Rattle.std.specs.Fmt.{signed_decimal}
-use Rattle.std.specs.List.{All, list_all}
+use Rattle.std.specs.List.{All, AllByRecursion, list_all, list_any}
 use Rattle.std.proofs.lemmas.Bool.{cases_eq, cases_lt, lt-ltb, le-leb, and_from, and_parts}
 use Rattle.std.proofs.lemmas.Fmt.{digits_decimal, digits_value-decimal, decimal_nonempty, first_decimal, decimal_digit}
 use Rattle.std.proofs.lemmas.List.{get_or_past}
@@ -19,6 +19,12 @@ use borrow.Author.Differences.{le_out, neg_is}
 -- a word has bytes, and none that parts words or lines
 abbrev pub is_plain : List ℕ → Bool
 is_plain word = ltb 0 (length word) && list_all (λ byte. ltb 32 byte) word
+
+-- an element of a list that passes
+pub index_of : (p : ℕ → Bool) (word : List ℕ) → list_all p word ≡ true → (i : ℕ) → i < length word → p (get_or word i 0) ≡ true
+index_of p [] all i within = absurd (omega arith)
+index_of p (byte ∷ word) all zero within = (and_parts (p byte) (list_all p word) all).0
+index_of p (byte ∷ word) all (suc i) within = index_of p word (and_parts (p byte) (list_all p word) all).1 i (omega arith)
 
 -- all bytes pass a weaker test too
 pub weaker : (p q : ℕ → Bool) → ((byte : ℕ) → p byte ≡ true → q byte ≡ true) → (word : List ℕ) → list_all p word ≡ true → list_all q word ≡ true
@@ -80,23 +86,7 @@ plain_signed (negsuc n) below wide from to =
 
 -- hexadecimal digits
 digit_high : (k : ℕ) → k < 16 → ltb 47 (get_or lower_digits k 0) ≡ true
-digit_high zero h = refl
-digit_high (suc zero) h = refl
-digit_high (suc (suc zero)) h = refl
-digit_high (suc (suc (suc zero))) h = refl
-digit_high (suc (suc (suc (suc zero)))) h = refl
-digit_high (suc (suc (suc (suc (suc zero))))) h = refl
-digit_high (suc (suc (suc (suc (suc (suc zero)))))) h = refl
-digit_high (suc (suc (suc (suc (suc (suc (suc zero))))))) h = refl
-digit_high (suc (suc (suc (suc (suc (suc (suc (suc zero)))))))) h = refl
-digit_high (suc (suc (suc (suc (suc (suc (suc (suc (suc zero))))))))) h = refl
-digit_high (suc (suc (suc (suc (suc (suc (suc (suc (suc (suc zero)))))))))) h = refl
-digit_high (suc (suc (suc (suc (suc (suc (suc (suc (suc (suc (suc zero))))))))))) h = refl
-digit_high (suc (suc (suc (suc (suc (suc (suc (suc (suc (suc (suc (suc zero)))))))))))) h = refl
-digit_high (suc (suc (suc (suc (suc (suc (suc (suc (suc (suc (suc (suc (suc zero))))))))))))) h = refl
-digit_high (suc (suc (suc (suc (suc (suc (suc (suc (suc (suc (suc (suc (suc (suc zero)))))))))))))) h = refl
-digit_high (suc (suc (suc (suc (suc (suc (suc (suc (suc (suc (suc (suc (suc (suc (suc zero))))))))))))))) h = refl
-digit_high (suc (suc (suc (suc (suc (suc (suc (suc (suc (suc (suc (suc (suc (suc (suc (suc k)))))))))))))))) h = absurd (omega arith)
+digit_high k within = index_of (λ b. ltb 47 b) lower_digits refl k within
 
 pairs_high : (bytes : List ℕ) → All (λ byte. byte < 256) bytes → list_all (λ b. ltb 47 b) (encode_lower bytes) ≡ true
 unfolding encode_with
@@ -140,38 +130,13 @@ pub byte_back : (byte : ℕ) → byte < 256 → byte_of (encode_lower (byte ∷ 
 unfolding byte_of
 byte_back byte small = rw (decode_sized-encode_lower (byte ∷ []) 1 refl (are_bytes (byte ∷ []) (one_byte byte small))) refl
 
--- the masks of one button
-pub by_bit : (P : ℕ → Type 0) → P 1 → P 2 → P 4 → P 8 → P 16 → P 32 → P 64 → P 128 → (mask : ℕ) → IsBit mask → P mask
-by_bit P p1 p2 p4 p8 p16 p32 p64 p128 mask bit =
-    elim (cases_eq mask 1) [
-      | inl e ↦ rw e p1
-      | inr n1 ↦
-          elim (cases_eq mask 2) [
-            | inl e ↦ rw e p2
-            | inr n2 ↦
-                elim (cases_eq mask 4) [
-                  | inl e ↦ rw e p4
-                  | inr n4 ↦
-                      elim (cases_eq mask 8) [
-                        | inl e ↦ rw e p8
-                        | inr n8 ↦
-                            elim (cases_eq mask 16) [
-                              | inl e ↦ rw e p16
-                              | inr n16 ↦
-                                  elim (cases_eq mask 32) [
-                                    | inl e ↦ rw e p32
-                                    | inr n32 ↦
-                                        elim (cases_eq mask 64) [
-                                          | inl e ↦ rw e p64
-                                          | inr n64 ↦
-                                              elim (cases_eq mask 128) [ inl e ↦ rw e p128 | inr n128 ↦ absurd (grind arith) ]
-                                        ]
-                                  ]
-                            ]
-                      ]
-                ]
-          ]
-    ]
+-- what holds of each bit holds of a mask of one button
+any_holds : (P : ℕ → Type 0) (bits : List ℕ) → AllByRecursion P bits → (mask : ℕ) → list_any (λ bit. eqb bit mask) bits ≡ true → P mask
+any_holds P [] all mask is = absurd (grind (arith, is))
+any_holds P (bit ∷ bits) all mask is = elim (cases_eq bit mask) [
+  | inl e ↦ rw e at all.0
+  | inr n ↦ any_holds P bits all.1 mask (grind (arith, is, n))
+]
 
 -- a button's name is read back, and is a plain word
 abbrev pub IsRead : Buttons → ℕ → Type 0
@@ -179,8 +144,8 @@ IsRead table mask = (bit_in table (name_in table mask) ≡ Some mask) × (is_pla
 
 pub button_back : (mask : ℕ) → IsBit mask → IsRead buttons mask
 unfolding bit_in name_in
-button_back = by_bit (IsRead buttons) (refl, refl) (refl, refl) (refl, refl) (refl, refl) (refl, refl) (refl, refl) (refl, refl) (refl, refl)
+button_back = any_holds (IsRead buttons) (1 ∷ 2 ∷ 4 ∷ 8 ∷ 16 ∷ 32 ∷ 64 ∷ 128 ∷ []) ((refl, refl), ((refl, refl), ((refl, refl), ((refl, refl), ((refl, refl), ((refl, refl), ((refl, refl), ((refl, refl), tt))))))))
 
 pub mouse_button_back : (mask : ℕ) → IsBit mask → IsRead mouse_buttons mask
 unfolding bit_in name_in
-mouse_button_back = by_bit (IsRead mouse_buttons) (refl, refl) (refl, refl) (refl, refl) (refl, refl) (refl, refl) (refl, refl) (refl, refl) (refl, refl)
+mouse_button_back = any_holds (IsRead mouse_buttons) (1 ∷ 2 ∷ 4 ∷ 8 ∷ 16 ∷ 32 ∷ 64 ∷ 128 ∷ []) ((refl, refl), ((refl, refl), ((refl, refl), ((refl, refl), ((refl, refl), ((refl, refl), ((refl, refl), ((refl, refl), tt))))))))

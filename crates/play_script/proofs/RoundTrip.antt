@@ -1,5 +1,5 @@
 -- A printed script is read back.
-use Rattle.std.proofs.Common.{◌≡◌, ℕ, zero, suc, ◌+◌, ◌<◌, ◌≤◌, Bool, true, false, cond, eqb, ltb, leb, ℤ, pos, negsuc, ◌≤ℤ◌, List, [], ◌∷◌, ◌++◌, length, get_or, map, Option, Some, None, Ok, Err, append_assoc, append-nil, refl, sym, ap, ◌∙◌, arith}
+use Rattle.std.proofs.Common.{◌≡◌, ℕ, ◌+◌, ◌<◌, ◌≤◌, Bool, true, false, cond, eqb, ltb, leb, ℤ, pos, negsuc, ◌≤ℤ◌, List, [], ◌∷◌, ◌++◌, length, map, Option, Some, None, Ok, Err, append_assoc, append-nil, refl, sym, ap, ◌∙◌, arith}
 use Rattle.std.specs.Prelude.{codes, decimal}
 use Rattle.std.specs.Fmt.{signed_decimal}
 use Rattle.std.specs.List.{All, list_all, flat_map, join_with_byte}
@@ -22,25 +22,19 @@ use Rattle.play_script.specs.declared.script.ScriptKind.{ScriptKind}
 use Rattle.play_script.specs.declared.script.ScriptKind.TheVariants.{LongScript}
 use Rattle.play_script.specs.declared.script.Version.{Version}
 use Rattle.play_script.specs.declared.script.Version.TheVariants.{First, Second}
-use Rattle.play_script.specs.Limits.{IsEvent, IsScript, IsTime, IsTurn}
+use Rattle.play_script.specs.Limits.{IsBit, IsEvent, IsExpect, IsFurther, IsScript, IsTime, IsTurn}
 use Rattle.play_script.specs.PlainText.{text_word, event_words, clock_words, argument_words, name_in, plain_lines, line_text, plain_text}
 use Rattle.play_script.specs.Rows.{Meaning, version, clock, arguments, event, rows_of, device_of, made_of, version_of, clock_of, keys_of, expect_of, buttons_of, mouse_buttons_of, mouse_of, scroll_of, down_of, up_of, line_of}
 use Rattle.play_script.specs.Scripts.{ScriptView, arguments_of, events_of, events_in, fault_behind, read_by, script_by, script_from, script_in, script_of, version_at, version_in}
 use Rattle.play_script.specs.Values.{texts_of, both, buttons, mouse_buttons, one_or}
 use Rattle.line_texts.specs.Rows.{row_of}
-use Rattle.play_script.proofs.PrintedWords.{is_plain, weaker, all_append, number_back, integer_back, plain_decimal, plain_signed, plain_pairs, pairs_back, text_back, plain_text_word, one_byte, byte_back, button_back, mouse_button_back}
+use Rattle.play_script.proofs.PrintedWords.{is_plain, index_of, weaker, all_append, number_back, integer_back, plain_decimal, plain_signed, plain_pairs, pairs_back, text_back, plain_text_word, one_byte, byte_back, button_back, mouse_button_back}
 use Rattle.play_script.proofs.Versions.{lift}
 use borrow.Author.Differences.{le_out, le_in}
 
 -- lines of plain words
 abbrev are_plain : List (List ℕ) → Bool
 are_plain words = list_all is_plain words
-
--- an element of a list that passes
-index_of : (p : ℕ → Bool) (word : List ℕ) → list_all p word ≡ true → (i : ℕ) → i < length word → p (get_or word i 0) ≡ true
-index_of p [] all i within = absurd (omega arith)
-index_of p (byte ∷ word) all zero within = (and_parts (p byte) (list_all p word) all).0
-index_of p (byte ∷ word) all (suc i) within = index_of p word (and_parts (p byte) (list_all p word) all).1 i (omega arith)
 
 no_blanks : (word : List ℕ) → is_plain word ≡ true → All (λ byte. is_blank byte ≡ false) word
 no_blanks word plain =
@@ -140,25 +134,6 @@ plain_texts (text ∷ texts) small =
 one_text : (byte : ℕ) → byte < 256 → texts_of (encode_lower (byte ∷ []) ∷ []) ≡ Some ((byte ∷ []) ∷ [])
 one_text byte small = rw (pairs_back (byte ∷ []) (one_byte byte small)) refl
 
-first_event : (e : Event) → IsEvent First e → Reads First (event_words e) (event e)
-unfolding line_of rows_of row_of made_of device_of keys_of buttons_of mouse_buttons_of mouse_of scroll_of event_words one_or
-first_event (Input byte) is = rw (one_text byte is) refl
-first_event EndInput is = refl
-first_event Frame is = refl
-first_event (Device (Key byte)) is = rw (byte_back byte is) refl
-first_event (Device (Down mask)) is = rw (button_back mask is).0 refl
-first_event (Device (Up mask)) is = rw (button_back mask is).0 refl
-first_event (Device (Mouse x y)) is =
-    rw (number_back 0 65535 x (omega arith) (omega (arith, is.0)) (omega (arith, is.0)), number_back 0 65535 y (omega arith) (omega (arith, is.1)) (omega (arith, is.1))) refl
-first_event (Device (Press mask)) is = rw (mouse_button_back mask is).0 refl
-first_event (Device (Release mask)) is = rw (mouse_button_back mask is).0 refl
-first_event (Device (Scroll x y)) is =
-    rw (integer_back 32768 32767 x (omega arith) (omega arith) is.0.0 is.0.1, integer_back 32768 32767 y (omega arith) (omega arith) is.1.0 is.1.1) refl
-first_event (Device (DownOf player mask)) is = absurd is.0
-first_event (Device (UpOf player mask)) is = absurd is.0
-first_event Shot is = refl
-first_event (Expect port byte) is = absurd is
-
 player_back : (player : ℕ) → 2 ≤ player → player ≤ 4 → one_or 4 (decimal player ∷ []) ≡ Some player
 unfolding one_or
 player_back player from to = number_back 1 4 player (omega (arith, from)) to (omega (arith, to))
@@ -169,36 +144,45 @@ further_down mask player from = let other : eqb player 1 ≡ false = grind arith
 further_up : (mask player : ℕ) → 2 ≤ player → up_of mask player ≡ UpOf player mask
 further_up mask player from = let other : eqb player 1 ≡ false = grind arith in rw other refl
 
-raised : (e : Event) → Reads First (event_words e) (event e) → Reads Second (event_words e) (event e)
-raised e is = (lift (event_words e) (Some (event e)) is).0
-
-second_event : (e : Event) → IsEvent Second e → Reads Second (event_words e) (event e)
-unfolding line_of rows_of row_of made_of device_of expect_of buttons_of event_words
-second_event (Device (DownOf player mask)) is =
-    rw ((button_back mask is.1).0, player_back player is.0.0 is.0.1, further_down mask player is.0.0) refl
-second_event (Device (UpOf player mask)) is =
-    rw ((button_back mask is.1).0, player_back player is.0.0 is.0.1, further_up mask player is.0.0) refl
-second_event (Expect port byte) is = rw (byte_back port is.0, byte_back byte is.1) refl
-second_event (Input byte) is = raised (Input byte) (first_event (Input byte) is)
-second_event EndInput is = raised EndInput (first_event EndInput is)
-second_event Frame is = raised Frame (first_event Frame is)
-second_event (Device (Key byte)) is = raised (Device (Key byte)) (first_event (Device (Key byte)) is)
-second_event (Device (Down mask)) is = raised (Device (Down mask)) (first_event (Device (Down mask)) is)
-second_event (Device (Up mask)) is = raised (Device (Up mask)) (first_event (Device (Up mask)) is)
-second_event (Device (Mouse x y)) is = raised (Device (Mouse x y)) (first_event (Device (Mouse x y)) is)
-second_event (Device (Press mask)) is = raised (Device (Press mask)) (first_event (Device (Press mask)) is)
-second_event (Device (Release mask)) is = raised (Device (Release mask)) (first_event (Device (Release mask)) is)
-second_event (Device (Scroll x y)) is = raised (Device (Scroll x y)) (first_event (Device (Scroll x y)) is)
-second_event Shot is = raised Shot (first_event Shot is)
-
-event_line : (number : Version) (e : Event) → IsEvent number e → Reads number (event_words e) (event e)
-event_line First e is = first_event e is
-event_line Second e is = second_event e is
-
 -- what version 1 reads, in each version
 in_version : (number : Version) (words : List (List ℕ)) (m : Meaning) → Reads First words m → Reads number words m
 in_version First words m is = is
 in_version Second words m is = (lift words (Some m) is).0
+
+-- the lines that only version 2 has
+down_line : (number : Version) (player mask : ℕ) → IsFurther number player → IsBit mask → Reads number (event_words (Device (DownOf player mask))) (event (Device (DownOf player mask)))
+unfolding line_of rows_of row_of made_of device_of buttons_of event_words
+down_line First player mask is bit = absurd is
+down_line Second player mask is bit = rw ((button_back mask bit).0, player_back player is.0 is.1, further_down mask player is.0) refl
+
+up_line : (number : Version) (player mask : ℕ) → IsFurther number player → IsBit mask → Reads number (event_words (Device (UpOf player mask))) (event (Device (UpOf player mask)))
+unfolding line_of rows_of row_of made_of device_of buttons_of event_words
+up_line First player mask is bit = absurd is
+up_line Second player mask is bit = rw ((button_back mask bit).0, player_back player is.0 is.1, further_up mask player is.0) refl
+
+expect_line : (number : Version) (port byte : ℕ) → IsExpect number port byte → Reads number (event_words (Expect port byte)) (event (Expect port byte))
+unfolding line_of rows_of row_of made_of expect_of event_words
+expect_line First port byte is = absurd is
+expect_line Second port byte is = rw (byte_back port is.0, byte_back byte is.1) refl
+
+event_line : (number : Version) (e : Event) → IsEvent number e → Reads number (event_words e) (event e)
+unfolding line_of rows_of row_of made_of device_of keys_of buttons_of mouse_buttons_of mouse_of scroll_of event_words one_or
+event_line number (Input byte) is = in_version number (event_words (Input byte)) (event (Input byte)) (rw (one_text byte is) refl)
+event_line number EndInput is = in_version number (event_words EndInput) (event EndInput) refl
+event_line number Frame is = in_version number (event_words Frame) (event Frame) refl
+event_line number (Device (Key byte)) is = in_version number (event_words (Device (Key byte))) (event (Device (Key byte))) (rw (byte_back byte is) refl)
+event_line number (Device (Down mask)) is = in_version number (event_words (Device (Down mask))) (event (Device (Down mask))) (rw (button_back mask is).0 refl)
+event_line number (Device (Up mask)) is = in_version number (event_words (Device (Up mask))) (event (Device (Up mask))) (rw (button_back mask is).0 refl)
+event_line number (Device (Mouse x y)) is = in_version number (event_words (Device (Mouse x y))) (event (Device (Mouse x y)))
+    (rw (number_back 0 65535 x (omega arith) (omega (arith, is.0)) (omega (arith, is.0)), number_back 0 65535 y (omega arith) (omega (arith, is.1)) (omega (arith, is.1))) refl)
+event_line number (Device (Press mask)) is = in_version number (event_words (Device (Press mask))) (event (Device (Press mask))) (rw (mouse_button_back mask is).0 refl)
+event_line number (Device (Release mask)) is = in_version number (event_words (Device (Release mask))) (event (Device (Release mask))) (rw (mouse_button_back mask is).0 refl)
+event_line number (Device (Scroll x y)) is = in_version number (event_words (Device (Scroll x y))) (event (Device (Scroll x y)))
+    (rw (integer_back 32768 32767 x (omega arith) (omega arith) is.0.0 is.0.1, integer_back 32768 32767 y (omega arith) (omega arith) is.1.0 is.1.1) refl)
+event_line number (Device (DownOf player mask)) is = down_line number player mask is.0 is.1
+event_line number (Device (UpOf player mask)) is = up_line number player mask is.0 is.1
+event_line number Shot is = in_version number (event_words Shot) (event Shot) refl
+event_line number (Expect port byte) is = expect_line number port byte is
 
 -- the words of events are plain
 plain_one : (name value : List ℕ) → is_plain name ≡ true → is_plain value ≡ true → are_plain (name ∷ value ∷ []) ≡ true
@@ -221,44 +205,34 @@ plain_turn z is = plain_signed z 32768 (omega arith) is.0 (turn_below z is.1)
 plain_byte : (byte : ℕ) → byte < 256 → is_plain (encode_lower (byte ∷ [])) ≡ true
 plain_byte byte small = plain_pairs (byte ∷ []) (omega arith) (one_byte byte small)
 
-plain_event : (e : Event) → IsEvent Second e → are_plain (event_words e) ≡ true
-unfolding event_words
-plain_event (Input byte) is = plain_one (codes "input") (encode_lower (byte ∷ [])) refl (plain_byte byte is)
-plain_event EndInput is = refl
-plain_event Frame is = refl
-plain_event (Device (Key byte)) is = plain_one (codes "key") (encode_lower (byte ∷ [])) refl (plain_byte byte is)
-plain_event (Device (Down mask)) is = plain_one (codes "down") (name_in buttons mask) refl (button_back mask is).1
-plain_event (Device (Up mask)) is = plain_one (codes "up") (name_in buttons mask) refl (button_back mask is).1
-plain_event (Device (Mouse x y)) is =
-    plain_two (codes "mouse") (decimal x) (decimal y) refl (plain_decimal x (omega (arith, is.0))) (plain_decimal y (omega (arith, is.1)))
-plain_event (Device (Press mask)) is = plain_one (codes "press") (name_in mouse_buttons mask) refl (mouse_button_back mask is).1
-plain_event (Device (Release mask)) is = plain_one (codes "release") (name_in mouse_buttons mask) refl (mouse_button_back mask is).1
-plain_event (Device (Scroll x y)) is =
-    plain_two (codes "scroll") (signed_decimal x) (signed_decimal y) refl (plain_turn x is.0) (plain_turn y is.1)
-plain_event (Device (DownOf player mask)) is =
-    plain_two (codes "down") (name_in buttons mask) (decimal player) refl (button_back mask is.1).1 (plain_decimal player (omega (arith, is.0.1)))
-plain_event (Device (UpOf player mask)) is =
-    plain_two (codes "up") (name_in buttons mask) (decimal player) refl (button_back mask is.1).1 (plain_decimal player (omega (arith, is.0.1)))
-plain_event Shot is = refl
-plain_event (Expect port byte) is = plain_two (codes "expect") (encode_lower (port ∷ [])) (encode_lower (byte ∷ [])) refl (plain_byte port is.0) (plain_byte byte is.1)
+few_players : (number : Version) (player : ℕ) → IsFurther number player → player ≤ 4
+few_players First player is = absurd is
+few_players Second player is = is.1
 
-in_second : (number : Version) (e : Event) → IsEvent number e → are_plain (event_words e) ≡ true
+expect_bytes : (number : Version) (port byte : ℕ) → IsExpect number port byte → (port < 256) × (byte < 256)
+expect_bytes First port byte is = absurd is
+expect_bytes Second port byte is = is
+
+plain_event : (number : Version) (e : Event) → IsEvent number e → are_plain (event_words e) ≡ true
 unfolding event_words
-in_second Second e is = plain_event e is
-in_second First (Input byte) is = plain_event (Input byte) is
-in_second First EndInput is = refl
-in_second First Frame is = refl
-in_second First (Device (Key byte)) is = plain_event (Device (Key byte)) is
-in_second First (Device (Down mask)) is = plain_event (Device (Down mask)) is
-in_second First (Device (Up mask)) is = plain_event (Device (Up mask)) is
-in_second First (Device (Mouse x y)) is = plain_event (Device (Mouse x y)) is
-in_second First (Device (Press mask)) is = plain_event (Device (Press mask)) is
-in_second First (Device (Release mask)) is = plain_event (Device (Release mask)) is
-in_second First (Device (Scroll x y)) is = plain_event (Device (Scroll x y)) is
-in_second First (Device (DownOf player mask)) is = absurd is.0
-in_second First (Device (UpOf player mask)) is = absurd is.0
-in_second First Shot is = refl
-in_second First (Expect port byte) is = absurd is
+plain_event number (Input byte) is = plain_one (codes "input") (encode_lower (byte ∷ [])) refl (plain_byte byte is)
+plain_event number EndInput is = refl
+plain_event number Frame is = refl
+plain_event number (Device (Key byte)) is = plain_one (codes "key") (encode_lower (byte ∷ [])) refl (plain_byte byte is)
+plain_event number (Device (Down mask)) is = plain_one (codes "down") (name_in buttons mask) refl (button_back mask is).1
+plain_event number (Device (Up mask)) is = plain_one (codes "up") (name_in buttons mask) refl (button_back mask is).1
+plain_event number (Device (Mouse x y)) is =
+    plain_two (codes "mouse") (decimal x) (decimal y) refl (plain_decimal x (omega (arith, is.0))) (plain_decimal y (omega (arith, is.1)))
+plain_event number (Device (Press mask)) is = plain_one (codes "press") (name_in mouse_buttons mask) refl (mouse_button_back mask is).1
+plain_event number (Device (Release mask)) is = plain_one (codes "release") (name_in mouse_buttons mask) refl (mouse_button_back mask is).1
+plain_event number (Device (Scroll x y)) is =
+    plain_two (codes "scroll") (signed_decimal x) (signed_decimal y) refl (plain_turn x is.0) (plain_turn y is.1)
+plain_event number (Device (DownOf player mask)) is =
+    plain_two (codes "down") (name_in buttons mask) (decimal player) refl (button_back mask is.1).1 (plain_decimal player (omega (arith, few_players number player is.0)))
+plain_event number (Device (UpOf player mask)) is =
+    plain_two (codes "up") (name_in buttons mask) (decimal player) refl (button_back mask is.1).1 (plain_decimal player (omega (arith, few_players number player is.0)))
+plain_event number Shot is = refl
+plain_event number (Expect port byte) is = plain_two (codes "expect") (encode_lower (port ∷ [])) (encode_lower (byte ∷ [])) refl (plain_byte port (expect_bytes number port byte is).0) (plain_byte byte (expect_bytes number port byte is).1)
 
 -- events in a row
 abbrev ok_event : Event → Line Meaning ScriptKind
@@ -328,7 +302,7 @@ plain_clock time is =
 
 plain_events : (number : Version) (more : List Event) → All (IsEvent number) more → list_all are_plain (map event_words more) ≡ true
 plain_events number [] valid = refl
-plain_events number (e ∷ more) valid = and_from _ _ (in_second number e (All-head (IsEvent number) e more valid)) (plain_events number more (All-tail (IsEvent number) e more valid))
+plain_events number (e ∷ more) valid = and_from _ _ (plain_event number e (All-head (IsEvent number) e more valid)) (plain_events number more (All-tail (IsEvent number) e more valid))
 
 plain_args : (texts : List (List ℕ)) (lines : List (List (List ℕ))) → AreBytes texts → list_all are_plain lines ≡ true → list_all are_plain (argument_words texts ++ lines) ≡ true
 plain_args [] lines small plain = plain

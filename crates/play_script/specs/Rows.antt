@@ -113,7 +113,7 @@ made_of word.Shot number values = Some (event Shot)
 made_of word.Expect number values = expect_of number values
 made_of keyword number values = input_if (device_of keyword number values)
 
--- the first words of version 1, with how many values each takes, and those of version 2
+-- the first words of version 1, with how many values each takes
 abbrev pub first_rows : Rows Keyword
 first_rows =
     (codes "clock", Exactly 2, word.Clock)
@@ -131,24 +131,15 @@ first_rows =
     ∷ (codes "shot", Exactly 0, word.Shot)
     ∷ []
 
+-- those of version 2: a row that it has in place of one of version 1 stands before that
 abbrev pub second_rows : Rows Keyword
 second_rows =
     (codes "script", Exactly 1, word.Script)
-    ∷ (codes "clock", Exactly 2, word.Clock)
-    ∷ (codes "args", AtLeast 1, word.Args)
-    ∷ (codes "input", AtLeast 1, word.Input)
-    ∷ (codes "end", Exactly 0, word.End)
-    ∷ (codes "frame", Between 0 1, word.Frame)
+    ∷ (codes "expect", Exactly 2, word.Expect)
     ∷ (codes "key", Between 1 2, word.Key)
     ∷ (codes "down", Between 1 2, word.Down)
     ∷ (codes "up", Between 1 2, word.Up)
-    ∷ (codes "mouse", Exactly 2, word.Mouse)
-    ∷ (codes "press", Exactly 1, word.Press)
-    ∷ (codes "release", Exactly 1, word.Release)
-    ∷ (codes "scroll", Exactly 2, word.Scroll)
-    ∷ (codes "shot", Exactly 0, word.Shot)
-    ∷ (codes "expect", Exactly 2, word.Expect)
-    ∷ []
+    ∷ first_rows
 
 unfoldable pub rows_of : Version → Rows Keyword
 rows_of First = first_rows

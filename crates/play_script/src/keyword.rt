@@ -27,8 +27,16 @@ pub(crate) enum Keyword {
     Expect,
 }
 
-/// The lines of version 1.
-pub(crate) static FIRST_ROWS: [Row<Keyword>; 13] = [
+/// How many lines only version 2 has; three of them stand in place of one of version 1 behind them.
+const FURTHER: usize = 5;
+
+/// The lines of version 2, and behind the first five those of version 1.
+static ROWS: [Row<Keyword>; 18] = [
+    Row("script", Counts::Exactly(1), Keyword::Script),
+    Row("expect", Counts::Exactly(2), Keyword::Expect),
+    Row("key", Counts::Between(1, 2), Keyword::Key),
+    Row("down", Counts::Between(1, 2), Keyword::Down),
+    Row("up", Counts::Between(1, 2), Keyword::Up),
     Row("clock", Counts::Exactly(2), Keyword::Clock),
     Row("args", Counts::AtLeast(1), Keyword::Args),
     Row("input", Counts::AtLeast(1), Keyword::Input),
@@ -44,32 +52,13 @@ pub(crate) static FIRST_ROWS: [Row<Keyword>; 13] = [
     Row("shot", Counts::Exactly(0), Keyword::Shot),
 ];
 
-/// The lines of version 2.
-pub(crate) static SECOND_ROWS: [Row<Keyword>; 15] = [
-    Row("script", Counts::Exactly(1), Keyword::Script),
-    Row("clock", Counts::Exactly(2), Keyword::Clock),
-    Row("args", Counts::AtLeast(1), Keyword::Args),
-    Row("input", Counts::AtLeast(1), Keyword::Input),
-    Row("end", Counts::Exactly(0), Keyword::End),
-    Row("frame", Counts::Between(0, 1), Keyword::Frame),
-    Row("key", Counts::Between(1, 2), Keyword::Key),
-    Row("down", Counts::Between(1, 2), Keyword::Down),
-    Row("up", Counts::Between(1, 2), Keyword::Up),
-    Row("mouse", Counts::Exactly(2), Keyword::Mouse),
-    Row("press", Counts::Exactly(1), Keyword::Press),
-    Row("release", Counts::Exactly(1), Keyword::Release),
-    Row("scroll", Counts::Exactly(2), Keyword::Scroll),
-    Row("shot", Counts::Exactly(0), Keyword::Shot),
-    Row("expect", Counts::Exactly(2), Keyword::Expect),
-];
-
 // The lines of a version.
 #[tactic(auto, unfolding(crate::specs::Rows::rows_of))]
 pub(crate) fn rows_of(version: Version) -> &'static [Row<Keyword>]
     ensures { rows_in result.now ≡ rows_of version }
 {
     match version {
-        Version::First => FIRST_ROWS.as_slice(),
-        Version::Second => SECOND_ROWS.as_slice(),
+        Version::First => &ROWS[FURTHER..],
+        Version::Second => ROWS.as_slice(),
     }
 }

@@ -12,4 +12,4 @@ mod values;
 
 pub use printing::{print_script, printed_scripts_are_read, version_2_reads_version_1};
 pub use reading::read_script;
-pub use script::{Clock, Event, Events, Script, ScriptKind, ScriptStop, Version};
+pub use script::{Clock, Event, Script, ScriptKind, ScriptStop, Version};

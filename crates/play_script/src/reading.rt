@@ -10,7 +10,7 @@ ghost use Rattle.play_script.specs.Gathered.{at_line};
 ghost use Rattle.play_script.specs.declared.script.Event.TheVariants.{Input};
 
 use crate::line::{Meaning, line_of};
-use crate::script::{Clock, Event, Events, LineStop, Script, ScriptKind, ScriptStop, Version};
+use crate::script::{Clock, Event, LineStop, Script, ScriptKind, ScriptStop, Version};
 use line_texts::{Lines, begins_with, first_word};
 use std::alloc::{AllocError, Global};
 use std::marker::Model;
@@ -245,7 +245,7 @@ impl Gathered {
             version,
             clock.unwrap_or(start),
             arguments.unwrap_or(Vec::new(alloc)),
-            Events::from_vec(events),
+            events,
         )
     }
 }

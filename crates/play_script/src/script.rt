@@ -43,51 +43,13 @@ pub enum Event {
     Expect(u8, u8),
 }
 
-/// Events in their order, which contracts see as a list.
-#[derive(Debug, Drop)]
-pub struct Events {
-    items: Vec<Event>,
-}
-
-impl Model for Events {
-    ghost use Rattle.std.specs.Prelude.{List};
-    ghost use Rattle.play_script.specs.declared.script.Event.{Event};
-
-    ghost Value = { List Event };
-
-    ghost view = { λ e. e.items.items };
-}
-
-impl Events {
-    /// The events that the vector holds, which are not copied.
-    pub fn from_vec(items: Vec<Event>) -> Events
-        ensures { result ≡ items.items }
-    {
-        Events { items }
-    }
-
-    /// The vector of the events, which are not copied.
-    pub fn into_vec(self) -> Vec<Event>
-        ensures { result.items ≡ self }
-    {
-        self.items
-    }
-
-    /// The events.
-    pub fn as_slice(&self) -> &[Event]
-        ensures { result.now ≡ self.now }
-    {
-        self.items.as_slice()
-    }
-}
-
 /// A script: its version, a clock, the arguments of the program and the events.
 #[derive(Debug, Drop)]
 pub struct Script {
     version: Version,
     clock: Clock,
     arguments: Vec<Bytes>,
-    events: Events,
+    events: Vec<Event>,
 }
 
 impl Model for Script {
@@ -101,14 +63,14 @@ impl Model for Script {
       version = s.version;
       clock = s.clock;
       arguments = bytes_in s.arguments.items;
-      events = s.events;
+      events = s.events.items;
     } };
 
     ghost invariant = { λ s. IsScript (record {
       version = s.version;
       clock = s.clock;
       arguments = bytes_in s.arguments.items;
-      events = s.events;
+      events = s.events.items;
     }) };
 }
 
@@ -123,10 +85,10 @@ impl Script {
         version: Version,
         clock: Clock,
         arguments: Vec<Bytes>,
-        events: Events,
+        events: Vec<Event>,
     ) -> Script
-        requires { IsScript (view version clock (bytes_in arguments.items) events) }
-        ensures { result ≡ view version clock (bytes_in arguments.items) events }
+        requires { IsScript (view version clock (bytes_in arguments.items) events.items) }
+        ensures { result ≡ view version clock (bytes_in arguments.items) events.items }
     {
         Script {
             version,
