@@ -3,7 +3,8 @@ use Rattle.std.specs.Prelude.{ℕ, zero, suc, ◌+◌, ◌*◌, ◌++◌, ◌==�
 use Rattle.std.specs.Prelude.{if◌then◌else◌, List, [], ◌∷◌, ℤ, pos}
 use Rattle.std.specs.Int.{w16, int_wrapping_add}
 use Rattle.audio_mixer.specs.declared.notes.Start.{Start}
-use Rattle.audio_mixer.specs.Notes.{is_repeating, release_of, is_silent, has_ended, sample_at, steps_of, wrapped, envelope_at, level, left_of, right_of}
+use Rattle.audio_mixer.specs.Notes.{is_repeating, release_of, is_silent, has_ended, sample_at, steps_of, wrapped}
+use Rattle.audio_mixer.specs.Notes.{envelope_at, level, left_of, right_of}
 
 -- a voice sounds nothing, or a note of which so many samples were rendered
 pub data Sound : Type 0 where

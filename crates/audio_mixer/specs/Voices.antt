@@ -56,4 +56,5 @@ pub record StandsFor (mixer : Mixer) (sounds : ℕ → Sound) : Type 0 where
 
 -- no voice plays a note that will end
 abbrev pub all_play_on : Mixer → Bool
-all_play_on mixer = plays_on mixer.first.playing && plays_on mixer.second.playing && plays_on mixer.third.playing && plays_on mixer.fourth.playing
+all_play_on mixer =
+    plays_on mixer.first.playing && plays_on mixer.second.playing && plays_on mixer.third.playing && plays_on mixer.fourth.playing

@@ -67,3 +67,37 @@ fn four_loud_voices_wrap(rt: HostRuntime) -> Result<(), Fail> {
     assert_eq!(rt; mixer.output(0), 0);
     Ok(())
 }
+
+#[test]
+fn a_frame_passes_as_if_it_were_rendered(rt: HostRuntime) -> Result<(), Fail> {
+    let memory = Memory::new(rt.alloc())?;
+    let endless = Start {
+        adsr: 0,
+        length: 7,
+        ..NOTE
+    };
+    let (mut heard, mut passed) = (Mixer::new(), Mixer::new());
+    let mut frame = [3i16; 1470];
+    assert_eq!(rt; heard.render(&memory, &mut frame), [false; 4]);
+    assert_eq!(rt; frame, [0; 1470]);
+    for voice in 0..4 {
+        let note = Start {
+            pitch: 0x30 + 5 * voice,
+            ..endless
+        };
+        heard.start(voice, &note);
+        passed.start(voice, &note);
+    }
+    for _ in 0..3 {
+        assert_eq!(rt; heard.render(&memory, &mut frame), [false; 4]);
+        if passed.is_endless() {
+            passed.pass();
+        }
+        for voice in 0..4 {
+            assert_eq!(rt; heard.position(voice), passed.position(voice));
+        }
+    }
+    passed.start(1, &NOTE);
+    assert!(rt; !passed.is_endless());
+    Ok(())
+}

@@ -25,7 +25,8 @@ fault_of fault before (Ok None) = None
 fault_of fault before (Ok (Some a)) = fault before a
 
 -- the line with this number has this fault, and the lines in front of it have none; the first line has the number `first`
-pub record IsFirstFault {A K : Type 0} (fault : List A → A → Option K) (first : ℕ) (so_far : List A) (lines : List (Line A K)) (number : ℕ) (kind : K) : Type 0 where
+pub record IsFirstFault {A K : Type 0} (fault : List A → A → Option K) (first : ℕ) (so_far : List A) (lines : List (Line A K))
+    (number : ℕ) (kind : K) : Type 0 where
   pub front : List (Line A K)
   pub line : Line A K
   pub rest : List (Line A K)

@@ -1,5 +1,6 @@
 -- What a screen keeps, the pictures that it stands for, and the rows that are marked.
-use Rattle.std.specs.Prelude.{◌≡◌, ◌⊎◌, ℕ, ◌+◌, ◌*◌, ◌<◌, Bool, true, false, List, [], length, take, count_by, slice_index, slice_index_or, unwrap_or}
+use Rattle.std.specs.Prelude.{◌≡◌, ◌⊎◌, ℕ, ◌+◌, ◌*◌, ◌<◌, Bool, true, false, List, [], length, take}
+use Rattle.std.specs.Prelude.{count_by, slice_index, slice_index_or, unwrap_or}
 use Rattle.screen_frame.specs.Colours.{shown}
 use Rattle.screen_layers.specs.declared.control.Layer.{Layer}
 use Rattle.screen_layers.specs.declared.control.Layer.TheVariants.{Background, Foreground}

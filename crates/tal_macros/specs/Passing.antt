@@ -1,5 +1,6 @@
 -- What is left for a pass over the words of a source.
-use Rattle.std.specs.Prelude.{◌≡◌, ℕ, ◌+◌, ◌-◌, ◌*◌, ◌<◌, ◌≤◌, ◌⊎◌, true, false, List, [], ◌∷◌, ◌++◌, length, map, drop, Option, Some, Result, Ok, Err}
+use Rattle.std.specs.Prelude.{◌≡◌, ℕ, ◌+◌, ◌-◌, ◌*◌, ◌<◌, ◌≤◌, ◌⊎◌, true, false, List, [], ◌∷◌, ◌++◌, length, map}
+use Rattle.std.specs.Prelude.{drop, Option, Some, Result, Ok, Err}
 use Rattle.std.specs.List.{flat_map}
 use Rattle.tal_words.specs.declared.span.Word.{Word}
 use Rattle.tal_words.specs.declared.fault.Fault.{Fault}
@@ -12,7 +13,8 @@ use Rattle.tal_macros.specs.declared.body.Body.{Body}
 use Rattle.tal_macros.specs.declared.pass.Pass.{Pass}
 use Rattle.tal_macros.specs.declared.pass.Turn.{Turn}
 use Rattle.tal_macros.specs.declared.pass.Turn.TheVariants.{Passed, Word as Given, End}
-use Rattle.tal_macros.specs.Expansion.{Macro, Part, Plain, Head, Inside, Visited, parts_from, macro_given, visits, depth_limit, visit_limit, head_faults, expansion_fault}
+use Rattle.tal_macros.specs.Expansion.{Macro, Part, Plain, Head, Inside, Visited, parts_from, macro_given, visits, depth_limit}
+use Rattle.tal_macros.specs.Expansion.{visit_limit, head_faults, expansion_fault}
 use Rattle.tal_macros.specs.Bodies.{body_words, known_of}
 use Rattle.tal_macros.specs.Steps.{Step, visit_steps, head_steps, reached, next_word, count_to_next, visits_before_fault}
 
@@ -81,7 +83,8 @@ module _ (source : List ℕ) where
 
     -- what a step of a pass answers
     abbrev pub TurnGives : Pass → Pass → Result Turn AsmStop → Type 0
-    TurnGives old new (Ok Passed) = (Passes old new ⊎ ((word : Visited) × (word.is_use ≡ true) × Visits old new word)) × (to_go new < to_go old)
+    TurnGives old new (Ok Passed) =
+        (Passes old new ⊎ ((word : Visited) × (word.is_use ≡ true) × Visits old new word)) × (to_go new < to_go old)
     TurnGives old new (Ok (Given given)) =
         (word : Visited) × (word.is_use ≡ false) × (given ≡ record { text = word.text; origin = word.origin }) × Visits old new word
     TurnGives old new (Ok End) = (left old ≡ []) × Passes old new

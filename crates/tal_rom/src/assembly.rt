@@ -103,7 +103,7 @@ fn in_one_pass(alloc: Global, source: &[u8], words: &[Word]) -> Result<Option<As
 }
 
 /// The assembly of a source, which has these words and no fault before that of a macro, phase by phase, or its first fault.
-fn by_phases(alloc: Global, source: &[u8], words: &[Word]) -> Result<Assembly, AsmStop>
+pub fn by_phases(alloc: Global, source: &[u8], words: &[Word]) -> Result<Assembly, AsmStop>
     requires words { words.now ≡ words_of source.now }
     requires sound { word_fault source.now ≡ None }
     requires short { length source.now ≤ source_limit }

@@ -1,9 +1,8 @@
 //! Sources with their ROMs, labels and addresses. The faults of sources are cases of the command line.
 
+use crate::assembly::by_phases;
 use crate::{AsmStop, Fault, FaultKind, assemble};
 use std::alloc::{AllocError, Global};
-use tal_labels::place;
-use tal_macros::expand;
 use tal_words::words;
 
 /// Sources, each with its ROM.
@@ -92,23 +91,77 @@ fn assemblies_tell_labels_and_places(rt: HostRuntime) {
     assert!(rt; tells_labels_and_places(rt.alloc()));
 }
 
-/// The address of the label x of a source, by the three passes alone.
-fn address_of_x(alloc: Global, source: &[u8]) -> Option<u16> {
-    let Ok(words) = words(alloc, source) else {
-        return None;
-    };
-    let Ok(expanded) = expand(alloc, source, &words) else {
-        return None;
-    };
-    match place(alloc, source, &expanded) {
-        Ok(placed) => placed.address_of(b"x"),
-        Err(_) => None,
+/// What sources are made of, each a few words.
+static PIECES: [&[u8]; 24] = [
+    b"@a ",
+    b"@b/c &d ",
+    b"&e ",
+    b";a ",
+    b",&e ",
+    b".b/c ",
+    b"=a ",
+    b"_/e ",
+    b"!a ",
+    b"{ ",
+    b"?{ ",
+    b"} ",
+    b"#1234 ",
+    b"01 ",
+    b"\"text ",
+    b"$3 ",
+    b"|0180 ",
+    b"INC2k ",
+    b"( } ) ",
+    b"[ ",
+    b"%m { 02 } ",
+    b"m ",
+    b"{ 03 } ",
+    b"$0 ",
+];
+
+/// A source of eight pieces, by a number.
+fn made(alloc: Global, seed: u32) -> Result<Vec<u8>, AllocError> {
+    let mut source = Vec::new(alloc);
+    let mut state = seed;
+    for _ in 0..8 {
+        state = state.wrapping_mul(1_103_515_245).wrapping_add(12_345);
+        source.extend_from_slice(PIECES[(state / 65_536) as usize % 24])?;
+    }
+    Ok(source)
+}
+
+/// Says whether the answer to a source is that of its phases one after the other.
+fn agrees(alloc: Global, source: &[u8]) -> Result<bool, AsmStop> {
+    let words = words(alloc, source)?;
+    match by_phases(alloc, source, &words) {
+        Ok(assembly) => Ok(has_rom(alloc, source, Some(assembly.rom()))),
+        Err(AsmStop::Refused(fault)) => Ok(has_fault(alloc, source, fault)),
+        Err(AsmStop::NoMemory) => Ok(false),
     }
 }
 
+/// Says whether a source is refused with this fault.
+fn has_fault(alloc: Global, source: &[u8], fault: Fault) -> bool {
+    match assemble(alloc, source) {
+        Err(AsmStop::Refused(found)) => found == fault,
+        _ => false,
+    }
+}
+
+/// Says whether the source of a number agrees.
+fn made_agrees(alloc: Global, seed: u32) -> Result<bool, AsmStop> {
+    let source = made(alloc, seed)?;
+    agrees(alloc, &source)
+}
+
 #[test]
-fn passes_need_no_more_than_the_ones_before_promise(rt: HostRuntime) {
-    assert!(rt; address_of_x(rt.alloc(), b"%m { 01 } m @x m") == Some(0x0101));
+fn one_pass_answers_as_the_phases_do(rt: HostRuntime) {
+    for seed in 0..400 {
+        assert!(rt;
+            matches!(made_agrees(rt.alloc(), seed), Ok(true)),
+            "at {seed}"
+        );
+    }
 }
 
 /// A byte, so many times, and then these.

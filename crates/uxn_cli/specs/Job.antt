@@ -101,9 +101,9 @@ abbrev pub further_lines : Version → Tally → List ℕ
 further_lines First tally = []
 further_lines Second tally = report_line (codes "expects") tally.expects ++ report_line (codes "misses") tally.misses
 
--- the report of a run: its exit code and what was counted
-unfoldable pub report_text : Version → ℕ → Tally → List ℕ
-report_text version exit tally =
+-- the lines of both versions
+unfoldable pub common_lines : ℕ → Tally → List ℕ
+common_lines exit tally =
     report_line (codes "exit") exit
     ++ report_line (codes "instructions") tally.instructions
     ++ report_line (codes "vectors") tally.vectors
@@ -111,7 +111,10 @@ report_text version exit tally =
     ++ report_line (codes "events") tally.events
     ++ report_line (codes "frames") tally.frames
     ++ report_line (codes "shots") tally.shots
-    ++ further_lines version tally
+
+-- the report of a run: its exit code and what was counted
+unfoldable pub report_text : Version → ℕ → Tally → List ℕ
+report_text version exit tally = common_lines exit tally ++ further_lines version tally
 
 -- a text in a file, where the file is asked for
 abbrev pub text_at : Option (List ℕ) → List ℕ → List Text

@@ -39,7 +39,9 @@ reporting report version trail = trail.changes ++ filling_all (report_of report 
 
 -- a run: its files are made, it runs, its report is written, and then the log of a debugger
 unfoldable pub running : Job → List Change
-running job = creating (outputs_in job) ++ (reporting job.report job.script.version (trail_of job) ++ filling_all (log_by job.debug (trail_of job)))
+running job =
+    creating (outputs_in job)
+    ++ (reporting job.report job.script.version (trail_of job) ++ filling_all (log_by job.debug (trail_of job)))
 
 abbrev pub outcome_of : Result Work Refusal → Outcome
 outcome_of (Err refusal) = record { status = status_of refusal; changes = map (λ byte. ToErr byte) (line_of refusal) }

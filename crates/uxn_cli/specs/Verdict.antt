@@ -27,6 +27,8 @@ use Rattle.uxn_io.specs.Changes.{can_create}
 use Rattle.uxn_io.specs.Files.{Nodes, file_at}
 use Rattle.uxn_io.specs.WholeFile.{whole_file}
 use Rattle.uxn_words.specs.declared.words.Command.{Command}
+use Rattle.uxn_memory.specs.Bytes.{largest_rom}
+use Rattle.tal_rom.specs.Rom.{rom_limit}
 use Rattle.uxn_words.specs.declared.words.Command.TheVariants.{Play, Debug, Assemble, Disassemble, Generate}
 use Rattle.uxn_words.specs.declared.task.Task.{Task}
 use Rattle.uxn_cli.specs.declared.refusal.Refusal.{Refusal}
@@ -49,12 +51,13 @@ pub record View : Type 0 where
   pub parent : Bool
   pub blocked : Option (List ℕ)
 
--- no more bytes of a file are looked at: 65,280 of a ROM, and 4,194,304 of a source
+-- no more bytes of a file are looked at: all banks are filled by a ROM that is run, bank 0 by one that is disassembled, as by one
+-- that a source is assembled to; and 4,194,304 of a source
 abbrev pub limit_by : Command → Bool → ℕ
-limit_by Play rom = if rom then 65280 else 4194304
-limit_by Debug rom = if rom then 65280 else 4194304
+limit_by Play rom = if rom then largest_rom else 4194304
+limit_by Debug rom = if rom then largest_rom else 4194304
 limit_by Assemble rom = 4194304
-limit_by Disassemble rom = 65280
+limit_by Disassemble rom = rom_limit
 limit_by Generate rom = 0
 
 abbrev pub file_limit : Task → ℕ

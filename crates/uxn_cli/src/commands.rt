@@ -1,5 +1,5 @@
 //! Inputs that are accepted, and what `dis` does.
-ghost use Rattle.std.specs.Prelude.{◌≡◌, ◌<◌, ◌≤◌, Ok, Err, None, false, length, IfOk, IsOk, IfSome, OnOk, OnErr, is_err};
+ghost use Rattle.std.specs.Prelude.{◌≡◌, ℕ, ◌<◌, ◌≤◌, Ok, Err, None, false, length, IfOk, IsOk, IfSome, OnOk, OnErr, is_err};
 ghost use Rattle.uxn_io.specs.Told.{extended, HasTakenFront};
 ghost use Rattle.uxn_io.specs.Faults.{Counted, Ledger, TheTree, ASink, counts};
 ghost use Rattle.uxn_io.specs.Room.{Leaves};
@@ -26,8 +26,8 @@ use uxn_words::{Command, Task};
 /// The greatest length of a source in bytes.
 pub const SOURCE_LIMIT: u32 = 4_194_304;
 
-/// The greatest length of a ROM in bytes.
-pub const ROM_LIMIT: u32 = 65_280;
+/// The greatest length of a ROM that is disassembled, in bytes: it ends with bank 0.
+const ROM_LIMIT: u32 = 65_280;
 
 /// The greatest length of a symbol file in bytes.
 pub const SYMBOLS_LIMIT: u32 = 16_777_216;
@@ -74,9 +74,8 @@ pub fn accept_source(alloc: Global, path: &Path, file: FileBytes) -> Result<Acce
 
 /// The ROM in a file, unless no file is there or it is too long.
 pub fn accept_rom(path: &Path, file: FileBytes) -> Result<Bytes, Halt>
-    requires { KeepsLimit 65280 file }
     ensures follows { Follows (λ rom. rom.list) result (rom_in path.now file) }
-    ensures room { IfOk result (λ rom. length rom.list ≤ 65280) }
+    ensures room { IfOk result (λ rom. (limit : ℕ) → KeepsLimit limit file → length rom.list ≤ limit) }
 {
     match file {
         FileBytes::Found(rom) => Ok(rom),

@@ -2,6 +2,7 @@
 ghost use Rattle.std.specs.Prelude.{◌≡◌, ◌≤◌, Ok, length, IfOk, IfSome};
 ghost use Rattle.uxn_io.specs.Faults.{Ledger, TheTree, ASink, counts};
 ghost use Rattle.uxn_cli.specs.World.{world};
+ghost use Rattle.tal_rom.specs.Rom.{rom_limit};
 ghost use Rattle.uxn_workload.specs.Summary.{summary_text};
 ghost use Rattle.uxn_cli.specs.Ended.{told_by_run};
 ghost use Rattle.uxn_cli.specs.Workload.{workload_text};
@@ -55,7 +56,7 @@ fn sum_up(
 
 /// Runs a workload on a machine of its own, with a tree and sinks of its own, and sums it up. A fault of these is want of memory.
 fn run_workload(alloc: Global, accepted: &Accepted, script: Script) -> Result<Vec<u8>, AllocError>
-    requires { length accepted.now.assembly.rom ≤ 65280 }
+    requires { length accepted.now.assembly.rom ≤ rom_limit }
     ensures { IfOk result (λ text. text.items ≡ workload_text accepted.now.source.list accepted.now.assembly.rom script) }
 {
     let mut machine = new_machine(alloc, None, accepted.assembly.rom(), script)?;

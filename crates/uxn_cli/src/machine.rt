@@ -1,5 +1,6 @@
 //! A machine before its run.
 ghost use Rattle.std.specs.Prelude.{◌≡◌, ◌≤◌, length, IfOk};
+ghost use Rattle.uxn_memory.specs.Bytes.{largest_rom};
 ghost use Rattle.uxn_opcodes.specs.Rule.{new_core};
 ghost use Rattle.uxn_cli.specs.Job.{clock_by};
 ghost use Rattle.uxn_cli.specs.Prepared.{AreNew};
@@ -39,7 +40,7 @@ pub fn new_machine(
     rom: &[u8],
     script: Script,
 ) -> Result<Machine, AllocError>
-    requires { length rom.now ≤ 65280 }
+    requires { length rom.now ≤ largest_rom }
     ensures core { IfOk result (λ machine. machine.core ≡ new_core rom.now) }
     ensures devices { IfOk result (λ machine. AreNew machine.devices script root) }
     ensures script { IfOk result (λ machine. machine.script ≡ script) }

@@ -2,15 +2,17 @@
 ghost use Rattle.std.specs.Prelude.{◌≡◌, ◌<◌, ◌≤◌, true, false, Some, length, IfOk, OnOk};
 ghost use Rattle.uxn_io.specs.Faults.{Ledger, TheTree, counts};
 ghost use Rattle.uxn_io.specs.Room.{Leaves};
+ghost use Rattle.uxn_memory.specs.Bytes.{largest_rom};
 ghost use Rattle.uxn_cli.specs.Blame.{blame_in};
 ghost use Rattle.uxn_cli.specs.Verdict.{limit_by, file_input};
 ghost use Rattle.uxn_cli.specs.Prepared.{Loads, rom_in_program, labels_in_program};
 
-use super::commands::{Accepted, ROM_LIMIT, SOURCE_LIMIT, accept_rom, accept_source};
+use super::commands::{Accepted, SOURCE_LIMIT, accept_rom, accept_source};
 use super::refusal::Halt;
 use std::alloc::Global;
 use tal_words::Label;
 use uxn_io::{Bytes, Tree, read_file};
+use uxn_memory::LARGEST_ROM;
 use uxn_words::Task;
 
 /// A program that is accepted.
@@ -48,15 +50,15 @@ impl Program {
 fn load_rom<T: Tree>(alloc: Global, task: &Task, tree: &mut T) -> Result<Program, Halt>
     requires rom { task.now.rom ≡ true }
     requires file { file_input task.now.command task.now ≡ Some task.now.file }
-    requires limit { limit_by task.now.command true ≡ 65280 }
+    requires limit { limit_by task.now.command true ≡ largest_rom }
     ensures loads { Loads (T.told tree.old) task.now result }
-    ensures room { IfOk result (λ program. length (rom_in_program program) ≤ 65280) }
+    ensures room { IfOk result (λ program. length (rom_in_program program) ≤ largest_rom) }
     ensures same { T.told tree.new ≡ T.told tree.old }
     ensures ledger { Ledger (counts (T.faults tree.old) 0 0) (counts (T.faults tree.new) 0 0) (blame_in result) }
     ensures sure { 0 < (T.sure tree.old).files → blame_in result ≡ TheTree → ⊥ }
     ensures left { OnOk result (Leaves (T.sure tree.old) (T.sure tree.new) 0 0) }
 {
-    let file = read_file(alloc, tree, &task.file, ROM_LIMIT)?;
+    let file = read_file(alloc, tree, &task.file, LARGEST_ROM as u32)?;
     Ok(Program::Rom(accept_rom(&task.file, file)?))
 }
 
@@ -66,7 +68,7 @@ fn load_source<T: Tree>(alloc: Global, task: &Task, tree: &mut T) -> Result<Prog
     requires file { file_input task.now.command task.now ≡ Some task.now.file }
     requires limit { limit_by task.now.command false ≡ 4194304 }
     ensures loads { Loads (T.told tree.old) task.now result }
-    ensures room { IfOk result (λ program. length (rom_in_program program) ≤ 65280) }
+    ensures room { IfOk result (λ program. length (rom_in_program program) ≤ largest_rom) }
     ensures same { T.told tree.new ≡ T.told tree.old }
     ensures ledger { Ledger (counts (T.faults tree.old) 0 0) (counts (T.faults tree.new) 0 0) (blame_in result) }
     ensures sure { 0 < (T.sure tree.old).files → blame_in result ≡ TheTree → ⊥ }
@@ -79,10 +81,10 @@ fn load_source<T: Tree>(alloc: Global, task: &Task, tree: &mut T) -> Result<Prog
 /// The program that a task is about, where it is accepted.
 pub fn load<T: Tree>(alloc: Global, task: &Task, tree: &mut T) -> Result<Program, Halt>
     requires file { file_input task.now.command task.now ≡ Some task.now.file }
-    requires rom { limit_by task.now.command true ≡ 65280 }
+    requires rom { limit_by task.now.command true ≡ largest_rom }
     requires source { limit_by task.now.command false ≡ 4194304 }
     ensures loads { Loads (T.told tree.old) task.now result }
-    ensures room { IfOk result (λ program. length (rom_in_program program) ≤ 65280) }
+    ensures room { IfOk result (λ program. length (rom_in_program program) ≤ largest_rom) }
     ensures same { T.told tree.new ≡ T.told tree.old }
     ensures ledger { Ledger (counts (T.faults tree.old) 0 0) (counts (T.faults tree.new) 0 0) (blame_in result) }
     ensures sure { 0 < (T.sure tree.old).files → blame_in result ≡ TheTree → ⊥ }

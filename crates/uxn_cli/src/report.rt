@@ -3,7 +3,8 @@ ghost use Rattle.std.specs.Prelude.{◌≡◌, ◌+◌, ◌≤◌, ◌++◌, len
 ghost use Rattle.arrayvec.specs.ArrayVec.{array_vec_len};
 ghost use Rattle.play_script.specs.declared.script.Version.{Version};
 ghost use Rattle.play_script.specs.Scripts.{version_number};
-ghost use Rattle.uxn_cli.specs.Job.{report_line, report_text};
+ghost use Rattle.play_script.specs.declared.script.Version.TheVariants.{Second as second};
+ghost use Rattle.uxn_cli.specs.Job.{common_lines, further_lines, report_line, report_text};
 
 use arrayvec::ArrayVec;
 use uxn_io::decimal;
@@ -21,10 +22,11 @@ fn push_line(text: &mut ArrayVec<u8, 256>, name: &[u8], count: u64)
     let _ = text.try_extend_from_slice(b"\n");
 }
 
-/// What is told of a run: seven lines, its exit code and what was counted, and two more for a script of version 2.
-#[tactic(auto, unfolding(crate::specs::Job::report_text))]
-pub fn report(version: u8, exit: u8, tally: &Tally) -> ArrayVec<u8, 256>
-    ensures { (number : Version) → version ≡ version_number number → result.items ≡ report_text number exit tally.now }
+/// The lines of both versions: the exit code and what was counted.
+#[tactic(auto, unfolding(crate::specs::Job::common_lines))]
+fn common_lines(exit: u8, tally: &Tally) -> ArrayVec<u8, 256>
+    ensures lines { result.items ≡ common_lines exit tally.now }
+    ensures len { array_vec_len result ≤ 198 }
 {
     let mut text = ArrayVec::new();
     push_line(&mut text, b"exit", u64::from(exit));
@@ -34,9 +36,25 @@ pub fn report(version: u8, exit: u8, tally: &Tally) -> ArrayVec<u8, 256>
     push_line(&mut text, b"events", tally.events);
     push_line(&mut text, b"frames", tally.frames);
     push_line(&mut text, b"shots", tally.shots);
+    text
+}
+
+/// Puts the lines that only version 2 has behind others.
+fn push_further(text: &mut ArrayVec<u8, 256>, tally: &Tally)
+    requires { array_vec_len text.old ≤ 198 }
+    ensures { text.new.items ≡ text.old.items ++ further_lines second tally.now }
+{
+    push_line(text, b"expects", tally.expects);
+    push_line(text, b"misses", tally.misses);
+}
+
+/// What is told of a run: seven lines, its exit code and what was counted, and two more for a script of version 2.
+pub fn report(version: u8, exit: u8, tally: &Tally) -> ArrayVec<u8, 256>
+    ensures { (number : Version) → version ≡ version_number number → result.items ≡ report_text number exit tally.now }
+{
+    let mut text = common_lines(exit, tally);
     if version == 2 {
-        push_line(&mut text, b"expects", tally.expects);
-        push_line(&mut text, b"misses", tally.misses);
+        push_further(&mut text, tally);
     }
     text
 }

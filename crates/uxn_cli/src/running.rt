@@ -167,7 +167,11 @@ pub fn run_made<T: Tree, O: Sink, E: Sink, W: Watcher>(
         err,
         watcher,
     )?;
-    match write_text(&task.report, &report(script.version(), ended.exit, &ended.tally), tree) {
+    match write_text(
+        &task.report,
+        &report(script.version(), ended.exit, &ended.tally),
+        tree,
+    ) {
         Ok(()) => Ok(ended.exit),
         Err(Failed) => Err(Stop::TreeFault),
     }

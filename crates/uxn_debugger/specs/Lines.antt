@@ -39,7 +39,7 @@ bytes_from address None = Err BadValue
 bytes_from address (Some count) = made (λ at. Mem at count) address
 
 -- the first words, with how many values each takes
-abbrev pub rows : Rows Keyword
+unfoldable pub rows : Rows Keyword
 rows =
     (codes "break", Exactly 1, word.Break)
     ∷ (codes "delete", Exactly 1, word.Delete)

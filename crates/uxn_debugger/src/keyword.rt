@@ -1,5 +1,9 @@
 //! The first words of lines, and how many values stand behind them.
 
+ghost use Rattle.std.specs.Prelude.{◌≡◌};
+ghost use Rattle.line_texts.specs.Rows.{rows_in};
+ghost use Rattle.uxn_debugger.specs.Lines.{rows};
+
 use line_texts::{Counts, Row};
 
 /// The first word of a line that gives a command.
@@ -16,7 +20,7 @@ pub(crate) enum Keyword {
 }
 
 /// The lines of commands.
-pub(crate) static ROWS: [Row<Keyword>; 8] = [
+static ROWS: [Row<Keyword>; 8] = [
     Row("break", Counts::Exactly(1), Keyword::Break),
     Row("delete", Counts::Exactly(1), Keyword::Delete),
     Row("run", Counts::Exactly(0), Keyword::Run),
@@ -26,3 +30,11 @@ pub(crate) static ROWS: [Row<Keyword>; 8] = [
     Row("mem", Counts::Exactly(2), Keyword::Mem),
     Row("ports", Counts::Exactly(0), Keyword::Ports),
 ];
+
+// The lines of commands.
+#[tactic(auto, unfolding(crate::specs::Lines::rows))]
+pub(crate) fn rows() -> &'static [Row<Keyword>]
+    ensures { rows_in result.now ≡ rows }
+{
+    ROWS.as_slice()
+}

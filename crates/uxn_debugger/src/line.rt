@@ -6,7 +6,7 @@ ghost use Rattle.tal_words.specs.Digits.{is_digit, digit_value, is_short_number,
 ghost use Rattle.uxn_debugger.specs.Lines.{address_in, line_of, made_of};
 
 use crate::command::{CommandKind, DebugCommand};
-use crate::keyword::{Keyword, ROWS};
+use crate::keyword::{Keyword, rows};
 use line_texts::{begins_with, first_word, keyword_line, number_within};
 use tal_symbols::{Label, address_of};
 
@@ -27,7 +27,7 @@ pub(crate) fn line_of(labels: &[Label], line: &[u8]) -> Result<Option<DebugComma
     if begins_with(b'#', name) {
         return Ok(None);
     }
-    match keyword_line(ROWS.as_slice(), name, values) {
+    match keyword_line(rows(), name, values) {
         Ok(keyword) => match made_of(labels, keyword, values) {
             Ok(command) => Ok(Some(command)),
             Err(kind) => Err(kind),

@@ -1,9 +1,8 @@
-//! Sessions with the logs that they print, faults of commands, and the limits.
+//! Sessions with the logs that they print. Each fault of commands, and their limits, are shown on the command line.
 
 use super::*;
 use play_script::{Script, read_script};
 use std::alloc::{AllocError, Global};
-use std::process::Abort;
 use tal_symbols::{Label, Name};
 use uxn_io::{MemSink, MemTree};
 use uxn_opcodes::Core;
@@ -25,7 +24,7 @@ type Session = (
     &'static [u8],
 );
 
-static SESSIONS: [Session; 10] = [
+static SESSIONS: [Session; 7] = [
     (
         PUTS,
         b"",
@@ -68,27 +67,6 @@ static SESSIONS: [Session; 10] = [
         b"",
         b"# a comment\n\n\tmem 00fe 18 \r\nmem @v 2\nstep 5\nwhere\nstep 4294967295\nstep 1\nrun\nstacks",
         b"00fe 00 00 a0 01 07 80 20 37 00 01 00 00 00 00 00 00\n010e 00 00\n0107 01 00\nat 0108 5 BRK v+0001\nat 0108 5 BRK v+0001\nend 6\nend 6\nend 6\nWST 00 00 00 00 00 00 00 01\nRST 00 00 00 00 00 00 00 00\n",
-    ),
-    (
-        COUNTS,
-        b"frame 3",
-        b"",
-        b"break @v\nbreak 0108\nrun\nrun\ndelete 0107\nrun\nrun",
-        b"break 0107\nbreak 0108\nat 0107 4 INC v+0000\nat 0108 5 BRK v+0001\ndelete 0107\nat 0108 7 BRK v+0001\nat 0108 9 BRK v+0001\n",
-    ),
-    (
-        PUTS,
-        b"",
-        b"A",
-        b"where\nbreak 0105\nrun\nwhere",
-        b"at 0100 0 LIT\nbreak 0105\nat 0105 3 BRK\nat 0105 3 BRK\n",
-    ),
-    (
-        COUNTS,
-        b"",
-        b"",
-        b"step 3\nports",
-        b"at 0106 3 BRK\n00 00 00 00 00 00 00 00 00 00 00 00 00 00 00 00 00\n10 00 00 00 00 00 00 00 00 00 00 00 00 00 00 00 00\n20 01 07 02 00 01 40 00 00 00 00 00 00 00 00 00 00\n30 00 00 00 00 00 00 00 00 00 00 00 00 00 00 00 00\n40 00 00 00 00 00 00 00 00 00 00 00 00 00 00 00 00\n50 00 00 00 00 00 00 00 00 00 00 00 00 00 00 00 00\n60 00 00 00 00 00 00 00 00 00 00 00 00 00 00 00 00\n70 00 00 00 00 00 00 00 00 00 00 00 00 00 00 00 00\n80 00 00 00 00 00 00 00 00 00 00 00 00 00 00 00 00\n90 00 00 00 00 00 00 00 00 00 00 00 00 00 00 00 00\na0 00 00 00 00 00 00 00 00 00 00 00 00 00 00 00 00\nb0 00 00 00 00 00 00 00 00 00 00 00 00 00 00 00 00\nc0 07 b2 00 01 00 00 00 04 00 00 00 00 00 00 00 00\nd0 00 00 00 00 00 00 00 00 00 00 00 00 00 00 00 00\ne0 00 00 00 00 00 00 00 00 00 00 00 00 00 00 00 00\nf0 00 00 00 00 00 00 00 00 00 00 00 00 00 00 00 00\n",
     ),
 ];
 
@@ -191,120 +169,4 @@ fn sessions_print_their_logs(rt: HostRuntime) -> Result<(), AllocError> {
         assert!(rt; agrees(rt.alloc(), &labels, session), "at {:?}", session.3);
     }
     Ok(())
-}
-
-// How many commands there are in a text, or its first faulty line and the fault there.
-type Counted = Result<usize, (u32, CommandKind)>;
-
-/// Texts, each with its first faulty line and the fault there.
-static FAULTS: [(&[u8], Result<Counted, AllocError>); 31] = [
-    (b"break @nowhere", Ok(Err((1, CommandKind::NoSuchLabel)))),
-    (b"go", Ok(Err((1, CommandKind::Unknown)))),
-    (b"Run", Ok(Err((1, CommandKind::Unknown)))),
-    (b"back 1", Ok(Err((1, CommandKind::Unknown)))),
-    (b"\n# run\nruns 1 2 3", Ok(Err((3, CommandKind::Unknown)))),
-    (b"break", Ok(Err((1, CommandKind::Missing)))),
-    (b"delete \t", Ok(Err((1, CommandKind::Missing)))),
-    (b"step", Ok(Err((1, CommandKind::Missing)))),
-    (b"mem", Ok(Err((1, CommandKind::Missing)))),
-    (b"run\nmem 100", Ok(Err((2, CommandKind::Missing)))),
-    (b"run 1", Ok(Err((1, CommandKind::Extra)))),
-    (b"where 0100", Ok(Err((1, CommandKind::Extra)))),
-    (b"stacks #", Ok(Err((1, CommandKind::Extra)))),
-    (b"ports 10", Ok(Err((1, CommandKind::Extra)))),
-    (b"break x y", Ok(Err((1, CommandKind::Extra)))),
-    (b"delete @v 1", Ok(Err((1, CommandKind::Extra)))),
-    (b"step 0 0", Ok(Err((1, CommandKind::Extra)))),
-    (b"mem x 0 1", Ok(Err((1, CommandKind::Extra)))),
-    (b"break 100", Ok(Err((1, CommandKind::BadValue)))),
-    (b"break 00FF", Ok(Err((1, CommandKind::BadValue)))),
-    (b"delete #0100", Ok(Err((1, CommandKind::BadValue)))),
-    (b"break @", Ok(Err((1, CommandKind::BadValue)))),
-    (b"step 0", Ok(Err((1, CommandKind::BadValue)))),
-    (b"step 01", Ok(Err((1, CommandKind::BadValue)))),
-    (b"step 4294967296", Ok(Err((1, CommandKind::BadValue)))),
-    (b"mem 0100 0", Ok(Err((1, CommandKind::BadValue)))),
-    (b"mem 0100 257", Ok(Err((1, CommandKind::BadValue)))),
-    (b"mem @nowhere 0", Ok(Err((1, CommandKind::BadValue)))),
-    (b"mem 100 1", Ok(Err((1, CommandKind::BadValue)))),
-    (b"mem @nowhere 1", Ok(Err((1, CommandKind::NoSuchLabel)))),
-    (
-        b"run\r\ndelete @V\ngo",
-        Ok(Err((2, CommandKind::NoSuchLabel))),
-    ),
-];
-
-// Counts the commands of a text.
-fn count(alloc: Global, text: &[u8]) -> Result<Counted, AllocError> {
-    let labels = labels(alloc)?;
-    match read_commands(alloc, text, &labels) {
-        Ok(commands) => Ok(Ok(commands.len())),
-        Err(CommandStop::Refused { line, kind }) => Ok(Err((line, kind))),
-        Err(CommandStop::NoMemory) => Err(AllocError),
-    }
-}
-
-// Counts the commands of a text that has a piece so many times, and then a last piece.
-fn count_behind(
-    alloc: Global,
-    times: u32,
-    piece: &[u8],
-    last: &[u8],
-) -> Result<Counted, AllocError> {
-    let mut text = Vec::new(alloc);
-    for _ in 0..times {
-        text.extend_from_slice(piece)?;
-    }
-    text.extend_from_slice(last)?;
-    count(alloc, &text)
-}
-
-// Counts the commands of texts that begin with a piece so many times, and then have these last pieces.
-fn count_all(
-    rt: &impl Abort,
-    alloc: Global,
-    times: u32,
-    piece: &[u8],
-    rows: &[(&[u8], Result<Counted, AllocError>)],
-) {
-    for (last, answer) in rows {
-        assert!(rt;
-            count_behind(alloc, times, piece, last) == *answer,
-            "at {last:?}"
-        );
-    }
-}
-
-#[test]
-fn the_first_fault_of_the_first_faulty_line_is_found(rt: HostRuntime) {
-    count_all(&rt, rt.alloc(), 0, b"", &FAULTS);
-}
-
-/// What stands behind 65,536 commands, with the answer.
-static MANY: [(&[u8], Result<Counted, AllocError>); 3] = [
-    (b"", Ok(Ok(65_536))),
-    (b"#\nrun 1", Ok(Err((65_538, CommandKind::Extra)))),
-    (b"#\nrun", Ok(Err((65_538, CommandKind::ManyCommands)))),
-];
-
-#[test]
-fn there_are_65536_commands_at_most(rt: HostRuntime) {
-    count_all(&rt, rt.alloc(), 65_536, b"run\n", &MANY);
-}
-
-/// What stands behind 4,194,304 spaces, with the answer.
-static LONG: [(&[u8], Result<Counted, AllocError>); 2] = [
-    (b"", Ok(Ok(0))),
-    (b" ", Ok(Err((1, CommandKind::LongCommands)))),
-];
-
-#[test]
-fn commands_have_4194304_bytes_at_most(rt: HostRuntime) {
-    count_all(&rt, rt.alloc(), 4_194_304, b" ", &LONG);
-}
-
-#[test]
-fn kinds_have_the_names_that_are_printed(rt: HostRuntime) {
-    assert!(rt; CommandKind::Unknown.name() == "Unknown");
-    assert!(rt; CommandKind::NoSuchLabel.name() == "NoSuchLabel");
 }

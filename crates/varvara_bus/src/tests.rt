@@ -229,6 +229,11 @@ fn pieces_are_appended_and_frames_rendered(rt: HostRuntime) -> Result<(), Fail> 
         [[0x11, 0, 0], [0x22, 0, 0], [0x33, 0, 0], [0x44, 0, 0x55]]
     );
     let mut core = Core::new(rt.alloc(), &[])?;
+    assert_eq!(rt; bus.deo(&mut core, 0x2e, 0x01), Ok(()));
+    assert_eq!(rt; (bus.refresh(), bus.refresh()), (1, 0));
+    let passes = bus.is_endless();
+    assert!(rt; passes);
+    bus.pass_frame();
     assert_eq!(rt; bus.deo(&mut core, 0x5f, 0xbc), Ok(()));
     let mut samples = [7; 1470];
     assert_eq!(rt;

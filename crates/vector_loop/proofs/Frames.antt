@@ -1,4 +1,4 @@
-use Rattle.std.proofs.Common.{◌≡◌, ℕ, ◌+◌, ◌*◌, ◌<◌, get_or, Bool, true, false, cond, List, [], ◌∷◌, slice_index_or, None, map, refl, ap, sym, ◌∙◌, arith}
+use Rattle.std.proofs.Common.{◌≡◌, ℕ, ◌+◌, ◌*◌, ◌<◌, get_or, Bool, true, false, cond, List, [], ◌∷◌, slice_index_or, Option, Some, None, is_some, map, refl, ap, sym, ◌∙◌, arith}
 use Rattle.std.specs.Prelude.{ℤ}
 use Rattle.std.proofs.lemmas.List.FromFn.{get_or-range_with_len}
 use Rattle.uxn_opcodes.specs.declared.Core.{Core}
@@ -67,6 +67,10 @@ shot-is outputs state = refl
 -- a fault of the tree is no want of memory
 no-memory : (stop : Stop) → stop ≡ TreeFault → stop ≡ NoMemory → ⊥
 no-memory stop fault wanted = cc
+
+pub none-is : (path : Option (List ℕ)) → is_some path ≡ false → path ≡ None
+none-is None e = refl
+none-is (Some path) e = cc e
 
 one-none : (given : ℕ → State → Trail) (voice : ℕ) (voices : List ℕ) (state : State) → unless_over (given voice) state ≡ stays state
     → give_each given (voice ∷ voices) state ≡ give_each given voices state

@@ -8,7 +8,7 @@ use play_script::read_script;
 use std::alloc::{AllocError, Global};
 use std::process::Abort;
 use std::test::Fail;
-use uxn_io::{Failed, Kind, MemSink, MemTree, Path, Tree};
+use uxn_io::{Failed, Kind, MemSink, MemTree, Path, Tree, TreeCall};
 use uxn_opcodes::Core;
 use varvara_bus::{Bus, Clock, Devices};
 
@@ -270,7 +270,7 @@ const KEPT: [Kept; 4] = [
     ),
 ];
 
-/// Runs a program and its script over a tree that has the outputs.
+/// Runs a program and its script over a tree that has the outputs. None where the run stops early.
 fn play<T: Tree>(
     rt: &impl Abort,
     alloc: Global,
@@ -279,7 +279,7 @@ fn play<T: Tree>(
     rom: &[u8],
     text: &[u8],
     outputs: &Outputs,
-) -> Result<Tally, Fail> {
+) -> Result<Option<Tally>, Fail> {
     let script = read_script(alloc, text)?;
     let mut devices = rootless(alloc)?;
     let mut err = MemSink::new(alloc, 0, &[])?;
@@ -290,8 +290,8 @@ fn play<T: Tree>(
     let mut bus = Bus::new(&mut devices, tree, out, &mut err);
     assert!(rt; bus.frames() == 0);
     match run_script(&mut core, &mut bus, &script, outputs, 100, &mut NoWatch) {
-        Ok(tally) => Ok(tally),
-        Err(_) => Err(Fail::from(Failed)),
+        Ok(tally) => Ok(Some(tally)),
+        Err(_) => Ok(None),
     }
 }
 
@@ -318,7 +318,9 @@ fn pictures_and_samples_are_kept(rt: HostRuntime) -> Result<(), Fail> {
             (Ok(true), Ok(true))
         );
         let mut out = MemSink::new(rt.alloc(), 100, &[])?;
-        let ran = play(&rt, rt.alloc(), &mut tree, &mut out, rom, text, &outputs)?;
+        let Some(ran) = play(&rt, rt.alloc(), &mut tree, &mut out, rom, text, &outputs)? else {
+            return Err(Fail::from(Failed));
+        };
         assert_eq!(rt; [ran.instructions, ran.vectors], *counts);
         assert_eq!(rt; out.bytes(), *put);
         let shown = kept(&tree, &pictures);
@@ -329,6 +331,32 @@ fn pictures_and_samples_are_kept(rt: HostRuntime) -> Result<(), Fail> {
             let loudly = place / 4 < loud;
             let sample = [0x52, 0x2a, 0, 0][place % 4];
             assert_eq!(rt; *byte, if loudly { sample } else { 0 });
+        }
+    }
+    Ok(())
+}
+
+/// The appends of a picture that fail, by their numbers, and how many bytes of it there are then.
+static CUT: [(u32, usize); 4] = [(0, 0), (1, 11), (2, 35), (8, 179)];
+
+#[test]
+fn a_failed_append_leaves_a_front_of_the_picture(rt: HostRuntime) -> Result<(), Fail> {
+    let pictures = Path::read(b"p")?;
+    let outputs = Outputs {
+        frames: Some(pictures),
+        samples: None,
+    };
+    let (rom, text, _, _, picture, _) = &KEPT[0];
+    for (call, length) in &CUT {
+        let mut tree = MemTree::new(rt.alloc(), &[], 1, 3000, &[(TreeCall::Append, *call)])?;
+        assert_eq!(rt; tree.create(&pictures), Ok(true));
+        let mut out = MemSink::new(rt.alloc(), 100, &[])?;
+        let ran = play(&rt, rt.alloc(), &mut tree, &mut out, rom, text, &outputs)?;
+        assert!(rt; ran.is_none());
+        let shown = kept(&tree, &pictures);
+        assert!(rt; shown.len() == *length);
+        for (place, byte) in picture.iter().enumerate() {
+            assert!(rt; place >= shown.len() || shown[place] == *byte);
         }
     }
     Ok(())

@@ -29,14 +29,14 @@ returns-then-stored-ne0 g c =
     })
     (done-over _ _ (heard c.args.budget c.args.outputs.now) c.stored.result 4 0 c.args.budget c.stored.ensures.stored c.if-stored-ne0.true)
 
-pub give_samples-requires-clause-outputs : goal.give_samples-requires-clause-outputs
-give_samples-requires-clause-outputs g c = outputs-still _ _ _ _ _ c.requires.outputs c.in-Ok.ensures.same.root c.in-Ok.ensures.same.files
+pub give_sound-requires-clause-outputs : goal.give_sound-requires-clause-outputs
+give_sound-requires-clause-outputs g c = outputs-still _ _ _ _ _ c.requires.outputs c.in-Ok.ensures.same.root c.in-Ok.ensures.same.files
 
-pub give_samples-requires-clause-room : goal.give_samples-requires-clause-room
-give_samples-requires-clause-room g c = room-left _ _ _ 1 0 4 0 c.args.budget c.requires.room c.in-Ok.ensures.grown
+pub give_sound-requires-clause-room : goal.give_sound-requires-clause-room
+give_sound-requires-clause-room g c = room-left _ _ _ 1 0 4 0 c.args.budget c.requires.room c.in-Ok.ensures.grown
 
-pub returns-in-Ok-give_samples : goal.returns-in-Ok-give_samples
-returns-in-Ok-give_samples g c =
+pub returns-in-Ok-give_sound : goal.returns-in-Ok-give_sound
+returns-in-Ok-give_sound g c =
     done-both_parts _ _ _ _ c.args.budget c.args.outputs.now (record {
       follows = c.in-Ok.ensures.ok;
       grown = c.in-Ok.ensures.grown;
@@ -46,10 +46,10 @@ returns-in-Ok-give_samples g c =
       files = c.in-Ok.ensures.same.files;
       frames = omega (arith, c.in-Ok.ensures.same.frames);
     })
-    (done-not_over _ _ _ (heard c.args.budget c.args.outputs.now) c.stored.result 4 0 c.args.budget c.stored.ensures.stored c.if-stored-ne0.false c.in-Ok-give_samples.ensures)
+    (done-not_over _ _ _ (heard c.args.budget c.args.outputs.now) c.stored.result 4 0 c.args.budget c.stored.ensures.stored c.if-stored-ne0.false c.in-Ok-give_sound.ensures)
 
-pub returns-in-Err-give_samples : goal.returns-in-Err-give_samples
-returns-in-Err-give_samples g c =
+pub returns-in-Err-give_sound : goal.returns-in-Err-give_sound
+returns-in-Err-give_sound g c =
     heard-stopped _ _ _ _ c.args.budget c.args.outputs.now _ (record {
       follows = c.in-Ok.ensures.ok;
       grown = c.in-Ok.ensures.grown;
@@ -59,4 +59,4 @@ returns-in-Err-give_samples g c =
       files = c.in-Ok.ensures.same.files;
       frames = omega (arith, c.in-Ok.ensures.same.frames);
     })
-    (stopped-not_over _ _ _ (heard c.args.budget c.args.outputs.now) c.stored.result 4 0 c.args.budget _ c.stored.ensures.stored c.if-stored-ne0.false c.in-Err-give_samples.ensures)
+    (stopped-not_over _ _ _ (heard c.args.budget c.args.outputs.now) c.stored.result 4 0 c.args.budget _ c.stored.ensures.stored c.if-stored-ne0.false c.in-Err-give_sound.ensures)
