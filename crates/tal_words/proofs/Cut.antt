@@ -77,13 +77,16 @@ pub pass_start : (source : List ℕ) (all : List Word) (opener : Word) → Passe
 unfolding fault_left comment_depth
 pass_start source all opener = record { so_far = refl; first = refl; depth_now = refl; bound = omega arith }
 
-module _ (source : List ℕ) (all : List Word) (k : ℕ) (words : List Word) (depth : ℕ) (opener : Word) (text : List ℕ)
-    (within : k < length all) (is_text : text ≡ word_text source (get_or all k no_token)) (pass : Passes source all k words depth opener) where
-  abbrev token : Word
-  token = get_or all k no_token
-
+module _ (source : List ℕ) (all : List Word) (k : ℕ) (words : List Word) (depth : ℕ) (opener : Word) (text : List ℕ) (token : Word)
+    (within : k < length all) (is_token : get_or all k no_token ≡ token) (is_text : text ≡ word_text source token)
+    (pass : Passes source all k words depth opener) where
   left : phase_fault (each (judged_token source) [] all) ≡ fault_left source opener (take k all) (token ∷ drop (k + 1) all)
-  left = pass.first ∙ ap (fault_left source opener (take k all)) (drop_more all k no_token within)
+  left =
+      pass.first
+      ∙ ap (fault_left source opener (take k all)) (drop_more all k no_token within ∙ ap (λ first. first ∷ drop (k + 1) all) is_token)
+
+  taken : take (k + 1) all ≡ take k all ++ token ∷ []
+  taken = take_more all k no_token within ∙ ap (λ last. take k all ++ last ∷ []) is_token
 
   inside : 0 < depth → (comment_depth source (take k all) == 0) ≡ false
   inside above = ne_eqb _ 0 (λ none. omega (arith, pass.depth_now))
@@ -103,9 +106,11 @@ module _ (source : List ℕ) (all : List Word) (k : ℕ) (words : List Word) (de
       → fault_left source opener (take k all) (token ∷ drop (k + 1) all) ≡ fault_left source next_opener (take k all ++ token ∷ []) (drop (k + 1) all)
       → now ≡ depth_after depth text → now ≤ depth + 1 → Passes source all (k + 1) more now next_opener
   next more piece next_opener now here added step is_now low = record {
-    so_far = given-more (word_given source) all k words (collected (word_given source) [] all) no_token piece more within pass.so_far here added;
-    first = left ∙ step ∙ ap (λ before. fault_left source next_opener before (drop (k + 1) all)) (sym (take_more all k no_token within));
-    depth_now = is_now ∙ next_depth ∙ ap (comment_depth source) (sym (take_more all k no_token within));
+    so_far =
+        given-more (word_given source) all k words (collected (word_given source) [] all) no_token piece more within pass.so_far
+        (ap (λ first. word_given source (take k all) first (drop (k + 1) all)) is_token ∙ here) added;
+    first = left ∙ step ∙ ap (λ before. fault_left source next_opener before (drop (k + 1) all)) (sym taken);
+    depth_now = is_now ∙ next_depth ∙ ap (comment_depth source) (sym taken);
     bound = omega (arith, pass.bound);
   }
 

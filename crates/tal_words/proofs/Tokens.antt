@@ -1,41 +1,42 @@
--- The tokens of a source, one byte at a time.
-use Rattle.std.proofs.Common.{◌≡◌, ℕ, zero, suc, ◌+◌, ◌-◌, ◌<◌, ◌≤◌, Bool, true, false, List, [], ◌∷◌, ◌++◌, length, get_or, refl, ap, sym, ◌∙◌, arith, add-one, append-nil}
-use Rattle.std.specs.Prelude.{if◌then◌else◌, slice_index}
-use Rattle.std.proofs.lemmas.List.Sums.{count_by_more_yes, count_by_more_no}
+-- The tokens of a source, one byte at a time and one token at a time.
+use Rattle.std.proofs.Common.{◌≡◌, ℕ, zero, suc, ◌+◌, ◌-◌, ◌<◌, ◌≤◌, Bool, true, false, List, [], ◌∷◌, ◌++◌, length, take, get_or, refl, ap, sym, ◌∙◌, arith, add-one, append-nil, append_assoc, ◌⊎◌, inl, inr}
+use Rattle.std.specs.Prelude.{if◌then◌else◌, slice_index, not, ◌&&◌, ◌||◌}
+use Rattle.std.specs.List.{count_by}
+use Rattle.std.proofs.lemmas.List.{length-append, length-take, get_or_past}
+use Rattle.std.proofs.lemmas.List.Sums.{count_by_more_yes, count_by_more_no, count_by-le-length}
+use Rattle.std.proofs.lemmas.Bool.{cases_lt}
+use Rattle.std.proofs.Math.Seq.{get_or-append_seam}
 use Rattle.tal_words.specs.declared.span.Word.{Word}
-use Rattle.tal_words.specs.Source.{is_blank, is_newline, line_at, column_at, is_after_blank, begins_token, token_at, tokens_below, tokens_of}
+use Rattle.tal_words.specs.Source.{is_blank, is_newline, line_at, column_at, is_after_blank, is_between, begins_token, token_at, run_length, tokens_below, tokens_of}
+use Rattle.tal_words.proofs.Runs.{run_length-blank, run_length-more, run_length-end}
 
--- the start of a source
-pub after_blank-zero : (source : List ℕ) (at : ℕ) → at ≡ 0 → is_after_blank source at ≡ true
-after_blank-zero source zero start = refl
-after_blank-zero source (suc before) start = absurd (omega arith)
-
--- a later offset
-pub after_blank-suc : (source : List ℕ) (at : ℕ) → 0 < at → is_after_blank source at ≡ is_blank (get_or source (at - 1) 0)
-after_blank-suc source zero later = absurd (omega arith)
-after_blank-suc source (suc before) later = let one : suc before - 1 ≡ before = omega arith in rw one refl
-
-pub ruleset after_blank = (after_blank-zero, after_blank-suc)
-
--- what the loop knows before a byte: the tokens below it, and where it stands
-pub record Reaches (source : List ℕ) (at : ℕ) (tokens : List Word) (line column : ℕ) : Type 0 where
-  pub found : tokens ≡ tokens_below source at
-  pub lines : line ≡ line_at source at
-  pub columns : column ≡ column_at source at
-  pub line_bound : line ≤ at + 1
-  pub column_bound : column ≤ at + 1
-
-pub reaches_start : (source : List ℕ) → Reaches source 0 [] 1 1
-unfolding line_at column_at tokens_below
-reaches_start source = record { found = refl; lines = refl; columns = refl; line_bound = omega arith; column_bound = omega arith }
-
-line_more : (source : List ℕ) (at : ℕ) → at < length source → (newline : Bool) → is_newline (get_or source at 0) ≡ newline
-    → line_at source (at + 1) ≡ (if newline then line_at source at + 1 else line_at source at)
+-- the line and the column are no greater than the offset and one
+pub line_bound : (source : List ℕ) (at : ℕ) → line_at source at ≤ at + 1
 unfolding line_at
-line_more source at within true h = let more = count_by_more_yes is_newline source at 0 within h in omega (arith, more)
-line_more source at within false h = let more = count_by_more_no is_newline source at 0 within h in omega (arith, more)
+line_bound source at = omega (arith, count_by-le-length is_newline (take at source), length-take at source)
 
-column_more : (source : List ℕ) (at : ℕ)
+pub column_bound : (source : List ℕ) (at : ℕ) → column_at source at ≤ at + 1
+unfolding column_at
+column_bound source zero = omega arith
+column_bound source (suc at) = by (is_newline (slice_index source at)) (column_bound source at)
+  where
+    by : (newline : Bool) → column_at source at ≤ at + 1 → (if newline then 1 else column_at source at + 1) ≤ suc at + 1
+    by true low = omega arith
+    by false low = omega arith
+
+-- one byte more
+pub line_more : (source : List ℕ) (at : ℕ) → at < length source
+    → line_at source (at + 1) ≡ (if is_newline (get_or source at 0) then line_at source at + 1 else line_at source at)
+unfolding line_at
+line_more source at within = by (is_newline (get_or source at 0)) refl
+  where
+    by : (newline : Bool) → is_newline (get_or source at 0) ≡ newline
+        → 1 + count_by is_newline (take (at + 1) source)
+        ≡ (if newline then 1 + count_by is_newline (take at source) + 1 else 1 + count_by is_newline (take at source))
+    by true h = omega (arith, count_by_more_yes is_newline source at 0 within h)
+    by false h = omega (arith, count_by_more_no is_newline source at 0 within h)
+
+pub column_more : (source : List ℕ) (at : ℕ)
     → column_at source (at + 1) ≡ (if is_newline (slice_index source at) then 1 else column_at source at + 1)
 unfolding column_at
 column_more source at = rw (add-one at) refl
@@ -45,44 +46,220 @@ tokens_more : (source : List ℕ) (at : ℕ)
 unfolding tokens_below
 tokens_more source at = rw (add-one at) refl
 
-one_more : (newline : Bool) (line bound : ℕ) → line ≤ bound → (if newline then line + 1 else line) ≤ bound + 1
-one_more true line bound below = omega arith
-one_more false line bound below = omega arith
+after_more : (source : List ℕ) (at : ℕ) → is_after_blank source (at + 1) ≡ is_blank (slice_index source at)
+after_more source at = rw (add-one at) refl
 
-one_more_column : (newline : Bool) (column bound : ℕ) → column ≤ bound → (if newline then 1 else column + 1) ≤ bound + 1
-one_more_column true column bound below = omega arith
-one_more_column false column bound below = omega arith
+-- a byte that is no blank is no newline
+plain_line : (byte : ℕ) → is_blank byte ≡ false → is_newline byte ≡ false
+plain_line byte plain = grind arith
 
--- one byte more
-pub reaches_more : (source : List ℕ) (at : ℕ) (tokens more : List Word) (line column next_line next_column : ℕ)
-    → at < length source → Reaches source at tokens line column
-    → more ≡ tokens ++ (if begins_token source at then token_at source at ∷ [] else [])
+-- what a scanner knows at a place between tokens
+pub record Between (source : List ℕ) (start at line column : ℕ) : Type 0 where
+  pub lines : line ≡ line_at source at
+  pub columns : column ≡ column_at source at
+  pub between : is_between source at ≡ true
+  pub tokens : tokens_below source at ≡ tokens_below source start
+
+or_right : (a b : Bool) → b ≡ true → (a || b) ≡ true
+or_right true b is = refl
+or_right false b is = is
+
+or_left : (a b : Bool) → a ≡ true → (a || b) ≡ true
+or_left true b is = refl
+or_left false b is = cc
+
+and_right : (a b : Bool) → b ≡ false → (a && b) ≡ false
+and_right true b is = is
+and_right false b is = refl
+
+-- a blank behind it
+pub between_more : (source : List ℕ) (start at line column next_line next_column : ℕ) → at < length source
+    → is_blank (get_or source at 0) ≡ true → Between source start at line column
     → next_line ≡ (if is_newline (get_or source at 0) then line + 1 else line)
     → next_column ≡ (if is_newline (get_or source at 0) then 1 else column + 1)
-    → Reaches source (at + 1) more next_line next_column
-reaches_more source at tokens more line column next_line next_column within reaches found lines columns = record {
-  found = found ∙ ap (λ front. front ++ (if begins_token source at then token_at source at ∷ [] else [])) reaches.found ∙ sym (tokens_more source at);
+    → Between source start (at + 1) next_line next_column
+between_more source start at line column next_line next_column within blank here lines columns = record {
   lines =
-      lines ∙ ap (λ number. if is_newline (get_or source at 0) then number + 1 else number) reaches.lines
-      ∙ sym (line_more source at within (is_newline (get_or source at 0)) refl);
+      lines ∙ ap (λ number. if is_newline (get_or source at 0) then number + 1 else number) here.lines
+      ∙ sym (line_more source at within);
   columns =
-      columns ∙ ap (λ number. if is_newline (get_or source at 0) then 1 else number + 1) reaches.columns
+      columns ∙ ap (λ number. if is_newline (get_or source at 0) then 1 else number + 1) here.columns
       ∙ sym (column_more source at);
-  line_bound = rw lines (one_more (is_newline (get_or source at 0)) line (at + 1) reaches.line_bound);
-  column_bound = rw columns (one_more_column (is_newline (get_or source at 0)) column (at + 1) reaches.column_bound);
+  between = or_left _ _ (after_more source at ∙ blank);
+  tokens =
+      tokens_more source at
+      ∙ ap (λ begins. tokens_below source at ++ (if begins then token_at source at ∷ [] else [])) (and_right _ _ (ap not blank))
+      ∙ append-nil _ ∙ here.tokens;
 }
 
--- a token is added where one begins
-pub with_token : (source : List ℕ) (at : ℕ) (tokens : List Word) → begins_token source at ≡ true
-    → tokens ++ token_at source at ∷ [] ≡ tokens ++ (if begins_token source at then token_at source at ∷ [] else [])
-with_token source at tokens begins = rw begins refl
+-- no blank behind it
+pub between_token : (source : List ℕ) (at : ℕ) → is_between source at ≡ true → is_blank (get_or source at 0) ≡ false → begins_token source at ≡ true
+between_token source at between plain = by (is_after_blank source at) (is_blank (get_or source at 0)) plain between
+  where
+    by : (after blank : Bool) → blank ≡ false → (after || blank) ≡ true → (after && not blank) ≡ true
+    by true true plain between = cc
+    by true false plain between = refl
+    by false blank plain between = cc
 
-pub without_token : (source : List ℕ) (at : ℕ) (tokens : List Word) → begins_token source at ≡ false
-    → tokens ≡ tokens ++ (if begins_token source at then token_at source at ∷ [] else [])
-without_token source at tokens begins = rw (begins, append-nil) refl
+-- a token has a byte, which is no blank
+begins_plain : (source : List ℕ) (at : ℕ) → begins_token source at ≡ true → is_blank (get_or source at 0) ≡ false
+begins_plain source at begins = by (is_after_blank source at) (is_blank (get_or source at 0)) begins
+  where
+    by : (after blank : Bool) → (after && not blank) ≡ true → blank ≡ false
+    by after false begins = refl
+    by true true begins = cc
+    by false true begins = cc
 
--- all bytes
-pub reaches_end : (source : List ℕ) (at : ℕ) (tokens : List Word) (line column : ℕ) → at ≡ length source → Reaches source at tokens line column
-    → tokens ≡ tokens_of source
+-- a run of no bytes ends at a blank, or at the end
+ends : (source : List ℕ) (from : ℕ) → run_length source from ≡ 0 → is_blank (get_or source from 0) ≡ true
+ends source from run = by (cases_lt from (length source)) (is_blank (get_or source from 0)) refl
+  where
+    by : (from < length source) ⊎ (length source ≤ from) → (blank : Bool) → is_blank (get_or source from 0) ≡ blank → blank ≡ true
+    by place true h = refl
+    by (inl within) false h = absurd (omega (arith, run, run_length-more source from within h))
+    by (inr past) false h = let end : is_blank (get_or source from 0) ≡ true = rw (get_or_past source from 0 past) refl in sym h ∙ end
+
+-- a run of some bytes begins within the source at no blank
+begins : (source : List ℕ) (from count : ℕ) → run_length source from ≡ count + 1
+    → (from < length source) × (is_blank (get_or source from 0) ≡ false) × (run_length source (from + 1) ≡ count)
+begins source from count run = by (cases_lt from (length source)) (is_blank (get_or source from 0)) refl
+  where
+    by : (from < length source) ⊎ (length source ≤ from) → (blank : Bool) → is_blank (get_or source from 0) ≡ blank
+        → (from < length source) × (is_blank (get_or source from 0) ≡ false) × (run_length source (from + 1) ≡ count)
+    by (inr past) blank h = absurd (omega (arith, run, run_length-end source from past))
+    by (inl within) true h = absurd (omega (arith, run, run_length-blank source from within h))
+    by (inl within) false h = (within, h, omega (arith, run, run_length-more source from within h))
+
+-- what a scanner knows behind the rest of a token
+record Along (source : List ℕ) (from at : ℕ) : Type 0 where
+  lines : line_at source at ≡ line_at source from
+  columns : column_at source at + from ≡ column_at source from + at
+  blank : is_blank (get_or source at 0) ≡ true
+  tokens : tokens_below source at ≡ tokens_below source from
+
+-- a byte of a token that is not its first one
+along_one : (source : List ℕ) (from : ℕ) → from < length source → is_blank (get_or source from 0) ≡ false → is_after_blank source from ≡ false
+    → (line_at source (from + 1) ≡ line_at source from) × (column_at source (from + 1) ≡ column_at source from + 1)
+    × (tokens_below source (from + 1) ≡ tokens_below source from)
+along_one source from within plain inside =
+    let newline = plain_line (get_or source from 0) plain in (
+      line_more source from within ∙ ap (λ new. if new then line_at source from + 1 else line_at source from) newline,
+      column_more source from ∙ ap (λ new. if new then 1 else column_at source from + 1) newline,
+      tokens_more source from
+          ∙ ap (λ after. tokens_below source from ++ (if after && not (is_blank (get_or source from 0)) then token_at source from ∷ [] else [])) inside
+          ∙ append-nil _,
+    )
+
+along : (count : ℕ) (source : List ℕ) (from at : ℕ) → from + count ≡ at → run_length source from ≡ count → is_after_blank source from ≡ false
+    → Along source from at
+along zero source from at is run inside =
+    let same : at ≡ from = omega (arith, is) in
+    rw same record { lines = refl; columns = refl; blank = ends source from run; tokens = refl }
+along (suc count) source from at is run inside =
+    let first = begins source from count (omega (arith, run)) in
+    let one = along_one source from first.0 first.1 inside in
+    let rest = along count source (from + 1) at (omega (arith, is)) first.2 (after_more source from ∙ first.1) in
+    record {
+      lines = rest.lines ∙ one.0;
+      columns = omega (arith, rest.columns, one.1);
+      blank = rest.blank;
+      tokens = rest.tokens ∙ one.2;
+    }
+
+-- what a token says of itself
+pub token_fields : (source : List ℕ) (at : ℕ) (token : Word) → token ≡ token_at source at
+    → (token.span.start ≡ at) × (token.span.end ≡ at + run_length source at) × (token.line ≡ line_at source at) × (token.column ≡ column_at source at)
+unfolding token_at
+token_fields source at token is = rw is (refl, refl, refl, refl)
+
+-- behind a token
+pub past_token : (source : List ℕ) (from : ℕ) → from < length source → begins_token source from ≡ true
+    → (line_at source (from + run_length source from) ≡ line_at source from)
+    × (column_at source (from + run_length source from) ≡ column_at source from + run_length source from)
+    × (is_between source (from + run_length source from) ≡ true)
+    × (tokens_below source (from + run_length source from) ≡ tokens_below source from ++ (token_at source from ∷ []))
+    × (0 < run_length source from)
+past_token source from within starts =
+    let plain = begins_plain source from starts in
+    let more = run_length-more source from within plain in
+    let newline = plain_line (get_or source from 0) plain in
+    let rest =
+    along (run_length source (from + 1)) source (from + 1) (from + run_length source from) (omega (arith, more)) refl
+    (after_more source from ∙ plain) in
+    let line : line_at source (from + 1) ≡ line_at source from =
+    line_more source from within ∙ ap (λ new. if new then line_at source from + 1 else line_at source from) newline in
+    let column : column_at source (from + 1) ≡ column_at source from + 1 =
+    column_more source from ∙ ap (λ new. if new then 1 else column_at source from + 1) newline in
+    let token : tokens_below source (from + 1) ≡ tokens_below source from ++ (token_at source from ∷ []) =
+    tokens_more source from ∙ ap (λ new. tokens_below source from ++ (if new then token_at source from ∷ [] else [])) starts in
+    (rest.lines ∙ line, omega (arith, rest.columns, column, more), or_right _ _ rest.blank, rest.tokens ∙ token, omega (arith, more))
+
+-- no more tokens than bytes
+pub tokens_bound : (source : List ℕ) (at : ℕ) → length (tokens_below source at) ≤ at
+unfolding tokens_below
+tokens_bound source zero = omega arith
+tokens_bound source (suc at) = by (begins_token source at) (tokens_bound source at)
+  where
+    by : (new : Bool) → length (tokens_below source at) ≤ at
+        → length (tokens_below source at ++ (if new then token_at source at ∷ [] else [])) ≤ suc at
+    by true low = omega (arith, low, length-append (tokens_below source at) (token_at source at ∷ []))
+    by false low = omega (arith, low, length-append (tokens_below source at) [])
+
+-- the tokens below an offset come first among all
+front : (source : List ℕ) (at count : ℕ) → (more : List Word) × (tokens_below source (at + count) ≡ tokens_below source at ++ more)
+front source at zero = ([], rw at_zero (sym (append-nil _)))
+  where
+    at_zero : at + 0 ≡ at
+    at_zero = omega arith
+front source at (suc count) =
+    let before = front source at count in
+    let last = if begins_token source (at + count) then token_at source (at + count) ∷ [] else [] in
+    let step : at + suc count ≡ at + count + 1 = omega arith in (
+      before.0 ++ last,
+      ap (tokens_below source) step ∙ tokens_more source (at + count) ∙ ap (λ tokens. tokens ++ last) before.1
+          ∙ append_assoc (tokens_below source at) before.0 last,
+    )
+
+-- the token that begins at an offset has its place among all
+pub token_there : (source : List ℕ) (at : ℕ) (none : Word) → at < length source → begins_token source at ≡ true
+    → (length (tokens_below source at) < length (tokens_of source))
+    × (get_or (tokens_of source) (length (tokens_below source at)) none ≡ token_at source at)
 unfolding tokens_of
-reaches_end source at tokens line column end reaches = rw end at reaches.found
+token_there source at none within starts =
+    let later = front source (at + 1) (length source - (at + 1)) in
+    let end : at + 1 + (length source - (at + 1)) ≡ length source = omega arith in
+    let token : tokens_below source (at + 1) ≡ tokens_below source at ++ (token_at source at ∷ []) =
+    tokens_more source at ∙ ap (λ new. tokens_below source at ++ (if new then token_at source at ∷ [] else [])) starts in
+    let all : tokens_below source (length source) ≡ tokens_below source at ++ (token_at source at ∷ later.0) =
+    sym (ap (tokens_below source) end) ∙ later.1 ∙ ap (λ tokens. tokens ++ later.0) token
+    ∙ append_assoc (tokens_below source at) (token_at source at ∷ []) later.0 in
+    rw all (
+      omega (arith, length-append (tokens_below source at) (token_at source at ∷ later.0)),
+      get_or-append_seam (tokens_below source at) (token_at source at) later.0 none,
+    )
+
+-- where a source begins
+pub start_line : (source : List ℕ) → line_at source 0 ≡ 1
+unfolding line_at
+start_line source = refl
+
+pub start_column : (source : List ℕ) → column_at source 0 ≡ 1
+unfolding column_at
+start_column source = refl
+
+pub no_tokens : (source : List ℕ) → tokens_below source 0 ≡ []
+unfolding tokens_below
+no_tokens source = refl
+
+-- where it ends
+pub all_passed : (source : List ℕ) (at : ℕ) → length source ≤ at → at ≤ length source
+    → length (tokens_of source) ≤ length (tokens_below source at)
+unfolding tokens_of
+all_passed source at past within = let end : at ≡ length source = omega arith in rw end (omega arith)
+
+-- one token more than before it
+pub tokens_one_more : (source : List ℕ) (at here next : ℕ) → tokens_below source next ≡ tokens_below source here
+    → tokens_below source here ≡ tokens_below source at ++ (token_at source at ∷ [])
+    → length (tokens_below source next) ≡ length (tokens_below source at) + 1
+tokens_one_more source at here next blanks token =
+    ap length (blanks ∙ token) ∙ length-append (tokens_below source at) (token_at source at ∷ [])

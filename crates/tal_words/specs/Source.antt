@@ -1,5 +1,5 @@
 -- How a source is cut into tokens (Uxntal syntax reference).
-use Rattle.std.specs.Prelude.{ℕ, zero, suc, ◌+◌, ◌-◌, Bool, true, false, not, ◌&&◌, ◌==◌, nat_lt}
+use Rattle.std.specs.Prelude.{ℕ, zero, suc, ◌+◌, ◌-◌, Bool, true, false, not, ◌&&◌, ◌||◌, ◌==◌, nat_lt}
 use Rattle.std.specs.Prelude.{if◌then◌else◌, List, [], ◌∷◌, ◌++◌, length, take, drop, slice_index}
 use Rattle.std.specs.List.{prefix_len, count_by}
 use Rattle.tal_words.specs.declared.span.Span.{Span}
@@ -56,6 +56,10 @@ run_at source at = take (run_length source at) (drop at source)
 abbrev pub is_after_blank : List ℕ → ℕ → Bool
 is_after_blank source zero = true
 is_after_blank source (suc before) = is_blank (slice_index source before)
+
+-- no token goes on at an offset: it is the start or the end of the source, or a blank stands before or at it
+abbrev pub is_between : List ℕ → ℕ → Bool
+is_between source at = is_after_blank source at || is_blank (slice_index source at)
 
 -- a token begins at a byte that is no blank, at the start of the source or after a blank
 abbrev pub begins_token : List ℕ → ℕ → Bool

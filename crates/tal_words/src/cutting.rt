@@ -1,7 +1,7 @@
 //! How a source is cut into words.
 
-ghost use Rattle.std.specs.Prelude.{◌≡◌, ◌≤◌, ◌<◌, ◌+◌, ◌^◌, length, if◌then◌else◌, IfOk, []};
-ghost use Rattle.tal_words.specs.Source.{is_newline, line_at, column_at, begins_token, token_at, tokens_of};
+ghost use Rattle.std.specs.Prelude.{◌≡◌, ◌≤◌, ◌<◌, ◌+◌, ◌++◌, ◌∷◌, ◌^◌, true, length, if◌then◌else◌, IfOk, []};
+ghost use Rattle.tal_words.specs.Source.{is_newline, line_at, column_at, is_between, begins_token, token_at, tokens_below, tokens_of};
 ghost use Rattle.tal_words.specs.Faults.{Gives, phase_fault};
 ghost use Rattle.tal_words.specs.Order.{each, collected};
 ghost use Rattle.tal_words.specs.Comments.{judged_token, word_given, words_of, word_fault, depth_after, source_limit};
@@ -9,7 +9,7 @@ ghost use Rattle.tal_words.specs.Comments.{judged_token, word_given, words_of, w
 use crate::fault::{AsmStop, Fault, FaultKind};
 use crate::span::{Span, Word};
 use crate::text::{begins, is_blank, is_only, run_end};
-use std::alloc::{AllocError, Global};
+use std::alloc::Global;
 
 /// The greatest length of a source, in bytes.
 pub const SOURCE_LIMIT: usize = 4_194_304;
@@ -32,32 +32,37 @@ pub fn words(alloc: Global, source: &[u8]) -> Result<Vec<Word>, AsmStop>
             kind: FaultKind::LongSource,
         }));
     }
-    let tokens = tokens(alloc, source)?;
-    outside_comments(alloc, source, &tokens)
+    outside_comments(alloc, source)
 }
 
-/// A line and a column of a source.
+/// An offset of a source, with its line and its column.
 #[derive(Clone, Copy)]
-struct Position {
+struct Place {
+    at: usize,
     line: u32,
     column: u32,
 }
 
-impl Position {
-    /// The position after a byte at this one.
-    fn after(self, byte: u8) -> Position
+impl Place {
+    /// The place behind a byte that stands at this one.
+    fn after(self, byte: u8) -> Place
+        requires at { self.at < 2 ^ 31 }
         requires line { self.line < 2 ^ 31 }
         requires column { self.column < 2 ^ 31 }
+        ensures at { result.at ≡ self.at + 1 }
         ensures line { result.line ≡ (if is_newline byte then self.line + 1 else self.line) }
         ensures column { result.column ≡ (if is_newline byte then 1 else self.column + 1) }
     {
+        let at = self.at + 1;
         if byte == b'\n' {
-            Position {
+            Place {
+                at,
                 line: self.line + 1,
                 column: 1,
             }
         } else {
-            Position {
+            Place {
+                at,
                 line: self.line,
                 column: self.column + 1,
             }
@@ -65,56 +70,80 @@ impl Position {
     }
 }
 
-/// The tokens of a source.
-fn tokens(alloc: Global, source: &[u8]) -> Result<Vec<Word>, AllocError>
-    requires { length source.now ≤ source_limit }
-    ensures { IfOk result (λ v. v.items ≡ tokens_of source.now) }
-{
-    let mut tokens = Vec::new(alloc);
-    let mut position = Position { line: 1, column: 1 };
-    for at in 0..source.len() {
-        if begins_token(source, at) {
-            let token = token_at(source, at, position);
-            tokens.push(token)?;
-        }
-        position = position.after(source[at]);
-    }
-    Ok(tokens)
-}
-
-/// Whether a token begins at an offset.
-#[tactic(auto, using(crate::proofs::Tokens::after_blank))]
-fn begins_token(source: &[u8], at: usize) -> bool
-    requires { at < length source.now }
-    ensures { result ≡ begins_token source.now at }
-{
-    (at == 0 || is_blank(source[at - 1])) && !is_blank(source[at])
-}
-
-/// The token that begins at an offset, of which this is the position.
-#[tactic(auto, unfolding(crate::specs::Source::token_at))]
-fn token_at(source: &[u8], at: usize, position: Position) -> Word
-    requires within { at < length source.now }
+/// The place of the next token from a place between tokens on, or that of the end.
+fn past_blanks(source: &[u8], place: Place) -> Place
     requires short { length source.now ≤ source_limit }
-    requires line { position.line ≡ line_at source.now at }
-    requires column { position.column ≡ column_at source.now at }
-    ensures { result ≡ token_at source.now at }
+    requires within { place.at ≤ length source.now }
+    requires line { place.line ≡ line_at source.now place.at }
+    requires column { place.column ≡ column_at source.now place.at }
+    requires between { is_between source.now place.at ≡ true }
+    ensures later { place.at ≤ result.at }
+    ensures within { result.at ≤ length source.now }
+    ensures line { result.line ≡ line_at source.now result.at }
+    ensures column { result.column ≡ column_at source.now result.at }
+    ensures tokens { tokens_below source.now result.at ≡ tokens_below source.now place.at }
+    ensures token { result.at < length source.now → begins_token source.now result.at ≡ true }
 {
-    let end = run_end(source, at);
+    let mut here = place;
+    for at in place.at..source.len() {
+        if !is_blank(source[at]) {
+            return here;
+        }
+        here = here.after(source[at]);
+    }
+    here
+}
+
+/// The token that begins at a place.
+#[tactic(auto, unfolding(crate::specs::Source::token_at))]
+fn token_at(source: &[u8], place: Place) -> Word
+    requires within { place.at < length source.now }
+    requires short { length source.now ≤ source_limit }
+    requires line { place.line ≡ line_at source.now place.at }
+    requires column { place.column ≡ column_at source.now place.at }
+    ensures value { result ≡ token_at source.now place.at }
+    ensures end { result.span.end ≤ length source.now }
+    ensures later { place.at ≤ result.span.end }
+{
+    let end = run_end(source, place.at);
     Word {
         span: Span {
-            start: at as u32,
+            start: place.at as u32,
             end: end as u32,
         },
-        line: position.line,
-        column: position.column,
+        line: place.line,
+        column: place.column,
     }
 }
 
-/// The tokens that are words, or the first fault of a token or a comment.
-fn outside_comments(alloc: Global, source: &[u8], tokens: &[Word]) -> Result<Vec<Word>, AsmStop>
-    ensures { Gives (λ v. v.items) result
-        (phase_fault (each (judged_token source.now) [] tokens.now)) (collected (word_given source.now) [] tokens.now) }
+/// The place behind the token that begins at a place.
+fn past_token(source: &[u8], place: Place, token: Word) -> Place
+    requires within { place.at < length source.now }
+    requires short { length source.now ≤ source_limit }
+    requires line { place.line ≡ line_at source.now place.at }
+    requires column { place.column ≡ column_at source.now place.at }
+    requires begins { begins_token source.now place.at ≡ true }
+    requires token { token ≡ token_at source.now place.at }
+    requires end { token.span.end ≤ length source.now }
+    ensures within { result.at ≤ length source.now }
+    ensures line { result.line ≡ line_at source.now result.at }
+    ensures column { result.column ≡ column_at source.now result.at }
+    ensures between { is_between source.now result.at ≡ true }
+    ensures tokens { tokens_below source.now result.at ≡ tokens_below source.now place.at ++ (token_at source.now place.at ∷ []) }
+    ensures later { place.at < result.at }
+{
+    Place {
+        at: token.span.end as usize,
+        line: token.line,
+        column: token.column + (token.span.end - token.span.start),
+    }
+}
+
+/// The words of a source that is not too long: its tokens that are no comments, or the first fault of a token or a comment.
+fn outside_comments(alloc: Global, source: &[u8]) -> Result<Vec<Word>, AsmStop>
+    requires short { length source.now ≤ source_limit }
+    ensures { Gives (λ v. v.items) result (phase_fault (each (judged_token source.now) [] (tokens_of source.now)))
+        (collected (word_given source.now) [] (tokens_of source.now)) }
 {
     let mut words = Vec::new(alloc);
     let mut depth = 0usize;
@@ -123,22 +152,30 @@ fn outside_comments(alloc: Global, source: &[u8], tokens: &[Word]) -> Result<Vec
         line: 1,
         column: 1,
     };
-    for token in tokens {
+    let start = Place {
+        at: 0,
+        line: 1,
+        column: 1,
+    };
+    let mut place = past_blanks(source, start);
+    while place.at < source.len() {
+        let token = token_at(source, place);
         let text = token.span.text(source);
         if depth > 0 {
             depth = depth_after(depth, text);
         } else if begins(text, b'(') {
-            opener = *token;
+            opener = token;
             depth = 1;
         } else {
             if text.len() > WORD_LIMIT {
-                return Err(AsmStop::Refused(Fault::new(token, FaultKind::LongWord)));
+                return Err(AsmStop::Refused(Fault::new(&token, FaultKind::LongWord)));
             }
             if begins(text, b')') {
-                return Err(AsmStop::Refused(Fault::new(token, FaultKind::StrayParen)));
+                return Err(AsmStop::Refused(Fault::new(&token, FaultKind::StrayParen)));
             }
-            words.push(*token)?;
+            words.push(token)?;
         }
+        place = past_blanks(source, past_token(source, place, token));
     }
     if depth > 0 {
         return Err(AsmStop::Refused(Fault::new(&opener, FaultKind::OpenComment)));
