@@ -1,12 +1,12 @@
 -- What the reading of a head answers.
-use Rattle.std.specs.Prelude.{◌≡◌, ℕ, ◌+◌, ◌-◌, ◌<◌, ◌≤◌, Bool, List, [], length, take, drop, Option, Some, Result, Ok, Err}
+use Rattle.std.specs.Prelude.{◌≡◌, ℕ, ◌+◌, ◌-◌, ◌<◌, ◌≤◌, Bool, List, [], length, take, drop, Option, Some, None, Result, Ok, Err}
 use Rattle.std.specs.List.{find}
 use Rattle.tal_words.specs.declared.span.Word.{Word}
 use Rattle.tal_words.specs.declared.fault.AsmStop.{AsmStop}
 use Rattle.tal_words.specs.Source.{begins, word_text}
-use Rattle.tal_macros.specs.Expansion.{Macro, body_after, parts_from}
+use Rattle.tal_macros.specs.Expansion.{Macro, body_after, body_named, head_faults, parts_from}
 use Rattle.tal_macros.specs.declared.body.Body.{Body}
-use Rattle.tal_macros.specs.Bodies.{body_words}
+use Rattle.tal_macros.specs.Bodies.{body_words, word_at}
 use Rattle.tal_macros.specs.Passing.{Continues, Stops, rest}
 
 -- a word begins a head; 37 is `%`
@@ -20,6 +20,13 @@ pub record IsBody (source : List ℕ) (words : List Word) (brace : ℕ) (body : 
   pub ordered : body.from ≤ body.to
   pub within : body.to < length words
   pub heads : nested ≡ find (is_head source) (take (body.to + 1 - brace) (drop brace words))
+
+-- a head without a fault of its own, whose macro is new: its body, and the first word there that begins a head
+pub record IsClosedHead (source : List ℕ) (words : List Word) (at : ℕ) (known : List Macro) (body : Body) (nested : Option Word)
+    : Type 0 where
+  pub is_body : IsBody source words (at + 1) body nested
+  pub faultless : head_faults source (word_at words at) known (Some (body_words words body)) ≡ []
+  pub new : body_named known (drop 1 (word_text source (word_at words at))) ≡ None
 
 -- a head without a fault: the expansion goes on behind its body, with its macro
 pub record Defines (source : List ℕ) (words : List Word) (at : ℕ) (old new : List Macro) (body : Body) : Type 0 where

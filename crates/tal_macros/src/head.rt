@@ -1,13 +1,14 @@
 //! Heads of macros.
 
-ghost use Rattle.std.specs.Prelude.{◌≡◌, ◌<◌, ◌≤◌, ◌+◌, ◌&&◌, ◌==◌, [], drop, length, true, if◌then◌else◌, MatchOption, MatchResult, None, Some};
+ghost use Rattle.std.specs.Prelude.{◌≡◌, ◌<◌, ◌≤◌, ◌+◌, ◌&&◌, ◌==◌, drop, length, true, None, Some};
+ghost use Rattle.std.specs.Prelude.{if◌then◌else◌, MatchOption, MatchResult};
 ghost use Rattle.std.specs.Option.{option_or};
 ghost use Rattle.tal_words.specs.Braces.{closes, one_if};
 ghost use Rattle.tal_words.specs.Faults.{least};
 ghost use Rattle.tal_words.specs.Source.{begins, is_only, word_text};
-ghost use Rattle.tal_macros.specs.Expansion.{body_after, body_named, head_faults};
-ghost use Rattle.tal_macros.specs.Bodies.{body_words, known_of, word_at};
-ghost use Rattle.tal_macros.specs.Heads.{is_head, IsBody, HeadGives};
+ghost use Rattle.tal_macros.specs.Expansion.{body_after, head_faults};
+ghost use Rattle.tal_macros.specs.Bodies.{known_of, word_at};
+ghost use Rattle.tal_macros.specs.Heads.{is_head, IsBody, IsClosedHead, HeadGives};
 
 use crate::body::{Body, Macros, body_named};
 use std::alloc::Global;
@@ -58,9 +59,8 @@ fn closed_head(
 ) -> Result<Closed, FaultKind>
     requires within { at < length words.now }
     requires name { name.now ≡ drop 1 (word_text source.now (word_at words.now at)) }
-    ensures { MatchResult result (λ closed. IsBody source.now words.now (at + 1) closed.body closed.nested
-        × (head_faults source.now (word_at words.now at) (known_of words.now macros.now.entries) (Some (body_words words.now closed.body)) ≡ [])
-        × (body_named (known_of words.now macros.now.entries) name.now ≡ None))
+    ensures { MatchResult result
+        (λ closed. IsClosedHead source.now words.now at (known_of words.now macros.now.entries) closed.body closed.nested)
         (λ kind. least (head_faults source.now (word_at words.now at) (known_of words.now macros.now.entries)
         (body_after source.now (drop (at + 1) words.now))) ≡ Some kind) }
 {

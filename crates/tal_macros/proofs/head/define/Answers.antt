@@ -16,7 +16,7 @@ returns-in-Some c =
     let closed = c.in-Ok.ensures in
     record {
       stops = λ count. rw c.new-in-Some.ensures
-          (body-refuses c.args.source.now c.args.words.now c.args.at _ c.requires.within c.requires.head c.in-Ok.closed.body _ closed.0 closed.1 count c.in-Some.nested c.in-Some.is);
+          (body-refuses c.args.source.now c.args.words.now c.args.at _ c.requires.within c.requires.head c.in-Ok.closed.body _ closed.is_body closed.faultless count c.in-Some.nested c.in-Some.is);
       known = refl;
     }
 
@@ -28,11 +28,11 @@ returns c =
     let name = c.name_of-name.ensures ∙ ap (drop 1) c.text.ensures in
     let key : c.in_ok-key.key.items ≡ c.name_of-name.result.now = c.in_ok-key.ensures.items in
     let inserted = ap (known_of words) c.in_ok-insert.ensures.entries
-    ∙ known-insert words _ c.args.macros.now.entries c.in_ok-key.key c.in-Ok.closed.body (λ one other. refl) (ap (body_named known) key ∙ closed.2)
+    ∙ known-insert words _ c.args.macros.now.entries c.in_ok-key.key c.in-Ok.closed.body (λ one other. refl) (ap (body_named known) (key ∙ name) ∙ closed.new)
     ∙ ap (λ text. known ++ record { name = text; body = body_words words c.in-Ok.closed.body } ∷ []) (key ∙ name) in
     record {
-      ahead = omega (arith, closed.0.from, closed.0.ordered);
-      within = closed.0.within;
+      ahead = omega (arith, closed.is_body.from, closed.is_body.ordered);
+      within = closed.is_body.within;
       continues = λ count. rw inserted
-          (head-continues c.args.source.now words c.args.at known c.requires.within c.requires.head c.in-Ok.closed.body _ closed.0 closed.1 count c.in_default.is);
+          (head-continues c.args.source.now words c.args.at known c.requires.within c.requires.head c.in-Ok.closed.body _ closed.is_body closed.faultless count c.in_default.is);
     }
