@@ -1,18 +1,15 @@
 -- No word of an expanded list has a blank.
-use Rattle.std.proofs.Common.{ℕ, zero, suc, Bool, true, false, not, List, [], ◌∷◌, ◌++◌, take, map, Option, Some, None}
-use Rattle.std.specs.Prelude.{if◌then◌else◌, filter, unwrap_or}
-use Rattle.std.specs.Option.{option_map}
+use Rattle.std.proofs.Common.{ℕ, zero, suc, List, [], ◌∷◌, ◌++◌, take, Option, Some, None, arith}
+use Rattle.std.specs.Prelude.{unwrap_or}
 use Rattle.std.specs.List.{flat_map, AllByRecursion}
-use Rattle.std.specs.Str.{bytes_eq}
 use Rattle.tal_words.specs.declared.span.Word.{Word}
 use Rattle.tal_words.specs.declared.span.Expanded.{Expanded}
-use Rattle.tal_words.specs.Source.{begins, is_only, bytes_at, word_text, expanded_text}
+use Rattle.tal_words.specs.Source.{bytes_at, word_text, expanded_text}
 use Rattle.tal_words.specs.Comments.{words_of}
 use Rattle.tal_words.specs.Order.{collected}
-use Rattle.tal_words.specs.Braces.{matching}
-use Rattle.tal_macros.specs.Expansion.{Macro, Part, Plain, Head, Inside, Visited, depth_limit, body_named, body_after, body_defined, parts_from, head_length, macro_given, known_at, visits, visits_given, visit_list, without_uses, parts_of, expanded_of}
 use Rattle.tal_words.specs.PlainTexts.{IsBlankFree}
 use Rattle.tal_words.proofs.BlankFree.{all_joined, words_free}
+use Rattle.tal_macros.specs.Expansion.{Macro, Part, Plain, Head, Inside, Visited, depth_limit, body_named, body_after, body_defined, part_of, parts_from, head_length, macro_given, known_at, visits, visits_given, visit_list, without_uses, parts_of, expanded_of}
 
 -- what holds of what each of some things gives
 all_flat : {X Y : Type 0} (P : X → Type 0) (Q : Y → Type 0) (f : X → List Y) → ((x : X) → P x → AllByRecursion Q (f x)) → (xs : List X)
@@ -44,35 +41,18 @@ module _ (source : List ℕ) where
 
   body_free : (words : List Word) → AllByRecursion IsFreeWord words → IsFreeBody (body_after source words)
   body_free [] all = tt
-  body_free (brace ∷ words) all = by (is_only 123 (word_text source brace)) (matching (map (word_text source) words))
-    where
-      by : (b : Bool) (o : Option ℕ) → IsFreeBody (if b then option_map (λ count. take count words) o else None)
-      by true (Some count) = all_taken IsFreeWord count words all.1
-      by true None = tt
-      by false o = tt
+  body_free (brace ∷ words) all = grind (arith, all_taken IsFreeWord)
 
-  defined_free : (word : Word) (words : List Word) → AllByRecursion IsFreeWord words → IsFreeBody (body_defined source word words)
-  defined_free word words all = by (begins 37 (word_text source word))
-    where
-      by : (b : Bool) → IsFreeBody (if b then body_after source words else None)
-      by true = body_free words all
-      by false = tt
+  part_free : (word : Word) (words : List Word) → IsFreeWord word → AllByRecursion IsFreeWord words → IsFreePart (part_of source word (body_defined source word words))
+  part_free word words plain all = grind (arith, body_free words all)
 
   parts_free : (inside : ℕ) (words : List Word) → AllByRecursion IsFreeWord words → AllByRecursion IsFreePart (parts_from source inside words)
   parts_free inside [] all = tt
   parts_free (suc inside) (word ∷ words) all = (tt, parts_free inside words all.1)
-  parts_free zero (word ∷ words) all =
-      (by (begins 37 (word_text source word)) (defined_free word words all.1), parts_free (head_length (body_defined source word words)) words all.1)
-    where
-      by : (b : Bool) → IsFreeBody (body_defined source word words) → IsFreePart (if b then Head word (body_defined source word words) else Plain word)
-      by true body = body
-      by false body = all.0
+  parts_free zero (word ∷ words) all = (part_free word words all.0 all.1, parts_free (head_length (body_defined source word words)) words all.1)
 
   macro_free : (part : Part) → IsFreePart part → AllByRecursion IsFreeMacro (macro_given source part)
-  macro_free (Plain word) plain = tt
-  macro_free (Head word None) plain = tt
-  macro_free (Head word (Some body)) plain = (plain, tt)
-  macro_free (Inside word) plain = tt
+  macro_free part plain = grind arith
 
   known_free : (before : List Part) → AllByRecursion IsFreePart before → AllByRecursion IsFreeMacro (known_at source before)
   unfolding known_at
@@ -80,36 +60,26 @@ module _ (source : List ℕ) where
 
   named_free : (known : List Macro) (name : List ℕ) → AllByRecursion IsFreeMacro known → AllByRecursion IsFreeWord (unwrap_or (body_named known name) [])
   named_free [] name all = tt
-  named_free (macro ∷ macros) name all = by (bytes_eq name macro.name) (named_free macros name all.1)
-    where
-      by : (b : Bool) → AllByRecursion IsFreeWord (unwrap_or (body_named macros name) [])
-          → AllByRecursion IsFreeWord (unwrap_or (if b then Some macro.body else body_named macros name) [])
-      by true rest = all.0
-      by false rest = rest
+  named_free (macro ∷ macros) name all = grind (arith, named_free macros name all.1)
 
   abbrev IsFreeVisit : Visited → Type 0
   IsFreeVisit word = IsBlankFree (bytes_at source word.text)
 
-  visits_free : (known : List Macro) (origin : Word) (room : ℕ) (word : Word) → AllByRecursion IsFreeMacro known → IsFreeWord word
+  visits_free : (known : List Macro) (origin : Word) (room : ℕ) → AllByRecursion IsFreeMacro known → (word : Word) → IsFreeWord word
       → AllByRecursion IsFreeVisit (visits source known origin room word)
   unfolding visits
-  visits_free known origin zero word all plain = (plain, tt)
-  visits_free known origin (suc room) word all plain = (
-    plain,
-    all_flat IsFreeWord IsFreeVisit (visits source known origin room) (λ inner inner_free. visits_free known origin room inner all inner_free)
-        (unwrap_or (body_named known (word_text source word)) []) (named_free known (word_text source word) all),
-  )
+  visits_free known origin zero all word plain = (plain, tt)
+  visits_free known origin (suc room) all word plain =
+      (plain, all_flat IsFreeWord IsFreeVisit _ (visits_free known origin room all) (unwrap_or (body_named known (word_text source word)) []) (named_free known (word_text source word) all))
 
   given_free : (before : List Part) (part : Part) (after : List Part) → AllByRecursion IsFreePart before → IsFreePart part → AllByRecursion IsFreeVisit (visits_given source before part after)
-  given_free before (Plain word) after all plain = visits_free (known_at source before) word depth_limit word (known_free before all) plain
-  given_free before (Head word body) after all plain = tt
-  given_free before (Inside word) after all plain = tt
+  given_free before (Plain word) after all plain = visits_free (known_at source before) word depth_limit (known_free before all) word plain
+  given_free before part after all plain = tt
 
   list_free : (before parts : List Part) → AllByRecursion IsFreePart before → AllByRecursion IsFreePart parts → AllByRecursion IsFreeVisit (collected (visits_given source) before parts)
   list_free before [] earlier all = tt
   list_free before (part ∷ parts) earlier all =
-      all_joined IsFreeVisit (visits_given source before part parts) (collected (visits_given source) (before ++ part ∷ []) parts)
-      (given_free before part parts earlier all.0)
+      all_joined IsFreeVisit (visits_given source before part parts) (collected (visits_given source) (before ++ part ∷ []) parts) (given_free before part parts earlier all.0)
       (list_free (before ++ part ∷ []) parts (all_joined IsFreePart before (part ∷ []) earlier (all.0, tt)) all.1)
 
   abbrev IsFreeExpanded : Expanded → Type 0
@@ -117,12 +87,7 @@ module _ (source : List ℕ) where
 
   kept_free : (visited : List Visited) → AllByRecursion IsFreeVisit visited → AllByRecursion IsFreeExpanded (without_uses visited)
   kept_free [] all = tt
-  kept_free (word ∷ words) all = by word.is_use (kept_free words all.1)
-    where
-      by : (b : Bool) → AllByRecursion IsFreeExpanded (without_uses words)
-          → AllByRecursion IsFreeExpanded (map (λ (v : Visited). record { text = v.text; origin = v.origin }) (if not b then word ∷ filter (λ v. not v.is_use) words else filter (λ v. not v.is_use) words))
-      by true rest = rest
-      by false rest = (all.0, rest)
+  kept_free (word ∷ words) all = grind (arith, kept_free words all.1)
 
   pub expanded_free : AllByRecursion IsFreeExpanded (expanded_of source)
   unfolding expanded_of visit_list parts_of

@@ -3,88 +3,105 @@ use Rattle.std.proofs.Common.{◌≡◌, ℕ, suc, ◌+◌, ◌-◌, ◌<◌, �
 use Rattle.std.specs.Prelude.{if◌then◌else◌}
 use Rattle.std.specs.List.{find}
 use Rattle.std.specs.Option.{option_map, option_or}
-use Rattle.std.proofs.lemmas.List.{drop_more, drop_all, take_more, get_or-drop, length-drop}
-use Rattle.std.proofs.lemmas.List.Folds.{find-append}
+use Rattle.std.proofs.lemmas.List.{drop_all}
+use Rattle.std.proofs.lemmas.Bool.{ne_eqb, eqb-true}
 use Rattle.tal_words.specs.declared.span.Word.{Word}
 use Rattle.tal_words.specs.Braces.{opens, closes, one_if, matching_after, matching}
-use Rattle.tal_words.specs.Source.{word_text}
+use Rattle.tal_words.specs.Source.{begins, is_only, word_text}
+use Rattle.tal_macros.specs.Expansion.{body_after}
 use Rattle.tal_macros.specs.Bodies.{word_at}
-use Rattle.tal_macros.specs.Heads.{is_head}
+use Rattle.tal_macros.specs.Heads.{is_head, IsBody}
+use Rattle.tal_macros.proofs.Known.{drop-word}
+
+-- a word that is one byte alone begins no head, unless this is `%`
+only-no_head : (byte : ℕ) (text : List ℕ) → is_only byte text ≡ true → (byte ≡ 37 → ⊥) → begins 37 text ≡ false
+only-no_head byte [] only other = refl
+only-no_head byte (first ∷ []) only other = ne_eqb first 37 (λ is. other (sym (eqb-true first byte only) ∙ is))
+only-no_head byte (first ∷ second ∷ more) only other = cc
 
 -- an index counted from further in front
-abbrev pub shifted : ℕ → Option ℕ → Option ℕ
+abbrev shifted : ℕ → Option ℕ → Option ℕ
 shifted count index = option_map (λ k. count + k) index
 
-shifted-suc : (count : ℕ) (index : Option ℕ) → shifted count (option_map suc index) ≡ shifted (count + 1) index
-shifted-suc count None = refl
-shifted-suc count (Some k) = ap Some (omega arith)
+shifted-step : (count : ℕ) (ends : Bool) (later : Option ℕ) → shifted count (if ends then Some 0 else option_map suc later) ≡ (if ends then Some count else shifted (count + 1) later)
+shifted-step count ends later = grind arith
 
 shifted-zero : (index : Option ℕ) → shifted 0 index ≡ index
-shifted-zero None = refl
-shifted-zero (Some k) = ap Some (omega arith)
+shifted-zero index = grind arith
 
--- what is left to search gives the index
-pub record Searches (source : List ℕ) (words : List Word) (from index opened closed : ℕ) : Type 0 where
-  pub found : shifted (index - from) (matching_after opened closed (map (word_text source) (drop index words))) ≡ matching (map (word_text source) (drop from words))
-  pub opened_bound : opened ≤ index
-  pub closed_bound : closed ≤ index
+or-step : {X : Type 0} (found : Option X) (test : Bool) (x : X) (later : Option X)
+    → option_or found (if test then Some x else later) ≡ option_or (option_or found (if test then Some x else None)) later
+or-step found test x later = grind arith
 
-pub searches_start : (source : List ℕ) (words : List Word) (from : ℕ) → Searches source words from from 0 0
-searches_start source words from =
-    let none : from - from ≡ 0 = omega arith in
-    record {
-      found = rw none (shifted-zero (matching (map (word_text source) (drop from words))));
-      opened_bound = omega arith;
-      closed_bound = omega arith;
-    }
+or-none : {X : Type 0} (found : Option X) → option_or (option_or found None) None ≡ found
+or-none found = grind arith
 
-one_if_bound : (test : Bool) (count index : ℕ) → count ≤ index → count + one_if test ≤ index + 1
-one_if_bound true count index below = omega arith
-one_if_bound false count index below = omega arith
+module _ (source : List ℕ) (words : List Word) (brace : ℕ) where
+  abbrev text_at : ℕ → List ℕ
+  text_at index = word_text source (word_at words index)
 
-module _ (source : List ℕ) (words : List Word) (from index opened closed : ℕ) (after : from ≤ index) (within : index < length words)
-    (text : List ℕ) (is_text : text ≡ word_text source (word_at words index)) (searches : Searches source words from index opened closed) where
-  step : matching_after opened closed (map (word_text source) (drop index words))
-      ≡ (if closes text && opened == closed then Some 0
-      else option_map suc (matching_after (opened + one_if (opens text)) (closed + one_if (closes text)) (map (word_text source) (drop (index + 1) words))))
-  step = let more = drop_more words index (record { span = record { start = 0; end = 0 }; line = 0; column = 0 }) within in rw (is_text, more) refl
+  -- the search from an index on gives what the whole gives, and so do the words that begin heads
+  pub record Searches (index opened closed : ℕ) (nested : Option Word) : Type 0 where
+    pub found : shifted (index - (brace + 1)) (matching_after opened closed (map (word_text source) (drop index words)))
+        ≡ matching (map (word_text source) (drop (brace + 1) words))
+    pub heads : (to : ℕ) → index ≤ to → option_or nested (find (is_head source) (take (to - index) (drop index words))) ≡ find (is_head source) (take (to - brace) (drop brace words))
+    pub opened_bound : opened ≤ index
+    pub closed_bound : closed ≤ index
 
-  pub searches_found : (closes text && opened == closed) ≡ true → matching (map (word_text source) (drop from words)) ≡ Some (index - from)
-  searches_found here =
-      let now : shifted (index - from) (Some 0) ≡ Some (index - from) = ap Some (omega arith) in
-      sym searches.found ∙ ap (shifted (index - from)) (rw here at step) ∙ now
+  heads-step : (index to : ℕ) (nested : Option Word) → index < length words → index + 1 ≤ to
+      → option_or nested (find (is_head source) (take (to - index) (drop index words)))
+      ≡ option_or (option_or nested (if is_head source (word_at words index) then Some (word_at words index) else None)) (find (is_head source) (take (to - (index + 1)) (drop (index + 1) words)))
+  heads-step index to nested within below =
+      let size : to - index ≡ suc (to - (index + 1)) = omega arith in
+      rw (size, drop-word words index within) (or-step nested (is_head source (word_at words index)) (word_at words index) _)
 
-  pub searches_more : (closes text && opened == closed) ≡ false
-      → Searches source words from (index + 1) (opened + one_if (opens text)) (closed + one_if (closes text))
-  searches_more here =
-      let left : Option ℕ = matching_after (opened + one_if (opens text)) (closed + one_if (closes text)) (map (word_text source) (drop (index + 1) words)) in
-      let further : index + 1 - from ≡ index - from + 1 = omega arith in
-      let before : shifted (index - from) (matching_after opened closed (map (word_text source) (drop index words))) ≡ shifted (index - from + 1) left =
-      ap (shifted (index - from)) (rw here at step) ∙ shifted-suc (index - from) left in
-      record {
-        found = rw further (sym before ∙ searches.found);
-        opened_bound = one_if_bound (opens text) opened index searches.opened_bound;
-        closed_bound = one_if_bound (closes text) closed index searches.closed_bound;
-      }
+  module _ (brace_within : brace < length words) (brace_opens : is_only 123 (text_at brace) ≡ true) where
+    body-is : body_after source (drop brace words) ≡ option_map (λ count. take count (drop (brace + 1) words)) (matching (map (word_text source) (drop (brace + 1) words)))
+    body-is = rw (drop-word words brace brace_within, brace_opens) refl
 
-pub searches_end : (source : List ℕ) (words : List Word) (from index opened closed : ℕ) → length words ≤ index → Searches source words from index opened closed
-    → matching (map (word_text source) (drop from words)) ≡ None
-searches_end source words from index opened closed past searches =
-    let none = drop_all index words past in sym (rw none at searches.found)
+    pub searches_start : Searches (brace + 1) 0 0 None
+    searches_start =
+        let none : brace + 1 - (brace + 1) ≡ 0 = omega arith in
+        record {
+          found = rw none (shifted-zero (matching (map (word_text source) (drop (brace + 1) words))));
+          heads = λ to below. sym (heads-step brace to None brace_within below ∙ rw (only-no_head 123 (text_at brace) brace_opens (λ never. omega arith)) refl);
+          opened_bound = omega arith;
+          closed_bound = omega arith;
+        }
 
--- the first word that begins a head, one word further on
-pub heads_more : (source : List ℕ) (words : List Word) (from index : ℕ) → from ≤ index → index < length words
-    → find (is_head source) (take (index + 1 - from) (drop from words))
-    ≡ option_or (find (is_head source) (take (index - from) (drop from words))) (if is_head source (word_at words index) then Some (word_at words index) else None)
-heads_more source words from index after within =
-    let further : index + 1 - from ≡ index - from + 1 = omega arith in
-    let place : from + (index - from) ≡ index = omega arith in
-    let inside : index - from < length (drop from words) = omega (arith, length-drop from words) in
-    let more = take_more (drop from words) (index - from) (record { span = record { start = 0; end = 0 }; line = 0; column = 0 }) inside in
-    let read = get_or-drop from words (index - from) (record { span = record { start = 0; end = 0 }; line = 0; column = 0 }) in
-    rw (further, more, read, place)
-    (find-append (is_head source) (take (index - from) (drop from words)) (word_at words index ∷ []))
+    module _ (index opened closed : ℕ) (nested : Option Word) (searches : Searches index opened closed nested) where
+      pub searches_end : length words ≤ index → body_after source (drop brace words) ≡ None
+      searches_end past = body-is ∙ ap (option_map (λ count. take count (drop (brace + 1) words))) (sym (rw (drop_all index words past) at searches.found))
 
-pub or_none : {X : Type 0} (found : Option X) → option_or found None ≡ found
-or_none None = refl
-or_none (Some x) = refl
+      module _ (after : brace + 1 ≤ index) (within : index < length words) where
+        abbrev later : Option ℕ
+        later = matching_after (opened + one_if (opens (text_at index))) (closed + one_if (closes (text_at index))) (map (word_text source) (drop (index + 1) words))
+
+        step : (if closes (text_at index) && opened == closed then Some (index - (brace + 1)) else shifted (index - (brace + 1) + 1) later)
+            ≡ matching (map (word_text source) (drop (brace + 1) words))
+        step = sym (shifted-step (index - (brace + 1)) (closes (text_at index) && opened == closed) later) ∙ rw (drop-word words index within) at searches.found
+
+        pub searches_found : (closes (text_at index) && opened == closed) ≡ true → IsBody source words brace (record { from = brace + 1; to = index }) nested
+        searches_found here =
+            let closing : closes (text_at index) ≡ true = grind arith in
+            let none : index + 1 - (index + 1) ≡ 0 = omega arith in
+            record {
+              closed = body-is ∙ ap (option_map (λ count. take count (drop (brace + 1) words))) (sym (rw here at step));
+              from = refl;
+              ordered = after;
+              within = within;
+              heads = sym (sym (searches.heads (index + 1) (omega arith)) ∙ heads-step index (index + 1) nested within (omega arith)
+                  ∙ rw (none, only-no_head 125 (text_at index) closing (λ never. omega arith)) (or-none nested));
+            }
+
+        pub searches_more : (closes (text_at index) && opened == closed) ≡ false
+            → Searches (index + 1) (opened + one_if (opens (text_at index))) (closed + one_if (closes (text_at index)))
+            (option_or nested (if is_head source (word_at words index) then Some (word_at words index) else None))
+        searches_more here =
+            let further : index + 1 - (brace + 1) ≡ index - (brace + 1) + 1 = omega arith in
+            record {
+              found = rw further (rw here at step);
+              heads = λ to below. sym (heads-step index to nested within below) ∙ searches.heads to (omega arith);
+              opened_bound = grind (arith, searches.opened_bound);
+              closed_bound = grind (arith, searches.closed_bound);
+            }

@@ -1,6 +1,7 @@
 -- What an Expander has given, one word further on and at the end.
-use Rattle.std.proofs.Common.{◌≡◌, suc, ◌+◌, ◌≤◌, Bool, true, false, List, [], ◌∷◌, ◌++◌, length, map, take, drop, Some, None, refl, ap, sym, ◌∙◌, arith, append-nil}
-use Rattle.std.specs.Prelude.{if◌then◌else◌, filter, not}
+use Rattle.std.proofs.Common.{◌≡◌, ℕ, suc, ◌+◌, ◌≤◌, List, [], ◌∷◌, ◌++◌, length, take, drop, Some, None, refl, ap, sym, ◌∙◌, arith, append-nil}
+use Rattle.std.specs.Prelude.{not}
+use Rattle.std.proofs.lemmas.Grind.{common_steps}
 use Rattle.std.proofs.lemmas.List.{map-append, length-map, length-take, take-append-drop, drop-drop}
 use Rattle.std.proofs.lemmas.List.Elements.{filter-append}
 use Rattle.std.proofs.lemmas.List.Sums.{length-filter, count_by-le-length}
@@ -11,37 +12,25 @@ use Rattle.tal_macros.specs.Steps.{Progress, given, words_left, next_word, count
 use Rattle.tal_macros.proofs.StepLemmas.{visits_before_fault-all}
 
 without_uses-append : (xs ys : List Visited) → without_uses (xs ++ ys) ≡ without_uses xs ++ without_uses ys
-without_uses-append xs ys =
-    ap (map (λ (word : Visited). record { text = word.text; origin = word.origin })) (filter-append (λ (word : Visited). not word.is_use) xs ys)
-    ∙ map-append (λ (word : Visited). record { text = word.text; origin = word.origin }) (filter (λ (word : Visited). not word.is_use) xs) (filter (λ (word : Visited). not word.is_use) ys)
+without_uses-append xs ys = rw filter-append (rw map-append refl)
+
+take-next : (count : ℕ) (first : Visited) (words : List Visited) → take (count + 1) (first ∷ words) ≡ first ∷ take count words
+take-next count first words = let next : count + 1 ≡ suc count = omega arith in rw next refl
 
 -- the first word that is no use, and those up to it
 next-first : (words : List Visited) (word : Expanded) → next_word words ≡ Some word → without_uses (take (count_to_next words) words) ≡ word ∷ []
 next-first [] word e = cc
-next-first (first ∷ words) word e = by first.is_use refl (next-first words word) e
-  where
-    by : (used : Bool) → first.is_use ≡ used → (next_word words ≡ Some word → without_uses (take (count_to_next words) words) ≡ word ∷ [])
-        → (if used then next_word words else Some (record { text = first.text; origin = first.origin })) ≡ Some word
-        → without_uses (take (if used then count_to_next words + 1 else 1) (first ∷ words)) ≡ word ∷ []
-    by true is later e = let next : count_to_next words + 1 ≡ suc (count_to_next words) = omega arith in rw (next, is) (later e)
-    by false is later e = rw is (cc)
+next-first (first ∷ words) word e = grind (arith, take-next, next-first words word)
 
 next-none : (words : List Visited) → next_word words ≡ None → without_uses words ≡ []
 next-none [] e = refl
-next-none (first ∷ words) e = by first.is_use refl (next-none words) e
-  where
-    by : (used : Bool) → first.is_use ≡ used → (next_word words ≡ None → without_uses words ≡ [])
-        → (if used then next_word words else Some (record { text = first.text; origin = first.origin })) ≡ None → without_uses (first ∷ words) ≡ []
-    by true is later e = rw is (later e)
-    by false is later e = cc
+next-none (first ∷ words) e = grind (arith, next-none words)
 
 -- one word more
 pub given-more : (progress : Progress) (word : Expanded) → next_word (words_left progress) ≡ Some word → given (advanced progress) ≡ given progress ++ word ∷ []
 given-more progress word next =
-    let all = visits_before_fault progress.source in
-    ap without_uses (take-add progress.visited (count_to_next (words_left progress)) all)
-    ∙ without_uses-append (take progress.visited all) (take (count_to_next (words_left progress)) (words_left progress))
-    ∙ ap (λ words. given progress ++ words) (next-first (words_left progress) word next)
+    rw (take-add progress.visited (count_to_next (words_left progress)) (visits_before_fault progress.source))
+    (rw (without_uses-append, next-first (words_left progress) word next) refl)
 
 -- all words before a fault
 pub given-all : (progress : Progress) → next_word (words_left progress) ≡ None → given progress ≡ without_uses (visits_before_fault progress.source)
@@ -58,34 +47,17 @@ given-whole progress none faultless = given-all progress none ∙ ap without_use
 pub given-few : (progress : Progress) → length (given progress) ≤ progress.visited
 given-few progress =
     let all = take progress.visited (visits_before_fault progress.source) in
-    omega (
-      arith,
-      length-map {B = Expanded} (filter (λ (word : Visited). not word.is_use) all) (λ (word : Visited). record { text = word.text; origin = word.origin }),
-      length-filter (λ (word : Visited). not word.is_use) all,
-      count_by-le-length (λ (word : Visited). not word.is_use) all,
-      length-take progress.visited (visits_before_fault progress.source),
-    )
+    omega (arith, length-map {A = Visited} {B = Expanded}, length-filter (λ (word : Visited). not word.is_use) all, count_by-le-length (λ (word : Visited). not word.is_use) all, length-take {A = Visited})
 
 -- a word that is given is visited
 pub next-visited : (words : List Visited) (word : Expanded) → next_word words ≡ Some word → 1 ≤ count_to_next words
 next-visited [] word e = cc
-next-visited (first ∷ words) word e = by first.is_use
-  where
-    by : (used : Bool) → 1 ≤ (if used then count_to_next words + 1 else 1)
-    by true = omega arith
-    by false = omega arith
+next-visited (first ∷ words) word e = grind arith
 
 -- behind the last word none is left
 next-again : (words : List Visited) → next_word words ≡ None → next_word (drop (count_to_next words) words) ≡ None
 next-again [] e = refl
-next-again (first ∷ words) e = by first.is_use (next-again words) e
-  where
-    by : (used : Bool) → (next_word words ≡ None → next_word (drop (count_to_next words) words) ≡ None)
-        → (if used then next_word words else Some (record { text = first.text; origin = first.origin })) ≡ None
-        → next_word (drop (if used then count_to_next words + 1 else 1) (first ∷ words)) ≡ None
-    by true later e = let next : count_to_next words + 1 ≡ suc (count_to_next words) = omega arith in rw next (later e)
-    by false later e = cc
+next-again (first ∷ words) e = grind (arith, common_steps, next-again words)
 
 pub left-again : (progress : Progress) → next_word (words_left progress) ≡ None → next_word (words_left (advanced progress)) ≡ None
-left-again progress none =
-    ap next_word (sym (drop-drop (count_to_next (words_left progress)) progress.visited (visits_before_fault progress.source))) ∙ next-again (words_left progress) none
+left-again progress none = rw (← drop-drop (count_to_next (words_left progress)) progress.visited (visits_before_fault progress.source)) (next-again (words_left progress) none)

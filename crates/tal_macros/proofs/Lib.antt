@@ -1,6 +1,5 @@
 pub mod StepLemmas
 pub mod PassLemmas
-pub mod StopLemmas
 pub mod FollowLemmas
 pub mod GivenLemmas
 pub mod HeadLemmas

@@ -32,6 +32,11 @@ pub record Refuses (steps : List Step) (fault : Fault) : Type 0 where
   pub visits : reached steps ≡ []
   pub faulty : fault_of steps ≡ Some fault
 
+-- steps at which a stop ends the pass
+abbrev pub Stops : List Step → AsmStop → Type 0
+Stops steps (Refused fault) = Refuses steps fault
+Stops steps NoMemory = Unit {0}
+
 module _ (source : List ℕ) where
   -- the steps of parts, where these macros are known and so many words were visited before them
   unfoldable pub rest : List Macro → ℕ → List Part → List Step
@@ -88,8 +93,7 @@ module _ (source : List ℕ) where
     TurnGives old new (Ok (Given given)) =
         (word : Visited) × (word.is_use ≡ false) × (given ≡ record { text = word.text; origin = word.origin }) × Visits old new word
     TurnGives old new (Ok End) = (left old ≡ []) × Passes old new
-    TurnGives old new (Err (Refused fault)) = Refuses (left old) fault × Passes old new
-    TurnGives old new (Err NoMemory) = Passes old new
+    TurnGives old new (Err stop) = Stops (left old) stop × Passes old new
 
     -- a pass that has visited so many words goes on as the expansion of the source does from so many on, behind uses alone
     pub record Follows (visited : ℕ) (pass : Pass) : Type 0 where

@@ -1,13 +1,14 @@
 //! Heads of macros.
 
-ghost use Rattle.std.specs.Prelude.{◌≡◌, ◌<◌, ◌≤◌, ◌-◌, ◌+◌, drop, take, length, map, true, if◌then◌else◌, MatchOption, IfSome, None, Some};
-ghost use Rattle.std.specs.List.{find};
+ghost use Rattle.std.specs.Prelude.{◌≡◌, ◌<◌, ◌≤◌, ◌+◌, ◌&&◌, ◌==◌, drop, length, true, None, Some};
+ghost use Rattle.std.specs.Prelude.{if◌then◌else◌, MatchOption, MatchResult};
 ghost use Rattle.std.specs.Option.{option_or};
-ghost use Rattle.tal_words.specs.Braces.{matching, one_if};
-ghost use Rattle.tal_words.specs.Source.{begins, word_text};
-ghost use Rattle.tal_macros.specs.Expansion.{body_after};
+ghost use Rattle.tal_words.specs.Braces.{closes, one_if};
+ghost use Rattle.tal_words.specs.Faults.{least};
+ghost use Rattle.tal_words.specs.Source.{begins, is_only, word_text};
+ghost use Rattle.tal_macros.specs.Expansion.{body_after, head_faults};
 ghost use Rattle.tal_macros.specs.Bodies.{known_of, word_at};
-ghost use Rattle.tal_macros.specs.Heads.{is_head, IsBody, HeadGives};
+ghost use Rattle.tal_macros.specs.Heads.{is_head, IsBody, IsClosedHead, HeadGives};
 
 use crate::body::{Body, Macros, body_named};
 use std::alloc::Global;
@@ -36,14 +37,9 @@ pub fn define(
 {
     let word = &words[at];
     let name = name_of(word.span.text(source));
-    if let Some(kind) = name_fault(name) {
-        return Err(AsmStop::Refused(Fault::new(word, kind)));
-    }
-    if body_named(macros, name).is_some() {
-        return Err(AsmStop::Refused(Fault::new(word, FaultKind::MacroTwice)));
-    }
-    let Some(closed) = body_after(source, words, at + 1) else {
-        return Err(AsmStop::Refused(Fault::new(word, FaultKind::MacroBody)));
+    let closed = match closed_head(source, words, at, name, macros) {
+        Ok(closed) => closed,
+        Err(kind) => return Err(AsmStop::Refused(Fault::new(word, kind))),
     };
     if let Some(nested) = closed.nested {
         return Err(AsmStop::Refused(Fault::new(&nested, FaultKind::MacroBody)));
@@ -51,6 +47,33 @@ pub fn define(
     let key = Vec::from_slice(alloc, name)?;
     macros.insert(key, closed.body)?;
     Ok(closed.body)
+}
+
+/// The body of the head whose first word has this index and whose macro has this name, or what is wrong with the head.
+fn closed_head(
+    source: &[u8],
+    words: &[Word],
+    at: usize,
+    name: &[u8],
+    macros: &Macros,
+) -> Result<Closed, FaultKind>
+    requires within { at < length words.now }
+    requires name { name.now ≡ drop 1 (word_text source.now (word_at words.now at)) }
+    ensures { MatchResult result
+        (λ closed. IsClosedHead source.now words.now at (known_of words.now macros.now.entries) closed.body closed.nested)
+        (λ kind. least (head_faults source.now (word_at words.now at) (known_of words.now macros.now.entries)
+        (body_after source.now (drop (at + 1) words.now))) ≡ Some kind) }
+{
+    if let Some(kind) = name_fault(name) {
+        return Err(kind);
+    }
+    if body_named(macros, name).is_some() {
+        return Err(FaultKind::MacroTwice);
+    }
+    match body_after(source, words, at + 1) {
+        Some(closed) => Ok(closed),
+        None => Err(FaultKind::MacroBody),
+    }
 }
 
 /// What follows the first byte of a word.
@@ -72,24 +95,24 @@ fn body_after(source: &[u8], words: &[Word], brace: usize) -> Option<Closed>
     if brace == words.len() || !is_only(words[brace].span.text(source), b'{') {
         return None;
     }
-    closing(source, words, brace + 1)
+    closing(source, words, brace)
 }
 
-/// The body that begins at an index, up to the `}` that closes it.
-fn closing(source: &[u8], words: &[Word], from: usize) -> Option<Closed>
-    ensures body { IfSome result (λ closed. (closed.body.from ≡ from) × (from ≤ closed.body.to) × (closed.body.to < length words.now)) }
-    ensures index { MatchOption result (matching (map (word_text source.now) (drop from words.now)) ≡ None)
-        (λ closed. matching (map (word_text source.now) (drop from words.now)) ≡ Some (closed.body.to - from)) }
-    ensures nested { IfSome result (λ closed. closed.nested
-        ≡ find (is_head source.now) (take (closed.body.to + 1 - from) (drop from words.now))) }
+/// The body behind the `{` of an index, up to the `}` that closes it.
+fn closing(source: &[u8], words: &[Word], brace: usize) -> Option<Closed>
+    requires within { brace < length words.now }
+    requires opens { is_only 123 (word_text source.now (word_at words.now brace)) ≡ true }
+    ensures { MatchOption result (body_after source.now (drop brace words.now) ≡ None)
+        (λ closed. IsBody source.now words.now brace closed.body closed.nested) }
 {
+    let from = brace + 1;
     let mut opened = 0usize;
     let mut closed = 0usize;
     let mut nested = None;
     for index in from..words.len() {
         let word = words[index];
         let text = word.span.text(source);
-        if closes(text) && opened == closed {
+        if ends_body(text, opened, closed) {
             let body = Body { from, to: index };
             return Some(Closed { body, nested });
         }
@@ -98,6 +121,13 @@ fn closing(source: &[u8], words: &[Word], from: usize) -> Option<Closed>
         nested = first_head(nested, word, text);
     }
     None
+}
+
+/// A word closes the body, behind so many words that open a brace and so many that close one.
+fn ends_body(text: &[u8], opened: usize, closed: usize) -> bool
+    ensures { result ≡ (closes text.now && opened == closed) }
+{
+    closes(text) && opened == closed
 }
 
 /// The first word that begins a head, where the words so far have this one and the next has this text.

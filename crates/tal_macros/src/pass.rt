@@ -1,6 +1,8 @@
 //! The pass over the words of a source, one step at a time.
 
-ghost use Rattle.std.specs.Prelude.{◌≡◌, ◌+◌, ◌<◌, [], ◌∷◌, length};
+ghost use Rattle.std.specs.Prelude.{◌≡◌, ◌+◌, ◌-◌, ◌<◌, [], ◌∷◌, length, is_some, true, None};
+ghost use Rattle.tal_words.specs.Faults.{least};
+ghost use Rattle.tal_macros.specs.Expansion.{Visited, depth_limit, visit_limit, visit_kinds};
 ghost use Rattle.tal_macros.specs.Bodies.{body_words};
 ghost use Rattle.tal_macros.specs.Passing.{TurnGives};
 
@@ -92,11 +94,8 @@ impl Pass {
         ensures { TurnGives source.now words.now self.old self.new result }
     {
         let used = body_named(&self.macros, word.span.text(source));
-        if used.is_some() && self.outer.is_full() {
-            return Err(AsmStop::Refused(Fault::new(&self.origin, FaultKind::MacroDeep)));
-        }
-        if self.count >= VISIT_LIMIT {
-            return Err(AsmStop::Refused(Fault::new(&self.origin, FaultKind::ManyWords)));
+        if let Some(kind) = self.visit_fault(used) {
+            return Err(AsmStop::Refused(Fault::new(&self.origin, kind)));
         }
         self.count += 1;
         self.body.from += 1;
@@ -110,6 +109,22 @@ impl Pass {
                 text: word.span,
                 origin: self.origin,
             })),
+        }
+    }
+
+    /// What is wrong with a word of the body that names this body.
+    fn visit_fault(&self, used: Option<Body>) -> Option<FaultKind>
+        ensures kind { (word : Visited) → word.is_use ≡ is_some used → word.room ≡ depth_limit - length self.now.outer.items
+            → result ≡ least (visit_kinds self.now.count word) }
+        ensures room { result ≡ None → is_some used ≡ true → length self.now.outer.items < depth_limit }
+        ensures few { result ≡ None → self.now.count < visit_limit }
+    {
+        if used.is_some() && self.outer.is_full() {
+            Some(FaultKind::MacroDeep)
+        } else if self.count >= VISIT_LIMIT {
+            Some(FaultKind::ManyWords)
+        } else {
+            None
         }
     }
 

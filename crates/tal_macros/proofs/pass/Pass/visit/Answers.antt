@@ -1,110 +1,81 @@
-use Rattle.std.proofs.Common.{◌≡◌, ℕ, ◌+◌, ◌-◌, ◌<◌, ◌⊎◌, inl, inr, Bool, true, false, List, length, Option, Some, None, is_some, refl, ap, sym, ◌∙◌, arith}
-use Rattle.std.specs.Prelude.{Vec}
-use Rattle.std.specs.declared.alloc.Global.{Global}
+use Rattle.std.proofs.Common.{◌≡◌, ℕ, ◌+◌, ◌-◌, ◌<◌, inr, true, List, ◌∷◌, [], ◌++◌, length, Option, Some, None, is_some, refl, ap, sym, ◌∙◌, arith}
+use Rattle.std.specs.Prelude.{unwrap_or}
+use Rattle.std.specs.List.{flat_map}
 use Rattle.std.specs.Option.{option_map}
-use Rattle.std.proofs.lemmas.Bool.{eqb-true}
 use Rattle.tal_words.specs.declared.span.Word.{Word}
+use Rattle.tal_words.specs.declared.span.Expanded.{Expanded}
+use Rattle.tal_words.specs.declared.fault.FaultKind.{FaultKind}
 use Rattle.tal_words.specs.Source.{word_text}
+use Rattle.tal_words.specs.Faults.{least, fault_at}
 use Rattle.tal_macros.specs.declared.body.Body.{Body}
+use Rattle.tal_macros.specs.declared.pass.Pass.{Pass}
 use Rattle.tal_macros.specs.Bodies.{body_words, known_of}
-use Rattle.tal_macros.specs.Expansion.{Visited, body_named, visited, depth_limit}
-use Rattle.tal_macros.specs.Passing.{left}
-use Rattle.tal_macros.proofs.PassLemmas.{steps-word, steps-plain, steps-use, refuses-at, continues-along, continues-same, kinds-deep, kinds-many, kinds-none, shallow, below_full}
+use Rattle.tal_macros.specs.Expansion.{Macro, Visited, body_named, visited, visits, visit_kinds, depth_limit, visit_limit}
+use Rattle.tal_macros.specs.Passing.{left, steps_from, Refuses, Visits}
+use Rattle.tal_macros.proofs.PassLemmas.{pending, pending-push, steps-word, steps-inside, refuses-at, continues-along, continues-same}
 use Rattle.tal_macros.proofs.pass.Pass.visit.Goals as goal
-use Rattle.tal_macros.proofs.pass.Pass.visit.Goals.{else-is_some-via-then-is_some+else-is_full, else-is_some-via-else-is_some}
 
--- what the macros say of a word, by what was found
-named : (source : List ℕ) (words : List Word) (entries : List (Vec ℕ Global × Body)) (word : Word) (text : List ℕ) (found : Option Body)
-    → text ≡ word_text source word → ((all : List Word) → option_map (body_words all) found ≡ body_named (known_of all entries) text)
-    → body_named (known_of words entries) (word_text source word) ≡ option_map (body_words words) found
-named source words entries word text found is_text ensured = ap (body_named (known_of words entries)) (sym is_text) ∙ sym (ensured words)
+-- a visit of the first word of the body, by the body that it names
+module _ (source : List ℕ) (words : List Word) (old : Pass) (word : Word) (text : List ℕ) (used : Option Body)
+    (first : body_words words old.body ≡ word ∷ body_words words (record { from = old.body.from + 1; to = old.body.to })) (is_text : text ≡ word_text source word)
+    (ensured : (all : List Word) → option_map (body_words all) used ≡ body_named (known_of all old.macros.entries) text)
+    (answer : Option FaultKind)
+    (judged : (word : Visited) → word.is_use ≡ is_some used → word.room ≡ depth_limit - length old.outer.items → answer ≡ least (visit_kinds old.count word)) where
+  abbrev known : List Macro
+  known = known_of words old.macros.entries
 
-is_use : (found : Option (List Word)) (words : List Word) (body : Option Body) (answer : Bool) → found ≡ option_map (body_words words) body
-    → answer ≡ is_some body → is_some found ≡ answer
-is_use found words None answer e is = ap is_some e ∙ sym is
-is_use found words (Some body) answer e is = ap is_some e ∙ sym is
+  abbrev next : Body
+  next = record { from = old.body.from + 1; to = old.body.to }
 
-pub returns-then-is_full : goal.returns-then-is_full
-unfolding left
-returns-then-is_full c =
-    let s = c.args.self.now in
-    let known = known_of c.args.words.now s.macros.entries in
-    let found = named c.args.source.now c.args.words.now s.macros.entries c.args.word _ _ c.text.ensures c.body_named-used.ensures in
-    let next : Body = record { from = s.body.from + 1; to = s.body.to } in
-    let first = steps-word c.args.source.now c.args.words.now known s.origin s.outer.items s.body next c.args.word s.count s.at c.requires.first in
-    let word : Visited = visited c.args.source.now known s.origin (depth_limit - length s.outer.items) c.args.word in
-    let full = eqb-true _ _ (sym c.is_full.ensures.value ∙ c.if-is_full.true) in (
-      rw c.new.ensures
-          (refuses-at _ _ _ _ _ first.1
-          (kinds-deep s.count word
-          (is_use _ _ _ _ found c.is_some.ensures ∙ c.if-is_some.true) (omega (arith, full)))),
-      record { continues = continues-same _ _ refl; count = refl },
-    )
+  abbrev seen : Visited
+  seen = visited source known old.origin (depth_limit - length old.outer.items) word
 
-pub returns-then-self-ge-VISIT_LIMIT : goal.returns-then-self-ge-VISIT_LIMIT
-unfolding left
-returns-then-self-ge-VISIT_LIMIT c =
-    let s = c.args.self.now in
-    let known = known_of c.args.words.now s.macros.entries in
-    let found = named c.args.source.now c.args.words.now s.macros.entries c.args.word _ _ c.text.ensures c.body_named-used.ensures in
-    let next : Body = record { from = s.body.from + 1; to = s.body.to } in
-    let first = steps-word c.args.source.now c.args.words.now known s.origin s.outer.items s.body next c.args.word s.count s.at c.requires.first in
-    let word : Visited = visited c.args.source.now known s.origin (depth_limit - length s.outer.items) c.args.word in
-    let room : (length s.outer.items < depth_limit) ⊎ (c.is_some.result ≡ false) = elim c.else-is_some.branch [
-      | else-is_some-via-then-is_some+else-is_full w ↦ inl (below_full _ (sym w.is_full.ensures.value ∙ w.if-is_full.false) w.is_full.ensures.fits)
-      | else-is_some-via-else-is_some w ↦ inr w.if-is_some.false
-    ] in (
-      rw c.new-then-self-ge-VISIT_LIMIT.ensures
-          (refuses-at _ _ _ _ _ first.1
-          (kinds-many s.count word
-          (shallow _ _ _ (is_use _ _ _ _ found c.is_some.ensures) room) (omega arith))),
-      record { continues = continues-same _ _ refl; count = refl },
-    )
+  named : body_named known (word_text source word) ≡ option_map (body_words words) used
+  named = rw (← is_text) (sym (ensured words))
+
+  is_use : seen.is_use ≡ is_some used
+  is_use = rw named (grind arith)
+
+  refused : (kind : FaultKind) → answer ≡ Some kind → Refuses (left source words old) (fault_at old.origin kind)
+  unfolding left
+  refused kind is =
+      refuses-at _ _ _ _ kind (steps-word source words known old.origin old.outer.items old.body next word old.count old.at first).1 (sym (judged seen is_use refl) ∙ is)
+
+  sound : answer ≡ None → (answer ≡ None → is_some used ≡ true → length old.outer.items < depth_limit) → (answer ≡ None → old.count < visit_limit)
+      → (new : Pass) → new.count ≡ old.count + 1
+      → left source words new ≡ steps_from source words known (old.count + 1) (flat_map (visits source known old.origin (depth_limit - length old.outer.items - 1))
+      (unwrap_or (option_map (body_words words) used) []) ++ pending source words known old.origin old.outer.items next) old.at
+      → (seen : Visited) × (seen.is_use ≡ is_some used) × ◌≡◌ {A = Expanded} (record { text = word.span; origin = old.origin }) (record { text = seen.text; origin = seen.origin }) × Visits source words old new seen
+  unfolding left
+  sound is roomy few new count rest =
+      let step = steps-inside source words known old.origin old.outer.items old.body next word old.count old.at first (option_map (body_words words) used) named (λ some. roomy is (grind arith)) in (
+        seen,
+        is_use,
+        refl,
+        record { continues = rw rest (continues-along _ _ _ _ step (sym (judged seen is_use refl) ∙ is)); count = count; bound = omega (arith, few is) },
+      )
 
 pub returns-in-Some : goal.returns-in-Some
+returns-in-Some c = (
+  rw c.new.ensures
+      (refused c.args.source.now c.args.words.now c.args.self.now c.args.word _ _ c.requires.first c.text.ensures c.body_named-used.ensures _ c.visit_fault.ensures.kind
+      c.in-Some.kind c.in-Some.is),
+  record { continues = continues-same _ _ refl; count = refl },
+)
+
+pub returns-in-Some-used : goal.returns-in-Some-used
 unfolding left
-returns-in-Some c =
+returns-in-Some-used c =
     let s = c.args.self.now in
     let known = known_of c.args.words.now s.macros.entries in
-    let found = named c.args.source.now c.args.words.now s.macros.entries c.args.word _ _ c.text.ensures c.body_named-used.ensures in
-    let some = found ∙ ap (option_map (body_words c.args.words.now)) c.in-Some.is in
-    let used : c.is_some.result ≡ true = c.is_some.ensures ∙ ap is_some c.in-Some.is in
-    let room : length s.outer.items < depth_limit = elim c.else-is_some.branch [
-      | else-is_some-via-then-is_some+else-is_full w ↦ below_full _ (sym w.is_full.ensures.value ∙ w.if-is_full.false) w.is_full.ensures.fits
-      | else-is_some-via-else-is_some w ↦ (let never : true ≡ false = sym used ∙ w.if-is_some.false in cc)
-    ] in
-    let word : Visited = visited c.args.source.now known s.origin (depth_limit - length s.outer.items) c.args.word in
-    let next : Body = record { from = s.body.from + 1; to = s.body.to } in
-    let step = steps-use c.args.source.now c.args.words.now known s.origin s.outer.items s.body next c.args.word s.count s.at c.requires.first c.in-Some.body some room in (
-      inr (
-        word,
-        is_use _ _ _ _ found c.is_some.ensures ∙ used,
-        record {
-          continues = rw c.push.ensures.items (continues-along _ _ _ _ step (kinds-none s.count word (shallow _ _ _ (is_use _ _ _ _ found c.is_some.ensures) (inl room)) (omega arith)));
-          count = refl;
-          bound = omega arith;
-        },
-      ),
-      omega (arith, c.push.ensures.len),
-    )
+    let around = pending-push c.args.source.now c.args.words.now known s.origin c.push.new.self.items s.outer.items c.in-Some-used.body _ c.push.ensures.items in
+    let step = sound c.args.source.now c.args.words.now s c.args.word _ _ c.requires.first c.text.ensures c.body_named-used.ensures _ c.visit_fault.ensures.kind
+    c.in_default.is c.visit_fault.ensures.room c.visit_fault.ensures.few _ refl (rw (around, c.in-Some-used.is) refl) in
+    (inr (step.0, step.1 ∙ ap is_some c.in-Some-used.is, step.3), omega (arith, c.push.ensures.len, c.visit_fault.ensures.few c.in_default.is))
 
 pub returns-in-None : goal.returns-in-None
 unfolding left
 returns-in-None c =
-    let s = c.args.self.now in
-    let known = known_of c.args.words.now s.macros.entries in
-    let found = named c.args.source.now c.args.words.now s.macros.entries c.args.word _ _ c.text.ensures c.body_named-used.ensures in
-    let none = found ∙ ap (option_map (body_words c.args.words.now)) c.in-None.is in
-    let plain : c.is_some.result ≡ false = c.is_some.ensures ∙ ap is_some c.in-None.is in
-    let word : Visited = visited c.args.source.now known s.origin (depth_limit - length s.outer.items) c.args.word in
-    let next : Body = record { from = s.body.from + 1; to = s.body.to } in
-    let step = steps-plain c.args.source.now c.args.words.now known s.origin s.outer.items s.body next c.args.word s.count s.at c.requires.first none in (
-      word,
-      is_use _ _ _ _ found c.is_some.ensures ∙ plain,
-      refl,
-      record {
-        continues = continues-along _ _ _ _ step (kinds-none s.count word (shallow _ _ _ (is_use _ _ _ _ found c.is_some.ensures) (inr plain)) (omega arith));
-        count = refl;
-        bound = omega arith;
-      },
-    )
+    let step = sound c.args.source.now c.args.words.now c.args.self.now c.args.word _ _ c.requires.first c.text.ensures c.body_named-used.ensures _ c.visit_fault.ensures.kind
+    c.in_default.is c.visit_fault.ensures.room c.visit_fault.ensures.few _ refl (rw c.in-None.is refl) in
+    (step.0, step.1 ∙ ap is_some c.in-None.is, step.2, step.3)

@@ -1,0 +1,7 @@
+use Rattle.std.proofs.Common.{ap, sym, ◌∙◌}
+use Rattle.tal_words.specs.Names.{name_fault}
+use Rattle.tal_macros.proofs.HeadLemmas.{least_name}
+use Rattle.tal_macros.proofs.head.closed_head.Goals as goal
+
+pub returns-in-Some : goal.returns-in-Some
+returns-in-Some c = least_name _ c.in-Some.kind _ _ (ap name_fault (sym c.requires.name) ∙ sym c.name_fault.ensures ∙ c.in-Some.is)
