@@ -1,0 +1,65 @@
+-- One moment more is kept.
+use Rattle.std.proofs.Common.{◌≡◌, ℕ, zero, suc, ◌+◌, ◌<◌, ◌≤◌, List, ◌∷◌, ◌++◌, length, take, sym, ap, ◌∙◌, arith}
+use Rattle.std.specs.Prelude.{sum_by}
+use Rattle.std.proofs.lemmas.List.{length-take, length-append, take_all}
+use Rattle.std.proofs.lemmas.List.FromFn.{length-map-range_with_len}
+use Rattle.std.proofs.lemmas.List.Sums.{sum_by-cons}
+use Rattle.circular_buffer.specs.Buffer.{Buffer, buffer}
+use Rattle.uxn_undo.specs.declared.undo.Record.{Record}
+use Rattle.uxn_undo.specs.Spans.{bytes_at}
+use Rattle.uxn_undo.specs.Kept.{Kept, byte_count, most_moments, most_bytes, Holds}
+use Rattle.uxn_undo.specs.Rings.{with_bytes, count_of, joined, AreRings}
+use Rattle.uxn_undo.specs.Room.{MakesRoom}
+use Rattle.uxn_undo.proofs.Joined.{length-held, bytes-held, joined-push}
+
+-- with more moments there is none
+fuller : (before held : List Kept) (kept : Kept) → MakesRoom (byte_count kept) before held → (more : ℕ) → suc (length held) < more
+    → more ≤ suc (length before) → more ≤ most_moments → most_bytes < sum_by byte_count (take more (kept ∷ before))
+fuller before held kept room zero above within few = absurd (omega arith)
+fuller before held kept room (suc more) above within few =
+    let full : most_bytes < sum_by byte_count (take more before) + byte_count kept = room.greatest more (omega arith) (omega arith) (omega arith) in
+    omega (arith, full, sum_by-cons byte_count kept (take more before))
+
+-- where there is room, one moment more is held
+room_taken : (before held : List Kept) (kept : Kept) → MakesRoom (byte_count kept) before held → Holds (kept ∷ before) (kept ∷ held)
+room_taken before held kept room =
+    let size : length held ≤ length before = omega (arith, ap (λ (z : List Kept). length z) room.newest, length-take (length held) before) in
+    let moments : length held < 65536 = room.moments in
+    let bytes : sum_by byte_count held + byte_count kept ≤ 16777216 = room.bytes in
+    record {
+      number = record {
+        within = omega arith;
+        moments = omega arith;
+        bytes = rw (← room.newest) (omega (arith, bytes, sum_by-cons byte_count kept held));
+        greatest = fuller before held kept room;
+      };
+      newest = ap (λ (z : List Kept). kept ∷ z) room.newest;
+    }
+
+pub record Keeps (records : Buffer Record) (bytes : Buffer ℕ) (before : List Kept) (r : Record) (kept : Kept) : Type 0 where
+  pub rings : AreRings (buffer (take records.capacity (r ∷ records.items)) records.capacity) (buffer (kept.bytes ++ bytes.items) bytes.capacity)
+  pub holds : Holds (kept ∷ before) (joined (take records.capacity (r ∷ records.items)) (kept.bytes ++ bytes.items))
+
+pub keeps : (records : Buffer Record) (bytes : Buffer ℕ) (before held : List Kept) (r : Record) (memory : List ℕ)
+    → joined records.items bytes.items ≡ held → AreRings records bytes → MakesRoom (count_of r) before held
+    → Keeps records bytes before r (with_bytes r (bytes_at r.span memory))
+keeps records bytes before held r memory is rings room =
+    let kept = with_bytes r (bytes_at r.span memory) in
+    let size : length records.items ≡ length held = length-held records.items bytes.items held is in
+    let filled : sum_by byte_count held ≡ length bytes.items = bytes-held records bytes held is rings in
+    let moments : length held < 65536 = room.moments in
+    let small : sum_by byte_count held + count_of r ≤ 16777216 = room.bytes in
+    let capacity : records.capacity ≡ 65536 = rings.moments in
+    let all : take records.capacity (r ∷ records.items) ≡ r ∷ records.items = take_all records.capacity (r ∷ records.items) (omega arith) in
+    let count : length kept.bytes ≡ count_of r = length-map-range_with_len _ 0 r.span.count in
+    let long = length-append kept.bytes bytes.items in
+    record {
+      rings = rw all (record {
+        moments = rings.moments;
+        room = rings.room;
+        few = omega arith;
+        small = omega (arith, long);
+        filled = long ∙ sym (sum_by-cons count_of r records.items ∙ ap (λ n. count_of r + n) (sym rings.filled) ∙ ap (λ n. n + length bytes.items) (sym count));
+      });
+      holds = rw (all, joined-push r records.items kept.bytes bytes.items count, is) (room_taken before held kept room);
+    }

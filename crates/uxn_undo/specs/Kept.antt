@@ -1,0 +1,60 @@
+-- What is kept of the moments of a run, the newest first (profile).
+use Rattle.std.specs.Prelude.{◌≡◌, ℕ, ◌<◌, ◌≤◌, if◌then◌else◌, List, [], ◌∷◌, length, take, sum_by, slice_index}
+use Rattle.uxn_stacks.specs.Cells.{Cells}
+use Rattle.uxn_opcodes.specs.declared.Core.{Core}
+use Rattle.uxn_undo.specs.declared.span.Span.{Span}
+use Rattle.uxn_undo.specs.Spans.{covers, distance_to, bytes_at}
+use Rattle.uxn_undo.specs.Changes.{span_of}
+
+-- a moment: the address, both rings, the bytes stored in the ports, and the bytes of bank 0 that the coming instruction may change
+pub record Kept : Type 0 where
+  pub at : ℕ
+  pub working : Cells
+  pub returns : Cells
+  pub stored : List ℕ
+  pub span : Span
+  pub bytes : List ℕ
+
+abbrev pub kept_at : Core → List ℕ → Kept
+kept_at core stored = record {
+  at = core.at;
+  working = core.working;
+  returns = core.returns;
+  stored = stored;
+  span = span_of core stored;
+  bytes = bytes_at (span_of core stored) core.memory;
+}
+
+-- how many bytes of bank 0 are kept for a moment
+abbrev pub byte_count : Kept → ℕ
+byte_count kept = kept.span.count
+
+-- the most moments and the most bytes of bank 0 that are kept
+abbrev pub most_moments : ℕ
+most_moments = 65536
+
+abbrev pub most_bytes : ℕ
+most_bytes = 16777216
+
+-- of these moments so many of the newest are kept: the greatest number that there is room for
+pub record IsHeld (given : List Kept) (number : ℕ) : Type 0 where
+  pub within : number ≤ length given
+  pub moments : number ≤ most_moments
+  pub bytes : sum_by byte_count (take number given) ≤ most_bytes
+  pub greatest : (more : ℕ) → number < more → more ≤ length given → more ≤ most_moments
+      → most_bytes < sum_by byte_count (take more given)
+
+-- the newest of the given moments are held, as many as there is room for
+pub record Holds (given held : List Kept) : Type 0 where
+  pub number : IsHeld given (length held)
+  pub newest : held ≡ take (length held) given
+
+-- the byte at an address before a moment's instruction, where it is this byte after it
+abbrev pub byte_before : Kept → ℕ → ℕ → ℕ
+byte_before kept at byte = if covers kept.span at then slice_index kept.bytes (distance_to kept.span at) else byte
+
+-- the byte at an address before all these moments, the newest first, where it is this byte now: what the oldest of them holds that
+-- covers the address
+unfoldable pub byte_back : List Kept → ℕ → ℕ → ℕ
+byte_back [] at byte = byte
+byte_back (kept ∷ older) at byte = byte_back older at (byte_before kept at byte)

@@ -1,0 +1,36 @@
+-- Laws: what is held after many moments, and that going back gives the memory of an earlier moment.
+use Rattle.std.specs.Prelude.{◌≡◌, ℕ, ◌+◌, ◌<◌, false, List, [], ◌∷◌, length, take, map, Some, slice_get, slice_index}
+use Rattle.uxn_opcodes.specs.declared.Core.{Core}
+use Rattle.uxn_undo.specs.declared.span.Span.{Span}
+use Rattle.uxn_undo.specs.Spans.{covers}
+use Rattle.uxn_undo.specs.Changes.{span_of}
+use Rattle.uxn_undo.specs.Kept.{Kept, kept_at, Holds, byte_back}
+
+-- a moment of a run: the machine, and the bytes stored in its ports
+pub record Given : Type 0 where
+  pub core : Core
+  pub stored : List ℕ
+
+abbrev pub kept_of : Given → Kept
+kept_of given = kept_at given.core given.stored
+
+-- bank 0 of two memories differs only within these addresses
+abbrev pub DiffersWithin : Span → List ℕ → List ℕ → Type 0
+DiffersWithin span before after = (at : ℕ) → at < 65536 → covers span at ≡ false → slice_index before at ≡ slice_index after at
+
+-- moments in a row, the newest first, and the machine after them: each differs from the next one, and the newest from that machine,
+-- only within the bytes that are kept for it
+abbrev pub Follow : List Given → Core → Type 0
+Follow [] last = Unit {0}
+Follow (given ∷ older) last = DiffersWithin (span_of given.core given.stored) given.core.memory last.memory × Follow older given.core
+
+-- what holds one moment after another holds the newest of all of them, as many as there is room for
+pub record HoldingLaw : Type 0 where
+  pub none : Holds [] []
+  pub one_more : (given held now : List Kept) (kept : Kept) → Holds given held → Holds (kept ∷ held) now → Holds (kept ∷ given) now
+
+-- where moments in a row are held, the byte that going back gives is that of the memory of the moment gone to
+abbrev pub GoingBackLaw : Type 0
+GoingBackLaw = (given : List Given) (held : List Kept) (last : Core) (moment : Given) (back at : ℕ)
+    → Holds (map kept_of given) held → Follow given last → back < length held → slice_get given back ≡ Some moment → at < 65536
+    → byte_back (take (back + 1) held) at (slice_index last.memory at) ≡ slice_index moment.core.memory at

@@ -1,0 +1,6 @@
+pub mod Spans
+pub mod Changes
+pub mod Kept
+pub mod Rings
+pub mod Room
+pub mod Laws

@@ -1,0 +1,8 @@
+//! The moments of a run that are kept, so that a debugger can go back to them.
+#![tactic(auto)]
+
+mod changes;
+mod span;
+mod undo;
+
+pub use undo::{Undo, going_back_gives_the_moment, the_newest_moments_are_held};

@@ -1,0 +1,243 @@
+//! The moments that are kept.
+
+ghost use Rattle.std.specs.Prelude.{
+  ◌≡◌,
+  ℕ,
+  ◌+◌,
+  ◌-◌,
+  ◌<◌,
+  ◌≤◌,
+  [],
+  ◌∷◌,
+  ◌++◌,
+  length,
+  take,
+  IfOk,
+  Some,
+  option_map,
+  slice_get,
+  slice_index,
+  sum_by,
+  nat_lt,
+  nat_le,
+  ◌&&◌,
+};
+ghost use Rattle.circular_buffer.specs.Buffer.{buffer};
+ghost use Rattle.uxn_undo.specs.Spans.{bytes_at};
+ghost use Rattle.uxn_undo.specs.Kept.{
+  Holds,
+  byte_back,
+  byte_count,
+  kept_at,
+  most_bytes,
+  most_moments,
+};
+ghost use Rattle.uxn_undo.specs.Room.{MakesRoom};
+ghost use Rattle.uxn_undo.specs.Laws.{GoingBackLaw, HoldingLaw};
+
+use crate::changes::span_of;
+use crate::span::Span;
+use circular_buffer::HeapCircularBuffer;
+use std::alloc::{AllocError, Global};
+use std::marker::Model;
+use uxn_memory::Memory;
+use uxn_opcodes::{Core, Ports};
+use uxn_stacks::Ring;
+
+/// The most moments that are kept.
+const MOMENTS: usize = 65_536;
+
+/// The most bytes of bank 0 that are kept.
+const BYTES: usize = 16_777_216;
+
+// What is kept of a moment beside the bytes of bank 0 that its instruction may change.
+#[derive(Drop)]
+pub(crate) struct Record {
+    at: u16,
+    working: Ring,
+    returns: Ring,
+    stored: [u8; 256],
+    span: Span,
+}
+
+/// The newest moments of a run, as many as there is room for. Contracts see them as a list, the newest first.
+#[derive(Drop)]
+pub struct Undo {
+    records: HeapCircularBuffer<Record>,
+    bytes: HeapCircularBuffer<u8>,
+}
+
+impl Model for Undo {
+    ghost use Rattle.std.specs.Prelude.{List};
+    ghost use Rattle.uxn_undo.specs.Kept.{Kept};
+    ghost use Rattle.uxn_undo.specs.Rings.{joined, AreRings};
+
+    ghost Value = { List Kept };
+
+    ghost view = { λ u. joined u.records.items u.bytes.items };
+
+    ghost invariant = { λ u. AreRings u.records u.bytes };
+}
+
+impl Undo {
+    /// No moment is kept. This is the one call of this crate that takes memory, all that it will use; none of it is written yet.
+    #[tactic(auto, unfolding(crate::specs::Rings::joined))]
+    pub fn new(alloc: Global) -> Result<Undo, AllocError>
+        ensures { IfOk result (λ undo. undo ≡ []) }
+    {
+        let records = HeapCircularBuffer::with_capacity(alloc, MOMENTS)?;
+        let bytes = HeapCircularBuffer::with_capacity(alloc, BYTES)?;
+        Ok(Undo { records, bytes })
+    }
+
+    /// Keeps this moment, and drops the oldest ones for which there is no room any more.
+    pub fn keep<P: Ports>(&mut self, core: &Core, ports: &P)
+        ensures { Holds (kept_at core.now (P.stored ports.now) ∷ self.old) self.new }
+    {
+        let stored = ports.stored_page();
+        let span = span_of(core, stored);
+        self.make_room(usize::from(span.count));
+        put_bytes(&mut self.bytes, &core.memory, span);
+        self.records.push_front(Record {
+            at: core.at,
+            working: core.working,
+            returns: core.returns,
+            stored: *stored,
+            span,
+        });
+    }
+
+    /// How many moments are kept.
+    pub fn held(&self) -> u32
+        ensures { result ≡ length self.now }
+    {
+        self.records.len() as u32
+    }
+
+    /// The address of the moment so many before; 1 is the newest one that is kept.
+    pub fn address(&self, back: u32) -> u16
+        requires first { 0 < back }
+        requires last { back ≤ length self.now }
+        ensures { option_map (λ kept. kept.at) (slice_get self.now (back - 1)) ≡ Some result }
+    {
+        nth(&self.records, back - 1).at
+    }
+
+    /// Its working ring.
+    pub fn working(&self, back: u32) -> Ring
+        requires first { 0 < back }
+        requires last { back ≤ length self.now }
+        ensures { option_map (λ kept. kept.working) (slice_get self.now (back - 1)) ≡ Some result }
+    {
+        nth(&self.records, back - 1).working
+    }
+
+    /// Its return ring.
+    pub fn returns(&self, back: u32) -> Ring
+        requires first { 0 < back }
+        requires last { back ≤ length self.now }
+        ensures { option_map (λ kept. kept.returns) (slice_get self.now (back - 1)) ≡ Some result }
+    {
+        nth(&self.records, back - 1).returns
+    }
+
+    /// The byte that was stored in a port.
+    pub fn stored(&self, back: u32, port: u8) -> u8
+        requires first { 0 < back }
+        requires last { back ≤ length self.now }
+        ensures { option_map (λ kept. slice_index kept.stored port) (slice_get self.now (back - 1)) ≡ Some result }
+    {
+        nth(&self.records, back - 1).stored[usize::from(port)]
+    }
+
+    /// The byte of bank 0 at an address: what the oldest of the newest `back` moments keeps that keeps this address, or else the
+    /// byte of the machine's memory.
+    pub fn byte(&self, core: &Core, back: u32, at: u16) -> u8
+        requires first { 0 < back }
+        requires last { back ≤ length self.now }
+        ensures { result ≡ byte_back (take back self.now) at (slice_index core.now.memory at) }
+    {
+        let mut byte = core.memory.get(at);
+        let mut begin = 0;
+        for index in 0..back {
+            let span = &nth(&self.records, index).span;
+            if let Some(distance) = span.distance_to(at) {
+                byte = byte_in(&self.bytes, begin + usize::from(distance));
+            }
+            begin += usize::from(span.count);
+        }
+        byte
+    }
+
+    // Drops the oldest moments until there is room for one more that keeps so many bytes.
+    fn make_room(&mut self, count: usize)
+        requires { count < 65536 }
+        ensures { MakesRoom count self.old self.new }
+    {
+        while !self.has_room(count) {
+            self.forget_oldest();
+        }
+    }
+
+    // Whether there is room for one more moment that keeps so many bytes.
+    #[inline(always)]
+    fn has_room(&self, count: usize) -> bool
+        requires { count < 65536 }
+        ensures { result ≡ (nat_lt (length self.now) most_moments && nat_le (sum_by byte_count self.now + count) most_bytes) }
+    {
+        self.records.len() < MOMENTS && self.bytes.len() + count <= BYTES
+    }
+
+    // Drops the oldest moment.
+    fn forget_oldest(&mut self)
+        ensures { self.new ≡ take (length self.old - 1) self.old }
+    {
+        let Some(oldest) = self.records.back() else {
+            return;
+        };
+        let count = usize::from(oldest.span.count);
+        let bytes = self.bytes.len();
+        let records = self.records.len();
+        self.bytes.truncate_back(bytes - count);
+        self.records.truncate_back(records - 1);
+    }
+}
+
+// A record, from the newest on.
+fn nth(records: &HeapCircularBuffer<Record>, index: u32) -> &Record
+    requires { index < length records.now.items }
+    ensures { slice_get records.now.items index ≡ Some result.now }
+{
+    records.get(index as usize).unwrap()
+}
+
+// A byte, from the newest on.
+fn byte_in(bytes: &HeapCircularBuffer<u8>, index: usize) -> u8
+    requires { index < length bytes.now.items }
+    ensures { result ≡ slice_index bytes.now.items index }
+{
+    *bytes.get(index).unwrap()
+}
+
+// Puts the bytes of memory at some addresses before those that are there.
+fn put_bytes(bytes: &mut HeapCircularBuffer<u8>, memory: &Memory, span: Span)
+    requires { length bytes.old.items + span.count ≤ bytes.old.capacity }
+    ensures { bytes.new ≡ buffer (bytes_at span memory.now ++ bytes.old.items) bytes.old.capacity }
+{
+    let mut left = span.count;
+    while let Some(less) = left.checked_sub(1) {
+        left = less;
+        bytes.push_front(memory.get(span.address_after(left)));
+    }
+}
+
+/// What keeps one moment after another holds the newest of all of them, as many as there is room for.
+pub fn the_newest_moments_are_held()
+    ensures { HoldingLaw }
+{}
+
+/// Where each moment's memory differs from the next one's only within the bytes that are kept for it, going back gives the
+/// byte of the memory of the moment gone to.
+pub fn going_back_gives_the_moment()
+    ensures { GoingBackLaw }
+{}
