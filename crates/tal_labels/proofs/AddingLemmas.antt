@@ -1,28 +1,24 @@
 -- Words that are added one by one: their faults, and what is kept of them.
-use Rattle.std.proofs.Common.{◌≡◌, ℕ, ◌+◌, ◌<◌, Bool, true, false, not, List, [], ◌∷◌, ◌++◌, length, take, drop, get_or, Option, Some, None, Ok, Err, Result, cond, ◌&&◌, refl, sym, ◌∙◌, ap, arith}
-use Rattle.std.specs.Prelude.{◌==◌, is_some}
+use Rattle.std.proofs.Common.{◌≡◌, ℕ, ◌+◌, ◌<◌, Bool, true, false, not, List, [], ◌∷◌, ◌++◌, length, take, drop, get_or, Option, Some, None, Ok, Result, cond, ◌&&◌, refl, sym, ◌∙◌, ap, arith}
+use Rattle.tal_labels.proofs.LayingLemmas.{each-none, has_form, least-none}
+use Rattle.std.specs.Prelude.{is_some}
 use Rattle.tal_words.specs.declared.span.Expanded.{Expanded}
 use Rattle.tal_words.specs.declared.span.Word.{Word}
 use Rattle.tal_words.specs.declared.fault.Fault.{Fault}
 use Rattle.tal_words.specs.declared.fault.FaultKind.{FaultKind}
-use Rattle.tal_words.specs.declared.fault.FaultKind.TheVariants.{StrayBrace, OpenBrace}
 use Rattle.tal_words.specs.declared.form.Form.{Form}
-use Rattle.tal_words.specs.Faults.{Judged, when, least, fault_or, or_later, phase_fault}
+use Rattle.tal_words.specs.Faults.{least, fault_or, or_later, phase_fault}
 use Rattle.tal_words.specs.Forms.{form}
-use Rattle.tal_words.specs.Braces.{opens, closes}
+use Rattle.tal_words.specs.Braces.{opens}
 use Rattle.tal_words.specs.Order.{each, collected}
 use Rattle.tal_words.specs.Source.{expanded_text}
-use Rattle.tal_words.proofs.OrderLemmas.{each-more, get_or-each, length-each, no_word}
-use Rattle.tal_words.proofs.PassLemmas.{fault-here, fault-later, fault-behind, fault-front, none-at, fault_or-none}
+use Rattle.tal_words.proofs.OrderLemmas.{each-more, no_word}
+use Rattle.tal_words.proofs.PassLemmas.{fault-here, fault-later, fault-behind, fault-front, fault_or-none}
 use Rattle.tal_labels.specs.Shapes.{shape_kinds, open_count, closing_distance, judged_shape, shape_fault}
 use Rattle.tal_labels.specs.Placing.{judged_place, placing_fault, place_fault}
 use Rattle.tal_labels.specs.Adding.{shape_added, adding_kinds, judged_added, added_fault, open_given, open_ones}
 use Rattle.tal_labels.specs.Placers.{next_fault}
 use Rattle.tal_labels.proofs.CallerLemmas.{place_fault-none}
-
-least-none : (kinds : List FaultKind) → least kinds ≡ None → kinds ≡ []
-least-none [] e = refl
-least-none (kind ∷ kinds) e = cc
 
 append-none : (a b : List FaultKind) → least (a ++ b) ≡ None → (a ≡ []) × (b ≡ [])
 append-none [] b e = (refl, least-none b e)
@@ -30,35 +26,22 @@ append-none (kind ∷ a) b e = cc
 
 -- a shape that is wrong only where its lambda is not closed
 shape_closed : (f : Result Form FaultKind) (text : List ℕ) (depth : ℕ) (found : Bool) → shape_kinds f text depth true ≡ [] → (opens text && not found) ≡ false → shape_kinds f text depth found ≡ []
-shape_closed (Err kind) text depth found e h = cc
-shape_closed (Ok shape) text depth found e h = by (closes text && depth == 0) (opens text) found e h
-  where
-    by : (stray opening found : Bool) → when stray StrayBrace ++ when (opening && false) OpenBrace ≡ [] → (opening && not found) ≡ false → when stray StrayBrace ++ when (opening && not found) OpenBrace ≡ []
-    by true opening found e h = cc
-    by false opening found e h = ap (λ b. when b OpenBrace) h
+shape_closed f text depth found e h = grind arith
 
 shape_open : (f : Result Form FaultKind) (text : List ℕ) (depth : ℕ) (found : Bool) → shape_kinds f text depth found ≡ [] → (shape_kinds f text depth true ≡ []) × ((opens text && not found) ≡ false)
-shape_open (Err kind) text depth found e = cc
-shape_open (Ok shape) text depth found e = by (closes text && depth == 0) (opens text) found e
-  where
-    by : (stray opening found : Bool) → when stray StrayBrace ++ when (opening && not found) OpenBrace ≡ [] → (when stray StrayBrace ++ when (opening && false) OpenBrace ≡ []) × ((opening && not found) ≡ false)
-    by true opening found e = cc
-    by false true true e = (refl, refl)
-    by false true false e = cc
-    by false false found e = (refl, refl)
+shape_open f text depth found e = grind arith
 
 fault_or-both : (word : Word) (kinds : List FaultKind) (later : Option Fault) → kinds ≡ [] → later ≡ None → fault_or word (least kinds) later ≡ None
-fault_or-both word kinds later e h = ap (λ ks. fault_or word (least ks) later) e ∙ h
+fault_or-both word kinds later e h = rw (e, h) refl
+
+-- a word has a fault in one of two phases where it has one in both together
+either_none : (word : Word) (a b : List FaultKind) → or_later (fault_or word (least a) None) (fault_or word (least b) None) ≡ None → a ++ b ≡ []
+either_none word a b e = grind (arith, least-none)
+
+open-head : (b : Bool) (at : ℕ) (rest : List ℕ) → cond b (at ∷ []) [] ++ rest ≡ [] → (b ≡ false) × (rest ≡ [])
+open-head b at rest e = grind arith
 
 module _ (source : List ℕ) where
-  -- no opener of some words is open
-  nothing_open : List Expanded → List Expanded → Type 0
-  nothing_open before words = collected (open_given source) before words ≡ []
-
-  open-head : (before : List Expanded) (b : Bool) (rest : List ℕ) → cond b (length before ∷ []) [] ++ rest ≡ [] → (b ≡ false) × (rest ≡ [])
-  open-head before true rest e = cc
-  open-head before false rest e = (refl, e)
-
   -- the faults of shapes and places by those of words that are added
   both_none : (before words : List Expanded) → phase_fault (each (judged_added source) before words) ≡ None → collected (open_given source) before words ≡ []
       → (phase_fault (each (judged_shape source) before words) ≡ None) × (phase_fault (each (judged_place source) before words) ≡ None)
@@ -66,30 +49,23 @@ module _ (source : List ℕ) where
   both_none before (word ∷ words) e h =
       let here = fault_or-none word.origin (least (adding_kinds source before word)) (phase_fault (each (judged_added source) (before ++ word ∷ []) words)) e in
       let kinds = append-none (shape_added source before word) (judged_place source before word []).kinds here.0 in
-      let opener = open-head before (opens (expanded_text source word) && not (is_some (closing_distance source words))) _ h in
-      let rest = both_none (before ++ word ∷ []) words here.1 opener.1 in (
-        fault_or-both word.origin _ _ (shape_closed (form (expanded_text source word)) (expanded_text source word) (open_count source before) (is_some (closing_distance source words)) kinds.0 opener.0) rest.0,
-        fault_or-both word.origin _ _ kinds.1 rest.1,
-      )
+      let opener = open-head (opens (expanded_text source word) && not (is_some (closing_distance source words))) (length before) _ h in
+      let rest = both_none (before ++ word ∷ []) words here.1 opener.1 in
+      (fault_or-both word.origin _ _ (shape_closed (form (expanded_text source word)) _ _ _ kinds.0 opener.0) rest.0, fault_or-both word.origin _ _ kinds.1 rest.1)
 
   added_none : (before words : List Expanded) → phase_fault (each (judged_shape source) before words) ≡ None → phase_fault (each (judged_place source) before words) ≡ None
       → (phase_fault (each (judged_added source) before words) ≡ None) × (collected (open_given source) before words ≡ [])
   added_none before [] e h = (refl, refl)
   added_none before (word ∷ words) e h =
-      let text = expanded_text source word in
       let shape = fault_or-none word.origin (least (judged_shape source before word words).kinds) (phase_fault (each (judged_shape source) (before ++ word ∷ []) words)) e in
       let place = fault_or-none word.origin (least (judged_place source before word words).kinds) (phase_fault (each (judged_place source) (before ++ word ∷ []) words)) h in
-      let opener = shape_open (form text) text (open_count source before) (is_some (closing_distance source words)) (least-none _ shape.0) in
-      let rest = added_none (before ++ word ∷ []) words shape.1 place.1 in (
-        fault_or-both word.origin _ _ (ap (λ ks. ks ++ (judged_place source before word []).kinds) opener.0 ∙ least-none _ place.0) rest.0,
-        ap (λ b. cond b (length before ∷ []) [] ++ collected (open_given source) (before ++ word ∷ []) words) opener.1 ∙ rest.1,
-      )
+      let opener = shape_open (form (expanded_text source word)) (expanded_text source word) (open_count source before) (is_some (closing_distance source words)) (least-none _ shape.0) in
+      let rest = added_none (before ++ word ∷ []) words shape.1 place.1 in
+      (fault_or-both word.origin _ _ (ap (λ ks. ks ++ (judged_place source before word []).kinds) opener.0 ∙ least-none _ place.0) rest.0, rw opener.1 rest.1)
 
   pub place-none : (words : List Expanded) → added_fault source words ≡ None → open_ones source words ≡ [] → place_fault source words ≡ None
   unfolding added_fault open_ones place_fault shape_fault placing_fault
-  place-none words e h =
-      let parts = both_none [] words e h in
-      ap (λ o. or_later o (phase_fault (each (judged_place source) [] words))) parts.0 ∙ parts.1
+  place-none words e h = (let parts = both_none [] words e h in rw parts.0 parts.1)
 
   pub added-none : (words : List Expanded) → place_fault source words ≡ None → (added_fault source words ≡ None) × (open_ones source words ≡ [])
   unfolding added_fault open_ones shape_fault placing_fault
@@ -99,70 +75,40 @@ module _ (source : List ℕ) where
   added-step : (words : List Expanded) (word : Expanded) → each (judged_added source) [] (words ++ word ∷ []) ≡ each (judged_added source) [] words ++ judged_added source words word [] ∷ []
   added-step words word = each-more (judged_added source) (λ b w a c. refl) [] words word
 
-  next-kinds : (words : List Expanded) (word : Expanded) → next_fault source words word ≡ None → adding_kinds source words word ≡ []
-  next-kinds words word e =
-      by (least (shape_added source words word)) (least (judged_place source words word []).kinds) refl refl e
-    where
-      by : (a b : Option FaultKind) → least (shape_added source words word) ≡ a → least (judged_place source words word []).kinds ≡ b → or_later (fault_or word.origin a None) (fault_or word.origin b None) ≡ None → adding_kinds source words word ≡ []
-      by (Some a) b e f h = cc
-      by None (Some b) e f h = cc
-      by None None e f h = ap (λ ks. ks ++ (judged_place source words word []).kinds) (least-none _ e) ∙ least-none _ f
-
-  kinds-next : (words : List Expanded) (word : Expanded) → least (adding_kinds source words word) ≡ None → next_fault source words word ≡ None
-  kinds-next words word e =
-      let parts = append-none (shape_added source words word) (judged_place source words word []).kinds e in
-      ap (λ ks. or_later (fault_or word.origin (least ks) None) (fault_or word.origin (least (judged_place source words word []).kinds) None)) parts.0
-      ∙ ap (λ ks. fault_or word.origin (least ks) None) parts.1
-
   pub added-still : (words : List Expanded) (word : Expanded) → added_fault source words ≡ None → next_fault source words word ≡ None → added_fault source (words ++ word ∷ []) ≡ None
   unfolding added_fault
   added-still words word e h =
-      ap phase_fault (added-step words word) ∙ fault-behind (each (judged_added source) [] words) (judged_added source words word [] ∷ []) e
-      ∙ fault_or-both word.origin _ _ (next-kinds words word h) refl
+      rw (added-step words word, fault-behind (each (judged_added source) [] words) (judged_added source words word [] ∷ []) e, either_none word.origin _ _ h) refl
 
   pub added-faulty : (words : List Expanded) (word : Expanded) (fault : Fault) → added_fault source words ≡ None → next_fault source words word ≡ Some fault → is_some (added_fault source (words ++ word ∷ [])) ≡ true
   unfolding added_fault
   added-faulty words word fault e h =
-      ap (λ js. is_some (phase_fault js)) (added-step words word) ∙ ap is_some (fault-behind (each (judged_added source) [] words) (judged_added source words word [] ∷ []) e)
-      ∙ by (least (adding_kinds source words word)) refl
+      rw (added-step words word, fault-behind (each (judged_added source) [] words) (judged_added source words word [] ∷ []) e) (by (shape_added source words word) (judged_place source words word []).kinds h)
     where
-      by : (o : Option FaultKind) → least (adding_kinds source words word) ≡ o → is_some (fault_or word.origin (least (adding_kinds source words word)) None) ≡ true
-      by None f = (let never : None ≡ Some fault = sym (kinds-next words word f) ∙ h in cc)
-      by (Some kind) f = ap (λ o. is_some (fault_or word.origin o None)) f
+      by : (a b : List FaultKind) → or_later (fault_or word.origin (least a) None) (fault_or word.origin (least b) None) ≡ Some fault → is_some (fault_or word.origin (least (a ++ b)) None) ≡ true
+      by [] b e = grind arith
+      by (kind ∷ a) b e = refl
 
   pub added-front : (words : List Expanded) (word : Expanded) → is_some (added_fault source words) ≡ true → is_some (added_fault source (words ++ word ∷ [])) ≡ true
   unfolding added_fault
-  added-front words word e = by (phase_fault (each (judged_added source) [] words)) refl e
+  added-front words word e = rw (added-step words word) (by (phase_fault (each (judged_added source) [] words)) refl e)
     where
-      by : (o : Option Fault) → phase_fault (each (judged_added source) [] words) ≡ o → is_some o ≡ true → is_some (phase_fault (each (judged_added source) [] (words ++ word ∷ []))) ≡ true
-      by (Some fault) f e = ap (λ js. is_some (phase_fault js)) (added-step words word) ∙ ap is_some (fault-front (each (judged_added source) [] words) (judged_added source words word [] ∷ []) fault f)
+      by : (o : Option Fault) → phase_fault (each (judged_added source) [] words) ≡ o → is_some o ≡ true → is_some (phase_fault (each (judged_added source) [] words ++ judged_added source words word [] ∷ [])) ≡ true
+      by (Some fault) f e = ap is_some (fault-front (each (judged_added source) [] words) (judged_added source words word [] ∷ []) fault f)
       by None f e = cc
 
   -- words without a fault have a form
   pub formed-added : (words : List Expanded) → added_fault source words ≡ None → (k : ℕ) → k < length words → (shape : Form) × (form (expanded_text source (get_or words k no_word)) ≡ Ok shape)
   unfolding added_fault
-  formed-added words sound k within =
-      let nothing : Judged = record { origin = record { span = record { start = 0; end = 0 }; line = 0; column = 0 }; kinds = [] } in
-      let word = get_or words k no_word in
-      let none = sym (ap (λ j. least j.kinds) (get_or-each (judged_added source) [] words k no_word nothing within))
-      ∙ none-at (each (judged_added source) [] words) k nothing sound (omega (arith, length-each (judged_added source) [] words)) in
-      by (form (expanded_text source word)) refl (append-none (shape_added source (take k words) word) _ none).0
-    where
-      by : (f : Result Form FaultKind) → form (expanded_text source (get_or words k no_word)) ≡ f → shape_added source (take k words) (get_or words k no_word) ≡ [] → (shape : Form) × (form (expanded_text source (get_or words k no_word)) ≡ Ok shape)
-      by (Ok shape) e h = (shape, e)
-      by (Err kind) e h = (let never : kind ∷ [] ≡ [] = sym (ap (λ f. shape_kinds f (expanded_text source (get_or words k no_word)) (open_count source (take k words)) true) e) ∙ h in cc)
+  formed-added words sound k within = has_form _ _ (open_count source (take k words)) true (append-none (shape_added source (take k words) (get_or words k no_word)) _ (each-none (judged_added source) words sound k within)).0
 
   -- where the shapes of all words have no fault, the fault of a word is that of its place
   placed-fault : (words : List Expanded) (k : ℕ) → shape_fault source words ≡ None → k < length words
       → next_fault source (take k words) (get_or words k no_word) ≡ fault_or (get_or words k no_word).origin (least (judged_place source (take k words) (get_or words k no_word) (drop (k + 1) words)).kinds) None
   unfolding shape_fault
   placed-fault words k sound within =
-      let nothing : Judged = record { origin = record { span = record { start = 0; end = 0 }; line = 0; column = 0 }; kinds = [] } in
-      let word = get_or words k no_word in
-      let none = sym (ap (λ j. least j.kinds) (get_or-each (judged_shape source) [] words k no_word nothing within))
-      ∙ none-at (each (judged_shape source) [] words) k nothing sound (omega (arith, length-each (judged_shape source) [] words)) in
-      let open_now = shape_open (form (expanded_text source word)) (expanded_text source word) (open_count source (take k words)) _ (least-none _ none) in
-      ap (λ ks. or_later (fault_or word.origin (least ks) None) (fault_or word.origin (least (judged_place source (take k words) word (drop (k + 1) words)).kinds) None)) open_now.0
+      let opener = shape_open (form (expanded_text source (get_or words k no_word))) _ _ _ (least-none _ (each-none (judged_shape source) words sound k within)) in
+      rw opener.0 refl
 
   pub place-later : (words : List Expanded) (k : ℕ) → shape_fault source words ≡ None → k < length words → next_fault source (take k words) (get_or words k no_word) ≡ None
       → phase_fault (each (judged_place source) (take (k + 1) words) (drop (k + 1) words)) ≡ phase_fault (each (judged_place source) (take k words) (drop k words))

@@ -1,4 +1,4 @@
-use Rattle.std.proofs.Common.{◌≡◌, ℕ, zero, suc, ◌+◌, ◌<◌, Bool, true, false, List, [], ◌∷◌, length, take, drop, get_or, map, length-take, slice_get, Option, Some, None, cond, inl, inr, ◌&&◌, refl, ◌∙◌, ap, arith, add-one}
+use Rattle.std.proofs.Common.{◌≡◌, ℕ, zero, suc, ◌+◌, ◌<◌, Bool, true, false, List, [], ◌∷◌, length, take, drop, get_or, map, length-take, slice_get, Option, Some, None, cond, inl, inr, ◌&&◌, refl, ◌∙◌, arith, add-one}
 use Rattle.std.specs.Prelude.{◌==◌}
 use Rattle.std.specs.Option.{option_map}
 use Rattle.std.proofs.lemmas.List.{drop_more}
@@ -7,7 +7,7 @@ use Rattle.tal_words.specs.declared.span.Expanded.{Expanded}
 use Rattle.tal_words.specs.Braces.{opens, closes, matching_after, one_if}
 use Rattle.tal_words.specs.Order.{each}
 use Rattle.tal_words.specs.Source.{expanded_text}
-use Rattle.tal_labels.specs.Shapes.{closer_of, closing_distance}
+use Rattle.tal_labels.specs.Shapes.{closer_of}
 use Rattle.tal_labels.specs.Answers.{waiting_step}
 use Rattle.tal_words.proofs.OrderLemmas.{each-step}
 
@@ -26,8 +26,7 @@ opens-closes (first ∷ []) e = elim (or_cases _ _ e) [
 opens-closes (first ∷ second ∷ rest) e = refl
 
 shift : (at : ℕ) (o : Option ℕ) → option_map (λ n. at + n) (option_map suc o) ≡ option_map (λ n. at + 1 + n) o
-shift at None = refl
-shift at (Some n) = ap Some (omega arith)
+shift at o = grind arith
 
 get-drop : (rest : List ℕ) (d : ℕ) → slice_get rest (d + 1) ≡ slice_get (drop 1 rest) d
 get-drop [] d = refl
@@ -40,26 +39,21 @@ step : (at d c : ℕ) (opening closing : Bool) (rest : List ℕ) (o : ℕ → �
     → option_map (λ n. at + n) (cond (closing && ((c + d) == c)) (Some 0) (option_map suc (o (c + d + one_if opening) (c + one_if closing)))) ≡ slice_get (waiting_step at opening closing rest) d
 step at d c true true rest o apart h = (let never : true ≡ false = apart refl in cc)
 step at d c true false rest o apart h =
-    shift at (o (c + d + 1) (c + 0))
-    ∙ ap (λ n. option_map (λ n. at + 1 + n) (o n (c + 0))) (let e : c + d + 1 ≡ c + (d + 1) = omega arith in e)
-    ∙ ap (λ n. option_map (λ n. at + 1 + n) (o (c + (d + 1)) n)) (let e : c + 0 ≡ c = omega arith in e)
-    ∙ h (d + 1) c ∙ get-drop rest d
+    let more : c + d + 1 ≡ c + (d + 1) = omega arith in
+    let still : c + 0 ≡ c = omega arith in
+    shift at (o (c + d + 1) (c + 0)) ∙ rw (more, still) (h (d + 1) c) ∙ get-drop rest d
 step at zero c false true rest o apart h =
-    let e : c + 0 ≡ c = omega arith in
-    let f : at + 0 ≡ at = omega arith in
-    rw (e, eq-eqb c c refl, f) refl
+    let still : c + 0 ≡ c = omega arith in
+    let here : at + 0 ≡ at = omega arith in
+    rw (still, eq-eqb c c refl, here) refl
 step at (suc d) c false true rest o apart h =
-    let e : ((c + suc d) == c) ≡ false = ne_eqb (c + suc d) c (λ same. omega arith) in
-    let f : c + suc d + 0 ≡ c + 1 + d = omega arith in
-    ap (λ b. option_map (λ n. at + n) (cond b (Some 0) (option_map suc (o (c + suc d + 0) (c + 1))))) e
-    ∙ shift at (o (c + suc d + 0) (c + 1))
-    ∙ ap (λ n. option_map (λ n. at + 1 + n) (o n (c + 1))) f
-    ∙ h d (c + 1)
+    let other : ((c + suc d) == c) ≡ false = ne_eqb (c + suc d) c (λ same. omega arith) in
+    let fewer : c + suc d + 0 ≡ c + 1 + d = omega arith in
+    rw (other, fewer) (shift at (o (c + 1 + d) (c + 1)) ∙ h d (c + 1))
 step at d c false false rest o apart h =
-    shift at (o (c + d + 0) (c + 0))
-    ∙ ap (λ n. option_map (λ n. at + 1 + n) (o n (c + 0))) (let e : c + d + 0 ≡ c + d = omega arith in e)
-    ∙ ap (λ n. option_map (λ n. at + 1 + n) (o (c + d) n)) (let e : c + 0 ≡ c = omega arith in e)
-    ∙ h d c
+    let still : c + d + 0 ≡ c + d = omega arith in
+    let same : c + 0 ≡ c = omega arith in
+    rw (still, same) (shift at (o (c + d) c) ∙ h d c)
 
 -- the matching `}` of an opener with d more open is what waits at d
 pub matching-waiting : (source : List ℕ) (at : ℕ) (words : List Expanded) (d c : ℕ) → option_map (λ n. at + n) (matching_after (c + d) c (map (expanded_text source) words)) ≡ slice_get (waiting_from source at words) d
@@ -71,13 +65,10 @@ matching-waiting source at (word ∷ words) d c =
 
 -- what a word adds to what waits after it
 pub waiting-step : (source : List ℕ) (words : List Expanded) (at : ℕ) (d : Expanded) → at < length words → waiting_from source at (drop at words) ≡ waiting_step at (opens (expanded_text source (get_or words at d))) (closes (expanded_text source (get_or words at d))) (waiting_from source (at + 1) (drop (at + 1) words))
-waiting-step source words at d h = ap (waiting_from source at) (drop_more words at d h)
+waiting-step source words at d h = rw (drop_more words at d h) refl
 
 -- the closer of a word is the first that waits after it
 pub closer-step : (source : List ℕ) (words : List Expanded) (at : ℕ) (d : Expanded) → at < length words → each (closer_of source) (take at words) (drop at words) ≡ cond (opens (expanded_text source (get_or words at d))) (slice_get (waiting_from source (at + 1) (drop (at + 1) words)) 0) None ∷ each (closer_of source) (take (at + 1) words) (drop (at + 1) words)
 closer-step source words at d h =
-    let rest = each (closer_of source) (take (at + 1) words) (drop (at + 1) words) in
     let size : length (take at words) ≡ at = omega (arith, length-take at words) in
-    each-step (closer_of source) words at d h
-    ∙ ap (λ n. cond (opens (expanded_text source (get_or words at d))) (option_map (λ between. n + 1 + between) (closing_distance source (drop (at + 1) words))) None ∷ rest) size
-    ∙ ap (λ o. cond (opens (expanded_text source (get_or words at d))) o None ∷ rest) (matching-waiting source (at + 1) (drop (at + 1) words) 0 0)
+    each-step (closer_of source) words at d h ∙ rw (size, ← matching-waiting source (at + 1) (drop (at + 1) words) 0 0) refl

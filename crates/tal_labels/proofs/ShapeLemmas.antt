@@ -1,14 +1,13 @@
-use Rattle.std.proofs.Common.{◌≡◌, ℕ, ◌+◌, ◌<◌, ◌≤◌, Bool, true, false, not, List, [], ◌∷◌, ◌++◌, length, take, drop, get_or, length-take, Option, Some, None, Result, Ok, Err, cond, refl, sym, ◌∙◌, ap, arith}
-use Rattle.std.specs.Prelude.{is_some, ◌&&◌, ◌==◌}
+use Rattle.std.proofs.Common.{◌≡◌, ℕ, ◌+◌, ◌<◌, ◌≤◌, Bool, List, [], length, take, drop, get_or, length-take, Option, Some, None, Result, cond, refl, sym, ◌∙◌, ap, arith}
+use Rattle.std.specs.Prelude.{is_some}
 use Rattle.std.specs.Option.{option_map}
 use Rattle.std.proofs.lemmas.List.{take_more}
 use Rattle.tal_words.specs.declared.span.Expanded.{Expanded}
 use Rattle.tal_words.specs.declared.fault.FaultKind.{FaultKind}
 use Rattle.tal_words.specs.declared.form.Form.{Form}
-use Rattle.tal_words.specs.declared.fault.FaultKind.TheVariants.{StrayBrace, OpenBrace}
-use Rattle.tal_words.specs.Faults.{when, least, fault_at, phase_fault}
+use Rattle.tal_words.specs.Faults.{least, fault_at, phase_fault}
 use Rattle.tal_words.specs.Forms.{form}
-use Rattle.tal_words.specs.Braces.{opens, closes}
+use Rattle.tal_words.specs.Braces.{opens}
 use Rattle.tal_words.specs.Order.{each}
 use Rattle.tal_words.specs.Source.{expanded_text}
 use Rattle.tal_labels.specs.Shapes.{shape_kinds, open_after, open_count, closer_of, closers_of, closing_distance, judged_shape, shape_fault}
@@ -17,26 +16,19 @@ use Rattle.tal_words.proofs.PassLemmas.{fault-here, fault-later}
 use Rattle.tal_words.proofs.OrderLemmas.{each-end, get_or-each, length-each, no_word}
 
 -- by the closer of a word as by the `}` itself
-pub shape_kinds-closer : (f : Result Form FaultKind) (text : List ℕ) (depth at : ℕ) (o : Option ℕ) → shape_kinds f text depth (is_some (cond (opens text) (option_map (λ between. at + 1 + between) o) None)) ≡ shape_kinds f text depth (is_some o)
-shape_kinds-closer (Err kind) text depth at o = refl
-shape_kinds-closer (Ok shape) text depth at o = ap (λ kinds. when (closes text && depth == 0) StrayBrace ++ kinds) (by (opens text) o)
-  where
-    by : (b : Bool) (o : Option ℕ) → when (b && not (is_some (cond b (option_map (λ between. at + 1 + between) o) None))) OpenBrace ≡ when (b && not (is_some o)) OpenBrace
-    by true None = refl
-    by true (Some n) = refl
-    by false o = refl
+shape_kinds-closer : (f : Result Form FaultKind) (text : List ℕ) (depth at : ℕ) (o : Option ℕ) → shape_kinds f text depth (is_some (cond (opens text) (option_map (λ between. at + 1 + between) o) None)) ≡ shape_kinds f text depth (is_some o)
+shape_kinds-closer f text depth at o = grind arith
 
-pub open_count-more : (source : List ℕ) (words : List Expanded) (k : ℕ) (d : Expanded) → k < length words → open_count source (take (k + 1) words) ≡ open_after (open_count source (take k words)) (expanded_text source (get_or words k d))
+open_count-more : (source : List ℕ) (words : List Expanded) (k : ℕ) (d : Expanded) → k < length words → open_count source (take (k + 1) words) ≡ open_after (open_count source (take k words)) (expanded_text source (get_or words k d))
 unfolding open_count
-open_count-more source words k d h = ap (open_count source) (take_more words k d h) ∙ fold-append (λ depth word. open_after depth (expanded_text source word)) 0 (take k words) (get_or words k d ∷ [])
+open_count-more source words k d h = rw (take_more words k d h, fold-append) refl
 
 -- the closer of a word, as it is read from the list
-pub closers_of-get : (source : List ℕ) (words : List Expanded) (k : ℕ) (d : Expanded) (e : Option ℕ) → k < length words → get_or (closers_of source words) k e ≡ cond (opens (expanded_text source (get_or words k d))) (option_map (λ between. k + 1 + between) (closing_distance source (drop (k + 1) words))) None
+closers_of-get : (source : List ℕ) (words : List Expanded) (k : ℕ) (d : Expanded) (e : Option ℕ) → k < length words → get_or (closers_of source words) k e ≡ cond (opens (expanded_text source (get_or words k d))) (option_map (λ between. k + 1 + between) (closing_distance source (drop (k + 1) words))) None
 unfolding closers_of
 closers_of-get source words k d e h =
     let size : length (take k words) ≡ k = omega (arith, length-take k words) in
-    get_or-each (closer_of source) [] words k d e h
-    ∙ ap (λ n. cond (opens (expanded_text source (get_or words k d))) (option_map (λ between. n + 1 + between) (closing_distance source (drop (k + 1) words))) None) size
+    get_or-each (closer_of source) [] words k d e h ∙ rw size refl
 
 pub length-closers_of : (source : List ℕ) (words : List Expanded) → length (closers_of source words) ≡ length words
 unfolding closers_of
@@ -48,43 +40,27 @@ pub record IsShapedSo (source : List ℕ) (words : List Expanded) (k : ℕ) (ope
   pub depth : open_ones ≡ open_count source (take k words)
   pub small : open_ones ≤ k
 
--- what is answered for a word whose shape has no fault, or has one
-pub read_kinds : (source : List ℕ) (words : List Expanded) (k : ℕ) (text : List ℕ) (depth : ℕ) (closed : Bool) (e : Option ℕ) (closers : List (Option ℕ))
-    → k < length words → closers ≡ closers_of source words → text ≡ expanded_text source (get_or words k no_word) → depth ≡ open_count source (take k words) → closed ≡ is_some (get_or closers k e)
-    → shape_kinds (form text) text depth closed ≡ (judged_shape source (take k words) (get_or words k no_word) (drop (k + 1) words)).kinds
-read_kinds source words k text depth closed e closers within all read deep shut =
-    let word = get_or words k no_word in
-    let distance = closing_distance source (drop (k + 1) words) in
-    ap (λ b. shape_kinds (form text) text depth b) (shut ∙ ap (λ cs. is_some (get_or cs k e)) all ∙ ap is_some (closers_of-get source words k no_word e within))
-    ∙ ap (λ t. shape_kinds (form t) t depth (is_some (cond (opens (expanded_text source word)) (option_map (λ between. k + 1 + between) distance) None))) read
-    ∙ shape_kinds-closer (form (expanded_text source word)) (expanded_text source word) depth k distance
-    ∙ ap (λ n. shape_kinds (form (expanded_text source word)) (expanded_text source word) n (is_some distance)) deep
-
 pub nothing_shaped : (source : List ℕ) (words : List Expanded) → IsShapedSo source words 0 0
 unfolding shape_fault open_count
 nothing_shaped source words = record { sound = refl; depth = refl; small = omega arith }
 
-pub next_shaped : (source : List ℕ) (words : List Expanded) (k : ℕ) (text : List ℕ) (depth next : ℕ) (closed : Bool) (e : Option ℕ) (closers : List (Option ℕ))
-    → k < length words → closers ≡ closers_of source words → text ≡ expanded_text source (get_or words k no_word) → closed ≡ is_some (get_or closers k e)
-    → IsShapedSo source words k depth → least (shape_kinds (form text) text depth closed) ≡ None
-    → next ≡ open_after depth text → next ≤ depth + 1
-    → IsShapedSo source words (k + 1) next
-next_shaped source words k text depth next closed e closers within all read shut so none deeper bound =
-    let word = get_or words k no_word in
-    let right = sym (ap least (read_kinds source words k text depth closed e closers within all read so.depth shut)) ∙ none in
-    record {
-      sound = fault-later (judged_shape source) words k no_word within right ∙ so.sound;
-      depth = deeper ∙ ap (open_after depth) read ∙ ap (λ n. open_after n (expanded_text source word)) so.depth ∙ sym (open_count-more source words k no_word within);
-      small = omega (arith, so.small);
-    }
+-- what is answered for a word whose shape has no fault, or has one
+module _ (source : List ℕ) (words : List Expanded) (k : ℕ) (text : List ℕ) (depth : ℕ) (closed : Bool) (e : Option ℕ) (closers : List (Option ℕ)) (within : k < length words)
+    (all : closers ≡ closers_of source words) (read : text ≡ expanded_text source (get_or words k no_word)) (shut : closed ≡ is_some (get_or closers k e)) (so : IsShapedSo source words k depth) where
+  read_kinds : shape_kinds (form text) text depth closed ≡ (judged_shape source (take k words) (get_or words k no_word) (drop (k + 1) words)).kinds
+  read_kinds =
+      rw (shut, all, closers_of-get source words k no_word e within, read, so.depth)
+      (shape_kinds-closer (form (expanded_text source (get_or words k no_word))) _ _ k (closing_distance source (drop (k + 1) words)))
 
-pub faulty_shape : (source : List ℕ) (words : List Expanded) (k : ℕ) (text : List ℕ) (depth : ℕ) (closed : Bool) (kind : FaultKind) (e : Option ℕ) (closers : List (Option ℕ))
-    → k < length words → closers ≡ closers_of source words → text ≡ expanded_text source (get_or words k no_word) → closed ≡ is_some (get_or closers k e)
-    → IsShapedSo source words k depth → least (shape_kinds (form text) text depth closed) ≡ Some kind
-    → shape_fault source words ≡ Some (fault_at (get_or words k no_word).origin kind)
-faulty_shape source words k text depth closed kind e closers within all read shut so some =
-    let right = sym (ap least (read_kinds source words k text depth closed e closers within all read so.depth shut)) ∙ some in
-    sym so.sound ∙ fault-here (judged_shape source) words k no_word within kind right
+  pub next_shaped : (next : ℕ) → least (shape_kinds (form text) text depth closed) ≡ None → next ≡ open_after depth text → next ≤ depth + 1 → IsShapedSo source words (k + 1) next
+  next_shaped next none deeper bound = record {
+    sound = fault-later (judged_shape source) words k no_word within (rw read_kinds at none) ∙ so.sound;
+    depth = rw (deeper, read, so.depth) (sym (open_count-more source words k no_word within));
+    small = omega (arith, so.small);
+  }
+
+  pub faulty_shape : (kind : FaultKind) → least (shape_kinds (form text) text depth closed) ≡ Some kind → shape_fault source words ≡ Some (fault_at (get_or words k no_word).origin kind)
+  faulty_shape kind some = sym so.sound ∙ fault-here (judged_shape source) words k no_word within kind (rw read_kinds at some)
 
 pub all_shaped : (source : List ℕ) (words : List Expanded) (k : ℕ) (depth : ℕ) → k ≡ length words → IsShapedSo source words k depth → shape_fault source words ≡ None
 all_shaped source words k depth whole so = sym so.sound ∙ ap phase_fault (each-end (judged_shape source) words k (omega arith))

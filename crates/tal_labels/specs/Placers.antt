@@ -16,7 +16,6 @@ use Rattle.tal_labels.specs.declared.scope.Scope.{Scope}
 use Rattle.tal_labels.specs.Places.{address_after}
 use Rattle.tal_labels.specs.Labels.{scope_after, labels_of}
 use Rattle.tal_labels.specs.Placing.{ends_above, placed_of, judged_place}
-use Rattle.tal_labels.specs.Shapes.{open_count}
 use Rattle.tal_labels.specs.Adding.{shape_added, added_fault, open_word, open_ones}
 use Rattle.tal_labels.specs.Scopes.{scope_text}
 
@@ -46,7 +45,6 @@ pub record IsKept (source : List ℕ) (words : List Expanded) (kept : Kept) : Ty
   pub placed : kept.words ≡ placed_of source words
   pub labels : kept.labels ≡ labels_of source words
   pub openers : kept.openers ≡ open_ones source words
-  pub depth : length kept.openers ≡ open_count source words
   pub scope : scope_text source kept.scope ≡ scope_after source words
   pub address : kept.address ≡ address_after source words
   pub top : (place : ℕ) → ends_above source words place ≡ nat_lt place kept.top

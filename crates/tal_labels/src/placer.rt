@@ -1,6 +1,7 @@
 //! Words that are placed one by one.
 
-ghost use Rattle.std.specs.Prelude.{◌≡◌, ◌<◌, ◌^◌, ◌++◌, ◌∷◌, [], ℕ, List, None, Some, length, nat_lt, is_some, IfOk, IfSome, OnOk, OnErr, OnSome, true, false, ◌+◌, ◌-◌, ◌≤◌, if◌then◌else◌};
+ghost use Rattle.std.specs.Prelude.{◌≡◌, ◌<◌, ◌^◌, ◌++◌, ◌∷◌, [], ℕ, List, None, Some, length, nat_lt, is_some, IfOk, IfSome, OnOk, OnErr, OnSome, true, false};
+ghost use Rattle.std.specs.Prelude.{◌+◌, ◌-◌, ◌≤◌, ◌&&◌, ◌==◌, not, if◌then◌else◌};
 ghost use Rattle.std.specs.Option.{option_map};
 ghost use Rattle.std.specs.Vec.{vec_len, vec_capacity};
 ghost use Rattle.tal_labels.specs.Places.{memory_end};
@@ -13,7 +14,7 @@ ghost use Rattle.tal_labels.specs.Answers.{label_of, next_address as address_beh
 ghost use Rattle.tal_labels.specs.Placing.{is_defined as is_among, place_kinds, is_mark_form as is_mark, place_fault, layout_of};
 ghost use Rattle.tal_labels.specs.Adding.{word_added};
 ghost use Rattle.tal_labels.specs.Scopes.{scope_text};
-ghost use Rattle.tal_labels.specs.Placers.{Kept, IsKept, WereAdded, PlacesNext, kept_by, closed_by, closed_opener, openers_step};
+ghost use Rattle.tal_labels.specs.Placers.{IsKept, WereAdded, PlacesNext, kept_by, closed_by, closed_opener, openers_step};
 
 use crate::label_index::LabelIndex;
 use crate::labels::{define, defined_name, is_defined};
@@ -82,10 +83,17 @@ impl Placer {
     pub fn finish(self) -> Option<Placed>
         ensures { (source : List ℕ) (words : List ExpandedWord) → WereAdded source words self → result ≡ (if is_some (place_fault source words) then None else Some (layout_of source words)) }
     {
-        if self.is_faulty || !self.openers.is_empty() {
+        if !self.is_whole() {
             return None;
         }
         Some(Placed::new(self.words, self.labels))
+    }
+
+    /// Whether no word is faulty and no lambda open.
+    fn is_whole(&self) -> bool
+        ensures { result ≡ (not self.now.is_faulty && length self.now.openers.items == 0) }
+    {
+        !self.is_faulty && self.openers.is_empty()
     }
 
     /// Places the next word, or says what is wrong with it. Where it is not placed all stays as it was.

@@ -1,16 +1,11 @@
 //! Where words lie, and what is wrong with their addresses.
 
-ghost use Rattle.std.specs.Prelude.{◌≡◌, ◌+◌, ◌-◌, ◌<◌, ◌≤◌, ◌^◌, length, map, slice_index, nat_lt, Ok, None, IfOk, IfSome, if◌then◌else◌};
-ghost use Rattle.std.specs.Option.{option_map};
+ghost use Rattle.std.specs.Prelude.{◌≡◌, ◌+◌, ◌-◌, ◌<◌, ◌≤◌, ◌^◌, length, nat_lt, Ok, None, IfOk, if◌then◌else◌};
 ghost use Rattle.tal_words.specs.Faults.{Gives, least};
-ghost use Rattle.tal_words.specs.Forms.{form as form_of_text, size, reference_size as size_of_reference};
+ghost use Rattle.tal_words.specs.Forms.{size, reference_size as size_of_reference};
 ghost use Rattle.tal_labels.specs.Answers.{next_address};
-ghost use Rattle.tal_labels.specs.Index.{labels_in};
-ghost use Rattle.tal_words.specs.Source.{expanded_text};
-ghost use Rattle.tal_labels.specs.Places.{addresses_of, memory_end};
-ghost use Rattle.tal_labels.specs.Labels.{labels_of as labels_among};
-ghost use Rattle.tal_labels.specs.Shapes.{closers_of as closers_among};
-ghost use Rattle.tal_labels.specs.Placing.{place_fault, placing_fault, layout_of, placed_of, place_kinds, is_mark_form, LieApart};
+ghost use Rattle.tal_labels.specs.Places.{memory_end};
+ghost use Rattle.tal_labels.specs.Placing.{place_fault, layout_of, place_kinds, is_mark_form, LieApart};
 
 use crate::placed::Placed;
 use crate::placer::Placer;

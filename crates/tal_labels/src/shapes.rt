@@ -1,7 +1,6 @@
 //! What is wrong with words by themselves and with their braces.
 
-ghost use Rattle.std.specs.Prelude.{◌≡◌, ◌==◌, not, true, List, ℕ, map, Ok, ◌+◌, ◌<◌, ◌≤◌, ◌^◌};
-ghost use Rattle.tal_words.specs.Forms.{form as form_of_text};
+ghost use Rattle.std.specs.Prelude.{◌≡◌, ◌==◌, not, true, List, ℕ, Ok, ◌+◌, ◌<◌, ◌≤◌, ◌^◌};
 ghost use Rattle.tal_words.specs.Source.{expanded_text};
 ghost use Rattle.tal_labels.specs.Shapes.{closers_of, shape_fault, open_after, open_count, closes_one_of};
 ghost use Rattle.tal_labels.specs.Answers.{IsShape, FindsNone};

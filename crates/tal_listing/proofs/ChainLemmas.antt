@@ -1,5 +1,5 @@
 -- Chains of labels, one label at a time, and the lines of a chain.
-use Rattle.std.proofs.Common.{◌≡◌, ◌≢◌, ℕ, ◌+◌, ◌<◌, ◌≤◌, false, List, ◌++◌, length, drop, get_or, set, replicate, inl, inr, refl, ap, sym, subst, ◌∙◌, arith, get_or-set_same, get_or-set_other}
+use Rattle.std.proofs.Common.{◌≡◌, ◌≢◌, ℕ, ◌+◌, ◌<◌, ◌≤◌, false, List, ◌++◌, length, drop, get_or, set, replicate, inl, inr, refl, ap, sym, ◌∙◌, arith, get_or-set_same, get_or-set_other}
 use Rattle.std.specs.Prelude.{◌==◌}
 use Rattle.std.proofs.lemmas.Bool.{cases_eq, ne_eqb}
 use Rattle.std.proofs.lemmas.List.{drop_more, get_or-replicate, length-replicate, length-set, get_or_default}
@@ -15,10 +15,7 @@ chained_start labels first next count all is_first is_next = record {
   first_size = ap length is_first ∙ length-replicate count (length labels) ∙ all;
   next_size = ap length is_next ∙ length-replicate (length labels) (length labels);
   firsts = λ address below.
-      let inside : address < count = omega arith in
-      let read : get_or first address 0 ≡ length labels = ap (λ (places : List ℕ). get_or places address 0) is_first ∙ get_or-replicate count address (length labels) 0 inside in
-      let P : ℕ → Type 0 = IsNext labels address (length labels) in
-      subst P (sym read) record { ahead = omega arith; within = omega arith; skipped = refl; found = λ d past. absurd (omega arith) };
+      rw (is_first, get_or-replicate count address (length labels) 0 (omega arith)) (record { ahead = omega arith; within = omega arith; skipped = refl; found = λ d past. absurd (omega arith) });
   nexts = λ place d from within. absurd (omega arith);
 }
 
@@ -26,23 +23,12 @@ module _ (labels : List Label) (place : ℕ) (d : Label) (within : place < lengt
   -- the chain of another address passes over a label
   passed : (address next : ℕ) → (get_or labels place d).address ≢ address → IsNext labels address (place + 1) next → IsNext labels address place next
   passed address next differ is =
-      let step = drop_more labels place d within in
       let no : ((get_or labels place d).address == address) ≡ false = ne_eqb (get_or labels place d).address address differ in
-      record {
-        ahead = omega (arith, is.ahead);
-        within = is.within;
-        skipped = rw (step, no) is.skipped;
-        found = is.found;
-      }
+      record { ahead = omega (arith, is.ahead); within = is.within; skipped = rw (drop_more labels place d within, no) is.skipped; found = is.found }
 
   -- the chain of its own address begins with it
   begun : IsNext labels (get_or labels place d).address place place
-  begun = record {
-    ahead = omega arith;
-    within = omega arith;
-    skipped = refl;
-    found = λ e inside. ap (λ (label : Label). label.address) (get_or_default labels place e d within);
-  }
+  begun = record { ahead = omega arith; within = omega arith; skipped = refl; found = λ e inside. ap (λ (label : Label). label.address) (get_or_default labels place e d within) }
 
   -- one more label, from the end
   pub chained_more : (first next : List ℕ) → (get_or labels place d).address < 65536 → AreChained labels (place + 1) first next
@@ -55,23 +41,12 @@ module _ (labels : List Label) (place : ℕ) (d : Label) (within : place < lengt
         first_size = length-set first address place ∙ chained.first_size;
         next_size = length-set next place (get_or first address 0) ∙ chained.next_size;
         firsts = λ other other_below. elim (cases_eq other address) [
-          | inl same ↦
-              let P : ℕ → Type 0 = λ a. IsNext labels a place (get_or (set first address place) a 0) in
-              let Q : ℕ → Type 0 = IsNext labels address place in
-              subst P (sym same) (subst Q (sym (get_or-set_same first address place 0 in_first)) begun)
-          | inr differ ↦
-              let Q : ℕ → Type 0 = IsNext labels other place in
-              subst Q (sym (get_or-set_other first address other place 0 differ)) (passed other (get_or first other 0) (λ same. differ (sym same)) (chained.firsts other other_below))
+          | inl same ↦ rw (same, get_or-set_same first address place 0 in_first) begun
+          | inr differ ↦ rw (get_or-set_other first address other place 0 differ) (passed other (get_or first other 0) (λ same. differ (sym same)) (chained.firsts other other_below))
         ];
         nexts = λ at e from inside. elim (cases_eq at place) [
-          | inl same ↦
-              let P : ℕ → Type 0 = λ p. IsNext labels (get_or labels p e).address (p + 1) (get_or (set next place (get_or first address 0)) p 0) in
-              let Q : ℕ → Type 0 = IsNext labels (get_or labels place e).address (place + 1) in
-              let R : Label → Type 0 = λ label. IsNext labels label.address (place + 1) (get_or first address 0) in
-              subst P (sym same) (subst Q (sym (get_or-set_same next place (get_or first address 0) 0 in_next)) (subst R (get_or_default labels place d e within) (chained.firsts address below)))
-          | inr differ ↦
-              let Q : ℕ → Type 0 = IsNext labels (get_or labels at e).address (at + 1) in
-              subst Q (sym (get_or-set_other next place at (get_or first address 0) 0 differ)) (chained.nexts at e (omega arith) inside)
+          | inl same ↦ rw (same, get_or-set_same next place (get_or first address 0) 0 in_next, ← get_or_default labels place d e within) (chained.firsts address below)
+          | inr differ ↦ rw (get_or-set_other next place at (get_or first address 0) 0 differ) (chained.nexts at e (omega arith) inside)
         ];
       }
 

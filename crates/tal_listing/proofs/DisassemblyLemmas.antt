@@ -1,8 +1,8 @@
 -- That a disassembly assembles to its ROM.
-use Rattle.std.proofs.Common.{◌≡◌, ℕ, zero, suc, ◌+◌, ◌-◌, ◌*◌, ◌/◌, ◌%◌, ◌<◌, ◌≤◌, ◌⊎◌, inl, inr, Bool, true, false, not, List, [], ◌∷◌, ◌++◌, length, take, drop, get_or, map, refl, ap, sym, subst, ◌∙◌, arith, append_assoc, append-nil, length-take, length-drop}
-use Rattle.std.specs.Prelude.{if◌then◌else◌, ◌==◌, ◌||◌, slice_index, nat_lt}
+use Rattle.std.proofs.Common.{◌≡◌, ℕ, zero, suc, ◌+◌, ◌-◌, ◌*◌, ◌/◌, ◌%◌, ◌<◌, ◌≤◌, ◌⊎◌, inl, inr, true, false, List, [], ◌∷◌, ◌++◌, length, take, drop, get_or, map, refl, ap, sym, ◌∙◌, arith, append_assoc, append-nil, length-take, length-drop}
+use Rattle.std.specs.Prelude.{◌==◌, slice_index}
 use Rattle.std.specs.List.{flat_map, list_any, AllByRecursion}
-use Rattle.std.proofs.lemmas.Bool.{and_parts, not-true, cases_lt}
+use Rattle.std.proofs.lemmas.Bool.{cases_lt, cases_Bool}
 use Rattle.std.proofs.lemmas.List.{drop_all, take-append-drop, map-append, get_or-take, get_or-drop, drop_more, drop-drop}
 use Rattle.std.proofs.lemmas.List.Concat.{flat_map-append}
 use Rattle.tal_words.specs.declared.form.Form.TheVariants.{Op, Raw1, Raw2}
@@ -14,7 +14,7 @@ use Rattle.tal_words.specs.PlainTexts.{Item, Comment, PlainWord, chunk_text, chu
 use Rattle.tal_words.proofs.BlankFree.{all_joined}
 use Rattle.tal_words.proofs.PlainNames.{name_plain, form-name}
 use Rattle.tal_labels.specs.PlainWords.{Coded, texts_of_coded, bytes_of_coded, pad_text, StandsFor}
-use Rattle.tal_symbols.specs.SymbolFile.{is_readable, are_readable}
+use Rattle.tal_symbols.specs.SymbolFile.{are_readable}
 use Rattle.tal_rom.specs.PlainWords.{AssemblesTo}
 use Rattle.tal_rom.proofs.PlainLemmas.{plain_assembles}
 use Rattle.uxn_io.specs.NumberText.{hex_of_short}
@@ -22,19 +22,6 @@ use Rattle.tal_listing.specs.Texts.{hex_of_bytes, behind_name}
 use Rattle.tal_listing.specs.LabelChains.{labels_of_address}
 use Rattle.tal_listing.specs.Disassembly.{Instruction, immediate_length, instructions_from, immediate_items, instruction_items, label_item, label_items, items_of, rom_start, disassembly_items, disassembly}
 use Rattle.tal_listing.proofs.InstructionTexts.{byte_plain, form-byte, short_plain, form-short, short_again}
-
--- lists of lists, joined
-nested : {X Y Z : Type 0} (h : Y → List Z) (f : X → List Y) (xs : List X) → flat_map h (flat_map f xs) ≡ flat_map (λ x. flat_map h (f x)) xs
-nested h f [] = refl
-nested h f (x ∷ xs) = flat_map-append h (f x) (flat_map f xs) ∙ ap (λ rest. flat_map h (f x) ++ rest) (nested h f xs)
-
-same_each : {X Y : Type 0} (f g : X → List Y) → ((x : X) → f x ≡ g x) → (xs : List X) → flat_map f xs ≡ flat_map g xs
-same_each f g same [] = refl
-same_each f g same (x ∷ xs) = ap (λ first. first ++ flat_map f xs) (same x) ∙ ap (λ rest. g x ++ rest) (same_each f g same xs)
-
-map_nested : {X Y Z : Type 0} (h : Y → Z) (f : X → List Y) (xs : List X) → map h (flat_map f xs) ≡ flat_map (λ x. map h (f x)) xs
-map_nested h f [] = refl
-map_nested h f (x ∷ xs) = map-append h (f x) (flat_map f xs) ∙ ap (λ rest. map h (f x) ++ rest) (map_nested h f xs)
 
 -- an instruction lies in memory, and is made of bytes of which at most two follow the opcode
 pub record IsInstruction (instruction : Instruction) : Type 0 where
@@ -44,12 +31,7 @@ pub record IsInstruction (instruction : Instruction) : Type 0 where
   pub small : (k : ℕ) → k < length instruction.immediate → get_or instruction.immediate k 0 < 256
 
 immediate_length-le : (op : ℕ) → immediate_length op ≤ 2
-immediate_length-le op = by (op == 128 || op == 192) (op == 160 || op == 224 || op == 32 || op == 64 || op == 96)
-  where
-    by : (one two : Bool) → (if one then 1 else if two then 2 else 0) ≤ 2
-    by true two = omega arith
-    by false true = omega arith
-    by false false = omega arith
+immediate_length-le op = grind arith
 
 instructions_known : (more address : ℕ) (bytes : List ℕ) → ((k : ℕ) → k < length bytes → get_or bytes k 0 < 256)
     → (0 < length bytes → address + length bytes ≤ 65536) → AllByRecursion IsInstruction (instructions_from more address bytes)
@@ -65,13 +47,9 @@ instructions_known (suc more) address (opcode ∷ bytes) small room =
         place = omega arith;
         byte = small 0 (omega arith);
         short = omega (arith, size, immediate_length-le opcode);
-        small = λ k within.
-            let inside : k < count = omega (arith, size) in
-            let read = get_or-take count bytes k 0 inside in
-            rw read (small (suc k) (omega (arith, size)));
+        small = λ k within. rw (get_or-take count bytes k 0 (omega (arith, size))) (small (suc k) (omega (arith, size)));
       },
-      instructions_known more (address + 1 + count) (drop count bytes)
-          (λ k within. let read = get_or-drop count bytes k 0 in rw read (small (suc (count + k)) (omega (arith, left)))) (λ some. omega (arith, left)),
+      instructions_known more (address + 1 + count) (drop count bytes) (λ k within. rw (get_or-drop count bytes k 0) (small (suc (count + k)) (omega (arith, left)))) (λ some. omega (arith, left)),
     )
 
 -- the bytes of the instructions are those that were read
@@ -83,8 +61,7 @@ instruction_bytes zero address (opcode ∷ bytes) enough = absurd (omega arith)
 instruction_bytes (suc more) address [] enough = refl
 instruction_bytes (suc more) address (opcode ∷ bytes) enough =
     let count = immediate_length opcode in
-    ap (λ (rest : List ℕ). opcode ∷ (take count bytes ++ rest)) (instruction_bytes more (address + 1 + count) (drop count bytes) (omega (arith, length-drop count bytes)))
-    ∙ ap (λ (all : List ℕ). opcode ∷ all) (take-append-drop count bytes)
+    rw (instruction_bytes more (address + 1 + count) (drop count bytes) (omega (arith, length-drop count bytes)), take-append-drop count bytes) refl
 
 -- the words of an instruction with their bytes
 abbrev coded_immediate : List ℕ → List Coded
@@ -134,19 +111,12 @@ at_sign byte (first ∷ rest) differ = refl
 label_comments : (labels : List Label) (address : ℕ) → are_readable labels ≡ true → AreItems (map label_item (labels_of_address address labels))
 label_comments [] address readable = tt
 label_comments (label ∷ labels) address readable =
-    let parts = and_parts (is_readable label) (are_readable labels) readable in
-    let named = and_parts (nat_lt 0 (length label.name)) (not (list_any is_blank label.name)) parts.0 in
-    let plain = not-true (list_any is_blank label.name) named.1 in
-    let rest = label_comments labels address parts.1 in
-    by (label.address == address) plain rest
-  where
-    by : (b : Bool) → list_any is_blank label.name ≡ false → AreItems (map label_item (labels_of_address address labels))
-        → AreItems (map label_item (if b then label ∷ labels_of_address address labels else labels_of_address address labels))
-    by true plain rest = (
-      (record { some = omega arith; blank_free = plain; unopened = at_sign 40 label.name refl; unclosed = at_sign 41 label.name refl }, refl),
-      rest,
-    )
-    by false plain rest = rest
+    let plain : list_any is_blank label.name ≡ false = grind arith in
+    let rest = label_comments labels address (grind arith) in
+    elim (cases_Bool (label.address == address)) [
+      | inl here ↦ rw here ((record { some = omega arith; blank_free = plain; unopened = at_sign 40 label.name refl; unclosed = at_sign 41 label.name refl }, refl), rest)
+      | inr other ↦ rw other rest
+    ]
 
 module _ (labels : List Label) (readable : are_readable labels ≡ true) where
   instruction_sound : (i : Instruction) → IsInstruction i → AreItems (instruction_items i)
@@ -171,26 +141,26 @@ no_label_words : (labels : List Label) → words_of_items (map label_item labels
 no_label_words [] = refl
 no_label_words (label ∷ labels) = no_label_words labels
 
-words_at : (labels : List Label) (i : Instruction) → words_of_items (items_of labels i) ≡ texts_of_coded (coded_of i)
-words_at labels i =
-    flat_map-append words_of_item (label_items labels i.address) (instruction_items i)
-    ∙ ap (λ (texts : List (List ℕ)). texts ++ words_of_items (instruction_items i)) (no_label_words (labels_of_address i.address labels)) ∙ by i.immediate
-  where
-    by : (immediate : List ℕ) → name_of_op i.opcode ∷ words_of_items (immediate_items immediate ++ Comment (hex_of_short i.address) 10 ∷ []) ≡ name_of_op i.opcode ∷ texts_of_coded (coded_immediate immediate)
-    by [] = refl
-    by (byte ∷ bytes) = refl
+immediate_words : (name address immediate : List ℕ)
+    → name ∷ words_of_items (immediate_items immediate ++ Comment address 10 ∷ []) ≡ name ∷ texts_of_coded (coded_immediate immediate)
+immediate_words name address [] = refl
+immediate_words name address (byte ∷ bytes) = refl
 
 words_all : (labels : List Label) (is : List Instruction) → words_of_items (flat_map (items_of labels) is) ≡ texts_of_coded (flat_map coded_of is)
-words_all labels is =
-    nested words_of_item (items_of labels) is ∙ same_each (λ i. words_of_items (items_of labels i)) (λ i. texts_of_coded (coded_of i)) (words_at labels) is
-    ∙ sym (map_nested (λ (word : Coded). word.text) coded_of is)
+words_all labels [] = refl
+words_all labels (i ∷ is) =
+    flat_map-append words_of_item (items_of labels i) (flat_map (items_of labels) is)
+    ∙ rw (flat_map-append words_of_item (label_items labels i.address) (instruction_items i), no_label_words (labels_of_address i.address labels), words_all labels is, map-append)
+    (ap (λ (texts : List (List ℕ)). texts ++ texts_of_coded (flat_map coded_of is)) (immediate_words (name_of_op i.opcode) (hex_of_short i.address) i.immediate))
 
-bytes_at : (i : Instruction) → bytes_of_coded (coded_of i) ≡ i.opcode ∷ i.immediate
-bytes_at i = ap (λ (bytes : List ℕ). i.opcode ∷ bytes) (by i.immediate)
-  where
-    by : (immediate : List ℕ) → bytes_of_coded (coded_immediate immediate) ≡ immediate
-    by [] = refl
-    by (byte ∷ bytes) = append-nil (byte ∷ bytes)
+immediate_bytes : (immediate : List ℕ) → bytes_of_coded (coded_immediate immediate) ≡ immediate
+immediate_bytes [] = refl
+immediate_bytes (byte ∷ bytes) = append-nil (byte ∷ bytes)
+
+bytes_all : (is : List Instruction) → bytes_of_coded (flat_map coded_of is) ≡ flat_map (λ (i : Instruction). i.opcode ∷ i.immediate) is
+bytes_all [] = refl
+bytes_all (i ∷ is) =
+    ap (λ (bytes : List ℕ). i.opcode ∷ bytes) (flat_map-append (λ (word : Coded). word.bytes) (coded_immediate i.immediate) (flat_map coded_of is) ∙ rw (immediate_bytes i.immediate, bytes_all is) refl)
 
 pub disassembly_assembles : (rom : List ℕ) (labels : List Label) → ((i : ℕ) → i < length rom → slice_index rom i < 256) → length rom ≤ 65280 → are_readable labels ≡ true
     → length (disassembly rom labels) ≤ source_limit → AssemblesTo (disassembly rom labels) rom
@@ -199,68 +169,52 @@ disassembly_assembles rom labels small room readable short =
     let is = instructions_from (length rom) rom_start rom in
     let known = instructions_known (length rom) rom_start rom small (λ some. omega arith) in
     let coded = flat_map coded_of is in
-    let bytes : bytes_of_coded coded ≡ rom =
-    nested (λ (word : Coded). word.bytes) coded_of is ∙ same_each (λ i. bytes_of_coded (coded_of i)) (λ i. i.opcode ∷ i.immediate) bytes_at is
-    ∙ instruction_bytes (length rom) rom_start rom (omega arith) in
+    let bytes : bytes_of_coded coded ≡ rom = bytes_all is ∙ instruction_bytes (length rom) rom_start rom (omega arith) in
     let sound : AreItems (disassembly_items rom labels) =
     ((record { some = omega arith; short = omega arith; blank_free = refl; no_comment = refl; no_paren = refl; no_head = refl; unopened = refl; unclosed = refl }, refl), all_sound labels readable is known) in
     let words : words_of_items (disassembly_items rom labels) ≡ pad_text ∷ texts_of_coded coded = ap (λ (texts : List (List ℕ)). pad_text ∷ texts) (words_all labels is) in
-    let P : List ℕ → Type 0 = λ given. AssemblesTo (text_of_items (disassembly_items rom labels)) given in
-    subst P bytes (plain_assembles (disassembly_items rom labels) coded sound words (all_stand is known) short (omega (arith, ap length bytes)))
+    rw bytes at (plain_assembles (disassembly_items rom labels) coded sound words (all_stand is known) short (omega (arith, ap length bytes)))
 
 -- the text of items behind others
 pub text-append : (xs ys : List Item) → text_of_items (xs ++ ys) ≡ text_of_items xs ++ text_of_items ys
 text-append xs ys = ap (flat_map chunk_text) (flat_map-append chunks_of_item xs ys) ∙ flat_map-append chunk_text (flat_map chunks_of_item xs) (flat_map chunks_of_item ys)
 
--- a word and a space behind a text, and the comment with an address
-word_text : (front text rest : List ℕ) → (front ++ text) ++ 32 ∷ rest ≡ front ++ ((text ++ 32 ∷ []) ++ rest)
-word_text front text rest = append_assoc front text (32 ∷ rest) ∙ ap (λ (t : List ℕ). front ++ t) (sym (append_assoc text (32 ∷ []) rest))
-
-abbrev comment_rest : List ℕ → List ℕ
-comment_rest address = 40 ∷ 32 ∷ ((address ++ 32 ∷ []) ++ 41 ∷ 10 ∷ [])
-
-address_text : (front address : List ℕ) → ((front ++ 32 ∷ 40 ∷ 32 ∷ []) ++ address) ++ 32 ∷ 41 ∷ 10 ∷ [] ≡ front ++ 32 ∷ comment_rest address
-address_text front address =
-    ap (λ (t : List ℕ). t ++ 32 ∷ 41 ∷ 10 ∷ []) (append_assoc front (32 ∷ 40 ∷ 32 ∷ []) address)
-    ∙ append_assoc front (32 ∷ 40 ∷ 32 ∷ address) (32 ∷ 41 ∷ 10 ∷ [])
-    ∙ ap (λ (t : List ℕ). front ++ 32 ∷ 40 ∷ 32 ∷ t) (sym (append_assoc address (32 ∷ []) (41 ∷ 10 ∷ [])))
+long_text : (before name digits address : List ℕ) → ((((before ++ name) ++ 32 ∷ digits) ++ 32 ∷ 40 ∷ 32 ∷ []) ++ address) ++ 32 ∷ 41 ∷ 10 ∷ []
+    ≡ before ++ text_of_items (PlainWord name 32 ∷ PlainWord digits 32 ∷ Comment address 10 ∷ [])
+long_text before name digits address = simp (append_assoc, append-nil) refl
 
 -- the line of an instruction
+line_text : (before name immediate address : List ℕ)
+    → ((((before ++ name) ++ behind_name immediate) ++ 32 ∷ 40 ∷ 32 ∷ []) ++ address) ++ 32 ∷ 41 ∷ 10 ∷ []
+    ≡ before ++ text_of_items (PlainWord name 32 ∷ (immediate_items immediate ++ Comment address 10 ∷ []))
+line_text before name [] address = simp (append_assoc, append-nil) refl
+line_text before name (byte ∷ bytes) address = long_text before name (hex_of_bytes (byte ∷ bytes)) address
+
 pub instruction_text : (before : List ℕ) (i : Instruction)
     → ((((before ++ name_of_op i.opcode) ++ behind_name i.immediate) ++ 32 ∷ 40 ∷ 32 ∷ []) ++ hex_of_short i.address) ++ 32 ∷ 41 ∷ 10 ∷ []
     ≡ before ++ text_of_items (instruction_items i)
-instruction_text before i = by (name_of_op i.opcode) i.immediate (hex_of_short i.address)
-  where
-    by : (name immediate address : List ℕ)
-        → ((((before ++ name) ++ behind_name immediate) ++ 32 ∷ 40 ∷ 32 ∷ []) ++ address) ++ 32 ∷ 41 ∷ 10 ∷ []
-        ≡ before ++ text_of_items (PlainWord name 32 ∷ (immediate_items immediate ++ Comment address 10 ∷ []))
-    by name [] address =
-        address_text ((before ++ name) ++ []) address ∙ ap (λ (t : List ℕ). t ++ 32 ∷ comment_rest address) (append-nil (before ++ name))
-        ∙ word_text before name (comment_rest address)
-    by name (byte ∷ bytes) address =
-        let digits = hex_of_bytes (byte ∷ bytes) in
-        address_text ((before ++ name) ++ 32 ∷ digits) address ∙ append_assoc (before ++ name) (32 ∷ digits) (32 ∷ comment_rest address)
-        ∙ word_text before name (digits ++ 32 ∷ comment_rest address)
-        ∙ ap (λ (t : List ℕ). before ++ ((name ++ 32 ∷ []) ++ t)) (sym (append_assoc digits (32 ∷ []) (comment_rest address)))
-
--- at most as many instructions as bytes
-enough : (n m address : ℕ) (bytes : List ℕ) → length bytes ≤ n → length bytes ≤ m → instructions_from n address bytes ≡ instructions_from m address bytes
-unfolding instructions_from
-enough zero zero address bytes first second = refl
-enough zero (suc m) address [] first second = refl
-enough (suc n) zero address [] first second = refl
-enough (suc n) (suc m) address [] first second = refl
-enough zero (suc m) address (opcode ∷ bytes) first second = absurd (omega arith)
-enough (suc n) zero address (opcode ∷ bytes) first second = absurd (omega arith)
-enough (suc n) (suc m) address (opcode ∷ bytes) first second =
-    let count = immediate_length opcode in
-    ap (λ (rest : List Instruction). record { address = address; opcode = opcode; immediate = take count bytes } ∷ rest)
-    (enough n m (address + 1 + count) (drop count bytes) (omega (arith, length-drop count bytes)) (omega (arith, length-drop count bytes)))
+instruction_text before i = line_text before (name_of_op i.opcode) i.immediate (hex_of_short i.address)
 
 none-from : (n address : ℕ) → instructions_from n address [] ≡ []
 unfolding instructions_from
 none-from zero address = refl
 none-from (suc n) address = refl
+
+-- at most as many instructions as bytes
+enough : (n m address : ℕ) (bytes : List ℕ) → length bytes ≤ n → length bytes ≤ m → instructions_from n address bytes ≡ instructions_from m address bytes
+unfolding instructions_from
+enough n m address [] first second = none-from n address ∙ sym (none-from m address)
+enough (suc n) (suc m) address (opcode ∷ bytes) first second =
+    let count = immediate_length opcode in
+    rw (enough n m (address + 1 + count) (drop count bytes) (omega (arith, length-drop count bytes)) (omega (arith, length-drop count bytes))) refl
+enough n m address (opcode ∷ bytes) first second = absurd (omega arith)
+
+-- the text of the items of an instruction, and of those behind them
+text_more : (text labelled more : List ℕ) (labels line rest : List Item) (whole : List ℕ) → labelled ≡ text ++ text_of_items labels → more ≡ labelled ++ text_of_items line
+    → text ++ text_of_items ((labels ++ line) ++ rest) ≡ whole → more ++ text_of_items rest ≡ whole
+text_more text labelled more labels line rest whole is_labelled is_more so =
+    let parts = rw (text-append (labels ++ line) rest, text-append labels line) at so in
+    rw (is_more, is_labelled) (simp append_assoc (simp append_assoc at parts))
 
 -- the text so far, and the instructions from an offset on
 abbrev instructions_at : List ℕ → ℕ → List Instruction
@@ -318,17 +272,6 @@ module _ (rom : List ℕ) (labels : List Label) (text : List ℕ) (offset : ℕ)
       → DisassembledTo rom labels more next
   disassembled_more labelled more next is_labelled is_more is_next inside = record {
     rest =
-        let rest : List Item = flat_map (items_of labels) (instructions_at rom next) in
-        let whole : flat_map (items_of labels) (instructions_at rom offset) ≡ items_of labels instruction_at ++ rest =
-        ap (flat_map (items_of labels)) instructions_more ∙ ap (λ (n : ℕ). items_of labels instruction_at ++ flat_map (items_of labels) (instructions_at rom n)) (sym is_next) in
-        ap (λ (t : List ℕ). t ++ text_of_items rest) (is_more ∙ ap (λ (t : List ℕ). t ++ text_of_items (instruction_items instruction_at)) is_labelled)
-        ∙ append_assoc (text ++ text_of_items (label_items labels (rom_start + offset))) (text_of_items (instruction_items instruction_at)) (text_of_items rest)
-        ∙ append_assoc text (text_of_items (label_items labels (rom_start + offset))) (text_of_items (instruction_items instruction_at) ++ text_of_items rest)
-        ∙ ap (λ (t : List ℕ). text ++ t)
-        (sym (append_assoc (text_of_items (label_items labels (rom_start + offset))) (text_of_items (instruction_items instruction_at)) (text_of_items rest))
-        ∙ ap (λ (t : List ℕ). t ++ text_of_items rest) (sym (text-append (label_items labels (rom_start + offset)) (instruction_items instruction_at)))
-        ∙ sym (text-append (items_of labels instruction_at) rest)
-        ∙ ap text_of_items (sym whole))
-        ∙ up.rest;
+        rw is_next (text_more text labelled more (label_items labels (rom_start + offset)) (instruction_items instruction_at) _ _ is_labelled is_more (rw instructions_more at up.rest));
     within = inside;
   }

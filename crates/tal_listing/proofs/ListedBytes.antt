@@ -1,37 +1,28 @@
 -- The bytes that a listing shows beside a word are those of the word.
-use Rattle.std.proofs.Common.{◌≡◌, ℕ, zero, suc, ◌+◌, ◌-◌, ◌<◌, Bool, true, false, List, [], ◌∷◌, length, get_or, map, find, Some, None, inl, inr, refl, ap, sym, ◌∙◌, arith}
-use Rattle.std.specs.Prelude.{if◌then◌else◌, ◌==◌, nat_le, nat_lt}
+use Rattle.std.proofs.Common.{◌≡◌, ℕ, zero, suc, ◌+◌, ◌-◌, ◌<◌, true, false, List, [], ◌∷◌, length, get_or, map, find, Some, None, refl, ap, ◌∙◌, arith}
+use Rattle.std.proofs.lemmas.Bool.Decides.{nat_tests}
 use Rattle.std.specs.List.{range_with_len}
-use Rattle.std.proofs.lemmas.Bool.{cases_Bool, eqb-true, le-leb, lt-ltb, and_from}
 use Rattle.std.proofs.lemmas.List.FromFn.{get_or-map-range_with_len, length-map-range_with_len}
 use Rattle.std.proofs.lemmas.Grind.{same_number_lists}
 use Rattle.tal_words.proofs.OrderLemmas.{get_or-each, length-each}
 use Rattle.tal_labels.specs.declared.placed.PlacedWord.{PlacedWord}
-use Rattle.tal_rom.specs.Rom.{Piece, covers, byte_of_piece, byte_at, before_trimmed, trimmed, rom_image, piece_given, pieces_of}
+use Rattle.tal_rom.specs.Rom.{Piece, covers, byte_at, before_trimmed, trimmed, rom_image, piece_given, pieces_of}
 use Rattle.tal_rom.specs.Assembly.{first_fault, layout, rom_of}
 use Rattle.tal_rom.proofs.AssemblyLemmas.{sound_once}
 use Rattle.tal_listing.specs.Listing.{memory_bytes, HoldsItsWords}
 use Rattle.tal_listing.proofs.ListingLemmas.{sound_words}
 
 -- a list reads the same without the zeros at its end
+get_or-before : (x : ℕ) (t xs : List ℕ) (i : ℕ) → ((j : ℕ) → get_or t j 0 ≡ get_or xs j 0) → get_or (before_trimmed x t) i 0 ≡ get_or (x ∷ xs) i 0
+get_or-before x [] xs zero same = grind (arith, nat_tests)
+get_or-before x [] xs (suc j) same = (let none = same j in grind (arith, none))
+get_or-before x (y ∷ ys) xs zero same = refl
+get_or-before x (y ∷ ys) xs (suc j) same = same j
+
 get_or-trimmed : (xs : List ℕ) (i : ℕ) → get_or (trimmed xs) i 0 ≡ get_or xs i 0
 unfolding trimmed
 get_or-trimmed [] i = refl
-get_or-trimmed (x ∷ xs) i = by (trimmed xs) (λ j. get_or-trimmed xs j) i
-  where
-    first : (b : Bool) → (x == 0) ≡ b → get_or (if b then [] else x ∷ []) 0 0 ≡ x
-    first true e = sym (eqb-true x 0 e)
-    first false e = refl
-
-    later : (b : Bool) (j : ℕ) → get_or (if b then [] else x ∷ []) (suc j) 0 ≡ 0
-    later true j = refl
-    later false j = refl
-
-    by : (t : List ℕ) → ((j : ℕ) → get_or t j 0 ≡ get_or xs j 0) → (i : ℕ) → get_or (before_trimmed x t) i 0 ≡ get_or (x ∷ xs) i 0
-    by [] same zero = first (x == 0) refl
-    by [] same (suc j) = later (x == 0) j ∙ same j
-    by (y ∷ ys) same zero = refl
-    by (y ∷ ys) same (suc j) = same j
+get_or-trimmed (x ∷ xs) i = get_or-before x (trimmed xs) xs i (λ j. get_or-trimmed xs j)
 
 -- the first word that covers an address is found
 found_first : (pieces : List Piece) (address k : ℕ) (d : Piece) → k < length pieces → covers address (get_or pieces k d) ≡ true
@@ -70,20 +61,18 @@ module _ (source : List ℕ) (sound : first_fault source ≡ None) (k : ℕ) (wo
       let f : ℕ → ℕ = λ n. byte_at pieces (256 + n) in
       get_or-trimmed (map f (range_with_len 0 65280)) i ∙ get_or-map-range_with_len f 0 65280 i i 0 below (omega arith)
 
+  own_covers : (j : ℕ) → j < placed.size → covers (placed.address + j) own ≡ true
+  own_covers j inside = grind (arith, nat_tests, own_address, (sound_once source sound).sized k word piece within)
+
+  alone : (j i : ℕ) → j < placed.size → i < k → covers (placed.address + j) (get_or pieces i piece) ≡ false
+  alone j i inside below = grind (arith, own_covers j inside, (sound_once source sound).once (placed.address + j) i k piece below within)
+
   byte_own : (j : ℕ) → j < placed.size → byte_at pieces (placed.address + j) ≡ get_or own.bytes j 0
   unfolding byte_at
   byte_own j inside =
-      let once = sound_once source sound in
-      let size = once.sized k word piece within in
-      let here : covers (placed.address + j) own ≡ true = and_from (nat_le own.address (placed.address + j)) (nat_lt (placed.address + j) (own.address + length own.bytes))
-      (le-leb own.address (placed.address + j) (omega (arith, own_address))) (lt-ltb (placed.address + j) (own.address + length own.bytes) (omega (arith, own_address, size))) in
-      let before = λ (i : ℕ) (below : i < k). elim (cases_Bool (covers (placed.address + j) (get_or pieces i piece))) as (λ _. covers (placed.address + j) (get_or pieces i piece) ≡ false) [
-        | inl covered ↦ (let never : true ≡ false = sym here ∙ once.once (placed.address + j) i k piece below within covered in cc)
-        | inr free ↦ free
-      ] in
-      let found = found_first pieces (placed.address + j) k piece (omega (arith, piece_count)) here before in
+      let found = found_first pieces (placed.address + j) k piece (omega (arith, piece_count)) (own_covers j inside) (λ i below. alone j i inside below) in
       let at : placed.address + j - own.address ≡ j = omega (arith, own_address) in
-      ap (byte_of_piece (placed.address + j)) found ∙ ap (λ (n : ℕ). get_or own.bytes n 0) at
+      rw (found, at) refl
 
   shown : memory_bytes (rom_of source) placed.address placed.size ≡ own.bytes
   shown =

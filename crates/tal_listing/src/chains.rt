@@ -1,6 +1,6 @@
 //! Labels by their addresses.
 
-ghost use Rattle.std.specs.Prelude.{◌≡◌, ◌<◌, ◌+◌, length, slice_index, slice_index_or, IfOk};
+ghost use Rattle.std.specs.Prelude.{◌<◌, ◌+◌, length, slice_index_or, IfOk};
 ghost use Rattle.tal_words.specs.declared.name.Label.{Label};
 ghost use Rattle.tal_listing.specs.LabelChains.{IsNext, AreChained};
 

@@ -3,7 +3,6 @@ use Rattle.std.specs.Prelude.{is_some}
 use Rattle.std.proofs.lemmas.Result.{err_from_is_err_and}
 use Rattle.std.proofs.lemmas.List.{take_more, take_all}
 use Rattle.tal_words.specs.declared.span.Expanded.{Expanded}
-use Rattle.tal_words.specs.declared.fault.Fault.{Fault}
 use Rattle.tal_words.specs.declared.fault.AsmStop.{AsmStop}
 use Rattle.tal_words.specs.declared.fault.AsmStop.TheVariants.{Refused, NoMemory}
 use Rattle.tal_words.specs.Faults.{Gives, phase_fault}
@@ -15,7 +14,7 @@ use Rattle.tal_labels.specs.Adding.{added_fault}
 use Rattle.tal_labels.specs.Shapes.{shape_fault}
 use Rattle.tal_labels.specs.Placing.{Layout, layout_of, judged_place, placing_fault, place_fault}
 use Rattle.tal_labels.specs.Placers.{Kept, IsKept, WereAdded, PlacesNext, kept_by}
-use Rattle.tal_labels.proofs.PlacedLemmas.{shape_first, placing_next}
+use Rattle.tal_labels.proofs.PlacedLemmas.{placing_next}
 use Rattle.tal_labels.proofs.AddingLemmas.{place-later, place-here}
 use Rattle.tal_labels.proofs.CallerLemmas.{lie_apart}
 use Rattle.tal_labels.proofs.placing.place.Goals as goal
@@ -24,7 +23,8 @@ abbrev same : Layout → Layout
 same layout = layout
 
 stopped_shape : (source : List ℕ) (words : List Expanded) (stop : AsmStop) → FindsNone (Err stop) (shape_fault source words) → Gives same (Err stop) (place_fault source words) (layout_of source words)
-stopped_shape source words (Refused found) e = shape_first source words found e
+unfolding place_fault
+stopped_shape source words (Refused found) e = rw e refl
 stopped_shape source words NoMemory e = tt
 
 stopped_place : (source : List ℕ) (words : List Expanded) (k : ℕ) (new : Kept) (stop : AsmStop) → shape_fault source words ≡ None → k < length words
@@ -34,23 +34,15 @@ stopped_place source words k new (Refused found) shaped within so e = placing_ne
 stopped_place source words k new NoMemory shaped within so e = tt
 
 -- after the last word
-module _ (source : List ℕ) (words : List Expanded) (k : ℕ) (placer : Placer) (past : length words ≤ k) (kept : IsKept source (take k words) (kept_by placer)) (flag : placer.is_faulty ≡ false) where
-  all_added : WereAdded source words placer
-  all_added =
-      let whole = rw (take_all k words past) at kept in
-      record { faulty = flag ∙ sym (ap is_some whole.sound); kept = λ _. whole }
-
-  module _ (shaped : shape_fault source words ≡ None) (so : phase_fault (each (judged_place source) (take k words) (drop k words)) ≡ placing_fault source words) where
-    all_placed : placing_fault source words ≡ None
-    all_placed = sym so ∙ ap phase_fault (each-end (judged_place source) words k past)
-
-    all_sound : place_fault source words ≡ None
-    all_sound = placing_next source words None shaped all_placed
-
-    -- the answer of the placer
-    finished : (o : Option Layout) → ((source : List ℕ) (words : List Expanded) → WereAdded source words placer → o ≡ cond (is_some (place_fault source words)) None (Some (layout_of source words)))
-        → o ≡ Some (layout_of source words)
-    finished o e = e source words all_added ∙ ap (λ (f : Option Fault). cond (is_some f) None (Some (layout_of source words))) all_sound
+ended : (source : List ℕ) (words : List Expanded) (k : ℕ) (placer : Placer) → length words ≤ k → IsKept source (take k words) (kept_by placer) → placer.is_faulty ≡ false → shape_fault source words ≡ None
+    → phase_fault (each (judged_place source) (take k words) (drop k words)) ≡ placing_fault source words
+    → (o : Option Layout) → ((source : List ℕ) (words : List Expanded) → WereAdded source words placer → o ≡ cond (is_some (place_fault source words)) None (Some (layout_of source words)))
+    → (o ≡ Some (layout_of source words)) × (place_fault source words ≡ None) × (placing_fault source words ≡ None)
+ended source words k placer past kept flag shaped so o e =
+    let whole = rw (take_all k words past) at kept in
+    let placed : placing_fault source words ≡ None = sym so ∙ ap phase_fault (each-end (judged_place source) words k past) in
+    let sound = placing_next source words None shaped placed in
+    (rw sound at (e source words (record { faulty = rw whole.sound flag; kept = λ _. whole })), sound, placed)
 
 pub loop-word-init : goal.loop-word-init
 unfolding added_fault placing_fault
@@ -85,19 +77,20 @@ returns-in_err-place_next-clause-value c =
 pub unreachable-requires : goal.unreachable-requires
 unreachable-requires c =
     let so = c.loop-word.invariant in
-    let never = finished c.args.source.now c.args.words.now c.loop-word.word-index c.loop-word.placer c.loop-word-test.false so.kept so.flag c.in_ok-check_shapes.ensures so.sound None c.in-None.ensures in
+    let never = (ended _ _ _ _ c.loop-word-test.false so.kept so.flag c.in_ok-check_shapes.ensures so.sound None c.in-None.ensures).0 in
     cc
 
 pub returns-clause-value : goal.returns-clause-value
 returns-clause-value c =
     let so = c.loop-word.invariant in
-    let equal = finished c.args.source.now c.args.words.now c.loop-word.word-index c.loop-word.placer c.loop-word-test.false so.kept so.flag c.in_ok-check_shapes.ensures so.sound (Some c.in-Some.placed) c.in-Some.ensures in
-    (all_sound c.args.source.now c.args.words.now c.loop-word.word-index c.loop-word.placer c.loop-word-test.false so.kept so.flag c.in_ok-check_shapes.ensures so.sound, cc)
+    let all = ended _ _ _ _ c.loop-word-test.false so.kept so.flag c.in_ok-check_shapes.ensures so.sound (Some c.in-Some.placed) c.in-Some.ensures in
+    let equal = all.0 in
+    (all.1, cc)
 
 pub returns-clause-apart : goal.returns-clause-apart
 returns-clause-apart c =
     let so = c.loop-word.invariant in
-    let equal = finished c.args.source.now c.args.words.now c.loop-word.word-index c.loop-word.placer c.loop-word-test.false so.kept so.flag c.in_ok-check_shapes.ensures so.sound (Some c.in-Some.placed) c.in-Some.ensures in
+    let all = ended _ _ _ _ c.loop-word-test.false so.kept so.flag c.in_ok-check_shapes.ensures so.sound (Some c.in-Some.placed) c.in-Some.ensures in
+    let equal = all.0 in
     let laid : c.in-Some.placed ≡ layout_of c.args.source.now c.args.words.now = cc in
-    rw (ap (λ (layout : Layout). layout.words) laid) (lie_apart c.args.source.now c.args.words.now c.in_ok-check_shapes.ensures
-    (all_placed c.args.source.now c.args.words.now c.loop-word.word-index c.loop-word.placer c.loop-word-test.false so.kept so.flag c.in_ok-check_shapes.ensures so.sound))
+    rw (ap (λ (layout : Layout). layout.words) laid) (lie_apart c.args.source.now c.args.words.now c.in_ok-check_shapes.ensures all.2)

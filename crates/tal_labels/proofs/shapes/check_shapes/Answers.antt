@@ -11,15 +11,15 @@ index-requires c = omega (arith, ap length c.in_ok-closers.ensures, length-close
 
 pub returns-in-Err : goal.returns-in-Err
 returns-in-Err c =
-    faulty_shape c.args.source.now c.args.words.now c.loop-k.k c.text-text.result.now c.loop-k.depth c.is_some.result c.in-Err.kind c.index.result.now c.in_ok-closers.closers.items
-    (omega arith) c.in_ok-closers.ensures c.text-text.ensures (c.is_some.ensures ∙ ap is_some c.index.ensures) c.loop-k.invariant c.in-Err.ensures
+    faulty_shape c.args.source.now c.args.words.now c.loop-k.k c.text-text.result.now c.loop-k.depth c.is_some.result c.index.result.now c.in_ok-closers.closers.items
+    (omega arith) c.in_ok-closers.ensures c.text-text.ensures (c.is_some.ensures ∙ ap is_some c.index.ensures) c.loop-k.invariant c.in-Err.kind c.in-Err.ensures
     ∙ sym (ap Some c.new.ensures)
 
 pub loop-k-preserved : goal.loop-k-preserved
 loop-k-preserved c =
-    next_shaped c.args.source.now c.args.words.now c.loop-k.k c.text-text.result.now c.loop-k.depth c.open_after-depth.result c.is_some.result c.index.result.now c.in_ok-closers.closers.items
-    (omega arith) c.in_ok-closers.ensures c.text-text.ensures (c.is_some.ensures ∙ ap is_some c.index.ensures) c.loop-k.invariant c.in_default.ensures.1
-    c.open_after-depth.ensures.value c.open_after-depth.ensures.small
+    next_shaped c.args.source.now c.args.words.now c.loop-k.k c.text-text.result.now c.loop-k.depth c.is_some.result c.index.result.now c.in_ok-closers.closers.items
+    (omega arith) c.in_ok-closers.ensures c.text-text.ensures (c.is_some.ensures ∙ ap is_some c.index.ensures) c.loop-k.invariant
+    c.open_after-depth.result c.in_default.ensures.1 c.open_after-depth.ensures.value c.open_after-depth.ensures.small
 
 pub returns : goal.returns
 returns c = all_shaped c.args.source.now c.args.words.now c.loop-k.k c.loop-k.depth (omega arith) c.loop-k.invariant

@@ -1,4 +1,4 @@
-use Rattle.std.proofs.Common.{refl, sym, ap, length, arith}
+use Rattle.std.proofs.Common.{refl, sym, arith}
 use Rattle.std.proofs.lemmas.Bool.{le-ltb}
 use Rattle.tal_labels.specs.Adding.{added_fault, open_ones}
 use Rattle.tal_labels.specs.Labels.{scope_after, labels_of}
@@ -16,7 +16,6 @@ returns c source = record {
     placed = c.new.ensures.items;
     labels = c.new-2.ensures;
     openers = c.new-3.ensures.items;
-    depth = ap length c.new-3.ensures.items;
     scope = c.first.ensures source;
     address = refl;
     top = λ place. sym (le-ltb place 0 (omega arith));
