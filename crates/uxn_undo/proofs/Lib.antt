@@ -7,3 +7,4 @@ pub mod Misses
 pub mod Machines
 pub mod Effects
 pub mod Instructions
+pub mod Runs

@@ -5,3 +5,4 @@ pub mod Rings
 pub mod Room
 pub mod Laws
 pub mod Row
+pub mod Runs
