@@ -39,23 +39,23 @@ one_back span before after at differs small =
     ]
 
 -- moments in a row, back to one of them
-many_back : (given : List Given) (last : Core) (moment : Given) (back at : ℕ) → Follow given last → slice_get given back ≡ Some moment → at < 65536
-    → byte_back (take (suc back) (map kept_of given)) at (slice_index last.memory at) ≡ slice_index moment.core.memory at
+many_back : (given : List Given) (last : List ℕ) (moment : Given) (back at : ℕ) → Follow given last → slice_get given back ≡ Some moment → at < 65536
+    → byte_back (take (suc back) (map kept_of given)) at (slice_index last at) ≡ slice_index moment.core.memory at
 unfolding byte_back
 many_back [] last moment back at follow here small = cc
 many_back (given ∷ older) last moment zero at follow here small =
     let same : given ≡ moment = cc in
-    rw (← same) (one_back (span_of given.core given.stored) given.core.memory last.memory at follow.0 small)
+    rw (← same) (one_back (span_of given.core given.stored) given.core.memory last at follow.0 small)
 many_back (given ∷ older) last moment (suc back) at follow here small =
     ap (λ byte. byte_back (take (suc back) (map kept_of older)) at byte)
-    (one_back (span_of given.core given.stored) given.core.memory last.memory at follow.0 small)
-    ∙ many_back older given.core moment back at follow.1 here small
+    (one_back (span_of given.core given.stored) given.core.memory last at follow.0 small)
+    ∙ many_back older given.core.memory moment back at follow.1 here small
 
 pub going_back_law : (given : List Given) (held : List Kept) (last : Core) (moment : Given) (back at : ℕ)
-    → Holds (map kept_of given) held → Follow given last → back < length held → slice_get given back ≡ Some moment → at < 65536
+    → Holds (map kept_of given) held → Follow given last.memory → back < length held → slice_get given back ≡ Some moment → at < 65536
     → byte_back (take (back + 1) held) at (slice_index last.memory at) ≡ slice_index moment.core.memory at
 going_back_law given held last moment back at holds follow within here small =
     let next : back + 1 ≡ suc back = omega arith in
     let front : take (suc back) held ≡ take (suc back) (map kept_of given) =
     ap (λ (kept : List Kept). take (suc back) kept) holds.newest ∙ take-take (suc back) (length held) (map kept_of given) (omega arith) in
-    rw (next, front) (many_back given last moment back at follow here small)
+    rw (next, front) (many_back given last.memory moment back at follow here small)

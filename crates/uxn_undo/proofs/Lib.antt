@@ -3,3 +3,8 @@ pub mod GoingBack
 pub mod Joined
 pub mod Operations
 pub mod Keeping
+pub mod Misses
+pub mod Machines
+pub mod Effects
+pub mod Instructions
+pub mod Runs

@@ -36,8 +36,8 @@ span_of_file address length = span_in_bank address (min length (65536 - address)
 abbrev pub short_stored : List ℕ → ℕ → ℕ
 short_stored page port = slice_index page port * 256 + slice_index page (port + 1)
 
--- what a write may change: the expansion port; stat and read of the first and of the second file device. The address is the short
--- in this port and the one before it, once the byte is stored
+-- what a write may change, by its port: the expansion port; stat and read of the first and of the second file device. The address is
+-- the short in this port and the one before it, once the byte is stored
 unfoldable pub span_at_port : List ℕ → List ℕ → ℕ → ℕ → Span
 span_at_port memory page port address =
     if port == 0x03 then span_of_record memory address

@@ -18,19 +18,19 @@ kept_of given = kept_at given.core given.stored
 abbrev pub DiffersWithin : Span → List ℕ → List ℕ → Type 0
 DiffersWithin span before after = (at : ℕ) → at < 65536 → covers span at ≡ false → slice_index before at ≡ slice_index after at
 
--- moments in a row, the newest first, and the machine after them: each differs from the next one, and the newest from that machine,
+-- moments in a row, the newest first, and the memory after them: each differs from the next one, and the newest from that memory,
 -- only within the bytes that are kept for it
-abbrev pub Follow : List Given → Core → Type 0
+abbrev pub Follow : List Given → List ℕ → Type 0
 Follow [] last = Unit {0}
-Follow (given ∷ older) last = DiffersWithin (span_of given.core given.stored) given.core.memory last.memory × Follow older given.core
+Follow (given ∷ older) last = DiffersWithin (span_of given.core given.stored) given.core.memory last × Follow older given.core.memory
 
 -- what holds one moment after another holds the newest of all of them, as many as there is room for
 pub record HoldingLaw : Type 0 where
   pub none : Holds [] []
   pub one_more : (given held now : List Kept) (kept : Kept) → Holds given held → Holds (kept ∷ held) now → Holds (kept ∷ given) now
 
--- where moments in a row are held, the byte that going back gives is that of the memory of the moment gone to
+-- where moments in a row are held, going back gives the byte of the memory of the moment gone to
 abbrev pub GoingBackLaw : Type 0
 GoingBackLaw = (given : List Given) (held : List Kept) (last : Core) (moment : Given) (back at : ℕ)
-    → Holds (map kept_of given) held → Follow given last → back < length held → slice_get given back ≡ Some moment → at < 65536
+    → Holds (map kept_of given) held → Follow given last.memory → back < length held → slice_get given back ≡ Some moment → at < 65536
     → byte_back (take (back + 1) held) at (slice_index last.memory at) ≡ slice_index moment.core.memory at

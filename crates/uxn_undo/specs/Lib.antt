@@ -4,3 +4,5 @@ pub mod Kept
 pub mod Rings
 pub mod Room
 pub mod Laws
+pub mod Row
+pub mod Runs

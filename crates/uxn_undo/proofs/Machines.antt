@@ -1,0 +1,122 @@
+-- An instruction up to its port access leaves a machine.
+use Rattle.std.proofs.Common.{◌≡◌, ℕ, zero, suc, ◌+◌, ◌/◌, ◌%◌, ◌==◌, ◌<◌, ◌≤◌, Bool, true, false, cond, List, [], ◌∷◌, length, refl, arith}
+use Rattle.std.specs.Prelude.{slice_index, slice_set}
+use Rattle.uxn_stacks.specs.Cells.{Cells, byte_below, lowered}
+use Rattle.uxn_opcodes.specs.declared.Core.{Core}
+use Rattle.uxn_opcodes.specs.declared.operation.Width.{Width}
+use Rattle.uxn_opcodes.specs.declared.operation.Width.TheVariants.{Byte, Short}
+use Rattle.uxn_opcodes.specs.declared.operation.Mode.{Mode}
+use Rattle.uxn_opcodes.specs.Words.{pushed, pushed_all, dropped, word_below}
+use Rattle.uxn_opcodes.specs.Rule.{sides_of, core_of, Deed, ruled, immediate, jumped, jumped_if, called, literal}
+use Rattle.uxn_opcodes.specs.Table.{Pushes, mode_of}
+use Rattle.uxn_undo.specs.Row.{HoldsBytes, IsMachine}
+
+-- a byte that is set
+set-holds : (bytes : List ℕ) (place value : ℕ) → value < 256 → ((k : ℕ) → slice_index bytes k < 256)
+    → (k : ℕ) → slice_index (slice_set bytes place value) k < 256
+set-holds [] place value small holds k = holds k
+set-holds (x ∷ xs) zero value small holds zero = small
+set-holds (x ∷ xs) zero value small holds (suc k) = holds (suc k)
+set-holds (x ∷ xs) (suc place) value small holds zero = holds zero
+set-holds (x ∷ xs) (suc place) value small holds (suc k) = set-holds xs place value small (λ j. holds (suc j)) k
+
+pub pushed-holds : (ring : Cells) (width : Width) (value : ℕ) → HoldsBytes ring → HoldsBytes (pushed ring width value)
+unfolding pushed
+pushed-holds ring Byte value holds = set-holds ring.bytes ring.pointer (value % 256) (omega arith) holds
+pushed-holds ring Short value holds =
+    set-holds (slice_set ring.bytes ring.pointer (value % 65536 / 256)) ((ring.pointer + 1) % 256) (value % 65536 % 256) (omega arith)
+    (set-holds ring.bytes ring.pointer (value % 65536 / 256) (omega arith) holds)
+
+all-pushed-holds : (ring : Cells) (words : Pushes) → HoldsBytes ring → HoldsBytes (pushed_all ring words)
+all-pushed-holds ring [] holds = holds
+all-pushed-holds ring (word ∷ words) holds = all-pushed-holds (pushed ring word.0 word.1) words (pushed-holds ring word.0 word.1 holds)
+
+dropped-holds : (keep : Bool) (ring : Cells) (count : ℕ) → HoldsBytes ring → HoldsBytes (dropped keep ring count)
+unfolding dropped
+dropped-holds true ring count holds = holds
+dropped-holds false ring count holds = holds
+
+-- the words on a ring of bytes
+pub byte-small : (ring : Cells) (depth : ℕ) → HoldsBytes ring → word_below ring Byte depth < 256
+unfolding word_below
+byte-small ring depth holds = holds _
+
+-- a row
+pub row-memory : (returns : Bool) (mode : Mode) (core : Core) (deed : Deed)
+    → (core_of returns (ruled mode (sides_of returns core) deed)).memory ≡ deed.memory
+row-memory true mode core deed = refl
+row-memory false mode core deed = refl
+
+pub row-machine : (returns : Bool) (mode : Mode) (core : Core) (deed : Deed) → IsMachine core → 65536 ≤ length deed.memory
+    → IsMachine (core_of returns (ruled mode (sides_of returns core) deed))
+row-machine true mode core deed is size = record {
+  memory = size;
+  working = all-pushed-holds core.working deed.passes is.working;
+  returns = all-pushed-holds (dropped mode.keep core.returns deed.count) deed.results (dropped-holds mode.keep core.returns deed.count is.returns);
+}
+row-machine false mode core deed is size = record {
+  memory = size;
+  working = all-pushed-holds (dropped mode.keep core.working deed.count) deed.results (dropped-holds mode.keep core.working deed.count is.working);
+  returns = all-pushed-holds core.returns deed.passes is.returns;
+}
+
+pub side-memory : (returns : Bool) (core : Core) → (sides_of returns core).memory ≡ core.memory
+side-memory true core = refl
+side-memory false core = refl
+
+pub side-holds : (returns : Bool) (core : Core) → IsMachine core → HoldsBytes (sides_of returns core).this
+side-holds true core is = is.returns
+side-holds false core is = is.working
+
+-- what was read is pushed
+side-pushed : (returns : Bool) (core : Core) (width : Width) (value : ℕ) (at : ℕ) → IsMachine core
+    → IsMachine (core_of returns (record (sides_of returns core) { this = pushed (sides_of returns core).this width value; at = at }))
+side-pushed true core width value at is =
+    record { memory = is.memory; working = is.working; returns = pushed-holds core.returns width value is.returns }
+side-pushed false core width value at is =
+    record { memory = is.memory; working = pushed-holds core.working width value is.working; returns = is.returns }
+
+pub answered-machine : (returns : Bool) (core : Core) (width : Width) (value : ℕ) → IsMachine core
+    → IsMachine (core_of returns (record (sides_of returns core) { this = pushed (sides_of returns core).this width value }))
+answered-machine true core width value is =
+    record { memory = is.memory; working = is.working; returns = pushed-holds core.returns width value is.returns }
+answered-machine false core width value is =
+    record { memory = is.memory; working = pushed-holds core.working width value is.working; returns = is.returns }
+
+pub answered-memory : (returns : Bool) (core : Core) (width : Width) (value : ℕ)
+    → (core_of returns (record (sides_of returns core) { this = pushed (sides_of returns core).this width value })).memory ≡ core.memory
+answered-memory true core width value = refl
+answered-memory false core width value = refl
+
+side-memory-pushed : (returns : Bool) (core : Core) (width : Width) (value : ℕ) (at : ℕ)
+    → (core_of returns (record (sides_of returns core) { this = pushed (sides_of returns core).this width value; at = at })).memory ≡ core.memory
+side-memory-pushed true core width value at = refl
+side-memory-pushed false core width value at = refl
+
+-- a machine with the same memory
+pub record SameMemory (before after : Core) : Type 0 where
+  pub memory : after.memory ≡ before.memory
+  pub machine : IsMachine after
+
+taken_or_not : (b : Bool) (core : Core) → IsMachine core
+    → SameMemory core (cond b (record core { working = lowered core.working 1; at = (core.at + 2) % 65536 }) (record (jumped core) { working = lowered core.working 1 }))
+taken_or_not true core is = record { memory = refl; machine = record { memory = is.memory; working = is.working; returns = is.returns } }
+taken_or_not false core is = record { memory = refl; machine = record { memory = is.memory; working = is.working; returns = is.returns } }
+
+-- the instructions with an immediate
+by_code : (first second third : Bool) (code : ℕ) (core : Core) → IsMachine core
+    → SameMemory core (cond first (jumped_if core) (cond second (jumped core) (cond third (called core) (literal (mode_of code) core))))
+by_code true second third code core is = taken_or_not (byte_below core.working 0 == 0) core is
+by_code false true third code core is = record { memory = refl; machine = record { memory = is.memory; working = is.working; returns = is.returns } }
+by_code false false true code core is = record {
+  memory = refl;
+  machine = record { memory = is.memory; working = is.working; returns = pushed-holds core.returns Short _ is.returns };
+}
+by_code false false false code core is =
+    let mode = mode_of code in record {
+      memory = side-memory-pushed mode.returns core mode.width _ _;
+      machine = side-pushed mode.returns core mode.width _ _ is;
+    }
+
+pub immediate-machine : (code : ℕ) (core : Core) → IsMachine core → SameMemory core (immediate code core)
+immediate-machine code core is = by_code (code == 0x20) (code == 0x40) (code == 0x60) code core is
