@@ -1,0 +1,4 @@
+pub mod ReadLemmas
+pub mod WalkLemmas
+pub mod StepLemmas
+pub mod SpliceLemmas

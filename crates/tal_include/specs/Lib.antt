@@ -1,0 +1,5 @@
+pub mod Flat
+pub mod Includes
+pub mod Splice
+pub mod Reads
+pub mod Parts

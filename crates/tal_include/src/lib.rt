@@ -1,0 +1,10 @@
+//! Includes: a source with the words of its files in place of the words that include them.
+#![tactic(auto)]
+
+mod faults;
+mod spliced;
+mod splicing;
+
+pub use faults::{IncludeFault, IncludeKind, Origin, SpliceStop};
+pub use spliced::Spliced;
+pub use splicing::splice;
