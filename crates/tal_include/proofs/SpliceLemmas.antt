@@ -30,9 +30,9 @@ agrees_with (read ∷ reads) reading before same =
     let here : before ≡ before + 0 = omega arith in (
       ap (λ (n : ℕ). reading n read.path) here ∙ same 0 read.path,
       agrees_with reads reading (before + 1)
-      (λ number path.
-      let next : before + 1 + number ≡ before + suc number = omega arith in
-      ap (λ (n : ℕ). reading n path) next ∙ same (suc number) path),
+          (λ number path.
+          let next : before + 1 + number ≡ before + suc number = omega arith in
+          ap (λ (n : ℕ). reading n path) next ∙ same (suc number) path),
     )
 
 -- some reading is that of the files that were read
@@ -40,8 +40,8 @@ pub some_reading : (tree : Option Nodes) (Many : ℕ → Type 0) (Holds : Readin
 some_reading tree Many Holds along = (
   λ before path. answer_at along.reads before,
   along.along (λ before path. answer_at along.reads before)
-  (agrees_with along.reads (λ before path. answer_at along.reads before) 0
-  (λ number path. let same : 0 + number ≡ number = omega arith in ap (answer_at along.reads) same)),
+      (agrees_with along.reads (λ before path. answer_at along.reads before) 0
+      (λ number path. let same : 0 + number ≡ number = omega arith in ap (answer_at along.reads) same)),
 )
 
 agrees_told : (nodes : Nodes) (before : ℕ) (reads : List Read) → AllByRecursion (IsTold (Some nodes)) reads → Agrees (told_reading nodes) before reads
@@ -73,7 +73,7 @@ pub main_whole : {X : Type 0} (view : X → Flat) (tree : Option Nodes) (main so
 main_whole view tree main source words given includes flat result Many cut is_given is_includes is_flat along =
     let none : length flat.paths ≡ 0 = ap (λ (f : Flat). length f.paths) is_flat in
     let listed : has_includes source ≡ includes =
-        ap (λ (ws : List Word). list_any (λ word. is_include (word_text source word)) ws) (sym (is_given ∙ cut.1)) ∙ sym is_includes
+    ap (λ (ws : List Word). list_any (λ word. is_include (word_text source word)) ws) (sym (is_given ∙ cut.1)) ∙ sym is_includes
     in
     along_more tree 0 Many _ (λ reading. Gives view result (through_words reading 15 (inner_walk reading 15) main source given flat)) _
     (subst (λ (n : ℕ). Along tree n Many (λ reading. Gives view result (through_words reading 15 (inner_walk reading 15) main source given flat))) none along)

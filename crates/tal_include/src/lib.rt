@@ -4,6 +4,8 @@
 mod faults;
 mod spliced;
 mod splicing;
+#[cfg(test)]
+mod tests;
 
 pub use faults::{IncludeFault, IncludeKind, Origin, SpliceStop};
 pub use spliced::Spliced;

@@ -116,7 +116,12 @@ impl Spliced {
     }
 
     /// Adds a word of the file with a number, and a newline.
-    pub(crate) fn add_word(&mut self, file: usize, word: &Word, text: &[u8]) -> Result<(), AllocError>
+    pub(crate) fn add_word(
+        &mut self,
+        file: usize,
+        word: &Word,
+        text: &[u8],
+    ) -> Result<(), AllocError>
         ensures { OnOk result (self.new ≡ with_word file word.now text.now self.old) }
     {
         self.places.push(Place {

@@ -132,7 +132,7 @@ impl Spliced {
         ensures walk { Along (T.told tree.old) (length self.old.paths)
             (λ count. OnOk result (length self.new.paths ≡ length self.old.paths + count))
             (λ reading. Gives (λ _. self.new) result
-                (through_words reading deeper (inner_walk reading deeper) path.now source.now words.now self.old)) }
+            (through_words reading deeper (inner_walk reading deeper) path.now source.now words.now self.old)) }
         ensures same { T.told tree.new ≡ T.told tree.old }
         ensures ledger { Counted (T.faults tree.old) (T.faults tree.new) (has_failed result) }
         ensures sure { 0 < (T.sure tree.old).files → has_failed result ≡ false }

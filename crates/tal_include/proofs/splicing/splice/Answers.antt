@@ -24,8 +24,8 @@ pub returns-in_err-add_words-clause-told : goal.returns-in_err-add_words-clause-
 returns-in_err-add_words-clause-told g c =
     let p = err_from_is_err_and c.from_residual-in_err-add_words.result c.from_residual-in_err-add_words.ensures.1 in
     let listed =
-        c.has_include-includes.ensures
-        ∙ ap (λ (ws : List Word). list_any (λ word. is_include (word_text c.args.source.now word)) ws) (c.deref.ensures.value ∙ sym c.deref-2.ensures.value)
+    c.has_include-includes.ensures
+    ∙ ap (λ (ws : List Word). list_any (λ word. is_include (word_text c.args.source.now word)) ws) (c.deref.ensures.value ∙ sym c.deref-2.ensures.value)
     in
     rw (p.1, p.2)
     (told_holds _ _ _ _
@@ -36,8 +36,8 @@ pub returns-in_err-add_words-clause-read : goal.returns-in_err-add_words-clause-
 returns-in_err-add_words-clause-read g c =
     let p = err_from_is_err_and c.from_residual-in_err-add_words.result c.from_residual-in_err-add_words.ensures.1 in
     let listed =
-        c.has_include-includes.ensures
-        ∙ ap (λ (ws : List Word). list_any (λ word. is_include (word_text c.args.source.now word)) ws) (c.deref.ensures.value ∙ sym c.deref-2.ensures.value)
+    c.has_include-includes.ensures
+    ∙ ap (λ (ws : List Word). list_any (λ word. is_include (word_text c.args.source.now word)) ws) (c.deref.ensures.value ∙ sym c.deref-2.ensures.value)
     in
     rw (p.1, p.2)
     (some_reading _ _ _
@@ -47,8 +47,8 @@ returns-in_err-add_words-clause-read g c =
 pub returns-clause-told : goal.returns-clause-told
 returns-clause-told g c =
     let listed =
-        c.has_include-includes.ensures
-        ∙ ap (λ (ws : List Word). list_any (λ word. is_include (word_text c.args.source.now word)) ws) (c.deref.ensures.value ∙ sym c.deref-2.ensures.value)
+    c.has_include-includes.ensures
+    ∙ ap (λ (ws : List Word). list_any (λ word. is_include (word_text c.args.source.now word)) ws) (c.deref.ensures.value ∙ sym c.deref-2.ensures.value)
     in
     told_holds _ _ _ _
     (main_whole {X = Flat} (λ flat. flat) _ c.args.main.now c.args.source.now c.in_ok-words.words.items c.deref-2.result.now c.has_include-includes.result
@@ -57,8 +57,8 @@ returns-clause-told g c =
 pub returns-clause-read : goal.returns-clause-read
 returns-clause-read g c =
     let listed =
-        c.has_include-includes.ensures
-        ∙ ap (λ (ws : List Word). list_any (λ word. is_include (word_text c.args.source.now word)) ws) (c.deref.ensures.value ∙ sym c.deref-2.ensures.value)
+    c.has_include-includes.ensures
+    ∙ ap (λ (ws : List Word). list_any (λ word. is_include (word_text c.args.source.now word)) ws) (c.deref.ensures.value ∙ sym c.deref-2.ensures.value)
     in
     some_reading _ _ _
     (main_whole {X = Flat} (λ flat. flat) (g.T.Tree.told c.args.tree.now) c.args.main.now c.args.source.now c.in_ok-words.words.items c.deref-2.result.now c.has_include-includes.result

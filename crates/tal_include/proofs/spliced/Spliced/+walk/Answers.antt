@@ -33,7 +33,7 @@ add_words-loop-word-preserved g t c =
     let split = drop_more c.args.words.now c.loop-word.word-index (record { span = record { start = 0; end = 0 }; line = 0; column = 0 }) (omega arith) in
     let before = c.loop-word.invariant in
     elim c.if-is_include.branch [
-      add_words-then-is_include+in_ok-add_include w ↦
+      | add_words-then-is_include+in_ok-add_include w ↦
           rw (w.self-is, w.tree-is)
           record {
             same = w.in_ok-add_include.ensures.same ∙ before.same;
