@@ -1,5 +1,5 @@
 -- What splicing a source comes to, by what its walk comes to.
-use Rattle.std.proofs.Common.{◌≡◌, ℕ, zero, suc, ◌+◌, Bool, List, [], ◌∷◌, length, refl, ap, sym, ◌∙◌, subst, arith, IfSome}
+use Rattle.std.proofs.Common.{◌≡◌, ℕ, zero, suc, ◌+◌, Bool, List, [], ◌∷◌, length, ap, sym, ◌∙◌, subst, arith, IfSome}
 use Rattle.std.proofs.Common.{Option, Some, None, Result, Ok, Err}
 use Rattle.std.specs.List.{AllByRecursion, list_any}
 use Rattle.uxn_io.specs.Files.{Nodes}
@@ -7,11 +7,11 @@ use Rattle.uxn_io.specs.declared.trees.FileBytes.{FileBytes}
 use Rattle.uxn_io.specs.declared.trees.FileBytes.TheVariants.{Missing}
 use Rattle.tal_words.specs.declared.span.Word.{Word}
 use Rattle.tal_words.specs.Source.{word_text}
-use Rattle.tal_words.specs.Comments.{words_of, word_fault}
+use Rattle.tal_words.specs.Comments.{words_of}
 use Rattle.tal_include.specs.declared.faults.SpliceStop.{SpliceStop}
 use Rattle.tal_include.specs.Flat.{Flat, empty_flat}
 use Rattle.tal_include.specs.Includes.{is_include}
-use Rattle.tal_include.specs.Splice.{Outcome, Came, Met, Reading, through_words, has_includes, spliced, walk}
+use Rattle.tal_include.specs.Splice.{Reading, through_words, has_includes, spliced}
 use Rattle.tal_include.specs.Reads.{Gives, Read, IsTold, Agrees, Along, told_reading}
 use Rattle.tal_include.specs.Parts.{IsCut, inner_walk}
 use Rattle.tal_include.proofs.ReadLemmas.{no_read, along_more}

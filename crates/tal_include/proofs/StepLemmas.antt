@@ -1,5 +1,5 @@
 -- The walk through the words of a file, with the files that were read on it.
-use Rattle.std.proofs.Common.{◌≡◌, ℕ, ◌+◌, ◌-◌, ◌<◌, ◌≤◌, true, false, List, [], ◌∷◌, length, drop, refl, ap, sym, ◌∙◌, subst, arith}
+use Rattle.std.proofs.Common.{◌≡◌, ℕ, ◌+◌, ◌-◌, ◌<◌, ◌≤◌, true, false, List, [], ◌∷◌, length, drop, ap, sym, ◌∙◌, subst, arith}
 use Rattle.std.proofs.Common.{Option, Result, Ok, Err, OnOk}
 use Rattle.std.proofs.lemmas.List.{length-append}
 use Rattle.uxn_io.specs.Files.{Nodes}
@@ -8,11 +8,10 @@ use Rattle.tal_words.specs.declared.span.Word.{Word}
 use Rattle.tal_words.specs.Source.{word_text}
 use Rattle.tal_include.specs.declared.faults.Origin.{Origin}
 use Rattle.tal_include.specs.declared.faults.SpliceStop.{SpliceStop}
-use Rattle.tal_include.specs.declared.faults.SpliceStop.TheVariants.{Refused, TreeFault, NoMemory}
 use Rattle.tal_include.specs.declared.splicing.Opened.{Opened}
 use Rattle.tal_include.specs.Flat.{Flat, with_path}
 use Rattle.tal_include.specs.Includes.{is_include}
-use Rattle.tal_include.specs.Splice.{Outcome, Came, Met, Reading, through, at_plain_word, at_include, at_word, through_words}
+use Rattle.tal_include.specs.Splice.{Outcome, Came, Reading, through, at_plain_word, at_include, at_word, through_words}
 use Rattle.tal_include.specs.Reads.{Gives, Along}
 use Rattle.tal_include.specs.Parts.{IsCut, IsOpened, inner_walk}
 use Rattle.tal_include.proofs.ReadLemmas.{along_more, along_both}

@@ -1,20 +1,19 @@
 -- How a walk goes on, word by word and file by file.
-use Rattle.std.proofs.Common.{◌≡◌, ℕ, zero, suc, ◌+◌, ◌-◌, ◌<◌, Bool, true, false, List, [], ◌∷◌, length, drop, refl, ap, sym, ◌∙◌, subst, arith}
-use Rattle.std.proofs.Common.{Option, Some, None, Result, Ok, Err, ◌≤◌, take, if◌then◌else◌}
+use Rattle.std.proofs.Common.{◌≡◌, ℕ, zero, suc, ◌+◌, ◌-◌, ◌<◌, Bool, true, false, List, ◌∷◌, length, drop, refl, ap, sym, ◌∙◌, subst, arith}
+use Rattle.std.proofs.Common.{Option, Result, Ok, Err, ◌≤◌, take, if◌then◌else◌}
 use Rattle.std.proofs.lemmas.List.{take_all}
 use Rattle.tal_words.specs.declared.fault.Fault.{Fault}
 use Rattle.tal_words.specs.declared.span.Word.{Word}
 use Rattle.tal_words.specs.Source.{word_text}
 use Rattle.tal_words.specs.Comments.{words_of, word_fault}
 use Rattle.tal_include.specs.declared.faults.Origin.{Origin}
-use Rattle.tal_include.specs.declared.faults.IncludeFault.{IncludeFault}
 use Rattle.tal_include.specs.declared.faults.IncludeKind.{IncludeKind}
 use Rattle.tal_include.specs.declared.faults.SpliceStop.{SpliceStop}
 use Rattle.tal_include.specs.declared.faults.SpliceStop.TheVariants.{Refused, TreeFault, NoMemory}
 use Rattle.tal_include.specs.declared.splicing.Opened.{Opened}
 use Rattle.tal_include.specs.Flat.{Flat, with_path}
 use Rattle.tal_include.specs.Includes.{is_include, included_path, path_or_kind, bytes_or_kind, fault_at}
-use Rattle.tal_include.specs.Splice.{Outcome, Came, Met, Reading, going_on, found_or, faultless_or, through, at_plain_word, at_include, at_word, through_words, through_file, walk}
+use Rattle.tal_include.specs.Splice.{Outcome, Came, Reading, going_on, found_or, faultless_or, through, at_plain_word, at_include, at_word, through_words, through_file, walk}
 use Rattle.tal_include.specs.Reads.{Gives}
 use Rattle.tal_include.specs.Parts.{IsCut, IsOpened, inner_walk}
 

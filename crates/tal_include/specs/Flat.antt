@@ -1,5 +1,6 @@
 -- The flat text of a source: its words, each with a newline behind it, and where they stand in their files (profile).
-use Rattle.std.specs.Prelude.{ℕ, zero, suc, Bool, ◌==◌, if◌then◌else◌, List, [], ◌∷◌, ◌++◌, length, slice_index_or, Option}
+use Rattle.std.specs.Prelude.{ℕ, zero, suc, Bool, ◌==◌, Option}
+use Rattle.std.specs.Prelude.{List, [], ◌∷◌, ◌++◌, length, slice_index_or}
 use Rattle.std.specs.List.{find}
 use Rattle.std.specs.Option.{option_map}
 use Rattle.tal_words.specs.declared.span.Word.{Word}

@@ -1,5 +1,5 @@
 -- Include words, the paths that they name, and faults of includes (profile).
-use Rattle.std.specs.Prelude.{ℕ, zero, suc, Bool, false, ◌==◌, nat_le, if◌then◌else◌, List, [], ◌∷◌, drop, take, length}
+use Rattle.std.specs.Prelude.{ℕ, zero, suc, Bool, false, ◌==◌, nat_le, if◌then◌else◌, List, [], ◌∷◌, drop, take}
 use Rattle.std.specs.Prelude.{Option, Some, None, Result, Ok, Err}
 use Rattle.uxn_io.specs.PathText.{path_of, parent_of, joined}
 use Rattle.uxn_io.specs.declared.paths.PathFault.{PathFault}

@@ -1,10 +1,9 @@
 -- How what a call answers follows from a walk, and from what the files on it were read as.
-use Rattle.std.specs.Prelude.{◌≡◌, ℕ, ◌+◌, Bool, true, false, List, [], ◌∷◌, length, Option, Result, Ok, Err, IfSome, OnOk, ⊤}
+use Rattle.std.specs.Prelude.{◌≡◌, ℕ, ◌+◌, Bool, true, false, List, [], ◌∷◌, length, Option, Result, Ok, Err, IfSome, ⊤}
 use Rattle.std.specs.List.{AllByRecursion}
 use Rattle.uxn_io.specs.Files.{Nodes, file_at}
 use Rattle.uxn_io.specs.WholeFile.{whole_file}
 use Rattle.uxn_io.specs.declared.trees.FileBytes.{FileBytes}
-use Rattle.tal_words.specs.declared.span.Word.{Word}
 use Rattle.tal_words.specs.Comments.{source_limit}
 use Rattle.tal_include.specs.declared.faults.SpliceStop.{SpliceStop}
 use Rattle.tal_include.specs.declared.faults.SpliceStop.TheVariants.{Refused, TreeFault, NoMemory}

@@ -35,7 +35,13 @@ impl Model for Spliced {
 
     ghost Value = { Flat };
 
-    ghost view = { λ s. record { main = s.main; includes = s.includes; text = s.text.items; places = s.places.items; paths = s.paths.items } };
+    ghost view = { λ s. record {
+      main = s.main;
+      includes = s.includes;
+      text = s.text.items;
+      places = s.places.items;
+      paths = s.paths.items;
+    } };
 }
 
 impl Spliced {

@@ -1,7 +1,7 @@
-use Rattle.std.proofs.Common.{◌≡◌, ℕ, ◌+◌, ◌∷◌, drop, length, refl, ap, sym, ◌∙◌, subst, arith}
+use Rattle.std.proofs.Common.{length, refl, ◌∙◌, arith}
 use Rattle.std.proofs.lemmas.List.{drop_more}
 use Rattle.std.proofs.lemmas.Result.{err_from_is_err_and}
-use Rattle.tal_include.proofs.StepLemmas.{leaves_both, file_faulty, file_whole, step_included, step_stopped, step_plain, step_long}
+use Rattle.tal_include.proofs.StepLemmas.{leaves_both, file_faulty, file_whole, step_included, step_stopped, step_plain}
 use Rattle.tal_include.proofs.spliced.Spliced.+walk.Goals as goal
 use Rattle.tal_include.proofs.spliced.Spliced.+walk.Goals.{add_words-then-is_include+in_ok-add_include, add_words-else-is_include+in_ok-add_plain}
 
