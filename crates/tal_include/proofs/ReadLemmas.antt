@@ -7,7 +7,7 @@ use Rattle.uxn_io.specs.WholeFile.{whole_file}
 use Rattle.uxn_io.specs.declared.trees.FileBytes.{FileBytes}
 use Rattle.tal_words.specs.Comments.{source_limit}
 use Rattle.tal_include.specs.Splice.{Reading}
-use Rattle.tal_include.specs.Reads.{Read, IsTold, Agrees, Along}
+use Rattle.tal_include.specs.Parts.{Read, IsTold, Agrees, Along}
 
 -- no file was read
 pub no_read : (tree : Option Nodes) (before : ℕ) (Many : ℕ → Type 0) (Holds : Reading → Type 0) → Many 0

@@ -12,8 +12,8 @@ use Rattle.tal_include.specs.declared.faults.SpliceStop.{SpliceStop}
 use Rattle.tal_include.specs.Flat.{Flat, empty_flat}
 use Rattle.tal_include.specs.Includes.{is_include}
 use Rattle.tal_include.specs.Splice.{Reading, through_words, has_includes, spliced}
-use Rattle.tal_include.specs.Reads.{Gives, Read, IsTold, Agrees, Along, told_reading}
-use Rattle.tal_include.specs.Parts.{IsCut, inner_walk}
+use Rattle.tal_include.specs.Answers.{Gives, told_reading}
+use Rattle.tal_include.specs.Parts.{Read, IsTold, Agrees, Along, IsCut, inner_walk}
 use Rattle.tal_include.proofs.ReadLemmas.{no_read, along_more}
 use Rattle.tal_include.proofs.WalkLemmas.{walk_is, faultless_is, not_cut, gives_along}
 

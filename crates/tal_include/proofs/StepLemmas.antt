@@ -12,8 +12,8 @@ use Rattle.tal_include.specs.declared.splicing.Opened.{Opened}
 use Rattle.tal_include.specs.Flat.{Flat, with_path}
 use Rattle.tal_include.specs.Includes.{is_include}
 use Rattle.tal_include.specs.Splice.{Outcome, Came, Reading, through, at_plain_word, at_include, at_word, through_words}
-use Rattle.tal_include.specs.Reads.{Gives, Along}
-use Rattle.tal_include.specs.Parts.{IsCut, IsOpened, inner_walk}
+use Rattle.tal_include.specs.Answers.{Gives}
+use Rattle.tal_include.specs.Parts.{Along, IsCut, IsOpened, inner_walk}
 use Rattle.tal_include.proofs.ReadLemmas.{along_more, along_both}
 use Rattle.tal_include.proofs.WalkLemmas.{included_is, included_faulty, stopped_at, next_word, gives_along, include_is, plain_is}
 

@@ -14,7 +14,7 @@ use Rattle.tal_include.specs.declared.splicing.Opened.{Opened}
 use Rattle.tal_include.specs.Flat.{Flat, with_path}
 use Rattle.tal_include.specs.Includes.{is_include, included_path, path_or_kind, bytes_or_kind, fault_at}
 use Rattle.tal_include.specs.Splice.{Outcome, Came, Reading, going_on, found_or, faultless_or, through, at_plain_word, at_include, at_word, through_words, through_file, walk}
-use Rattle.tal_include.specs.Reads.{Gives}
+use Rattle.tal_include.specs.Answers.{Gives}
 use Rattle.tal_include.specs.Parts.{IsCut, IsOpened, inner_walk}
 
 -- an include word whose path is refused

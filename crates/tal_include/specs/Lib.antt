@@ -2,5 +2,5 @@ pub mod Flat
 pub mod Includes
 pub mod Splice
 pub mod FlatWords
-pub mod Reads
+pub mod Answers
 pub mod Parts

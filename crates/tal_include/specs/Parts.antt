@@ -1,7 +1,11 @@
--- What the parts of the walk answer to one another.
-use Rattle.std.specs.Prelude.{◌≡◌, ℕ, zero, suc, List, length, None, Result, Ok, Err, ⊤}
+-- What the parts of the walk answer to one another, and the files that were read on the way.
+use Rattle.std.specs.Prelude.{◌≡◌, ℕ, zero, suc, ◌+◌, List, [], ◌∷◌, length, Option, None, IfSome, Result, Ok, Err, ⊤}
+use Rattle.std.specs.List.{AllByRecursion}
+use Rattle.uxn_io.specs.Files.{Nodes, file_at}
+use Rattle.uxn_io.specs.WholeFile.{whole_file}
+use Rattle.uxn_io.specs.declared.trees.FileBytes.{FileBytes}
 use Rattle.tal_words.specs.declared.span.Word.{Word}
-use Rattle.tal_words.specs.Comments.{words_of, word_fault}
+use Rattle.tal_words.specs.Comments.{source_limit, words_of, word_fault}
 use Rattle.tal_include.specs.declared.faults.Origin.{Origin}
 use Rattle.tal_include.specs.declared.faults.SpliceStop.{SpliceStop}
 use Rattle.tal_include.specs.declared.faults.SpliceStop.TheVariants.{Refused, TreeFault, NoMemory}
@@ -31,3 +35,25 @@ IsOpened reading deeper origin text flat (Err (Refused fault)) =
     (inner : List ℕ → List ℕ → Flat → Outcome) → at_include reading deeper inner origin text flat ≡ Met fault
 IsOpened reading deeper origin text flat (Err TreeFault) = ⊤
 IsOpened reading deeper origin text flat (Err NoMemory) = ⊤
+
+-- a file that was read, and as what
+pub record Read : Type 0 where
+  pub path : List ℕ
+  pub answer : FileBytes
+
+-- it was read as the tree tells it, if the tree tells
+abbrev pub IsTold : Option Nodes → Read → Type 0
+IsTold told read = IfSome told (λ nodes. read.answer ≡ whole_file (file_at nodes read.path) source_limit)
+
+-- a reading agrees with files that were read one after the other, so many before the first of them
+abbrev pub Agrees : Reading → ℕ → List Read → Type 0
+Agrees reading before [] = ⊤
+Agrees reading before (read ∷ reads) = (reading before read.path ≡ read.answer) × Agrees reading (before + 1) reads
+
+-- files were read, as the tree tells them, so many before the first of them; with how many they are, and what holds for each
+-- reading that agrees with them
+pub record Along (tree : Option Nodes) (before : ℕ) (Many : ℕ → Type 0) (Holds : Reading → Type 0) : Type 0 where
+  pub reads : List Read
+  pub told : AllByRecursion (IsTold tree) reads
+  pub number : Many (length reads)
+  pub along : (reading : Reading) → Agrees reading before reads → Holds reading

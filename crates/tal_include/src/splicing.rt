@@ -9,13 +9,13 @@ ghost use Rattle.tal_words.specs.Source.{word_text};
 ghost use Rattle.tal_include.specs.declared.faults.SpliceStop.TheVariants.{Refused};
 ghost use Rattle.tal_include.specs.Includes.{is_include, included_path, path_or_kind, fault_at};
 ghost use Rattle.tal_include.specs.Splice.{Reading, is_long_with, at_plain_word, at_include, through_words, spliced};
-ghost use Rattle.tal_include.specs.Reads.{Gives, has_failed, told_reading, Along};
-ghost use Rattle.tal_include.specs.Parts.{IsCut, IsOpened, inner_walk};
+ghost use Rattle.tal_include.specs.Answers.{Gives, has_failed, told_reading};
+ghost use Rattle.tal_include.specs.Parts.{Along, IsCut, IsOpened, inner_walk};
 
 use crate::faults::{IncludeFault, IncludeKind, Origin, SpliceStop};
 use crate::spliced::Spliced;
 use std::alloc::Global;
-use tal_words::{AsmStop, FaultKind, SOURCE_LIMIT, Word, fault_word, words};
+use tal_words::{AsmStop, SOURCE_LIMIT, Word, fault_word, words};
 use uxn_io::{Bytes, FileBytes, Path, ReadStop, Tree, read_file};
 
 /// The greatest length of a file, in bytes.

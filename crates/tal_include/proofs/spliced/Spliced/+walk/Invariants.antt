@@ -1,8 +1,7 @@
 use Rattle.std.proofs.Common.{◌≡◌, ◌+◌, ◌*◌, length, drop}
 use Rattle.uxn_io.specs.Room.{Leaves}
 use Rattle.tal_include.specs.Splice.{through, at_word, through_words}
-use Rattle.tal_include.specs.Reads.{Along}
-use Rattle.tal_include.specs.Parts.{inner_walk}
+use Rattle.tal_include.specs.Parts.{Along, inner_walk}
 use Rattle.tal_include.proofs.spliced.Spliced.+walk.Given as goal
 
 abbrev pub decreases-add_include : goal.decreases-add_include
