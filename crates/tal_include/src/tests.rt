@@ -1,6 +1,6 @@
 //! What known files are spliced to, and the first faults on the way.
 
-use crate::{IncludeKind, Origin, SpliceStop, Spliced, splice};
+use crate::{IncludeFault, IncludeKind, Origin, SpliceStop, Spliced, splice};
 use std::alloc::{AllocError, Global};
 use tal_words::FaultKind;
 use uxn_io::{Bytes, MemTree, Node, Path, TreeCall};
@@ -96,79 +96,106 @@ fn sources_are_spliced(rt: HostRuntime) {
     }
 }
 
-/// Sources, each with its path, the path, line and column of the first fault, its kind and its word.
-static REFUSED: [(&str, &[u8], &str, (u32, u32), IncludeKind, &[u8]); 9] = [
+/// The file, line and column of a fault, what it is, and its word.
+#[derive(Drop)]
+struct Wanted {
+    path: &'static str,
+    place: (u32, u32),
+    kind: IncludeKind,
+    word: &'static [u8],
+}
+
+/// Sources, each with its path and the first fault.
+static REFUSED: [(&str, &[u8], Wanted); 9] = [
     (
         "a.tal",
         b"01 )x",
-        "a.tal",
-        (1, 4),
-        IncludeKind::Words(FaultKind::StrayParen),
-        b")x",
+        Wanted {
+            path: "a.tal",
+            place: (1, 4),
+            kind: IncludeKind::Words(FaultKind::StrayParen),
+            word: b")x",
+        },
     ),
     (
         "a.tal",
         b"01\n~faulty.tal",
-        "faulty.tal",
-        (2, 1),
-        IncludeKind::Words(FaultKind::StrayParen),
-        b")x",
+        Wanted {
+            path: "faulty.tal",
+            place: (2, 1),
+            kind: IncludeKind::Words(FaultKind::StrayParen),
+            word: b")x",
+        },
     ),
     (
         "loop.tal",
         b"01 ~loop.tal",
-        "loop.tal",
-        (1, 1),
-        IncludeKind::Deep,
-        b"~loop.tal",
+        Wanted {
+            path: "loop.tal",
+            place: (1, 1),
+            kind: IncludeKind::Deep,
+            word: b"~loop.tal",
+        },
     ),
     (
         "src/a.tal",
         b"~in.tal",
-        "src/in.tal",
-        (1, 1),
-        IncludeKind::Missing,
-        b"~b.tal",
+        Wanted {
+            path: "src/in.tal",
+            place: (1, 1),
+            kind: IncludeKind::Missing,
+            word: b"~b.tal",
+        },
     ),
     (
         "src/a.tal",
         b"~c.tal",
-        "src/a.tal",
-        (1, 1),
-        IncludeKind::Missing,
-        b"~c.tal",
+        Wanted {
+            path: "src/a.tal",
+            place: (1, 1),
+            kind: IncludeKind::Missing,
+            word: b"~c.tal",
+        },
     ),
     (
         "a.tal",
         b"~../b",
-        "a.tal",
-        (1, 1),
-        IncludeKind::BadPath,
-        b"~../b",
+        Wanted {
+            path: "a.tal",
+            place: (1, 1),
+            kind: IncludeKind::BadPath,
+            word: b"~../b",
+        },
     ),
     (
         "a.tal",
         b"\n ~none.tal ~../b",
-        "a.tal",
-        (2, 2),
-        IncludeKind::Missing,
-        b"~none.tal",
+        Wanted {
+            path: "a.tal",
+            place: (2, 2),
+            kind: IncludeKind::Missing,
+            word: b"~none.tal",
+        },
     ),
     (
         "a.tal",
         b"~../b ~none.tal",
-        "a.tal",
-        (1, 1),
-        IncludeKind::BadPath,
-        b"~../b",
+        Wanted {
+            path: "a.tal",
+            place: (1, 1),
+            kind: IncludeKind::BadPath,
+            word: b"~../b",
+        },
     ),
     (
         "a.tal",
         b"~src",
-        "a.tal",
-        (1, 1),
-        IncludeKind::Missing,
-        b"~src",
+        Wanted {
+            path: "a.tal",
+            place: (1, 1),
+            kind: IncludeKind::Missing,
+            word: b"~src",
+        },
     ),
 ];
 
@@ -177,28 +204,27 @@ fn is_at(origin: &Origin, path: &str, place: (u32, u32)) -> bool {
     origin.path.bytes() == path.as_bytes() && (origin.line, origin.column) == place
 }
 
+/// Says whether a fault is as it has to be.
+fn is_fault(fault: &IncludeFault, wanted: &Wanted) -> bool {
+    is_at(&fault.origin, wanted.path, wanted.place)
+        && fault.kind == wanted.kind
+        && fault.word.as_slice() == wanted.word
+}
+
 /// Says whether a source is refused with this fault.
-fn is_refused(
-    alloc: Global,
-    main: &str,
-    source: &[u8],
-    path: &str,
-    place: (u32, u32),
-    kind: IncludeKind,
-    word: &[u8],
-) -> bool {
-    match spliced(alloc, main, source) {
-        Err(SpliceStop::Refused(fault)) => {
-            is_at(&fault.origin, path, place) && fault.kind == kind && fault.word.as_slice() == word
-        }
-        _ => false,
+fn is_refused(alloc: Global, main: &str, source: &[u8], wanted: &Wanted) -> bool {
+    let answer = spliced(alloc, main, source);
+    if let Err(SpliceStop::Refused(fault)) = &answer {
+        is_fault(fault, wanted)
+    } else {
+        false
     }
 }
 
 #[test]
 fn the_first_fault_is_met(rt: HostRuntime) {
-    for (main, source, path, place, kind, word) in &REFUSED {
-        assert!(rt; is_refused(rt.alloc(), main, source, path, *place, *kind, word));
+    for (main, source, wanted) in &REFUSED {
+        assert!(rt; is_refused(rt.alloc(), main, source, wanted));
     }
 }
 
@@ -238,15 +264,13 @@ fn are_many(alloc: Global, count: usize, column: u32) -> Result<bool, AllocError
     for _i in 0..count {
         source.extend_from_slice(b"~b.tal ")?;
     }
-    Ok(is_refused(
-        alloc,
-        "a.tal",
-        &source,
-        "a.tal",
-        (1, column),
-        IncludeKind::Many,
-        b"~b.tal",
-    ))
+    let wanted = Wanted {
+        path: "a.tal",
+        place: (1, column),
+        kind: IncludeKind::Many,
+        word: b"~b.tal",
+    };
+    Ok(is_refused(alloc, "a.tal", &source, &wanted))
 }
 
 #[test]
