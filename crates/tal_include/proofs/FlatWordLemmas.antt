@@ -1,0 +1,202 @@
+-- A walk splices words one behind the other, and they are the words of the flat text.
+use Rattle.std.proofs.Common.{◌≡◌, ℕ, zero, suc, ◌+◌, ◌<◌, ◌≤◌, Bool, true, false, List, [], ◌∷◌, ◌++◌, length, map, refl, ap, sym, ◌∙◌, subst, arith, append_assoc, append-nil, length-append, Option, Some, None, Result, Ok, Err, IsSome}
+use Rattle.std.specs.Prelude.{if◌then◌else◌, ◌&&◌, ◌||◌, ◌==◌, nat_lt}
+use Rattle.std.specs.List.{list_any, AllByRecursion}
+use Rattle.std.specs.Option.{option_map}
+use Rattle.std.proofs.lemmas.List.{map-append}
+use Rattle.tal_words.specs.declared.span.Word.{Word}
+use Rattle.tal_words.specs.declared.fault.Fault.{Fault}
+use Rattle.tal_words.specs.Comments.{source_limit, words_of, word_fault}
+use Rattle.tal_words.specs.PlainTexts.{Chunk}
+use Rattle.tal_words.specs.Source.{word_text}
+use Rattle.tal_words.proofs.PlainTokens.{text_of_chunks, AreChunks}
+use Rattle.tal_include.specs.declared.faults.Origin.{Origin}
+use Rattle.tal_include.specs.declared.faults.IncludeKind.{IncludeKind}
+use Rattle.tal_include.specs.declared.spliced.Place.{Place}
+use Rattle.tal_include.specs.Flat.{Flat, empty_flat, with_word, with_path, place_at, origin_at, origin_of}
+use Rattle.tal_include.specs.Includes.{is_include, included_path, path_or_kind, bytes_or_kind, fault_at}
+use Rattle.tal_include.specs.Splice.{Outcome, Came, Met, Reading, going_on, found_or, faultless_or, through, is_long_with, at_plain_word, at_include, at_word, through_file, has_includes, spliced, walk}
+use Rattle.tal_include.specs.FlatWords.{HasItsWords, IfCame}
+use Rattle.tal_include.proofs.ChunkLemmas.{starts, IsSpoken, starts_of_tokens, words_are_tokens, chunks_faultless}
+use Rattle.tal_include.proofs.SpokenLemmas.{line_of, IsSound, IsSoundWord, words_sound}
+
+-- the lines of words
+abbrev pub lines_of : List (List ℕ) → List Chunk
+lines_of texts = map line_of texts
+
+-- a flat text of these words, each of which can stand in one
+pub record IsFlat (flat : Flat) : Type 0 where
+  pub texts : List (List ℕ)
+  pub sound : AllByRecursion IsSound texts
+  pub text : flat.text ≡ text_of_chunks (lines_of texts)
+  pub places : map (λ (p : Place). p.at) flat.places ≡ starts 0 (lines_of texts)
+  pub short : flat.includes ≡ true → length flat.text ≤ source_limit
+
+text_more : (texts : List (List ℕ)) (text : List ℕ) → text_of_chunks (lines_of (texts ++ text ∷ [])) ≡ text_of_chunks (lines_of texts) ++ text ++ 10 ∷ []
+text_more [] text = append-nil (text ++ 10 ∷ [])
+text_more (first ∷ texts) text =
+    ap (λ (t : List ℕ). (first ++ 10 ∷ []) ++ t) (text_more texts text)
+    ∙ sym (append_assoc (first ++ 10 ∷ []) (text_of_chunks (lines_of texts) ++ text) (10 ∷ []))
+    ∙ ap (λ (t : List ℕ). t ++ 10 ∷ []) (sym (append_assoc (first ++ 10 ∷ []) (text_of_chunks (lines_of texts)) text))
+
+starts_more : (texts : List (List ℕ)) (text : List ℕ) (from at : ℕ) → at ≡ from + length (text_of_chunks (lines_of texts))
+    → starts from (lines_of (texts ++ text ∷ [])) ≡ starts from (lines_of texts) ++ at ∷ []
+starts_more [] text from at is = let same : from ≡ at = omega (arith, is) in ap (λ (n : ℕ). n ∷ []) same
+starts_more (first ∷ texts) text from at is =
+    let size = length-append (first ++ 10 ∷ []) (text_of_chunks (lines_of texts)) in
+    let line = length-append first (10 ∷ []) in
+    let later : at ≡ from + length first + 1 + length (text_of_chunks (lines_of texts)) = omega (arith, is, size, line) in
+    ap (λ (ns : List ℕ). from ∷ ns) (starts_more texts text (from + length first + 1) at later)
+
+all_more : (texts : List (List ℕ)) (text : List ℕ) → AllByRecursion IsSound texts → IsSound text → AllByRecursion IsSound (texts ++ text ∷ [])
+all_more [] text all one = (one, tt)
+all_more (first ∷ texts) text all one = (all.0, all_more texts text all.1 one)
+
+flat_more : (flat : Flat) (file : ℕ) (word : Word) (text : List ℕ) → IsSound text → is_long_with flat text ≡ false → IsFlat flat → IsFlat (with_word file word text flat)
+flat_more flat file word text sound short is = record {
+  texts = is.texts ++ text ∷ [];
+  sound = all_more is.texts text is.sound sound;
+  text = ap (λ (t : List ℕ). t ++ text ++ 10 ∷ []) is.text ∙ sym (text_more is.texts text);
+  places =
+      map-append (λ (p : Place). p.at) flat.places (record { at = length flat.text; file = file; line = word.line; column = word.column } ∷ [])
+      ∙ ap (λ (ns : List ℕ). ns ++ length flat.text ∷ []) is.places
+      ∙ sym (starts_more is.texts text 0 (length flat.text) (ap length is.text ∙ sym (Rattle.std.proofs.Common.zero-add (length (text_of_chunks (lines_of is.texts))))));
+  short = λ includes.
+      let one = length-append flat.text text in
+      let both = length-append (flat.text ++ text) (10 ∷ []) in
+      let fits = within flat.includes (length flat.text + length text + 1) includes short in
+      omega (arith, one, both, fits);
+}
+  where
+    within : (b : Bool) (n : ℕ) → b ≡ true → (b && nat_lt source_limit n) ≡ false → n ≤ source_limit
+    within b n is none = grind (arith, is, none)
+
+with_file : (flat : Flat) (path : List ℕ) → IsFlat flat → IsFlat (with_path path flat)
+with_file flat path is = record { texts = is.texts; sound = is.sound; text = is.text; places = is.places; short = is.short }
+
+then_flat : (outcome : Outcome) (next : Flat → Outcome) → IfCame IsFlat outcome → ((flat : Flat) → IsFlat flat → IfCame IsFlat (next flat)) → IfCame IsFlat (going_on outcome next)
+then_flat (Came flat) next is more = more flat is
+then_flat (Met fault) next is more = tt
+
+found_flat : (origin : Origin) (text : List ℕ) (found : Result (List ℕ) IncludeKind) (next : List ℕ → Outcome) → ((x : List ℕ) → IfCame IsFlat (next x))
+    → IfCame IsFlat (found_or origin text found next)
+found_flat origin text (Ok found) next more = more found
+found_flat origin text (Err kind) next more = tt
+
+faultless_flat : (path source : List ℕ) (fault : Option Fault) (next : Outcome) → (fault ≡ None → IfCame IsFlat next) → IfCame IsFlat (faultless_or path source fault next)
+faultless_flat path source None next more = more refl
+faultless_flat path source (Some fault) next more = tt
+
+plain_flat : (file : ℕ) (origin : Origin) (word : Word) (text : List ℕ) (flat : Flat) → IsSound text → IsFlat flat → IfCame IsFlat (at_plain_word file origin word text flat)
+plain_flat file origin word text flat sound is = by (is_long_with flat text) refl
+  where
+    by : (b : Bool) → is_long_with flat text ≡ b → IfCame IsFlat (if b then Met (fault_at origin Rattle.tal_include.specs.declared.faults.IncludeKind.TheVariants.LongFlat text) else Came (with_word file word text flat))
+    by true e = tt
+    by false e = flat_more flat file word text sound e is
+
+module _ (reading : Reading) (deeper : ℕ) (inner : List ℕ → List ℕ → Flat → Outcome)
+    (inner_flat : (path source : List ℕ) (flat : Flat) → IsFlat flat → IfCame IsFlat (inner path source flat)) where
+  include_flat : (origin : Origin) (text : List ℕ) (flat : Flat) → IsFlat flat → IfCame IsFlat (at_include reading deeper inner origin text flat)
+  include_flat origin text flat is =
+      found_flat origin text (path_or_kind deeper (length flat.paths) (included_path flat.main text)) _
+      (λ path. found_flat origin text (bytes_or_kind (reading (length flat.paths) path)) _
+      (λ bytes. inner_flat path bytes (with_path path flat) (with_file flat path is)))
+
+  word_flat : (path source : List ℕ) (file : ℕ) (word : Word) (flat : Flat) → IsSoundWord source word → IsFlat flat
+      → IfCame IsFlat (at_word reading deeper inner path source file word flat)
+  word_flat path source file word flat sound is = by (is_include (word_text source word))
+    where
+      by : (b : Bool) → IfCame IsFlat (if b then at_include reading deeper inner (record { path = path; line = word.line; column = word.column }) (word_text source word) flat
+          else at_plain_word file (record { path = path; line = word.line; column = word.column }) word (word_text source word) flat)
+      by true = include_flat (record { path = path; line = word.line; column = word.column }) (word_text source word) flat is
+      by false = plain_flat file (record { path = path; line = word.line; column = word.column }) word (word_text source word) flat sound is
+
+  words_flat : (path source : List ℕ) (file : ℕ) (words : List Word) (flat : Flat) → AllByRecursion (IsSoundWord source) words → IsFlat flat
+      → IfCame IsFlat (through (at_word reading deeper inner path source file) words flat)
+  words_flat path source file [] flat sound is = is
+  words_flat path source file (word ∷ words) flat sound is =
+      then_flat (at_word reading deeper inner path source file word flat) (through (at_word reading deeper inner path source file) words)
+      (word_flat path source file word flat sound.0 is)
+      (λ later is_later. words_flat path source file words later sound.1 is_later)
+
+  file_flat : (path source : List ℕ) (flat : Flat) → IsFlat flat → IfCame IsFlat (through_file reading deeper inner path source flat)
+  file_flat path source flat is =
+      faultless_flat path source (word_fault source) _
+      (λ none. words_flat path source (length flat.paths) (words_of source) flat (words_sound source none) is)
+
+walk_flat : (reading : Reading) (deeper : ℕ) (path source : List ℕ) (flat : Flat) → IsFlat flat → IfCame IsFlat (walk reading deeper path source flat)
+unfolding walk
+walk_flat reading zero path source flat is = file_flat reading zero (λ p s f. Came f) (λ p s f here. here) path source flat is
+walk_flat reading (suc deeper) path source flat is = file_flat reading (suc deeper) (walk reading deeper) (walk_flat reading deeper) path source flat is
+
+all_lines : (texts : List (List ℕ)) → AllByRecursion IsSound texts → AreChunks (lines_of texts) × AllByRecursion (λ (c : Chunk). IsSpoken c.text) (lines_of texts)
+all_lines [] all = (tt, tt)
+all_lines (text ∷ texts) all = let rest = all_lines texts all.1 in ((all.0.chunk, rest.0), (all.0.spoken, rest.1))
+
+-- an offset is among those where words begin
+abbrev pub IsIn : ℕ → List ℕ → Type 0
+IsIn n ms = list_any (λ m. m == n) ms ≡ true
+
+place_there : (places : List Place) (at : ℕ) → IsIn at (map (λ (p : Place). p.at) places) → IsSome (place_at at places)
+place_there [] at is = is
+place_there (place ∷ places) at is = by (place.at == at) is (λ h. place_there places at h)
+  where
+    by : (b : Bool) → (b || list_any (λ m. m == at) (map (λ (p : Place). p.at) places)) ≡ true
+        → (IsIn at (map (λ (p : Place). p.at) places) → IsSome (place_at at places)) → IsSome (if b then Some place else place_at at places)
+    by true e h = refl
+    by false e h = h e
+
+same_number : (n : ℕ) → (n == n) ≡ true
+same_number n = grind arith
+
+is_in : (n : ℕ) (front back : List ℕ) → IsIn n (front ++ n ∷ back)
+is_in n [] back = ap (λ (b : Bool). b || list_any (λ m. m == n) back) (same_number n)
+is_in n (m ∷ front) back = by (m == n) (is_in n front back)
+  where
+    by : (b : Bool) → IsIn n (front ++ n ∷ back) → (b || list_any (λ k. k == n) (front ++ n ∷ back)) ≡ true
+    by true h = refl
+    by false h = h
+
+some_mapped : {X Y : Type 0} (f : X → Y) (o : Option X) → IsSome o → IsSome (option_map f o)
+some_mapped f None is = is
+some_mapped f (Some x) is = refl
+
+all_placed : (flat : Flat) (front words : List Word) → map (λ (w : Word). w.span.start) (front ++ words) ≡ map (λ (p : Place). p.at) flat.places
+    → AllByRecursion (λ word. IsSome (origin_at flat word.span.start)) words
+all_placed flat front [] is = tt
+all_placed flat front (word ∷ words) is = (
+  some_mapped (origin_of flat) (place_at word.span.start flat.places)
+      (place_there flat.places word.span.start
+      (subst (λ (ns : List ℕ). IsIn word.span.start ns) (sym (map-append (λ (w : Word). w.span.start) front (word ∷ words)) ∙ is)
+      (is_in word.span.start (map (λ (w : Word). w.span.start) front) (map (λ (w : Word). w.span.start) words)))),
+  all_placed flat (front ++ word ∷ []) words
+      (ap (map (λ (w : Word). w.span.start)) (append_assoc front (word ∷ []) words) ∙ is),
+)
+
+has_its_words : (flat : Flat) → IsFlat flat → HasItsWords flat
+has_its_words flat is =
+    let are = all_lines is.texts is.sound in
+    let begin : map (λ (w : Word). w.span.start) (words_of flat.text) ≡ map (λ (p : Place). p.at) flat.places =
+    ap (λ (t : List ℕ). map (λ (w : Word). w.span.start) (words_of t)) is.text
+    ∙ ap (map (λ (w : Word). w.span.start)) (words_are_tokens (lines_of is.texts) are.0 are.1)
+    ∙ starts_of_tokens (lines_of is.texts) are.0 ∙ sym is.places
+    in
+    record {
+      begins = begin;
+      origins = all_placed flat [] (words_of flat.text) begin;
+      faultless = λ short.
+          ap word_fault is.text
+          ∙ chunks_faultless (lines_of is.texts) are.0 are.1 (subst (λ (t : List ℕ). length t ≤ source_limit) is.text short);
+      short = is.short;
+    }
+
+if_came : (outcome : Outcome) → IfCame IsFlat outcome → IfCame HasItsWords outcome
+if_came (Came flat) is = has_its_words flat is
+if_came (Met fault) is = tt
+
+-- what a source is spliced to has its words
+pub spliced_words : (reading : Reading) (main source : List ℕ) → IfCame HasItsWords (spliced reading main source)
+spliced_words reading main source =
+    if_came (spliced reading main source)
+    (walk_flat reading 15 main source (empty_flat main (has_includes source))
+    (record { texts = []; sound = tt; text = refl; places = refl; short = λ includes. omega arith }))

@@ -1,0 +1,142 @@
+-- What the words of a source without a fault of words are.
+use Rattle.std.proofs.Common.{◌≡◌, ℕ, zero, suc, ◌+◌, ◌-◌, ◌<◌, ◌≤◌, Bool, true, false, not, List, [], ◌∷◌, ◌++◌, length, get_or, take, drop, refl, sym, subst, arith, Option, Some, None}
+use Rattle.std.specs.Prelude.{if◌then◌else◌, ◌&&◌, nat_lt}
+use Rattle.std.specs.List.{prefix_len, AllByRecursion}
+use Rattle.std.proofs.lemmas.List.{drop_more}
+use Rattle.tal_words.specs.declared.span.Word.{Word}
+use Rattle.tal_words.specs.declared.fault.Fault.{Fault}
+use Rattle.tal_words.specs.declared.fault.FaultKind.{FaultKind}
+use Rattle.tal_words.specs.declared.fault.FaultKind.TheVariants.{OpenComment, LongWord, StrayParen}
+use Rattle.tal_words.specs.Faults.{when, least, phase_fault, fault_or}
+use Rattle.tal_words.specs.Order.{each, collected}
+use Rattle.tal_words.specs.Comments.{is_word, opens_comment, closed_by, judged_token, word_given, words_of, word_fault, source_limit}
+use Rattle.tal_words.specs.PlainTexts.{Chunk}
+use Rattle.tal_words.specs.Source.{is_blank, word_text, run_length, is_after_blank, begins_token, token_at, tokens_below, tokens_of}
+use Rattle.tal_words.proofs.BlankFree.{all_joined, words_free}
+use Rattle.tal_words.proofs.PlainTokens.{IsChunk}
+use Rattle.tal_include.proofs.ChunkLemmas.{IsSpoken}
+
+-- a word with a newline behind it
+abbrev pub line_of : List ℕ → Chunk
+line_of text = record { text = text; blank = 10 }
+
+-- a word that can stand in a flat text
+pub record IsSound (text : List ℕ) : Type 0 where
+  pub chunk : IsChunk (line_of text)
+  pub spoken : IsSpoken text
+
+none_of : (kind : FaultKind) (kinds : List FaultKind) (word : Word) (later : Option Fault) → fault_or word (least (kind ∷ kinds)) later ≡ None → ⊥
+none_of kind kinds word later is =
+    let P : Option Fault → Type 0 = λ o. elim o [ None ↦ ⊥ | Some _ ↦ Unit {0} ] in
+    subst P is tt
+
+pub no_kinds : (kinds : List FaultKind) (word : Word) (later : Option Fault) → fault_or word (least kinds) later ≡ None → (kinds ≡ []) × (later ≡ None)
+no_kinds [] word later is = (refl, is)
+no_kinds (kind ∷ kinds) word later is = absurd (none_of kind kinds word later is)
+
+no_cons : (kind : FaultKind) (kinds : List FaultKind) → kind ∷ kinds ≡ [] → ⊥
+no_cons kind kinds is =
+    let P : List FaultKind → Type 0 = λ ks. elim ks [ [] ↦ ⊥ | _ ∷ _ ↦ Unit {0} ] in
+    subst P is tt
+
+no_when : (a b c : Bool) → (when a OpenComment ++ when b LongWord ++ when c StrayParen) ≡ [] → (b ≡ false) × (c ≡ false)
+no_when true b c is = absurd (no_cons OpenComment (when b LongWord ++ when c StrayParen) is)
+no_when false true c is = absurd (no_cons LongWord (when c StrayParen) is)
+no_when false false true is = absurd (no_cons StrayParen [] is)
+no_when false false false is = (refl, refl)
+
+module _ (source : List ℕ) where
+  abbrev pub IsSpokenWord : Word → Type 0
+  IsSpokenWord word = IsSpoken (word_text source word)
+
+  abbrev pub IsLong : Word → Type 0
+  IsLong word = 0 < length (word_text source word)
+
+  given_spoken : (token : Word) (before after : List Word) (b : Bool) → is_word source before token ≡ b
+      → (judged_token source before token after).kinds ≡ [] → AllByRecursion IsSpokenWord (if b then token ∷ [] else [])
+  given_spoken token before after false is kinds = tt
+  given_spoken token before after true is kinds =
+      let parts = no_when _ _ _ kinds in (
+        record {
+          no_comment = grind (arith, is);
+          no_paren = grind (arith, is, parts.1);
+          short = grind (arith, is, parts.0);
+        },
+        tt,
+      )
+
+  given_all : (before tokens : List Word) → phase_fault (each (judged_token source) before tokens) ≡ None
+      → AllByRecursion IsSpokenWord (collected (word_given source) before tokens)
+  given_all before [] none = tt
+  given_all before (token ∷ tokens) none =
+      let parts = no_kinds (judged_token source before token tokens).kinds token (phase_fault (each (judged_token source) (before ++ token ∷ []) tokens)) none in
+      all_joined IsSpokenWord (word_given source before token tokens) (collected (word_given source) (before ++ token ∷ []) tokens)
+      (given_spoken token before tokens (is_word source before token) refl parts.0)
+      (given_all (before ++ token ∷ []) tokens parts.1)
+
+  long_cons : (byte : ℕ) (bytes : List ℕ) → is_blank byte ≡ false → 0 < length (take (prefix_len (λ b. not (is_blank b)) (byte ∷ bytes)) (byte ∷ bytes))
+  long_cons byte bytes plain =
+      let one : 1 + prefix_len (λ b. not (is_blank b)) bytes ≡ suc (prefix_len (λ b. not (is_blank b)) bytes) = omega arith in
+      rw (plain, one) (omega arith)
+
+  token_long : (at : ℕ) → at < length source → begins_token source at ≡ true → IsLong (token_at source at)
+  unfolding token_at
+  token_long at within begins_here =
+      let plain : is_blank (get_or source at 0) ≡ false = both (is_after_blank source at) (is_blank (get_or source at 0)) begins_here in
+      let size : at + run_length source at - at ≡ run_length source at = omega arith in
+      let here = drop_more source at 0 within in
+      rw (size, here) (long_cons (get_or source at 0) (drop (at + 1) source) plain)
+    where
+      both : (a b : Bool) → (a && not b) ≡ true → b ≡ false
+      both a false is = refl
+      both true true is = sym is
+      both false true is = sym is
+
+  tokens_long : (at : ℕ) → at ≤ length source → AllByRecursion IsLong (tokens_below source at)
+  unfolding tokens_below
+  tokens_long zero within = tt
+  tokens_long (suc at) within =
+      all_joined IsLong (tokens_below source at) (if begins_token source at then token_at source at ∷ [] else []) (tokens_long at (omega (arith, within)))
+      (by (begins_token source at) refl)
+    where
+      by : (b : Bool) → begins_token source at ≡ b → AllByRecursion IsLong (if b then token_at source at ∷ [] else [])
+      by true is = (token_long at (omega (arith, within)) is, tt)
+      by false is = tt
+
+  given_long : (before tokens : List Word) → AllByRecursion IsLong tokens → AllByRecursion IsLong (collected (word_given source) before tokens)
+  given_long before [] all = tt
+  given_long before (token ∷ tokens) all =
+      all_joined IsLong (word_given source before token tokens) (collected (word_given source) (before ++ token ∷ []) tokens)
+      (by (is_word source before token) all.0) (given_long (before ++ token ∷ []) tokens all.1)
+    where
+      by : (b : Bool) → IsLong token → AllByRecursion IsLong (if b then token ∷ [] else [])
+      by true long = (long, tt)
+      by false long = tt
+
+  words_long : AllByRecursion IsLong (words_of source)
+  unfolding words_of tokens_of
+  words_long = given_long [] (tokens_below source (length source)) (tokens_long (length source) (omega arith))
+
+  words_spoken : word_fault source ≡ None → AllByRecursion IsSpokenWord (words_of source)
+  unfolding words_of word_fault
+  words_spoken none = by (nat_lt source_limit (length source)) none
+    where
+      by : (b : Bool) → (if b then Some Rattle.tal_words.specs.Comments.long_source else phase_fault (each (judged_token source) [] (tokens_of source))) ≡ None
+          → AllByRecursion IsSpokenWord (collected (word_given source) [] (tokens_of source))
+      by true is = absurd (let P : Option Fault → Type 0 = λ o. elim o [ None ↦ ⊥ | Some _ ↦ Unit {0} ] in subst P is tt)
+      by false is = given_all [] (tokens_of source) is
+
+  abbrev pub IsSoundWord : Word → Type 0
+  IsSoundWord word = IsSound (word_text source word)
+
+  together : (words : List Word) → AllByRecursion IsSpokenWord words → AllByRecursion IsLong words
+      → AllByRecursion (λ word. Rattle.tal_words.specs.PlainTexts.IsBlankFree (word_text source word)) words → AllByRecursion IsSoundWord words
+  together [] spoken long free = tt
+  together (word ∷ words) spoken long free = (
+    record { chunk = record { some = long.0; plain = free.0; parted = refl }; spoken = spoken.0 },
+    together words spoken.1 long.1 free.1,
+  )
+
+  -- each word of a source without a fault can stand in a flat text
+  pub words_sound : word_fault source ≡ None → AllByRecursion IsSoundWord (words_of source)
+  words_sound none = together (words_of source) (words_spoken none) words_long (words_free source)

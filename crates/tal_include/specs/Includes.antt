@@ -1,0 +1,59 @@
+-- Include words, the paths that they name, and faults of includes (profile).
+use Rattle.std.specs.Prelude.{ℕ, zero, suc, Bool, false, ◌==◌, nat_le, if◌then◌else◌, List, [], ◌∷◌, drop, take}
+use Rattle.std.specs.Prelude.{Option, Some, None, Result, Ok, Err}
+use Rattle.uxn_io.specs.PathText.{path_of, parent_of, joined}
+use Rattle.uxn_io.specs.declared.paths.PathFault.{PathFault}
+use Rattle.uxn_io.specs.declared.trees.FileBytes.{FileBytes}
+use Rattle.uxn_io.specs.declared.trees.FileBytes.TheVariants.{Found, TooLong, Missing as NoFile}
+use Rattle.tal_words.specs.declared.fault.Fault.{Fault}
+use Rattle.tal_words.specs.Faults.{fault_text}
+use Rattle.tal_include.specs.declared.faults.Origin.{Origin}
+use Rattle.tal_include.specs.declared.faults.IncludeFault.{IncludeFault}
+use Rattle.tal_include.specs.declared.faults.IncludeKind.{IncludeKind}
+use Rattle.tal_include.specs.declared.faults.IncludeKind.TheVariants.{Words, BadPath, Missing, Long, Deep, Many}
+
+-- a word includes a file: a tilde (126) and something behind it
+abbrev pub is_include : List ℕ → Bool
+is_include [] = false
+is_include (first ∷ []) = false
+is_include (first ∷ second ∷ rest) = first == 126
+
+-- a path behind a folder, if there is one
+abbrev pub path_in : Option (List ℕ) → Result (List ℕ) PathFault → Option (List ℕ)
+path_in folder (Err fault) = None
+path_in None (Ok path) = Some path
+path_in (Some folder) (Ok path) = joined folder path
+
+-- the path that an include word names, whatever file the word stands in: behind the folder of the main source
+abbrev pub included_path : List ℕ → List ℕ → Option (List ℕ)
+included_path main word = path_in (parent_of main) (path_of (drop 1 word))
+
+-- how many files are included at most in one source
+abbrev pub most_files : ℕ
+most_files = 256
+
+-- the path of the file to be read, or what is wrong, where files may be included so many deep in this one, and so many were
+-- included before
+abbrev pub path_or_kind : ℕ → ℕ → Option (List ℕ) → Result (List ℕ) IncludeKind
+path_or_kind deeper before None = Err BadPath
+path_or_kind zero before (Some path) = Err Deep
+path_or_kind (suc deeper) before (Some path) = if nat_le most_files before then Err Many else Ok path
+
+-- the bytes of a file that was read, or what is wrong
+abbrev pub bytes_or_kind : FileBytes → Result (List ℕ) IncludeKind
+bytes_or_kind NoFile = Err Missing
+bytes_or_kind (TooLong n) = Err Long
+bytes_or_kind (Found found) = Ok found.list
+
+-- the front of a word that is kept with a fault
+unfoldable pub word_front : List ℕ → List ℕ
+word_front word = take 255 word
+
+-- a fault of this kind at a word
+abbrev pub fault_at : Origin → IncludeKind → List ℕ → IncludeFault
+fault_at origin kind word = record { origin = origin; kind = kind; word = record { items = word_front word } }
+
+-- a fault of the words of a file
+abbrev pub words_fault : List ℕ → List ℕ → Fault → IncludeFault
+words_fault path source fault =
+    fault_at (record { path = path; line = fault.line; column = fault.column }) (Words fault.kind) (fault_text source fault)

@@ -1,0 +1,121 @@
+//! Where words stand in files, and what can be wrong with includes.
+
+ghost use Rattle.std.specs.Prelude.{◌≡◌, ◌≤◌, length, take};
+ghost use Rattle.tal_include.specs.Includes.{fault_at, word_front};
+ghost use Rattle.tal_include.specs.declared.faults.SpliceStop.TheVariants.{NoMemory};
+
+use arrayvec::ArrayVec;
+use std::alloc::{AllocError, AllocFailed};
+use tal_words::FaultKind;
+use thiserror::Error;
+use uxn_io::Path;
+
+/// Where a word stands: in which file, and at which line and column of it.
+#[derive(Clone, Copy, Debug, PartialEq, Eq)]
+pub struct Origin {
+    pub path: Path,
+    pub line: u32,
+    pub column: u32,
+}
+
+/// What is wrong where words of files are put together.
+#[derive(Clone, Copy, Debug, PartialEq, Eq)]
+pub enum IncludeKind {
+    /// A file has this fault of its own words.
+    Words(FaultKind),
+    /// What stands behind the tilde is no path, or none behind the folder of the main source.
+    BadPath,
+    /// No file is there.
+    Missing,
+    /// The file has more than 4,194,304 bytes.
+    Long,
+    /// The file would be included more than 15 deep.
+    Deep,
+    /// 256 files were included before.
+    Many,
+    /// The flat text has more than 4,194,304 bytes.
+    LongFlat,
+}
+
+/// A fault: where the faulty word stands, what is wrong, and the first 255 bytes of the word.
+#[derive(Debug, Drop)]
+pub struct IncludeFault {
+    pub origin: Origin,
+    pub kind: IncludeKind,
+    pub word: ArrayVec<u8, 255>,
+}
+
+impl IncludeFault {
+    /// A fault of a kind at a word.
+    pub(crate) fn new(origin: Origin, kind: IncludeKind, word: &[u8]) -> IncludeFault
+        ensures { result ≡ fault_at origin kind word.now }
+    {
+        IncludeFault {
+            origin,
+            kind,
+            word: copied(word_front(word)),
+        }
+    }
+}
+
+/// The first 255 bytes of a word, or all of them.
+#[tactic(auto, unfolding(crate::specs::Includes::word_front))]
+fn word_front(word: &[u8]) -> &[u8]
+    ensures front { result.now ≡ word_front word.now }
+    ensures short { length result.now ≤ 255 }
+{
+    front(word, 255)
+}
+
+/// So many bytes of a text, or all of them.
+#[tactic(auto, using(crate::proofs::WalkLemmas::take_whole))]
+fn front(text: &[u8], most: usize) -> &[u8]
+    ensures front { result.now ≡ take most text.now }
+    ensures short { length result.now ≤ most }
+{
+    if text.len() > most {
+        &text[..most]
+    } else {
+        text
+    }
+}
+
+/// A copy of a text that is not too long.
+fn copied(text: &[u8]) -> ArrayVec<u8, 255>
+    requires { length text.now ≤ 255 }
+    ensures { result.items ≡ text.now }
+{
+    let mut copy = ArrayVec::new();
+    let _ = copy.try_extend_from_slice(text);
+    copy
+}
+
+/// Why a source is not spliced.
+#[derive(Debug, Drop, Error)]
+pub enum SpliceStop {
+    /// This is the first fault on the way.
+    #[error("an include is refused")]
+    Refused(IncludeFault),
+    /// The tree failed.
+    #[error("a file was not read")]
+    TreeFault,
+    /// Memory ran out.
+    #[error("out of memory")]
+    NoMemory,
+}
+
+impl From<AllocError> for SpliceStop {
+    ghost from_gives = { λ _ stop. stop ≡ NoMemory };
+
+    fn from(_error: AllocError) -> SpliceStop {
+        SpliceStop::NoMemory
+    }
+}
+
+impl<T: Drop> From<AllocFailed<T>> for SpliceStop {
+    ghost from_gives = { λ _ stop. stop ≡ NoMemory };
+
+    fn from(_error: AllocFailed<T>) -> SpliceStop {
+        SpliceStop::NoMemory
+    }
+}

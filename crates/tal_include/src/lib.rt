@@ -1,0 +1,14 @@
+//! Includes: a source with the words of its files in place of the words that include them.
+#![tactic(auto)]
+
+mod faults;
+mod laws;
+mod spliced;
+mod splicing;
+#[cfg(test)]
+mod tests;
+
+pub use faults::{IncludeFault, IncludeKind, Origin, SpliceStop};
+pub use laws::flat_texts_have_the_spliced_words;
+pub use spliced::Spliced;
+pub use splicing::splice;
