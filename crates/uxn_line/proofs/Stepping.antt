@@ -1,5 +1,5 @@
 -- What is gathered line by line is what the lines give.
-use Rattle.std.proofs.Common.{◌≡◌, ℕ, ◌+◌, List, [], ◌∷◌, ◌++◌, Option, Some, None, Result, Ok, Err, append-nil, refl, sym, ap, ◌∙◌, arith}
+use Rattle.std.proofs.Common.{◌≡◌, ℕ, ◌+◌, List, [], ◌∷◌, ◌++◌, Option, Some, None, Ok, Err, append-nil, refl, sym, ap, ◌∙◌, arith}
 use Rattle.std.specs.Prelude.{slice_get, is_some}
 use Rattle.std.specs.List.{flat_map}
 use Rattle.std.proofs.lemmas.List.Concat.{flat_map-append}
@@ -9,9 +9,8 @@ use Rattle.uxn_line.specs.declared.setup.SetupKind.{SetupKind}
 use Rattle.uxn_line.specs.declared.setup_line.SetupLine.{SetupLine}
 use Rattle.uxn_line.specs.declared.setup_line.SetupLine.TheVariants.{Machine, Script, Budget, Turn}
 use Rattle.uxn_line.specs.SetupLines.{line_of}
-use Rattle.uxn_line.specs.Setups.{SetupView, sources_in, scripts_in, budgets_in, schedule_in, setup_from, fault_if, fault_in, fault_behind, read_by}
-use Rattle.uxn_line.specs.Setups.{setup_by, setup_of, Reads}
-use Rattle.uxn_line.specs.Gathered.{judged, grown, finished}
+use Rattle.uxn_line.specs.Setups.{SetupView, sources_in, scripts_in, budgets_in, schedule_in, setup_from, fault_if, fault_behind, read_by}
+use Rattle.uxn_line.specs.Gathered.{judged, grown}
 
 -- one line more gives what it gives
 more : {A : Type 0} (give : SetupLine → List A) (before : List SetupLine) (line : SetupLine) → flat_map give (before ++ line ∷ []) ≡ flat_map give before ++ give line

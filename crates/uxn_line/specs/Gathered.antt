@@ -1,5 +1,5 @@
 -- What one more line changes.
-use Rattle.std.specs.Prelude.{ℕ, nat_lt, if◌then◌else◌, [], ◌∷◌, ◌++◌, length, Option, Some, None, Result, Ok, Err}
+use Rattle.std.specs.Prelude.{nat_lt, if◌then◌else◌, [], ◌∷◌, ◌++◌, length, Option, Some, None, Result, Ok, Err}
 use Rattle.line_texts.specs.Reading.{Line}
 use Rattle.uxn_line.specs.declared.setup.SetupKind.{SetupKind}
 use Rattle.uxn_line.specs.declared.setup.SetupKind.TheVariants.{FewMachines}

@@ -3,7 +3,7 @@ use Rattle.std.specs.Prelude.{ℕ, ◌≤◌, length, IfSome}
 use Rattle.std.specs.List.{All}
 use Rattle.uxn_line.specs.declared.setup.Turns.{Turns}
 use Rattle.uxn_line.specs.declared.setup_line.SetupLine.{SetupLine}
-use Rattle.uxn_line.specs.declared.setup_line.SetupLine.TheVariants.{Machine, Script, Budget, Turn}
+use Rattle.uxn_line.specs.declared.setup_line.SetupLine.TheVariants.{Budget, Turn}
 use Rattle.uxn_line.specs.Setups.{SetupView, turns_in}
 
 abbrev pub IsBudget : ℕ → Type 0

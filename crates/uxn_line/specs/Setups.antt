@@ -13,8 +13,8 @@ use Rattle.uxn_line.specs.declared.setup_line.SetupLine.{SetupLine}
 use Rattle.uxn_line.specs.declared.setup_line.SetupLine.TheVariants.{Machine, Script, Budget, Turn}
 use Rattle.uxn_line.specs.SetupLines.{line_of}
 
--- what contracts see of a setup: the paths of the machines' sources and of the script, if there is one, the budget, if it is given, and
--- who gets turns
+-- what contracts see of a setup: the paths of the machines' sources, that of the script where one is given, the budget where one is
+-- given, and who gets turns
 pub record SetupView : Type 0 where
   pub sources : List (List ℕ)
   pub script : Option (List ℕ)
@@ -54,11 +54,11 @@ setup_from lines = record {
   schedule = flat_map schedule_in lines;
 }
 
--- what is wrong with a line behind those that gave this: there is one `script` and one `budget` at most, there are 8 machines at
--- most, and turns, which are 10,000,000 at most, are of machines that are there
 abbrev pub fault_if : Bool → SetupKind → Option SetupKind
 fault_if test kind = if test then Some kind else None
 
+-- what is wrong with a line behind those that gave this: there are 8 machines at most, one `script` and one `budget`; turns are of
+-- machines that are there, and 10,000,000 at most
 abbrev pub fault_in : SetupView → SetupLine → Option SetupKind
 fault_in before (Machine path) = fault_if (nat_lt 8 (length before.sources + 1)) ManyMachines
 fault_in before (Script path) = fault_if (is_some before.script) Twice

@@ -1,5 +1,5 @@
 use Rattle.std.proofs.Common.{◌≡◌, false, ltb, length, sym, arith, ◌∙◌, ap}
-use Rattle.std.specs.Prelude.{Ok, Err}
+use Rattle.std.specs.Prelude.{Ok}
 use Rattle.uxn_line.specs.Setups.{setup_of, setup_by}
 use Rattle.uxn_line.proofs.Stepping.{taken, refused}
 use Rattle.uxn_line.proofs.reading.read_setup.Goals as goal
