@@ -67,7 +67,8 @@ impl Model for Gathered {
 
     ghost view = { λ g. of_parts g.sources.items g.script g.budget g.schedule.items };
 
-    ghost invariant = { λ g. IsGathered (of_parts g.sources.items g.script g.budget g.schedule.items) × (g.turns ≡ turns_in g.schedule.items) };
+    ghost invariant = { λ g. IsGathered (of_parts g.sources.items g.script g.budget g.schedule.items)
+        × (g.turns ≡ turns_in g.schedule.items) };
 }
 
 impl Gathered {

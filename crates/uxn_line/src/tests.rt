@@ -51,7 +51,9 @@ static GIVEN: [Given; 7] = [
         &[(8, 2)],
     ),
     (
-        "machine a\nmachine b\nturn 1 1000000\nturn 1 1000000\nturn 1 1000000\nturn 1 1000000\nturn 1 1000000\nturn 1 1000000\nturn 1 1000000\nturn 1 1000000\nturn 1 1000000\nturn 2 999999\nturn 1 1",
+        "machine a\nmachine b\nturn 1 1000000\nturn 1 1000000\nturn 1 1000000\nturn 1 1000000\n\
+        turn 1 1000000\nturn 1 1000000\nturn 1 1000000\nturn 1 1000000\nturn 1 1000000\nturn 2 999999\n\
+        turn 1 1",
         &["a", "b"],
         None,
         4_000_000,
@@ -103,7 +105,8 @@ static FAULTY: [Faulty; 31] = [
         SetupKind::Twice,
     ),
     (
-        "machine a\nmachine a\nmachine a\nmachine a\nmachine a\nmachine a\nmachine a\nmachine a\nmachine a\nturn",
+        "machine a\nmachine a\nmachine a\nmachine a\nmachine a\nmachine a\nmachine a\nmachine a\n\
+        machine a\nturn",
         9,
         SetupKind::ManyMachines,
     ),
@@ -115,17 +118,20 @@ static FAULTY: [Faulty; 31] = [
         SetupKind::NoMachine,
     ),
     (
-        "machine a\nturn 1 1000000\nturn 1 1000000\nturn 1 1000000\nturn 1 1000000\nturn 1 1000000\nturn 1 1000000\nturn 1 1000000\nturn 1 1000000\nturn 1 1000000\nturn 1 1000000\nturn 1 1",
+        "machine a\nturn 1 1000000\nturn 1 1000000\nturn 1 1000000\nturn 1 1000000\nturn 1 1000000\n\
+        turn 1 1000000\nturn 1 1000000\nturn 1 1000000\nturn 1 1000000\nturn 1 1000000\nturn 1 1",
         12,
         SetupKind::ManyTurns,
     ),
     (
-        "machine a\nturn 1 1000000\nturn 1 1000000\nturn 1 1000000\nturn 1 1000000\nturn 1 1000000\nturn 1 1000000\nturn 1 1000000\nturn 1 1000000\nturn 1 1000000\nturn 1 2\nturn 1 999999",
+        "machine a\nturn 1 1000000\nturn 1 1000000\nturn 1 1000000\nturn 1 1000000\nturn 1 1000000\n\
+        turn 1 1000000\nturn 1 1000000\nturn 1 1000000\nturn 1 1000000\nturn 1 2\nturn 1 999999",
         12,
         SetupKind::ManyTurns,
     ),
     (
-        "machine a\nturn 1 1000000\nturn 1 1000000\nturn 1 1000000\nturn 1 1000000\nturn 1 1000000\nturn 1 1000000\nturn 1 1000000\nturn 1 1000000\nturn 1 1000000\nturn 1 1000000\nturn 2 1",
+        "machine a\nturn 1 1000000\nturn 1 1000000\nturn 1 1000000\nturn 1 1000000\nturn 1 1000000\n\
+        turn 1 1000000\nturn 1 1000000\nturn 1 1000000\nturn 1 1000000\nturn 1 1000000\nturn 2 1",
         12,
         SetupKind::NoMachine,
     ),
