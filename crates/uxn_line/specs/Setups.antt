@@ -54,6 +54,7 @@ setup_from lines = record {
   schedule = flat_map schedule_in lines;
 }
 
+-- a fault where the test holds
 abbrev pub fault_if : Bool → SetupKind → Option SetupKind
 fault_if test kind = if test then Some kind else None
 
