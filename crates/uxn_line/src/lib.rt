@@ -1,0 +1,12 @@
+//! Machines in a line: the setup that says which machines there are, what the first one is given, and who gets turns.
+#![tactic(auto)]
+
+mod keyword;
+mod reading;
+mod setup;
+mod setup_line;
+#[cfg(test)]
+mod tests;
+
+pub use reading::read_setup;
+pub use setup::{Setup, SetupKind, SetupStop, Turns};
