@@ -1,5 +1,5 @@
 -- Words that are printed are read back.
-use Rattle.std.proofs.Common.{◌≡◌, ℕ, zero, suc, ◌/◌, ◌%◌, ◌<◌, ◌≤◌, Bool, true, false, ◌&&◌, ◌||◌, ◌^◌, eqb, ltb, not, ℤ, pos, negsuc, neg_ℤ, ◌≤ℤ◌, List, [], ◌∷◌, ◌++◌, length, get_or, Some, inl, inr, refl, ap, ◌∙◌, arith}
+use Rattle.std.proofs.Common.{◌≡◌, ℕ, zero, suc, ◌/◌, ◌%◌, ◌<◌, ◌≤◌, Bool, true, false, ◌&&◌, ◌||◌, ◌^◌, eqb, ltb, not, ℤ, pos, negsuc, neg_ℤ, ◌≤ℤ◌, List, [], ◌∷◌, ◌++◌, length, get_or, map, Some, inl, inr, refl, ap, ◌∙◌, arith}
 use Rattle.std.specs.Prelude.{decimal}
 use Rattle.std.specs.Fmt.{signed_decimal}
 use Rattle.std.specs.List.{All, AllByRecursion, list_all, list_any}
@@ -9,10 +9,12 @@ use Rattle.std.proofs.lemmas.List.{get_or_past}
 use Rattle.std.proofs.lemmas.List.Elements.{All-head, All-tail, All-nil, All-cons}
 use Rattle.hex.specs.Hex.{encode_lower, encode_with, lower_digits, IsBytes}
 use Rattle.hex.proofs.HexLemmas.{length-encode_with, decode_of-encode_lower, decode_sized-encode_lower}
-use Rattle.play_script.specs.Limits.{IsBit}
+use Rattle.play_script.specs.declared.values.Value.{Value}
+use Rattle.play_script.specs.declared.values.Value.TheVariants.{Byte, Button, MouseButton, Player, Pixel, Turn, Seconds, Minutes}
+use Rattle.play_script.specs.Limits.{AreValues, IsBit, IsValue}
 use Rattle.line_texts.specs.Numbers.{is_digit, is_number, number_within, integer_within, byte_of, begins_with}
 use Rattle.line_texts.proofs.Numerals.{own}
-use Rattle.play_script.specs.PlainText.{text_word, name_in}
+use Rattle.play_script.specs.PlainText.{text_word, name_in, value_word}
 use Rattle.play_script.specs.Values.{text_of, Buttons, bit_in, buttons, mouse_buttons}
 use borrow.Author.Differences.{le_out, neg_is}
 
@@ -78,9 +80,9 @@ integer_back below high (negsuc n) wide tall from to =
     let top : suc n ≤ below = omega (arith, le_out, neg_is, from) in
     rw (begins_head 45 (decimal (suc n)), number_back 0 below (suc n) (omega arith) top (omega arith)) refl
 
-pub plain_signed : (z : ℤ) (below : ℕ) → below < 2 ^ 63 → neg_ℤ (pos below) ≤ℤ z → z ≤ℤ pos below → is_plain (signed_decimal z) ≡ true
-plain_signed (pos n) below wide from to = plain_decimal n (omega (arith, le_out, to))
-plain_signed (negsuc n) below wide from to =
+pub plain_signed : (below high : ℕ) (z : ℤ) → below < 2 ^ 63 → high < 2 ^ 63 → neg_ℤ (pos below) ≤ℤ z → z ≤ℤ pos high → is_plain (signed_decimal z) ≡ true
+plain_signed below high (pos n) wide tall from to = plain_decimal n (omega (arith, le_out, to))
+plain_signed below high (negsuc n) wide tall from to =
     and_from _ _ (lt-ltb 0 (length (45 ∷ decimal (suc n))) (omega arith))
     (and_parts _ _ (plain_decimal (suc n) (omega (arith, le_out, neg_is, from)))).1
 
@@ -149,3 +151,19 @@ button_back = any_holds (IsRead buttons) (1 ∷ 2 ∷ 4 ∷ 8 ∷ 16 ∷ 32 ∷ 
 pub mouse_button_back : (mask : ℕ) → IsBit mask → IsRead mouse_buttons mask
 unfolding bit_in name_in
 mouse_button_back = any_holds (IsRead mouse_buttons) (1 ∷ 2 ∷ 4 ∷ 8 ∷ 16 ∷ 32 ∷ 64 ∷ 128 ∷ []) ((refl, refl), ((refl, refl), ((refl, refl), ((refl, refl), ((refl, refl), ((refl, refl), ((refl, refl), ((refl, refl), tt))))))))
+
+-- the words of values are plain
+plain_value : (value : Value) → IsValue value → is_plain (value_word value) ≡ true
+unfolding value_word
+plain_value (Byte byte) is = plain_pairs (byte ∷ []) (omega arith) (one_byte byte is)
+plain_value (Button mask) is = (button_back mask is).1
+plain_value (MouseButton mask) is = (mouse_button_back mask is).1
+plain_value (Player number) is = plain_decimal number (omega (arith, is.1))
+plain_value (Pixel at) is = plain_decimal at (omega (arith, is))
+plain_value (Turn steps) is = plain_signed 32768 32767 steps (omega arith) (omega arith) is.0 is.1
+plain_value (Seconds seconds) is = plain_signed 0 253370000000 seconds (omega arith) (omega arith) is.0 is.1
+plain_value (Minutes minutes) is = plain_signed 840 840 minutes (omega arith) (omega arith) is.0 is.1
+
+pub plain_values : (values : List Value) → AreValues values → list_all is_plain (map value_word values) ≡ true
+plain_values [] is = refl
+plain_values (value ∷ values) is = and_from _ _ (plain_value value is.0) (plain_values values is.1)

@@ -94,28 +94,14 @@ struct Gathered {
 }
 
 impl Model for Gathered {
-    ghost use Rattle.std.specs.Prelude.{◌≤◌, length};
-    ghost use Rattle.std.specs.Option.{option_map};
-    ghost use Rattle.play_script.specs.Held.{bytes_in};
-    ghost use Rattle.play_script.specs.Gathered.{GatheredView, IsGathered};
+    ghost use Rattle.play_script.specs.Held.{texts_if};
+    ghost use Rattle.play_script.specs.Gathered.{GatheredView, IsGathered, so_far};
 
     ghost Value = { GatheredView };
 
-    ghost view = { λ g. record {
-      version = g.version;
-      begun = g.begun;
-      clock = g.clock;
-      arguments = option_map (λ texts. bytes_in texts.items) g.arguments;
-      events = g.events.items;
-    } };
+    ghost view = { λ g. so_far g.version g.begun g.clock (texts_if g.arguments) g.events.items };
 
-    ghost invariant = { λ g. IsGathered (record {
-      version = g.version;
-      begun = g.begun;
-      clock = g.clock;
-      arguments = option_map (λ texts. bytes_in texts.items) g.arguments;
-      events = g.events.items;
-    }) };
+    ghost invariant = { λ g. IsGathered (so_far g.version g.begun g.clock (texts_if g.arguments) g.events.items) };
 }
 
 impl Gathered {
