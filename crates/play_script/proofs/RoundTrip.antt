@@ -108,8 +108,8 @@ Reads number words m = line_of number words ≡ Ok (Some m)
 clock_line : (time : Clock) → IsTime time → Reads First (clock_words time) (clock time)
 unfolding line_of rows_of row_of made_of clock_of value_word
 clock_line time is =
-    rw (with_seconds time (number_within 0 253370000000 (signed_decimal time.seconds)) (integer_within 840 840 (signed_decimal time.offset)) (seconds_back time.seconds is.0.0 is.0.1)
-    (integer_back 840 840 time.offset (omega arith) (omega arith) is.1.0.0 is.1.0.1)) refl
+    rw (with_seconds time (number_within 0 253370000000 (signed_decimal time.seconds)) (integer_within 840 840 (signed_decimal time.offset)) (seconds_back time.seconds is.seconds_from is.seconds_to)
+    (integer_back 840 840 time.offset (omega arith) (omega arith) is.offset_from is.offset_to)) refl
 
 -- the line of the arguments
 abbrev AreBytes : List (List ℕ) → Type 0
@@ -245,7 +245,7 @@ same_script Second time (text ∷ texts) more = rw (events_only more) refl
 
 -- the printed lines are plain, and tell their version
 plain_clock : (time : Clock) → IsTime time → are_plain (clock_words time) ≡ true
-plain_clock time is = and_from _ _ refl (plain_values (clock_values time) is)
+plain_clock time is = and_from _ _ refl (plain_values (clock_values time) ((is.seconds_from, is.seconds_to), ((is.offset_from, is.offset_to), tt)))
 
 plain_events : (number : Version) (more : List Event) → All (IsEvent number) more → list_all are_plain (map event_words more) ≡ true
 plain_events number [] valid = refl

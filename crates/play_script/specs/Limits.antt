@@ -9,7 +9,7 @@ use Rattle.play_script.specs.declared.script.Version.{Version}
 use Rattle.play_script.specs.declared.script.Version.TheVariants.{First, Second}
 use Rattle.play_script.specs.declared.values.Value.{Value}
 use Rattle.play_script.specs.declared.values.Value.TheVariants.{Byte, Button, MouseButton, Player, Pixel, Turn, Seconds, Minutes}
-use Rattle.play_script.specs.PlainText.{clock_values, plain_event}
+use Rattle.play_script.specs.PlainText.{plain_event}
 use Rattle.play_script.specs.Scripts.{ScriptView}
 use Rattle.play_script.specs.Values.{Buttons}
 
@@ -57,8 +57,11 @@ pub record IsEvent (number : Version) (event : Event) : Type 0 where
   pub belongs : IsOf number event
 
 -- seconds and minutes of a clock
-abbrev pub IsTime : Clock → Type 0
-IsTime time = AreValues (clock_values time)
+pub record IsTime (time : Clock) : Type 0 where
+  pub seconds_from : pos 0 ≤ℤ time.seconds
+  pub seconds_to : time.seconds ≤ℤ pos 253370000000
+  pub offset_from : neg_ℤ (pos 840) ≤ℤ time.offset
+  pub offset_to : time.offset ≤ℤ pos 840
 
 -- arguments of bytes, with one more for each, and no more than this in all
 abbrev pub AreTexts : ℕ → List (List ℕ) → Type 0
