@@ -1,5 +1,7 @@
 //! What each line means. Each fault, and the limits, are shown on the command line.
 
+ghost use Rattle.std.specs.Prelude.{◌<◌};
+
 use super::*;
 use std::alloc::{AllocError, Global};
 use uxn_io::decimal;
