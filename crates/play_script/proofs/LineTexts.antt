@@ -1,18 +1,14 @@
 -- How lines are put together from their words.
-use Rattle.std.proofs.Common.{◌≡◌, ℕ, ◌+◌, ◌<◌, List, [], ◌∷◌, ◌++◌, length, length-append, append_assoc, append-nil, map, refl, sym, ap, arith, ◌∙◌}
+use Rattle.std.proofs.Common.{◌≡◌, ℕ, ◌<◌, List, [], ◌∷◌, ◌++◌, length, append_assoc, append-nil, map, refl, sym, ap, arith}
 use Rattle.std.specs.Prelude.{codes}
-use Rattle.std.specs.List.{flat_map, join_with_byte, sum_by}
-use Rattle.std.proofs.lemmas.List.{length-map}
+use Rattle.std.specs.List.{flat_map, join_with_byte}
 use Rattle.std.proofs.lemmas.Simd.{map-map}
 use Rattle.std.proofs.lemmas.List.Concat.{flat_map-append}
 use Rattle.std.proofs.lemmas.List.Folds.{flat_map-map}
-use Rattle.std.proofs.lemmas.List.Sums.{sum_by-cons}
 use Rattle.uxn_io.specs.ByteList.{ByteList}
 use Rattle.play_script.specs.Held.{bytes_in}
-use Rattle.play_script.specs.declared.script.Event.TheVariants.{Input}
 use Rattle.play_script.specs.declared.values.Value.{Value}
 use Rattle.play_script.specs.PlainText.{line_text, text_word, argument_words, clock_words, event_words, value_word, version_words, plain_lines, plain_text}
-use Rattle.play_script.specs.Rows.{inputs_of}
 use Rattle.play_script.specs.Scripts.{ScriptView}
 
 -- words with a space before each but the first
@@ -42,12 +38,3 @@ pub plain_parts : (script : ScriptView)
     → ((flat_map line_text (version_words script.version) ++ line_text (clock_words script.clock)) ++ flat_map line_text (argument_words script.arguments)) ++ flat_map (λ given. line_text (event_words given)) script.events ≡ plain_text script
 unfolding plain_text plain_lines
 plain_parts script = simp (append_assoc, flat_map-append, flat_map-map) refl
-
--- how many bytes of input texts give
-pub held_inputs_length : (held : List ByteList) → length (inputs_of (bytes_in held)) ≡ sum_by (λ text. length text.list) held
-held_inputs_length [] = refl
-held_inputs_length (text ∷ texts) =
-    length-append (map Input text.list) (inputs_of (bytes_in texts))
-    ∙ ap (λ n. n + length (inputs_of (bytes_in texts))) (length-map text.list Input)
-    ∙ ap (λ n. length text.list + n) (held_inputs_length texts)
-    ∙ sym (sum_by-cons (λ (t : ByteList). length t.list) text texts)

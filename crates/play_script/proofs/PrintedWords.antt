@@ -1,12 +1,13 @@
 -- Words that are printed are read back.
-use Rattle.std.proofs.Common.{◌≡◌, ℕ, zero, suc, ◌/◌, ◌%◌, ◌<◌, ◌≤◌, Bool, true, false, ◌&&◌, ◌||◌, ◌^◌, eqb, ltb, not, ℤ, pos, negsuc, neg_ℤ, ◌≤ℤ◌, List, [], ◌∷◌, ◌++◌, length, get_or, map, Some, inl, inr, refl, ap, ◌∙◌, arith}
+use Rattle.std.proofs.Common.{◌≡◌, ℕ, zero, suc, ◌/◌, ◌%◌, ◌<◌, ◌≤◌, Bool, true, false, ◌&&◌, ◌||◌, ◌^◌, eqb, ltb, not, ℤ, pos, negsuc, neg_ℤ, ◌≤ℤ◌, List, [], ◌∷◌, length, get_or, map, Some, inl, inr, refl, ap, ◌∙◌, arith}
 use Rattle.std.specs.Prelude.{decimal}
 use Rattle.std.specs.Fmt.{signed_decimal}
 use Rattle.std.specs.List.{All, AllByRecursion, list_all, list_any}
 use Rattle.std.proofs.lemmas.Bool.{cases_eq, cases_lt, lt-ltb, le-leb, and_from, and_parts}
 use Rattle.std.proofs.lemmas.Fmt.{digits_decimal, digits_value-decimal, decimal_nonempty, first_decimal, decimal_digit}
 use Rattle.std.proofs.lemmas.List.{get_or_past}
-use Rattle.std.proofs.lemmas.List.Elements.{All-head, All-tail, All-nil, All-cons}
+use Rattle.std.proofs.lemmas.List.Elements.{All-head, All-tail, All-nil, All-cons, All-get_or, All-weaker}
+use Rattle.std.proofs.lemmas.List.Sums.{AllPass-from_list_all, list_all-from_AllPass}
 use Rattle.hex.specs.Hex.{encode_lower, encode_with, lower_digits, IsBytes}
 use Rattle.hex.proofs.HexLemmas.{length-encode_with, decode_of-encode_lower, decode_sized-encode_lower}
 use Rattle.play_script.specs.declared.values.Value.{Value}
@@ -24,18 +25,12 @@ is_plain word = ltb 0 (length word) && list_all (λ byte. ltb 32 byte) word
 
 -- an element of a list that passes
 pub index_of : (p : ℕ → Bool) (word : List ℕ) → list_all p word ≡ true → (i : ℕ) → i < length word → p (get_or word i 0) ≡ true
-index_of p [] all i within = absurd (omega arith)
-index_of p (byte ∷ word) all zero within = (and_parts (p byte) (list_all p word) all).0
-index_of p (byte ∷ word) all (suc i) within = index_of p word (and_parts (p byte) (list_all p word) all).1 i (omega arith)
+index_of p word all i within = All-get_or (λ byte. p byte ≡ true) word i 0 within (AllPass-from_list_all p word all)
 
 -- all bytes pass a weaker test too
 pub weaker : (p q : ℕ → Bool) → ((byte : ℕ) → p byte ≡ true → q byte ≡ true) → (word : List ℕ) → list_all p word ≡ true → list_all q word ≡ true
-weaker p q step [] all = refl
-weaker p q step (byte ∷ word) all = let parts = and_parts (p byte) (list_all p word) all in and_from (q byte) (list_all q word) (step byte parts.0) (weaker p q step word parts.1)
-
-pub all_append : (p : ℕ → Bool) (xs ys : List ℕ) → list_all p xs ≡ true → list_all p ys ≡ true → list_all p (xs ++ ys) ≡ true
-all_append p [] ys first second = second
-all_append p (x ∷ xs) ys first second = let parts = and_parts (p x) (list_all p xs) first in and_from (p x) (list_all p (xs ++ ys)) parts.0 (all_append p xs ys parts.1 second)
+weaker p q step word all =
+    list_all-from_AllPass q word (All-weaker (λ byte. p byte ≡ true) (λ byte. q byte ≡ true) step word (AllPass-from_list_all p word all))
 
 -- decimal numbers
 decimal_digits : (n : ℕ) → n < 2 ^ 64 → list_all is_digit (decimal n) ≡ true

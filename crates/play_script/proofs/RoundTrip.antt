@@ -7,7 +7,9 @@ use Rattle.std.specs.Option.{option_map}
 use Rattle.std.proofs.lemmas.Bool.{and_from, and_parts, ltb-true}
 use Rattle.std.proofs.lemmas.List.{length-append}
 use Rattle.std.proofs.lemmas.List.Concat.{flat_map-append}
-use Rattle.std.proofs.lemmas.List.Elements.{All-head, All-tail, All-from_get_or}
+use Rattle.std.proofs.lemmas.List.Elements.{All-head, All-tail, All-weaker}
+use Rattle.std.proofs.lemmas.List.Folds.{list_all-append}
+use Rattle.std.proofs.lemmas.List.Sums.{AllPass-from_list_all}
 use Rattle.std.proofs.lemmas.List.Splits.{slice_split_at}
 use Rattle.hex.specs.Hex.{encode_lower}
 use Rattle.line_texts.specs.Lines.{is_blank, is_newline, lines_of, words_of}
@@ -28,7 +30,7 @@ use Rattle.play_script.specs.Rows.{Meaning, version, clock, arguments, event, ro
 use Rattle.play_script.specs.Scripts.{ScriptView, script_with, arguments_of, events_of, events_in, fault_behind, read_by, script_by, script_from, script_in, script_of, version_at, version_in}
 use Rattle.play_script.specs.Values.{texts_of, both, one_or}
 use Rattle.line_texts.specs.Rows.{row_of}
-use Rattle.play_script.proofs.PrintedWords.{is_plain, index_of, weaker, all_append, number_back, integer_back, pairs_back, text_back, plain_text_word, one_byte, byte_back, button_back, mouse_button_back, plain_values}
+use Rattle.play_script.proofs.PrintedWords.{is_plain, weaker, number_back, integer_back, pairs_back, text_back, plain_text_word, one_byte, byte_back, button_back, mouse_button_back, plain_values}
 use Rattle.play_script.proofs.Versions.{lift}
 use borrow.Author.Differences.{le_out}
 
@@ -38,8 +40,8 @@ are_plain words = list_all is_plain words
 
 no_blanks : (word : List ℕ) → is_plain word ≡ true → All (λ byte. is_blank byte ≡ false) word
 no_blanks word plain =
-    let parts = and_parts (ltb 0 (length word)) (list_all (λ byte. ltb 32 byte) word) plain in
-    All-from_get_or (λ byte. is_blank byte ≡ false) word 0 (λ i within. let high = index_of (λ byte. ltb 32 byte) word parts.1 i within in grind arith)
+    All-weaker (λ byte. ltb 32 byte ≡ true) (λ byte. is_blank byte ≡ false) (λ byte high. grind arith) word
+    (AllPass-from_list_all (λ byte. ltb 32 byte) word (and_parts (ltb 0 (length word)) (list_all (λ byte. ltb 32 byte) word) plain).1)
 
 some_bytes : (word : List ℕ) → is_plain word ≡ true → 0 < length word
 some_bytes word plain = ltb-true 0 (length word) (and_parts (ltb 0 (length word)) (list_all (λ byte. ltb 32 byte) word) plain).0
@@ -65,10 +67,10 @@ high_bytes [] plain = refl
 high_bytes (word ∷ []) plain = high_word word (and_parts (is_plain word) true plain).0
 high_bytes (word ∷ next ∷ words) plain =
     let parts = and_parts (is_plain word) (are_plain (next ∷ words)) plain in
-    all_append (λ byte. leb 32 byte) word (32 ∷ join_with_byte 32 (next ∷ words)) (high_word word parts.0) (high_bytes (next ∷ words) parts.1)
+    rw (list_all-append (λ byte. leb 32 byte) word (32 ∷ join_with_byte 32 (next ∷ words))) (and_from _ _ (high_word word parts.0) (high_bytes (next ∷ words) parts.1))
 
 no_newlines : (line : List ℕ) → list_all (λ byte. leb 32 byte) line ≡ true → All (λ byte. is_newline byte ≡ false) line
-no_newlines line high = All-from_get_or (λ byte. is_newline byte ≡ false) line 0 (λ i within. let here = index_of (λ byte. leb 32 byte) line high i within in grind arith)
+no_newlines line high = All-weaker (λ byte. leb 32 byte ≡ true) (λ byte. is_newline byte ≡ false) (λ byte here. grind arith) line (AllPass-from_list_all (λ byte. leb 32 byte) line high)
 
 -- the lines of a text are read back
 abbrev line_by : Version → List (List ℕ) → Line Meaning ScriptKind

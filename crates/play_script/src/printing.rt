@@ -53,7 +53,7 @@ fn put_clock(text: &mut Vec<u8>, clock: Clock) -> Result<(), AllocError>
     ensures { OnOk result (text.new.items ≡ text.old.items ++ line_text (clock_words clock)) }
 {
     let values = [Seconds(clock.seconds), Minutes(clock.offset)];
-    put_line(text, "clock", values.as_slice())
+    put_line(text, "clock", values)
 }
 
 // Puts the line of the arguments, if there are any.
@@ -105,12 +105,12 @@ fn put_event(text: &mut Vec<u8>, event: &Event) -> Result<(), AllocError>
     ensures { OnOk result (text.new.items ≡ text.old.items ++ line_text (event_words event.now)) }
 {
     match *event {
-        Event::Input(byte) => put_line(text, "input", [Byte(byte)].as_slice()),
-        Event::EndInput => put_line(text, "end", [].as_slice()),
-        Event::Frame => put_line(text, "frame", [].as_slice()),
+        Event::Input(byte) => put_line(text, "input", [Byte(byte)]),
+        Event::EndInput => put_line(text, "end", []),
+        Event::Frame => put_line(text, "frame", []),
         Event::Device(input) => put_input(text, &input),
-        Event::Shot => put_line(text, "shot", [].as_slice()),
-        Event::Expect(port, byte) => put_line(text, "expect", [Byte(port), Byte(byte)].as_slice()),
+        Event::Shot => put_line(text, "shot", []),
+        Event::Expect(port, byte) => put_line(text, "expect", [Byte(port), Byte(byte)]),
     }
 }
 
@@ -118,33 +118,29 @@ fn put_input(text: &mut Vec<u8>, input: &Input) -> Result<(), AllocError>
     ensures { OnOk result (text.new.items ≡ text.old.items ++ line_text (event_words (Device input.now))) }
 {
     match *input {
-        Input::Key(byte) => put_line(text, "key", [Byte(byte)].as_slice()),
-        Input::Down(mask) => put_line(text, "down", [Button(mask)].as_slice()),
-        Input::Up(mask) => put_line(text, "up", [Button(mask)].as_slice()),
-        Input::Mouse(x, y) => put_line(text, "mouse", [Pixel(x), Pixel(y)].as_slice()),
-        Input::Press(mask) => put_line(text, "press", [MouseButton(mask)].as_slice()),
-        Input::Release(mask) => put_line(text, "release", [MouseButton(mask)].as_slice()),
-        Input::Scroll(x, y) => put_line(text, "scroll", [Turn(x), Turn(y)].as_slice()),
-        Input::DownOf(player, mask) => put_line(
-            text,
-            "down",
-            [Button(mask), Player(player)].as_slice(),
-        ),
-        Input::UpOf(player, mask) => put_line(
-            text,
-            "up",
-            [Button(mask), Player(player)].as_slice(),
-        ),
+        Input::Key(byte) => put_line(text, "key", [Byte(byte)]),
+        Input::Down(mask) => put_line(text, "down", [Button(mask)]),
+        Input::Up(mask) => put_line(text, "up", [Button(mask)]),
+        Input::Mouse(x, y) => put_line(text, "mouse", [Pixel(x), Pixel(y)]),
+        Input::Press(mask) => put_line(text, "press", [MouseButton(mask)]),
+        Input::Release(mask) => put_line(text, "release", [MouseButton(mask)]),
+        Input::Scroll(x, y) => put_line(text, "scroll", [Turn(x), Turn(y)]),
+        Input::DownOf(player, mask) => put_line(text, "down", [Button(mask), Player(player)]),
+        Input::UpOf(player, mask) => put_line(text, "up", [Button(mask), Player(player)]),
     }
 }
 
 // Puts a line of a word and values.
 #[tactic(auto, using(crate::proofs::LineTexts::put_values))]
-fn put_line(text: &mut Vec<u8>, name: &str, values: &[Value]) -> Result<(), AllocError>
-    ensures { OnOk result (text.new.items ≡ text.old.items ++ line_text (name.now ∷ map value_word values.now)) }
+fn put_line<const N: usize>(
+    text: &mut Vec<u8>,
+    name: &str,
+    values: [Value; N],
+) -> Result<(), AllocError>
+    ensures { OnOk result (text.new.items ≡ text.old.items ++ line_text (name.now ∷ map value_word values.entry)) }
 {
     text.extend_from_slice(name.as_bytes())?;
-    put_values(text, values)?;
+    put_values(text, values.as_slice())?;
     text.extend_from_slice(b"\n".as_slice())
 }
 

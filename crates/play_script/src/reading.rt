@@ -1,7 +1,6 @@
 //! Reading a script.
 
-ghost use Rattle.std.specs.Prelude.{◌≡◌, ◌+◌, ◌≤◌, ◌++◌, length, map, nat_le, IfOk, OnOk};
-ghost use Rattle.std.specs.List.{sum_by};
+ghost use Rattle.std.specs.Prelude.{◌≡◌, ◌+◌, ◌≤◌, ◌++◌, length, map, IfOk, OnOk};
 ghost use Rattle.line_texts.specs.Lines.{words_of, lines_of};
 ghost use Rattle.play_script.specs.Held.{bytes_in};
 ghost use Rattle.play_script.specs.Rows.{inputs_of};
@@ -130,10 +129,9 @@ impl Gathered {
         requires { length line.now ≤ 4194304 }
         ensures { TakesLine self.old (line_of self.old.version (words_of line.now)) result self.new }
     {
-        match line_of(alloc, self.version, line) {
-            Ok(None) => Ok(()),
-            Ok(Some(meaning)) => self.take(alloc, meaning),
-            Err(stop) => Err(stop),
+        match line_of(alloc, self.version, line)? {
+            None => Ok(()),
+            Some(meaning) => self.take(alloc, meaning),
         }
     }
 
@@ -184,16 +182,15 @@ impl Gathered {
         Ok(())
     }
 
-    #[tactic(auto, using(crate::proofs::LineTexts::held_inputs_length))]
     fn take_inputs(&mut self, alloc: Global, texts: Vec<Bytes>) -> Result<(), LineStop>
         requires { AreTexts 4194304 (bytes_in texts.items) }
         ensures { Takes self.old (events (inputs_of (bytes_in texts.items))) result self.new }
     {
-        if !have_room(&texts, MOST_EVENTS - self.events.len()) {
+        let given = inputs_of(alloc, &texts)?;
+        if given.len() > MOST_EVENTS - self.events.len() {
             return Err(LineStop::Faulty(ScriptKind::ManyEvents));
         }
         self.begun = true;
-        let given = inputs_of(alloc, &texts)?;
         self.events.extend_from_slice(&given)?;
         Ok(())
     }
@@ -234,20 +231,6 @@ impl Gathered {
             events,
         )
     }
-}
-
-// Whether texts have so many bytes at most.
-fn have_room(texts: &Vec<Bytes>, room: usize) -> bool
-    ensures { result ≡ nat_le (sum_by (λ text. length text.list) texts.now.items) room }
-{
-    let mut left = room;
-    for text in texts {
-        match left.checked_sub(text.as_slice().len()) {
-            Some(less) => left = less,
-            None => return false,
-        }
-    }
-    true
 }
 
 // An event for each byte of texts.
