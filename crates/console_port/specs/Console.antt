@@ -1,14 +1,27 @@
 -- The console's ports (Varvara device reference: Console).
-use Rattle.std.specs.Prelude.{ℕ, ◌==◌, List, [], ◌∷◌, if◌then◌else◌, slice_set}
+use Rattle.std.specs.Prelude.{ℕ, List, [], ◌∷◌, slice_set}
+use Rattle.console_port.specs.declared.EventKind.{EventKind}
+use Rattle.console_port.specs.declared.EventKind.TheVariants.{Input, Argument, Spacer, End}
+use Rattle.console_port.specs.declared.Output.{Output}
+use Rattle.console_port.specs.declared.Output.TheVariants.{Standard, Error}
 
--- a write to port 18 puts its byte on the standard output
-abbrev pub to_out : ℕ → ℕ → List ℕ
-to_out port value = if port == 0x18 then value ∷ [] else []
+-- what a byte puts on the standard output
+abbrev pub to_out : Output → ℕ → List ℕ
+to_out Standard value = value ∷ []
+to_out Error value = []
 
--- a write to port 19 puts its byte on the error output
-abbrev pub to_err : ℕ → ℕ → List ℕ
-to_err port value = if port == 0x19 then value ∷ [] else []
+-- what it puts on the error output
+abbrev pub to_err : Output → ℕ → List ℕ
+to_err Standard value = []
+to_err Error value = value ∷ []
+
+-- the kinds of events
+abbrev pub event_byte : EventKind → ℕ
+event_byte Input = 1
+event_byte Argument = 2
+event_byte Spacer = 3
+event_byte End = 4
 
 -- an event of the console stores its byte in port 12 and its kind in port 17
-abbrev pub given : List ℕ → ℕ → ℕ → List ℕ
-given page value kind = slice_set (slice_set page 0x12 value) 0x17 kind
+abbrev pub given : List ℕ → ℕ → EventKind → List ℕ
+given page value kind = slice_set (slice_set page 0x12 value) 0x17 (event_byte kind)

@@ -2,7 +2,7 @@
 use Rattle.std.proofs.Common.{◌≡◌, ◌<◌, ℕ, List, [], ◌∷◌, ◌++◌, map}
 use Rattle.std.specs.Prelude.{replicate}
 use Rattle.std.specs.List.{All}
-use Rattle.std.proofs.lemmas.List.Elements.{All-nil, All-head, All-tail, All-append, All-replicate, All-map}
+use Rattle.std.proofs.lemmas.List.Elements.{All-nil, All-head, All-tail, All-append, All-replicate, All-map, All-weaker}
 use Rattle.play_script.specs.declared.script.Event.{Event}
 use Rattle.play_script.specs.declared.script.Event.TheVariants.{Input}
 use Rattle.play_script.specs.declared.script.Version.{Version}
@@ -12,7 +12,10 @@ use Rattle.play_script.specs.Rows.{inputs_of}
 inputs_hold : (number : Version) (each : List (List ℕ)) → All (All (λ byte. byte < 256)) each → All (IsEvent number) (inputs_of each)
 inputs_hold number [] small = All-nil (IsEvent number)
 inputs_hold number (text ∷ each) small =
-    All-append (IsEvent number) (map Input text) (inputs_of each) (All-map (IsEvent number) Input text (All-head (All (λ byte. byte < 256)) text each small)) (inputs_hold number each (All-tail (All (λ byte. byte < 256)) text each small))
+    let given : (byte : ℕ) → byte < 256 → IsEvent number (Input byte) = λ byte is. record { within = (is, tt); belongs = tt } in
+    All-append (IsEvent number) (map Input text) (inputs_of each)
+    (All-map (IsEvent number) Input text (All-weaker (λ byte. byte < 256) (λ byte. IsEvent number (Input byte)) given text (All-head (All (λ byte. byte < 256)) text each small)))
+    (inputs_hold number each (All-tail (All (λ byte. byte < 256)) text each small))
 
 pub put_inputs : (number : Version) (before items : List Event) (each : List (List ℕ)) → items ≡ before ++ inputs_of each
     → All (IsEvent number) before → All (All (λ byte. byte < 256)) each → All (IsEvent number) items

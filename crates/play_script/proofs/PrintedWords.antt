@@ -1,18 +1,21 @@
 -- Words that are printed are read back.
-use Rattle.std.proofs.Common.{◌≡◌, ℕ, zero, suc, ◌/◌, ◌%◌, ◌<◌, ◌≤◌, Bool, true, false, ◌&&◌, ◌||◌, ◌^◌, eqb, ltb, not, ℤ, pos, negsuc, neg_ℤ, ◌≤ℤ◌, List, [], ◌∷◌, ◌++◌, length, get_or, Some, inl, inr, refl, ap, ◌∙◌, arith}
+use Rattle.std.proofs.Common.{◌≡◌, ℕ, zero, suc, ◌/◌, ◌%◌, ◌<◌, ◌≤◌, Bool, true, false, ◌&&◌, ◌||◌, ◌^◌, eqb, ltb, not, ℤ, pos, negsuc, neg_ℤ, ◌≤ℤ◌, List, [], ◌∷◌, length, get_or, map, Some, inl, inr, refl, ap, ◌∙◌, arith}
 use Rattle.std.specs.Prelude.{decimal}
 use Rattle.std.specs.Fmt.{signed_decimal}
 use Rattle.std.specs.List.{All, AllByRecursion, list_all, list_any}
 use Rattle.std.proofs.lemmas.Bool.{cases_eq, cases_lt, lt-ltb, le-leb, and_from, and_parts}
 use Rattle.std.proofs.lemmas.Fmt.{digits_decimal, digits_value-decimal, decimal_nonempty, first_decimal, decimal_digit}
 use Rattle.std.proofs.lemmas.List.{get_or_past}
-use Rattle.std.proofs.lemmas.List.Elements.{All-head, All-tail, All-nil, All-cons}
+use Rattle.std.proofs.lemmas.List.Elements.{All-head, All-tail, All-nil, All-cons, All-get_or, All-weaker}
+use Rattle.std.proofs.lemmas.List.Sums.{AllPass-from_list_all, list_all-from_AllPass}
 use Rattle.hex.specs.Hex.{encode_lower, encode_with, lower_digits, IsBytes}
 use Rattle.hex.proofs.HexLemmas.{length-encode_with, decode_of-encode_lower, decode_sized-encode_lower}
-use Rattle.play_script.specs.Limits.{IsBit}
+use Rattle.play_script.specs.declared.values.Value.{Value}
+use Rattle.play_script.specs.declared.values.Value.TheVariants.{Byte, Button, MouseButton, Player, Pixel, Turn, Seconds, Minutes}
+use Rattle.play_script.specs.Limits.{AreValues, IsBit, IsValue}
 use Rattle.line_texts.specs.Numbers.{is_digit, is_number, number_within, integer_within, byte_of, begins_with}
 use Rattle.line_texts.proofs.Numerals.{own}
-use Rattle.play_script.specs.PlainText.{text_word, name_in}
+use Rattle.play_script.specs.PlainText.{text_word, name_in, value_word}
 use Rattle.play_script.specs.Values.{text_of, Buttons, bit_in, buttons, mouse_buttons}
 use borrow.Author.Differences.{le_out, neg_is}
 
@@ -22,18 +25,12 @@ is_plain word = ltb 0 (length word) && list_all (λ byte. ltb 32 byte) word
 
 -- an element of a list that passes
 pub index_of : (p : ℕ → Bool) (word : List ℕ) → list_all p word ≡ true → (i : ℕ) → i < length word → p (get_or word i 0) ≡ true
-index_of p [] all i within = absurd (omega arith)
-index_of p (byte ∷ word) all zero within = (and_parts (p byte) (list_all p word) all).0
-index_of p (byte ∷ word) all (suc i) within = index_of p word (and_parts (p byte) (list_all p word) all).1 i (omega arith)
+index_of p word all i within = All-get_or (λ byte. p byte ≡ true) word i 0 within (AllPass-from_list_all p word all)
 
 -- all bytes pass a weaker test too
 pub weaker : (p q : ℕ → Bool) → ((byte : ℕ) → p byte ≡ true → q byte ≡ true) → (word : List ℕ) → list_all p word ≡ true → list_all q word ≡ true
-weaker p q step [] all = refl
-weaker p q step (byte ∷ word) all = let parts = and_parts (p byte) (list_all p word) all in and_from (q byte) (list_all q word) (step byte parts.0) (weaker p q step word parts.1)
-
-pub all_append : (p : ℕ → Bool) (xs ys : List ℕ) → list_all p xs ≡ true → list_all p ys ≡ true → list_all p (xs ++ ys) ≡ true
-all_append p [] ys first second = second
-all_append p (x ∷ xs) ys first second = let parts = and_parts (p x) (list_all p xs) first in and_from (p x) (list_all p (xs ++ ys)) parts.0 (all_append p xs ys parts.1 second)
+weaker p q step word all =
+    list_all-from_AllPass q word (All-weaker (λ byte. p byte ≡ true) (λ byte. q byte ≡ true) step word (AllPass-from_list_all p word all))
 
 -- decimal numbers
 decimal_digits : (n : ℕ) → n < 2 ^ 64 → list_all is_digit (decimal n) ≡ true
@@ -78,9 +75,9 @@ integer_back below high (negsuc n) wide tall from to =
     let top : suc n ≤ below = omega (arith, le_out, neg_is, from) in
     rw (begins_head 45 (decimal (suc n)), number_back 0 below (suc n) (omega arith) top (omega arith)) refl
 
-pub plain_signed : (z : ℤ) (below : ℕ) → below < 2 ^ 63 → neg_ℤ (pos below) ≤ℤ z → z ≤ℤ pos below → is_plain (signed_decimal z) ≡ true
-plain_signed (pos n) below wide from to = plain_decimal n (omega (arith, le_out, to))
-plain_signed (negsuc n) below wide from to =
+pub plain_signed : (below high : ℕ) (z : ℤ) → below < 2 ^ 63 → high < 2 ^ 63 → neg_ℤ (pos below) ≤ℤ z → z ≤ℤ pos high → is_plain (signed_decimal z) ≡ true
+plain_signed below high (pos n) wide tall from to = plain_decimal n (omega (arith, le_out, to))
+plain_signed below high (negsuc n) wide tall from to =
     and_from _ _ (lt-ltb 0 (length (45 ∷ decimal (suc n))) (omega arith))
     (and_parts _ _ (plain_decimal (suc n) (omega (arith, le_out, neg_is, from)))).1
 
@@ -149,3 +146,19 @@ button_back = any_holds (IsRead buttons) (1 ∷ 2 ∷ 4 ∷ 8 ∷ 16 ∷ 32 ∷ 
 pub mouse_button_back : (mask : ℕ) → IsBit mask → IsRead mouse_buttons mask
 unfolding bit_in name_in
 mouse_button_back = any_holds (IsRead mouse_buttons) (1 ∷ 2 ∷ 4 ∷ 8 ∷ 16 ∷ 32 ∷ 64 ∷ 128 ∷ []) ((refl, refl), ((refl, refl), ((refl, refl), ((refl, refl), ((refl, refl), ((refl, refl), ((refl, refl), ((refl, refl), tt))))))))
+
+-- the words of values are plain
+plain_value : (value : Value) → IsValue value → is_plain (value_word value) ≡ true
+unfolding value_word
+plain_value (Byte byte) is = plain_pairs (byte ∷ []) (omega arith) (one_byte byte is)
+plain_value (Button mask) is = (button_back mask is).1
+plain_value (MouseButton mask) is = (mouse_button_back mask is).1
+plain_value (Player number) is = plain_decimal number (omega (arith, is.1))
+plain_value (Pixel at) is = plain_decimal at (omega (arith, is))
+plain_value (Turn steps) is = plain_signed 32768 32767 steps (omega arith) (omega arith) is.0 is.1
+plain_value (Seconds seconds) is = plain_signed 0 253370000000 seconds (omega arith) (omega arith) is.0 is.1
+plain_value (Minutes minutes) is = plain_signed 840 840 minutes (omega arith) (omega arith) is.0 is.1
+
+pub plain_values : (values : List Value) → AreValues values → list_all is_plain (map value_word values) ≡ true
+plain_values [] is = refl
+plain_values (value ∷ values) is = and_from _ _ (plain_value value is.0) (plain_values values is.1)

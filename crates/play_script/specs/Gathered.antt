@@ -50,6 +50,9 @@ pub record GatheredView : Type 0 where
   pub arguments : Option (List (List ℕ))
   pub events : List Event
 
+abbrev pub so_far : Version → Bool → Option Clock → Option (List (List ℕ)) → List Event → GatheredView
+so_far number any time texts given = record { version = number; begun = any; clock = time; arguments = texts; events = given }
+
 abbrev pub gathered : Version → List Meaning → GatheredView
 gathered number lines = record {
   version = number;
@@ -60,11 +63,11 @@ gathered number lines = record {
 }
 
 -- what the limits of scripts say of it
-pub record IsGathered (so_far : GatheredView) : Type 0 where
-  pub time : IfSome so_far.clock IsTime
-  pub texts : IfSome so_far.arguments (AreTexts 4194304)
-  pub few : length so_far.events ≤ 1000000
-  pub given : All (IsEvent so_far.version) so_far.events
+pub record IsGathered (all : GatheredView) : Type 0 where
+  pub time : IfSome all.clock IsTime
+  pub texts : IfSome all.arguments (AreTexts 4194304)
+  pub few : length all.events ≤ 1000000
+  pub given : All (IsEvent all.version) all.events
 
 -- what stops a script whose line stops
 abbrev pub at_line : ℕ → LineStop → ScriptStop

@@ -1,49 +1,60 @@
 -- What holds of every script that was read (profile).
-use Rattle.std.specs.Prelude.{ℕ, ◌+◌, ◌<◌, ◌≤◌, ◌≡◌, ◌==◌, true, ℤ, pos, neg_ℤ, ◌≤ℤ◌, []}
-use Rattle.std.specs.Prelude.{◌∷◌, length, List}
-use Rattle.std.specs.List.{All, list_any, sum_by}
-use Rattle.input_ports.specs.declared.Input.TheVariants.{Key, Down, Up, Mouse, Press, Release, Scroll, DownOf, UpOf}
+use Rattle.std.specs.Prelude.{ℕ, ◌+◌, ◌<◌, ◌≤◌, ◌≡◌, ◌==◌, Bool, true, pos, neg_ℤ, ◌≤ℤ◌, [], ◌∷◌, length, List}
+use Rattle.std.specs.List.{All, AllByRecursion, list_all, list_any, sum_by}
+use Rattle.input_ports.specs.declared.Input.TheVariants.{DownOf, UpOf}
 use Rattle.play_script.specs.declared.script.Clock.{Clock}
 use Rattle.play_script.specs.declared.script.Event.{Event}
-use Rattle.play_script.specs.declared.script.Event.TheVariants.{Input, EndInput, Frame, Device, Shot, Expect}
+use Rattle.play_script.specs.declared.script.Event.TheVariants.{Device, Expect}
 use Rattle.play_script.specs.declared.script.Version.{Version}
 use Rattle.play_script.specs.declared.script.Version.TheVariants.{First, Second}
+use Rattle.play_script.specs.declared.values.Value.{Value}
+use Rattle.play_script.specs.declared.values.Value.TheVariants.{Byte, Button, MouseButton, Player, Pixel, Turn, Seconds, Minutes}
+use Rattle.play_script.specs.PlainText.{plain_event}
 use Rattle.play_script.specs.Scripts.{ScriptView}
+use Rattle.play_script.specs.Values.{Buttons}
 
 -- a mask of one button
+abbrev pub is_bit : ℕ → Bool
+is_bit mask = list_any (λ bit. bit == mask) (1 ∷ 2 ∷ 4 ∷ 8 ∷ 16 ∷ 32 ∷ 64 ∷ 128 ∷ [])
+
 abbrev pub IsBit : ℕ → Type 0
-IsBit mask = list_any (λ bit. bit == mask) (1 ∷ 2 ∷ 4 ∷ 8 ∷ 16 ∷ 32 ∷ 64 ∷ 128 ∷ []) ≡ true
+IsBit mask = is_bit mask ≡ true
 
--- a wheel's way
-abbrev pub IsTurn : ℤ → Type 0
-IsTurn z = (neg_ℤ (pos 32768) ≤ℤ z) × (z ≤ℤ pos 32767)
+abbrev pub are_bits : Buttons → Bool
+are_bits table = list_all (λ row. is_bit row.1) table
 
--- the players whose buttons only version 2 has
-abbrev pub IsFurther : Version → ℕ → Type 0
-IsFurther First player = ⊥
-IsFurther Second player = (2 ≤ player) × (player ≤ 4)
+-- the range of each value of a line
+abbrev pub IsValue : Value → Type 0
+IsValue (Byte byte) = byte < 256
+IsValue (Button mask) = IsBit mask
+IsValue (MouseButton mask) = IsBit mask
+IsValue (Player number) = (2 ≤ number) × (number ≤ 4)
+IsValue (Pixel at) = at < 65536
+IsValue (Turn steps) = (neg_ℤ (pos 32768) ≤ℤ steps) × (steps ≤ℤ pos 32767)
+IsValue (Seconds seconds) = (pos 0 ≤ℤ seconds) × (seconds ≤ℤ pos 253370000000)
+IsValue (Minutes minutes) = (neg_ℤ (pos 840) ≤ℤ minutes) × (minutes ≤ℤ pos 840)
 
--- bytes of ports, which only version 2 compares
-abbrev pub IsExpect : Version → ℕ → ℕ → Type 0
-IsExpect First port byte = ⊥
-IsExpect Second port byte = (port < 256) × (byte < 256)
+abbrev pub AreValues : List Value → Type 0
+AreValues values = AllByRecursion IsValue values
+
+-- what only version 2 has: other players, and the comparison of ports
+abbrev pub IsSecond : Version → Type 0
+IsSecond First = ⊥
+IsSecond Second = Unit {0}
+
+abbrev pub IsPlayer : Version → ℕ → Type 0
+IsPlayer number player = IsSecond number × (2 ≤ player) × (player ≤ 4)
+
+abbrev pub IsOf : Version → Event → Type 0
+IsOf number (Device (DownOf player mask)) = IsSecond number
+IsOf number (Device (UpOf player mask)) = IsSecond number
+IsOf number (Expect port byte) = IsSecond number
+IsOf number _ = Unit {0}
 
 -- an event that a line of this version gives
-abbrev pub IsEvent : Version → Event → Type 0
-IsEvent number (Input byte) = byte < 256
-IsEvent number EndInput = Unit {0}
-IsEvent number Frame = Unit {0}
-IsEvent number (Device (Key byte)) = byte < 256
-IsEvent number (Device (Down mask)) = IsBit mask
-IsEvent number (Device (Up mask)) = IsBit mask
-IsEvent number (Device (Mouse x y)) = (x < 65536) × (y < 65536)
-IsEvent number (Device (Press mask)) = IsBit mask
-IsEvent number (Device (Release mask)) = IsBit mask
-IsEvent number (Device (Scroll x y)) = IsTurn x × IsTurn y
-IsEvent number (Device (DownOf player mask)) = IsFurther number player × IsBit mask
-IsEvent number (Device (UpOf player mask)) = IsFurther number player × IsBit mask
-IsEvent number Shot = Unit {0}
-IsEvent number (Expect port byte) = IsExpect number port byte
+pub record IsEvent (number : Version) (event : Event) : Type 0 where
+  pub within : AreValues (plain_event event).1
+  pub belongs : IsOf number event
 
 -- seconds and minutes of a clock
 pub record IsTime (time : Clock) : Type 0 where

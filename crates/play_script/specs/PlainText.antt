@@ -11,6 +11,8 @@ use Rattle.play_script.specs.declared.script.Event.{Event}
 use Rattle.play_script.specs.declared.script.Event.TheVariants.{Input, EndInput, Frame, Device, Shot, Expect}
 use Rattle.play_script.specs.declared.script.Version.{Version}
 use Rattle.play_script.specs.declared.script.Version.TheVariants.{First, Second}
+use Rattle.play_script.specs.declared.values.Value.{Value}
+use Rattle.play_script.specs.declared.values.Value.TheVariants.{Byte, Button, MouseButton, Player, Pixel, Turn, Seconds, Minutes}
 use Rattle.play_script.specs.Values.{Buttons, buttons, mouse_buttons}
 use Rattle.play_script.specs.Scripts.{ScriptView}
 
@@ -22,29 +24,46 @@ text_word bytes = if length bytes == 0 then codes "\"" else encode_lower bytes
 unfoldable pub name_in : Buttons → ℕ → List ℕ
 name_in table mask = unwrap_or (option_map (λ row. row.0) (find (λ row. row.1 == mask) table)) []
 
--- the words of an event's line
-unfoldable pub event_words : Event → List (List ℕ)
-event_words (Input byte) = codes "input" ∷ encode_lower (byte ∷ []) ∷ []
-event_words EndInput = codes "end" ∷ []
-event_words Frame = codes "frame" ∷ []
-event_words (Device (Key byte)) = codes "key" ∷ encode_lower (byte ∷ []) ∷ []
-event_words (Device (Down mask)) = codes "down" ∷ name_in buttons mask ∷ []
-event_words (Device (Up mask)) = codes "up" ∷ name_in buttons mask ∷ []
-event_words (Device (Mouse x y)) = codes "mouse" ∷ decimal x ∷ decimal y ∷ []
-event_words (Device (Press mask)) = codes "press" ∷ name_in mouse_buttons mask ∷ []
-event_words (Device (Release mask)) = codes "release" ∷ name_in mouse_buttons mask ∷ []
-event_words (Device (Scroll x y)) = codes "scroll" ∷ signed_decimal x ∷ signed_decimal y ∷ []
-event_words (Device (DownOf player mask)) = codes "down" ∷ name_in buttons mask ∷ decimal player ∷ []
-event_words (Device (UpOf player mask)) = codes "up" ∷ name_in buttons mask ∷ decimal player ∷ []
-event_words Shot = codes "shot" ∷ []
-event_words (Expect port byte) = codes "expect" ∷ encode_lower (port ∷ []) ∷ encode_lower (byte ∷ []) ∷ []
+-- a value of a line as a word
+unfoldable pub value_word : Value → List ℕ
+value_word (Byte byte) = encode_lower (byte ∷ [])
+value_word (Button mask) = name_in buttons mask
+value_word (MouseButton mask) = name_in mouse_buttons mask
+value_word (Player number) = decimal number
+value_word (Pixel at) = decimal at
+value_word (Turn steps) = signed_decimal steps
+value_word (Seconds seconds) = signed_decimal seconds
+value_word (Minutes minutes) = signed_decimal minutes
+
+-- the first word of an event's line, and the values behind it
+abbrev pub plain_event : Event → List ℕ × List Value
+plain_event (Input byte) = (codes "input", Byte byte ∷ [])
+plain_event EndInput = (codes "end", [])
+plain_event Frame = (codes "frame", [])
+plain_event (Device (Key byte)) = (codes "key", Byte byte ∷ [])
+plain_event (Device (Down mask)) = (codes "down", Button mask ∷ [])
+plain_event (Device (Up mask)) = (codes "up", Button mask ∷ [])
+plain_event (Device (Mouse x y)) = (codes "mouse", Pixel x ∷ Pixel y ∷ [])
+plain_event (Device (Press mask)) = (codes "press", MouseButton mask ∷ [])
+plain_event (Device (Release mask)) = (codes "release", MouseButton mask ∷ [])
+plain_event (Device (Scroll x y)) = (codes "scroll", Turn x ∷ Turn y ∷ [])
+plain_event (Device (DownOf player mask)) = (codes "down", Button mask ∷ Player player ∷ [])
+plain_event (Device (UpOf player mask)) = (codes "up", Button mask ∷ Player player ∷ [])
+plain_event Shot = (codes "shot", [])
+plain_event (Expect port byte) = (codes "expect", Byte port ∷ Byte byte ∷ [])
+
+abbrev pub event_words : Event → List (List ℕ)
+event_words event = (plain_event event).0 ∷ map value_word (plain_event event).1
 
 abbrev pub version_words : Version → List (List (List ℕ))
 version_words First = []
 version_words Second = (codes "script" ∷ codes "2" ∷ []) ∷ []
 
+abbrev pub clock_values : Clock → List Value
+clock_values clock = Seconds clock.seconds ∷ Minutes clock.offset ∷ []
+
 abbrev pub clock_words : Clock → List (List ℕ)
-clock_words clock = codes "clock" ∷ signed_decimal clock.seconds ∷ signed_decimal clock.offset ∷ []
+clock_words clock = codes "clock" ∷ map value_word (clock_values clock)
 
 abbrev pub argument_words : List (List ℕ) → List (List (List ℕ))
 argument_words [] = []

@@ -33,9 +33,6 @@ pub data Meaning : Type 0 where
 abbrev pub event : Event → Meaning
 event e = events (e ∷ [])
 
-abbrev pub times : Event → ℕ → Meaning
-times e count = events (replicate count e)
-
 -- an event for each byte of texts
 abbrev pub inputs_of : List (List ℕ) → List Event
 inputs_of each = flat_map (λ text. map Input text) each
@@ -58,17 +55,17 @@ version_of First values = None
 version_of Second [] = None
 version_of Second (n ∷ more) = if bytes_eq n (codes "2") then Some version else None
 
-unfoldable pub clock_of : List (List ℕ) → Option Meaning
-clock_of (s ∷ m ∷ more) = both (λ seconds offset. clock (record { seconds = pos seconds; offset = offset }))
+unfoldable pub clock_of : List (List ℕ) → Option Clock
+clock_of (s ∷ m ∷ more) = both (λ seconds offset. record { seconds = pos seconds; offset = offset })
     (number_within 0 253370000000 s) (integer_within 840 840 m)
 clock_of _ = None
 
-unfoldable pub keys_of : Version → List (List ℕ) → Option Meaning
+unfoldable pub keys_of : Version → List (List ℕ) → Option (List Event)
 keys_of number [] = None
-keys_of number (b ∷ more) = both (λ byte count. times (Device (Key byte)) count) (byte_of b) (one_or 1000000 (further number more))
+keys_of number (b ∷ more) = both (λ byte count. replicate count (Device (Key byte))) (byte_of b) (one_or 1000000 (further number more))
 
-unfoldable pub expect_of : Version → List (List ℕ) → Option Meaning
-expect_of Second (p ∷ b ∷ more) = both (λ port byte. event (Expect port byte)) (byte_of p) (byte_of b)
+unfoldable pub expect_of : Version → List (List ℕ) → Option (List Event)
+expect_of Second (p ∷ b ∷ more) = both (λ port byte. Expect port byte ∷ []) (byte_of p) (byte_of b)
 expect_of _ _ = None
 
 -- what values make of a player's buttons, of the mouse's buttons, of numbers of columns and rows, and of a wheel's ways
@@ -88,9 +85,6 @@ unfoldable pub scroll_of : List (List ℕ) → Option DeviceInput
 scroll_of (x ∷ y ∷ more) = both Scroll (integer_within 32768 32767 x) (integer_within 32768 32767 y)
 scroll_of _ = None
 
-abbrev pub input_if : Option DeviceInput → Option Meaning
-input_if input = option_map (λ given. event (Device given)) input
-
 -- what the values behind each first word make
 unfoldable pub device_of : Keyword → Version → List (List ℕ) → Option DeviceInput
 device_of word.Down number values = buttons_of down_of number values
@@ -101,17 +95,20 @@ device_of word.Release number values = mouse_buttons_of Release values
 device_of word.Scroll number values = scroll_of values
 device_of _ number values = None
 
+unfoldable pub given_of : Keyword → Version → List (List ℕ) → Option (List Event)
+given_of word.Input number values = option_map inputs_of (texts_of values)
+given_of word.End number values = Some (EndInput ∷ [])
+given_of word.Frame number values = option_map (λ count. replicate count Frame) (one_or 1000000 values)
+given_of word.Key number values = keys_of number values
+given_of word.Shot number values = Some (Shot ∷ [])
+given_of word.Expect number values = expect_of number values
+given_of keyword number values = option_map (λ input. Device input ∷ []) (device_of keyword number values)
+
 unfoldable pub made_of : Keyword → Version → List (List ℕ) → Option Meaning
 made_of word.Script number values = version_of number values
-made_of word.Clock number values = clock_of values
+made_of word.Clock number values = option_map clock (clock_of values)
 made_of word.Args number values = option_map arguments (texts_of values)
-made_of word.Input number values = option_map (λ texts. events (inputs_of texts)) (texts_of values)
-made_of word.End number values = Some (event EndInput)
-made_of word.Frame number values = option_map (times Frame) (one_or 1000000 values)
-made_of word.Key number values = keys_of number values
-made_of word.Shot number values = Some (event Shot)
-made_of word.Expect number values = expect_of number values
-made_of keyword number values = input_if (device_of keyword number values)
+made_of keyword number values = option_map events (given_of keyword number values)
 
 -- the first words of version 1, with how many values each takes
 abbrev pub first_rows : Rows Keyword

@@ -24,8 +24,8 @@ pub record ScriptView : Type 0 where
   pub arguments : List (List ℕ)
   pub events : List Event
 
-abbrev pub view : Version → Clock → List (List ℕ) → List Event → ScriptView
-view number time texts given = record { version = number; clock = time; arguments = texts; events = given }
+abbrev pub script_with : Version → Clock → List (List ℕ) → List Event → ScriptView
+script_with number time texts given = record { version = number; clock = time; arguments = texts; events = given }
 
 abbrev pub version_number : Version → ℕ
 version_number First = 1

@@ -1,10 +1,11 @@
 -- What the words behind a line's first word stand for (profile). A word is never empty.
-use Rattle.std.specs.Prelude.{ℕ, List, [], ◌∷◌, codes, drop, if◌then◌else◌, Option, Some, None, option_map}
+use Rattle.std.specs.Prelude.{ℕ, List, [], ◌∷◌, codes, drop, map, if◌then◌else◌, Option, Some, None, option_map}
 use Rattle.std.specs.Result.{result_ok}
 use Rattle.std.specs.List.{find}
 use Rattle.std.specs.Str.{bytes_eq}
 use Rattle.hex.specs.Hex.{decode_of}
 use Rattle.line_texts.specs.Numbers.{begins_with, number_within}
+use Rattle.play_script.specs.declared.values.ButtonRow.{ButtonRow}
 
 -- `"` and bytes that stand for themselves, or pairs of hexadecimal digits of either case
 unfoldable pub text_of : List ℕ → Option (List ℕ)
@@ -24,6 +25,9 @@ texts_of (word ∷ words) = both (λ text texts. text ∷ texts) (text_of word) 
 -- buttons by their names, with their bits
 abbrev pub Buttons : Type 0
 Buttons = List (List ℕ × ℕ)
+
+abbrev pub buttons_in : List ButtonRow → Buttons
+buttons_in table = map (λ row. (row.0.now, row.1)) table
 
 -- the controller's (Varvara device reference)
 abbrev pub buttons : Buttons

@@ -5,8 +5,9 @@ ghost use Rattle.line_texts.specs.Lines.{words_of};
 ghost use Rattle.input_ports.specs.declared.Input.{Input as DeviceInput};
 ghost use Rattle.play_script.specs.Gathered.{shown, FitsLine, IsRead};
 ghost use Rattle.play_script.specs.Held.{bytes_in, texts_if};
-ghost use Rattle.play_script.specs.Limits.{AreTexts, IsBit, IsEvent, IsFurther};
-ghost use Rattle.play_script.specs.Rows.{made_of, line_of, device_of, version_of, clock_of, keys_of, expect_of, further, buttons_of, down_of, up_of, mouse_buttons_of, mouse_of, scroll_of};
+ghost use Rattle.play_script.specs.Limits.{AreTexts, IsBit, IsEvent, IsPlayer};
+ghost use Rattle.play_script.specs.Rows.{made_of, line_of, device_of, version_of, clock, clock_of, events, keys_of, expect_of};
+ghost use Rattle.play_script.specs.Rows.{further, buttons_of, mouse_buttons_of, mouse_of, scroll_of};
 ghost use Rattle.play_script.specs.Values.{one_or, texts_of};
 ghost use Rattle.play_script.specs.declared.line.Meaning.TheVariants as read;
 ghost use Rattle.play_script.specs.declared.script.Event.TheVariants.{Device};
@@ -15,7 +16,7 @@ ghost use Rattle.play_script.specs.declared.script.Version.TheVariants.{First as
 
 use crate::keyword::{Keyword, rows_of};
 use crate::script::{Clock, Event, LineStop, ScriptKind, Version};
-use crate::values::{button_of, mouse_button_of, one_or, text_of};
+use crate::values::{bit_in, buttons, mouse_buttons, one_or, text_of};
 use input_ports::Input;
 use line_texts::{
     LineFault, begins_with, byte_of, first_word, integer_within, keyword_line, number_within,
@@ -85,7 +86,7 @@ pub(crate) fn line_of(
 }
 
 // What the values behind a first word make, as many as it takes; nothing where one is not of its form or range.
-#[tactic(auto, unfolding(crate::specs::Rows::made_of))]
+#[tactic(auto, unfolding(crate::specs::Rows::made_of, crate::specs::Rows::given_of))]
 fn made_of(
     alloc: Global,
     version: Version,
@@ -128,8 +129,14 @@ fn device_of(keyword: Keyword, version: Version, values: &[u8]) -> Option<Input>
     ensures limits { IfSome result (λ input. IsEvent version (Device input)) }
 {
     match keyword {
-        Keyword::Down => down_of(version, values),
-        Keyword::Up => up_of(version, values),
+        Keyword::Down => match button_in(version, values)? {
+            (mask, 1) => Some(Input::Down(mask)),
+            (mask, player) => Some(Input::DownOf(player, mask)),
+        },
+        Keyword::Up => match button_in(version, values)? {
+            (mask, 1) => Some(Input::Up(mask)),
+            (mask, player) => Some(Input::UpOf(player, mask)),
+        },
         Keyword::Mouse => mouse_of(values),
         Keyword::Press => Some(Input::Press(mouse_button_in(values)?)),
         Keyword::Release => Some(Input::Release(mouse_button_in(values)?)),
@@ -154,7 +161,7 @@ fn version_of(version: Version, values: &[u8]) -> Option<Meaning>
 
 #[tactic(auto, unfolding(crate::specs::Rows::clock_of))]
 fn clock_of(values: &[u8]) -> Option<Meaning>
-    ensures made { option_map shown result ≡ clock_of (words_of values.now) }
+    ensures made { option_map shown result ≡ option_map clock (clock_of (words_of values.now)) }
     ensures limits { IfSome result (IsRead first 0) }
 {
     let (seconds, more) = first_word(values)?;
@@ -166,7 +173,7 @@ fn clock_of(values: &[u8]) -> Option<Meaning>
 
 #[tactic(auto, unfolding(crate::specs::Rows::keys_of))]
 fn keys_of(version: Version, values: &[u8]) -> Option<Meaning>
-    ensures made { option_map shown result ≡ keys_of version (words_of values.now) }
+    ensures made { option_map shown result ≡ option_map events (keys_of version (words_of values.now)) }
     ensures limits { IfSome result (IsRead version 0) }
 {
     let (word, more) = first_word(values)?;
@@ -177,7 +184,7 @@ fn keys_of(version: Version, values: &[u8]) -> Option<Meaning>
 
 #[tactic(auto, unfolding(crate::specs::Rows::expect_of))]
 fn expect_of(version: Version, values: &[u8]) -> Option<Meaning>
-    ensures made { option_map shown result ≡ expect_of version (words_of values.now) }
+    ensures made { option_map shown result ≡ option_map events (expect_of version (words_of values.now)) }
     ensures limits { IfSome result (IsRead version 0) }
 {
     match version {
@@ -205,7 +212,7 @@ fn count_of(version: Version, values: &[u8]) -> Option<u32>
 #[tactic(auto, unfolding(crate::specs::Values::one_or))]
 fn player_of(version: Version, values: &[u8]) -> Option<u8>
     ensures number { result ≡ one_or 4 (further version (words_of values.now)) }
-    ensures limits { IfSome result (λ player. player ≢ 1 → IsFurther version player) }
+    ensures limits { IfSome result (λ player. player ≢ 1 → IsPlayer version player) }
 {
     match version {
         Version::First => Some(1),
@@ -213,30 +220,14 @@ fn player_of(version: Version, values: &[u8]) -> Option<u8>
     }
 }
 
+// The bit of a controller's button, and the player whose it is.
 #[tactic(auto, unfolding(crate::specs::Rows::buttons_of))]
-fn down_of(version: Version, values: &[u8]) -> Option<Input>
-    ensures input { result ≡ buttons_of down_of version (words_of values.now) }
-    ensures limits { IfSome result (λ input. IsEvent version (Device input)) }
+fn button_in(version: Version, values: &[u8]) -> Option<(u8, u8)>
+    ensures input { (make : ℕ → ℕ → DeviceInput) → option_map (λ b. make b.0 b.1) result ≡ buttons_of make version (words_of values.now) }
+    ensures limits { IfSome result (λ b. IsBit b.0 × (b.1 ≢ 1 → IsPlayer version b.1)) }
 {
     let (word, more) = first_word(values)?;
-    let mask = button_of(word)?;
-    match player_of(version, more)? {
-        1 => Some(Input::Down(mask)),
-        player => Some(Input::DownOf(player, mask)),
-    }
-}
-
-#[tactic(auto, unfolding(crate::specs::Rows::buttons_of))]
-fn up_of(version: Version, values: &[u8]) -> Option<Input>
-    ensures input { result ≡ buttons_of up_of version (words_of values.now) }
-    ensures limits { IfSome result (λ input. IsEvent version (Device input)) }
-{
-    let (word, more) = first_word(values)?;
-    let mask = button_of(word)?;
-    match player_of(version, more)? {
-        1 => Some(Input::Up(mask)),
-        player => Some(Input::UpOf(player, mask)),
-    }
+    Some((bit_in(buttons(), word)?, player_of(version, more)?))
 }
 
 #[tactic(auto, unfolding(crate::specs::Rows::mouse_buttons_of))]
@@ -244,7 +235,7 @@ fn mouse_button_in(values: &[u8]) -> Option<u8>
     ensures bit { IfSome result IsBit }
     ensures input { (make : ℕ → DeviceInput) → option_map make result ≡ mouse_buttons_of make (words_of values.now) }
 {
-    mouse_button_of(first_word(values)?.0)
+    bit_in(mouse_buttons(), first_word(values)?.0)
 }
 
 #[tactic(auto, unfolding(crate::specs::Rows::mouse_of))]

@@ -1,7 +1,6 @@
 //! Reading a script.
 
-ghost use Rattle.std.specs.Prelude.{◌≡◌, ◌+◌, ◌≤◌, ◌++◌, length, map, nat_le, IfOk, OnOk};
-ghost use Rattle.std.specs.List.{sum_by};
+ghost use Rattle.std.specs.Prelude.{◌≡◌, ◌+◌, ◌≤◌, ◌++◌, length, map, IfOk, OnOk};
 ghost use Rattle.line_texts.specs.Lines.{words_of, lines_of};
 ghost use Rattle.play_script.specs.Held.{bytes_in};
 ghost use Rattle.play_script.specs.Rows.{inputs_of};
@@ -94,28 +93,14 @@ struct Gathered {
 }
 
 impl Model for Gathered {
-    ghost use Rattle.std.specs.Prelude.{◌≤◌, length};
-    ghost use Rattle.std.specs.Option.{option_map};
-    ghost use Rattle.play_script.specs.Held.{bytes_in};
-    ghost use Rattle.play_script.specs.Gathered.{GatheredView, IsGathered};
+    ghost use Rattle.play_script.specs.Held.{texts_if};
+    ghost use Rattle.play_script.specs.Gathered.{GatheredView, IsGathered, so_far};
 
     ghost Value = { GatheredView };
 
-    ghost view = { λ g. record {
-      version = g.version;
-      begun = g.begun;
-      clock = g.clock;
-      arguments = option_map (λ texts. bytes_in texts.items) g.arguments;
-      events = g.events.items;
-    } };
+    ghost view = { λ g. so_far g.version g.begun g.clock (texts_if g.arguments) g.events.items };
 
-    ghost invariant = { λ g. IsGathered (record {
-      version = g.version;
-      begun = g.begun;
-      clock = g.clock;
-      arguments = option_map (λ texts. bytes_in texts.items) g.arguments;
-      events = g.events.items;
-    }) };
+    ghost invariant = { λ g. IsGathered (so_far g.version g.begun g.clock (texts_if g.arguments) g.events.items) };
 }
 
 impl Gathered {
@@ -144,10 +129,9 @@ impl Gathered {
         requires { length line.now ≤ 4194304 }
         ensures { TakesLine self.old (line_of self.old.version (words_of line.now)) result self.new }
     {
-        match line_of(alloc, self.version, line) {
-            Ok(None) => Ok(()),
-            Ok(Some(meaning)) => self.take(alloc, meaning),
-            Err(stop) => Err(stop),
+        match line_of(alloc, self.version, line)? {
+            None => Ok(()),
+            Some(meaning) => self.take(alloc, meaning),
         }
     }
 
@@ -198,16 +182,15 @@ impl Gathered {
         Ok(())
     }
 
-    #[tactic(auto, using(crate::proofs::LineTexts::held_inputs_length))]
     fn take_inputs(&mut self, alloc: Global, texts: Vec<Bytes>) -> Result<(), LineStop>
         requires { AreTexts 4194304 (bytes_in texts.items) }
         ensures { Takes self.old (events (inputs_of (bytes_in texts.items))) result self.new }
     {
-        if !have_room(&texts, MOST_EVENTS - self.events.len()) {
+        let given = inputs_of(alloc, &texts)?;
+        if given.len() > MOST_EVENTS - self.events.len() {
             return Err(LineStop::Faulty(ScriptKind::ManyEvents));
         }
         self.begun = true;
-        let given = inputs_of(alloc, &texts)?;
         self.events.extend_from_slice(&given)?;
         Ok(())
     }
@@ -248,20 +231,6 @@ impl Gathered {
             events,
         )
     }
-}
-
-// Whether texts have so many bytes at most.
-fn have_room(texts: &Vec<Bytes>, room: usize) -> bool
-    ensures { result ≡ nat_le (sum_by (λ text. length text.list) texts.now.items) room }
-{
-    let mut left = room;
-    for text in texts {
-        match left.checked_sub(text.as_slice().len()) {
-            Some(less) => left = less,
-            None => return false,
-        }
-    }
-    true
 }
 
 // An event for each byte of texts.

@@ -53,32 +53,22 @@ pub struct Script {
 }
 
 impl Model for Script {
-    ghost use Rattle.play_script.specs.Scripts.{ScriptView};
     ghost use Rattle.play_script.specs.Held.{bytes_in};
     ghost use Rattle.play_script.specs.Limits.{IsScript};
+    ghost use Rattle.play_script.specs.Scripts.{ScriptView, script_with};
 
     ghost Value = { ScriptView };
 
-    ghost view = { λ s. record {
-      version = s.version;
-      clock = s.clock;
-      arguments = bytes_in s.arguments.items;
-      events = s.events.items;
-    } };
+    ghost view = { λ s. script_with s.version s.clock (bytes_in s.arguments.items) s.events.items };
 
-    ghost invariant = { λ s. IsScript (record {
-      version = s.version;
-      clock = s.clock;
-      arguments = bytes_in s.arguments.items;
-      events = s.events.items;
-    }) };
+    ghost invariant = { λ s. IsScript (script_with s.version s.clock (bytes_in s.arguments.items) s.events.items) };
 }
 
 impl Script {
     ghost use Rattle.std.specs.Prelude.{◌≡◌};
     ghost use Rattle.play_script.specs.Held.{bytes_in};
     ghost use Rattle.play_script.specs.Limits.{IsScript};
-    ghost use Rattle.play_script.specs.Scripts.{version_number, view};
+    ghost use Rattle.play_script.specs.Scripts.{script_with, version_number};
 
     /// A script of these parts.
     pub(crate) fn new(
@@ -87,8 +77,8 @@ impl Script {
         arguments: Vec<Bytes>,
         events: Vec<Event>,
     ) -> Script
-        requires { IsScript (view version clock (bytes_in arguments.items) events.items) }
-        ensures { result ≡ view version clock (bytes_in arguments.items) events.items }
+        requires { IsScript (script_with version clock (bytes_in arguments.items) events.items) }
+        ensures { result ≡ script_with version clock (bytes_in arguments.items) events.items }
     {
         Script {
             version,

@@ -1,7 +1,10 @@
 //! What each line means. Each fault, and the limits, are shown on the command line.
 
+ghost use Rattle.std.specs.Prelude.{◌<◌};
+
 use super::*;
-use std::alloc::Global;
+use std::alloc::{AllocError, Global};
+use uxn_io::decimal;
 
 // Texts and their plain texts.
 static SCRIPTS: [(&str, &str); 20] = [
@@ -69,5 +72,121 @@ fn prints_as(alloc: Global, text: &str, plain: &str) -> bool {
 fn each_line_is_read_and_printed(rt: HostRuntime) {
     for (text, plain) in &SCRIPTS {
         assert!(rt; prints_as(rt.alloc(), text, plain), "at {text}");
+    }
+}
+
+/// How many of the drawn lines version 1 has.
+const OLD_LINES: u32 = 18;
+
+// Lines in which `?` is drawn as a hexadecimal digit, `*` as a number below 32,768, `+` as a digit from 1 to 8 and `~` as one from 1
+// to 4. Those of version 2 stand behind those of both versions.
+static LINES: [&str; 24] = [
+    "input ??",
+    "input \"* ???? \"a\"",
+    "end",
+    "frame",
+    "frame +",
+    "key ??",
+    "down a",
+    "down select",
+    "up start",
+    "up right",
+    "mouse * *",
+    "press +",
+    "release +",
+    "scroll -* *",
+    "scroll * -*",
+    "shot",
+    "# ~ lines",
+    "\t frame  ~\r",
+    "key ?? +",
+    "down left ~",
+    "down b ~",
+    "up down ~",
+    "expect ?? ??",
+    "expect\tc0 ??",
+];
+
+/// Numbers that are drawn one after the other.
+#[derive(Drop)]
+struct Draws(u32);
+
+impl Draws {
+    /// A number below this one.
+    fn below(&mut self, bound: u32) -> u32
+        requires { 0 < bound }
+        ensures { result < bound }
+    {
+        self.0 = self.0.wrapping_mul(1_664_525).wrapping_add(1_013_904_223);
+        self.0 / 256 % bound
+    }
+}
+
+/// Puts a line that is drawn.
+fn put_drawn(text: &mut Vec<u8>, draws: &mut Draws, line: &str) -> Result<(), AllocError> {
+    for byte in line.as_bytes() {
+        match *byte {
+            b'?' => text.push(b"0123456789abcdefABCDEF"[draws.below(22) as usize])?,
+            b'*' => text.extend_from_slice(decimal(u64::from(draws.below(32_768))).as_slice())?,
+            b'+' => text.push(b'1' + draws.below(8) as u8)?,
+            b'~' => text.push(b'1' + draws.below(4) as u8)?,
+            other => text.push(other)?,
+        }
+    }
+    Ok(text.push(b'\n')?)
+}
+
+/// A script of a version that is drawn.
+fn drawn(alloc: Global, version: u8, seed: u32) -> Result<Vec<u8>, AllocError> {
+    let mut draws = Draws(seed);
+    let mut text = Vec::new(alloc);
+    if version == 2 {
+        put_drawn(&mut text, &mut draws, "# drawn\n script 2")?;
+    }
+    if draws.below(2) == 0 {
+        put_drawn(&mut text, &mut draws, "args \"+a ????  \"")?;
+    }
+    if draws.below(2) == 0 {
+        put_drawn(&mut text, &mut draws, "clock * -~~+")?;
+    }
+    let lines = if version == 2 { 24 } else { OLD_LINES };
+    for _ in 0..draws.below(40) {
+        let line = LINES[draws.below(lines) as usize];
+        put_drawn(&mut text, &mut draws, line)?;
+    }
+    Ok(text)
+}
+
+/// Says whether a drawn script of a version is read, and its plain text is read as a script of that version with this plain text.
+fn goes_round(alloc: Global, version: u8, seed: u32) -> bool {
+    match drawn(alloc, version, seed) {
+        Ok(text) => match read_script(alloc, text.as_slice()) {
+            Ok(script) => match print_script(alloc, &script) {
+                Ok(plain) => script.version() == version
+                    && is_plain(alloc, version, plain.as_slice()),
+                Err(_) => false,
+            },
+            Err(_) => false,
+        },
+        Err(_) => false,
+    }
+}
+
+/// Says whether a text is read as a script of this version whose plain text it is.
+fn is_plain(alloc: Global, version: u8, text: &[u8]) -> bool {
+    match read_script(alloc, text) {
+        Ok(script) => match print_script(alloc, &script) {
+            Ok(plain) => script.version() == version && plain.as_slice() == text,
+            Err(_) => false,
+        },
+        Err(_) => false,
+    }
+}
+
+#[test]
+fn drawn_scripts_of_both_versions_are_printed_as_they_are_read(rt: HostRuntime) {
+    for seed in 0..100u32 {
+        assert!(rt; goes_round(rt.alloc(), 1, seed), "at {seed} in version 1");
+        assert!(rt; goes_round(rt.alloc(), 2, seed), "at {seed} in version 2");
     }
 }

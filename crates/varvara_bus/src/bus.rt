@@ -1,6 +1,7 @@
 //! The bus: what the machine's ports are.
 ghost use Rattle.std.specs.Prelude.{◌≡◌, ℕ, slice_index, ◌+◌, ◌<◌, ◌≤◌, true, false, [], ◌∷◌, map, length, Err, IsOk, OnOk, OnErr, IfErr, is_err};
 ghost use Rattle.varvara_bus.specs.State.{DeviceState, storing, next_frame, rendered};
+ghost use Rattle.console_port.specs.Console.{event_byte};
 ghost use Rattle.screen_frame.specs.Colours.{colours_of};
 ghost use Rattle.screen_layers.specs.Layers as layers;
 ghost use Rattle.audio_mixer.specs.Sounds.{frame_of, endings};
@@ -38,7 +39,7 @@ use crate::page::{
 use crate::ports::{Action, Source};
 use crate::screen::{ask_height, ask_width, draw_pixel, draw_sprite, palette, refresh, size_shown};
 use crate::voices::{is_endless, pass_frame, render, start_note, voice_shown};
-use console_port::console_write;
+use console_port::{EventKind, Output, console_write};
 use input_ports::Input;
 use screen_frame::Palette;
 use screen_layers::Screen;
@@ -135,9 +136,9 @@ impl<'a, T: Tree, O: Sink, E: Sink> Bus<'a, T, O, E> {
     }
 
     /// Stores an event of the console: its byte in port 12 and its kind in port 17.
-    pub fn give(&mut self, value: u8, kind: u8)
+    pub fn give(&mut self, value: u8, kind: EventKind)
         ensures devices { (state : DeviceState) → BusStandsFor T.told self.old state
-            → BusStandsFor T.told self.new (storing ((0x12, value) ∷ (0x17, kind) ∷ []) state) }
+            → BusStandsFor T.told self.new (storing ((0x12, value) ∷ (0x17, event_byte kind) ∷ []) state) }
         ensures others { ChangesDevices self.old self.new }
         ensures frames { frames_begun self.new ≡ frames_begun self.old }
     {
@@ -324,8 +325,8 @@ impl<'a, T: Tree, O: Sink, E: Sink> Bus<'a, T, O, E> {
                 Ok(())
             }
             Action::PutsDebugText => { answer(put_debug_text(core, self.err, value)) }
-            Action::PutsOut => answer(console_write(self.out, self.err, 0x18, value)),
-            Action::PutsErr => answer(console_write(self.out, self.err, 0x19, value)),
+            Action::PutsOut => answer(console_write(self.out, self.err, Output::Standard, value)),
+            Action::PutsErr => answer(console_write(self.out, self.err, Output::Error, value)),
             Action::AsksWidth => {
                 ask_width(self.devices);
                 Ok(())

@@ -1,6 +1,6 @@
 //! What the ports of the devices hold.
 ghost use Rattle.std.specs.Prelude.{◌≡◌, ℕ, Bool, ◌+◌, ◌*◌, ◌<◌, ◌==◌, if◌then◌else◌, IfOk, [], ◌∷◌, slice_index, slice_set, pos, neg_ℤ, ◌≤ℤ◌};
-ghost use Rattle.console_port.specs.Console.{given};
+ghost use Rattle.console_port.specs.Console.{event_byte, given};
 ghost use Rattle.input_ports.specs.Page.{with_stores, stores_of, stores_after};
 ghost use Rattle.input_ports.specs.Page.{short_stores};
 ghost use Rattle.varvara_bus.specs.History.{at_first, stored, stored_short};
@@ -12,7 +12,7 @@ use crate::devices::Devices;
 use crate::ports::{TimePart, byte_of};
 use crate::time::{Clock, Time};
 use audio_mixer::Mixer;
-use console_port::give as give_page;
+use console_port::{EventKind, give as give_page};
 use file_ports::FileDevice;
 use input_ports::{Input, apply as apply_page, settle as settle_page};
 use screen_layers::Screen;
@@ -80,10 +80,10 @@ pub(crate) fn store(devices: &mut Devices, port: u8, value: u8)
 }
 
 /// Stores an event of the console.
-pub(crate) fn give(devices: &mut Devices, value: u8, kind: u8)
+pub(crate) fn give(devices: &mut Devices, value: u8, kind: EventKind)
     ensures devices { devices.new ≡ record devices.old { page = given devices.old.page value kind } }
     ensures stands { (state : DeviceState) → StandFor devices.old state
-        → StandFor devices.new (storing ((0x12, value) ∷ (0x17, kind) ∷ []) state) }
+        → StandFor devices.new (storing ((0x12, value) ∷ (0x17, event_byte kind) ∷ []) state) }
 {
     give_page(&mut devices.page, value, kind);
 }

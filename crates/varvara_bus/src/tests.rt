@@ -1,6 +1,7 @@
 //! What ports do to the machine and to both outputs, and where a write stops.
 
 use super::*;
+use console_port::EventKind;
 use std::test::Fail;
 use uxn_io::{Bytes, Failed, Kind, MemSink, MemTree, Node, Path, Sink, Tree, TreeCall};
 use uxn_opcodes::{Core, Ports, Stop, step};
@@ -88,7 +89,7 @@ fn pointers_are_set_and_read(rt: HostRuntime) -> Result<(), Fail> {
     ] {
         assert_eq!(rt; bus.dei(&core, port), value);
     }
-    bus.give(0x0a, 4);
+    bus.give(0x0a, EventKind::End);
     bus.store(0x18, 0x41);
     for _ in 0..60 {
         if bus.frames() < 1_000_000 {

@@ -20,6 +20,8 @@ use Rattle.vector_loop.specs.declared.tally.Tally.{Tally}
 use Rattle.vector_loop.specs.State.{State, new_tally, with_stored}
 use Rattle.vector_loop.specs.Trail.{Trail, stays, followed_by}
 use Rattle.uxn_io.specs.ByteList.{ByteList}
+use Rattle.console_port.specs.declared.EventKind.{EventKind}
+use Rattle.console_port.specs.declared.EventKind.TheVariants as event_kind
 use Rattle.play_script.specs.Held.{bytes_in}
 use Rattle.play_script.specs.Scripts.{ScriptView}
 use Rattle.vector_loop.specs.declared.watch.Moment.{Moment}
@@ -67,16 +69,16 @@ each-end : {X : Type 0} (given : X → State → Trail) (xs : List X) (i : ℕ) 
 each-end given xs i past state = ap (λ items. give_each given items state) (drop_of_length-le xs past) ∙ each-nothing given state
 
 -- the bytes of an argument, and the newline behind it
-pub argument-at : (text : List ℕ) (kind i : ℕ) → i < length text → get_or (argument_bytes text ++ (10, kind) ∷ []) i (0, 0) ≡ (get_or text i 0, 2)
+pub argument-at : (text : List ℕ) (kind : EventKind) (i : ℕ) → i < length text → get_or (argument_bytes text ++ (10, kind) ∷ []) i (0, event_kind.Input) ≡ (get_or text i 0, event_kind.Argument)
 argument-at [] kind i within = absurd (omega arith)
 argument-at (byte ∷ text) kind zero within = refl
 argument-at (byte ∷ text) kind (suc i) within = argument-at text kind i (omega arith)
 
-pub argument-last : (text : List ℕ) (kind : ℕ) → get_or (argument_bytes text ++ (10, kind) ∷ []) (length text) (0, 0) ≡ (10, kind)
+pub argument-last : (text : List ℕ) (kind : EventKind) → get_or (argument_bytes text ++ (10, kind) ∷ []) (length text) (0, event_kind.Input) ≡ (10, kind)
 argument-last [] kind = refl
 argument-last (byte ∷ text) kind = argument-last text kind
 
-pub argument-length : (text : List ℕ) (kind : ℕ) → length (argument_bytes text ++ (10, kind) ∷ []) ≡ length text + 1
+pub argument-length : (text : List ℕ) (kind : EventKind) → length (argument_bytes text ++ (10, kind) ∷ []) ≡ length text + 1
 argument-length [] kind = refl
 argument-length (byte ∷ text) kind = omega (arith, argument-length text kind)
 

@@ -2,6 +2,9 @@
 use Rattle.std.specs.Prelude.{ℕ, ◌+◌, ◌*◌, ◌==◌, Bool, false, List, [], ◌∷◌, if◌then◌else◌, slice_index_or}
 use Rattle.input_ports.specs.declared.Input.{Input as DeviceInput}
 use Rattle.input_ports.specs.Page.{stores_of, stores_after, vector_of}
+use Rattle.console_port.specs.Console.{event_byte}
+use Rattle.console_port.specs.declared.EventKind.{EventKind}
+use Rattle.console_port.specs.declared.EventKind.TheVariants as event_kind
 use Rattle.play_script.specs.declared.script.Event.{Event}
 use Rattle.play_script.specs.declared.script.Event.TheVariants.{Input, EndInput, Frame, Device, Shot, Expect}
 use Rattle.audio_mixer.specs.Sounds.{frame_of, endings}
@@ -30,8 +33,8 @@ give_each given [] state = stays state
 give_each given (first ∷ rest) state = followed_by (unless_over (given first) state) (give_each given rest)
 
 -- the console is given a byte of this kind
-unfoldable pub console : ℕ → ℕ → ℕ → State → Trail
-console budget byte kind state = vector_in budget 0x10 (with_stored ((0x12, byte) ∷ (0x17, kind) ∷ []) state)
+unfoldable pub console : ℕ → ℕ → EventKind → State → Trail
+console budget byte kind state = vector_in budget 0x10 (with_stored ((0x12, byte) ∷ (0x17, event_byte kind) ∷ []) state)
 
 -- the controller or the mouse is given an input, which is settled after its vector
 unfoldable pub device : ℕ → DeviceInput → State → Trail
@@ -74,8 +77,8 @@ expected port byte state = stays (record state { tally = counting_expect (read_o
 
 -- what each event of a script does, once it is counted
 abbrev pub happens : ℕ → Outputs → Event → State → Trail
-happens budget outputs (Input byte) = console budget byte 1
-happens budget outputs EndInput = console budget 0 4
+happens budget outputs (Input byte) = console budget byte event_kind.Input
+happens budget outputs EndInput = console budget 0 event_kind.End
 happens budget outputs (Device input) = device budget input
 happens budget outputs Frame = frame budget outputs
 happens budget outputs Shot = shot outputs

@@ -5,6 +5,9 @@ use Rattle.std.specs.Prelude.{◌+◌, ◌*◌}
 use Rattle.std.proofs.Common.{cond, true, false}
 use Rattle.input_ports.specs.declared.Input.{Input as DeviceInput}
 use Rattle.input_ports.specs.Page.{stores_of, stores_after, vector_of}
+use Rattle.console_port.specs.Console.{event_byte}
+use Rattle.console_port.specs.declared.EventKind.{EventKind}
+use Rattle.console_port.specs.declared.EventKind.TheVariants as event_kind
 use Rattle.play_script.specs.declared.script.Event.{Event}
 use Rattle.play_script.specs.declared.script.Event.TheVariants.{Input, EndInput, Frame, Device, Shot, Expect}
 use Rattle.play_script.specs.Scripts.{ScriptView}
@@ -72,10 +75,10 @@ module _ (path : List ℕ) where
     ];
   }
 
-  console-leaves : (budget byte kind : ℕ) → Leaves path (console budget byte kind)
+  console-leaves : (budget byte : ℕ) (kind : EventKind) → Leaves path (console budget byte kind)
   unfolding console
   console-leaves budget byte kind = record {
-    alone = λ state apart. (vector_in-leaves budget 0x10).alone (with_stored ((0x12, byte) ∷ (0x17, kind) ∷ []) state) apart;
+    alone = λ state apart. (vector_in-leaves budget 0x10).alone (with_stored ((0x12, byte) ∷ (0x17, event_byte kind) ∷ []) state) apart;
   }
 
   device-leaves : (budget : ℕ) (input : DeviceInput) → Leaves path (device budget input)
@@ -144,8 +147,8 @@ module _ (path : List ℕ) where
     expected-leaves port byte = record { alone = λ state apart. (tt, apart) }
 
     happens-leaves : (budget : ℕ) (event : Event) → Leaves path (happens budget outputs event)
-    happens-leaves budget (Input byte) = console-leaves budget byte 1
-    happens-leaves budget EndInput = console-leaves budget 0 4
+    happens-leaves budget (Input byte) = console-leaves budget byte event_kind.Input
+    happens-leaves budget EndInput = console-leaves budget 0 event_kind.End
     happens-leaves budget (Device input) = device-leaves budget input
     happens-leaves budget Frame = frame-leaves budget
     happens-leaves budget Shot = shot-leaves

@@ -16,6 +16,7 @@ use crate::output::{Outputs, keep_picture};
 use crate::tally::Tally;
 use crate::vector::run_vector;
 use crate::watch::Watcher;
+use console_port::EventKind;
 use input_ports::{Input, vector_port};
 use play_script::Event;
 use uxn_io::{Sink, Tree};
@@ -27,12 +28,6 @@ const CONSOLE_VECTOR: u8 = 0x10;
 
 /// The port of the state, which ends the run where it is not 0.
 pub(crate) const STATE: u8 = 0x0f;
-
-/// The kind of a byte of the console's input.
-const INPUT: u8 = 1;
-
-/// The kind of the end of the console's input.
-const END: u8 = 4;
 
 /// Runs the vector whose address is in two ports, unless it is 0.
 pub(crate) fn run_vector_in<'a, T: Tree, O: Sink, E: Sink, W: Watcher>(
@@ -72,7 +67,7 @@ pub(crate) fn give_console<'a, T: Tree, O: Sink, E: Sink, W: Watcher>(
     core: &mut Core,
     bus: &mut Bus<'a, T, O, E>,
     byte: u8,
-    kind: u8,
+    kind: EventKind,
     budget: u32,
     tally: &mut Tally,
     watcher: &mut W,
@@ -193,11 +188,27 @@ pub fn run_event<'a, T: Tree, O: Sink, E: Sink, W: Watcher>(
 {
     tally.events += 1;
     match event {
-        Event::Input(byte) => match give_console(core, bus, *byte, INPUT, budget, tally, watcher) {
+        Event::Input(byte) => match give_console(
+            core,
+            bus,
+            *byte,
+            EventKind::Input,
+            budget,
+            tally,
+            watcher,
+        ) {
             Ok(()) => Ok(()),
             Err(stop) => Err(stop),
         },
-        Event::EndInput => match give_console(core, bus, 0, END, budget, tally, watcher) {
+        Event::EndInput => match give_console(
+            core,
+            bus,
+            0,
+            EventKind::End,
+            budget,
+            tally,
+            watcher,
+        ) {
             Ok(()) => Ok(()),
             Err(stop) => Err(stop),
         },

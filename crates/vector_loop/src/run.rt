@@ -24,6 +24,7 @@ use crate::output::Outputs;
 use crate::tally::Tally;
 use crate::vector::run_vector;
 use crate::watch::{Moment, Watcher};
+use console_port::{EventKind, KIND};
 use play_script::{Event, Script};
 use uxn_io::{Bytes, Sink, Tree};
 use uxn_opcodes::{Core, Stop};
@@ -32,24 +33,12 @@ use varvara_bus::Bus;
 /// Where the reset vector begins.
 const RESET: u16 = 0x0100;
 
-/// The port of the kind of the last console event.
-const KIND: u8 = 0x17;
-
-/// The kind of a byte of an argument.
-const ARGUMENT: u8 = 2;
-
-/// The kind of the newline between two arguments.
-const SPACER: u8 = 3;
-
-/// The kind of the newline behind the last argument.
-const LAST: u8 = 4;
-
 /// Gives the console a byte of a kind, unless the run is over.
 fn give_byte<'a, T: Tree, O: Sink, E: Sink, W: Watcher>(
     core: &mut Core,
     bus: &mut Bus<'a, T, O, E>,
     byte: u8,
-    kind: u8,
+    kind: EventKind,
     budget: u32,
     tally: &mut Tally,
     watcher: &mut W,
@@ -74,7 +63,7 @@ fn give_argument<'a, T: Tree, O: Sink, E: Sink, W: Watcher>(
     core: &mut Core,
     bus: &mut Bus<'a, T, O, E>,
     text: &[u8],
-    kind: u8,
+    kind: EventKind,
     budget: u32,
     tally: &mut Tally,
     watcher: &mut W,
@@ -86,7 +75,15 @@ fn give_argument<'a, T: Tree, O: Sink, E: Sink, W: Watcher>(
         (give_each (console_byte budget) (argument_bytes text.now ++ (10, kind) ∷ [])) (length text.now + 1) 0 budget result }
 {
     for byte in text {
-        match give_byte(core, bus, *byte, ARGUMENT, budget, tally, watcher) {
+        match give_byte(
+            core,
+            bus,
+            *byte,
+            EventKind::Argument,
+            budget,
+            tally,
+            watcher,
+        ) {
             Ok(()) => {}
             Err(stop) => return Err(stop),
         }
@@ -98,10 +95,14 @@ fn give_argument<'a, T: Tree, O: Sink, E: Sink, W: Watcher>(
 }
 
 /// The kind of the newline behind an argument that so many follow.
-fn kind_before(following: usize) -> u8
+fn kind_before(following: usize) -> EventKind
     ensures { result ≡ kind_before following }
 {
-    if following == 0 { LAST } else { SPACER }
+    if following == 0 {
+        EventKind::End
+    } else {
+        EventKind::Spacer
+    }
 }
 
 /// Gives the arguments, each byte unless the run is over.
@@ -193,7 +194,7 @@ fn make_ready<'a, T: Tree, O: Sink, E: Sink>(bus: &mut Bus<'a, T, O, E>, argumen
     ensures frames { frames_begun bus.new ≡ frames_begun bus.old }
 {
     if !arguments.is_empty() {
-        bus.store(KIND, 1);
+        bus.store(KIND, EventKind::Input.byte());
     }
 }
 
