@@ -81,16 +81,8 @@ immediate_stands (byte ∷ []) short small =
     (record { plain = byte_plain byte below; shape = Raw1 byte; formed = form-byte byte below; bare = refl; encodes = refl }, tt)
 immediate_stands (byte ∷ next ∷ []) short small =
     let below : byte < 256 = small 0 (omega arith) in
-    let next_below : next < 256 = small 1 (omega arith) in (
-      record {
-        plain = short_plain byte next below next_below;
-        shape = Raw2 (256 * byte + next);
-        formed = form-short byte next below next_below;
-        bare = refl;
-        encodes = short_again byte next below next_below;
-      },
-      tt,
-    )
+    let next_below : next < 256 = small 1 (omega arith) in
+    (record { plain = short_plain byte next below next_below; shape = Raw2 (256 * byte + next); formed = form-short byte next below next_below; bare = refl; encodes = short_again byte next below next_below }, tt)
 immediate_stands (byte ∷ next ∷ last ∷ bytes) short small = absurd (omega arith)
 
 all_stand : (is : List Instruction) → AllByRecursion IsInstruction is → AllByRecursion StandsFor (flat_map coded_of is)

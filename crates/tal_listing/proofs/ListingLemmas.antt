@@ -62,9 +62,6 @@ found_first (piece ∷ pieces) address (suc k) d within here before =
     rw other (found_first pieces address k d (omega arith) here (λ i below. before (suc i) (omega arith)))
 
 module _ (source : List ℕ) (sound : first_fault source ≡ None) (k : ℕ) (word : PlacedWord) (piece : Piece) (within : k < length (layout source).words) where
-  abbrev words : List PlacedWord
-  words = (layout source).words
-
   abbrev pieces : List Piece
   pieces = pieces_of source (layout source).labels (layout source).words
 
@@ -78,7 +75,7 @@ module _ (source : List ℕ) (sound : first_fault source ≡ None) (k : ℕ) (wo
   unfolding pieces_of
   own_address = ap (λ (p : Piece). p.address) (get_or-each (piece_given source (layout source).labels) [] (layout source).words k word piece within)
 
-  piece_count : length pieces ≡ length words
+  piece_count : length pieces ≡ length (layout source).words
   unfolding pieces_of
   piece_count = length-each (piece_given source (layout source).labels) [] (layout source).words
 
