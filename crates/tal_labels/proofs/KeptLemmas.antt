@@ -71,6 +71,10 @@ module _ (source : List ℕ) (words : List Expanded) (word : Expanded) (shape : 
   next_ones false false e f = (let more = still-more source word shape shaped f [] words in (sym more.0, sym (rw (e, append-nil (opened source [] words)) at more.1)))
   next_ones false true e f = closes_by _ (length words) _ _ _ _ (closes_last source word shape shaped f [] words (formed-added source words formed))
 
+  pub placed_next : closed_by (closed_opener (opens (expanded_text source word)) (closes (expanded_text source word)) (open_ones source words)) (address_after source words)
+      (placed_of source words ++ open_word source words word shape ∷ []) ≡ placed_of source (words ++ word ∷ [])
+  placed_next = (next_ones _ _ refl refl).0
+
 length-placed : (source : List ℕ) (words : List Expanded) → added_fault source words ≡ None → length (placed_of source words) ≡ length words
 unfolding placed_of
 length-placed source words sound = length-collected source [] words (formed-added source words sound)

@@ -20,7 +20,7 @@ found-step : (opening found : Bool) (opens closes at : ℕ) (inner : List ℕ) �
     → ((opening && (not found && opens == closes)) || not (length inner == 0)) ≡ not (length (cond (opening && not found) (at ∷ []) [] ++ inner) == 0)
 found-step opening found opens closes at inner even = grind (arith, nat_tests)
 
-twice : (b : Bool) → b ≡ not (not b)
+pub twice : (b : Bool) → b ≡ not (not b)
 twice b = grind arith
 
 module _ (source : List ℕ) (word : Expanded) (last : closes (expanded_text source word) ≡ true) where

@@ -30,7 +30,8 @@ pub fn closers_of(
 /// opener, of which the next one stands last.
 fn closer_at(text: &[u8], at: usize, waiting: &mut Vec<usize>) -> Result<Option<usize>, AllocError>
     ensures value { IfOk result (λ closer. closer ≡ (if opens text.now then slice_get (reverse waiting.old.items) 0 else None)) }
-    ensures rest { OnOk result (reverse waiting.new.items ≡ waiting_step at (opens text.now) (closes text.now) (reverse waiting.old.items)) }
+    ensures rest { OnOk result (reverse waiting.new.items
+        ≡ waiting_step at (opens text.now) (closes text.now) (reverse waiting.old.items)) }
 {
     if opens(text) {
         return Ok(next_waiting(waiting));

@@ -1,6 +1,7 @@
 //! Words that are placed one by one.
 
-ghost use Rattle.std.specs.Prelude.{◌≡◌, ◌<◌, ◌^◌, ◌++◌, ◌∷◌, [], ℕ, List, None, Some, length, nat_lt, is_some, IfOk, IfSome, OnOk, OnErr, OnSome, true, false};
+ghost use Rattle.std.specs.Prelude.{◌≡◌, ◌<◌, ◌^◌, ◌++◌, ◌∷◌, [], ℕ, List, None, Some, length, nat_lt, is_some, true, false};
+ghost use Rattle.std.specs.Prelude.{IfOk, IfSome, OnOk, OnErr, OnSome};
 ghost use Rattle.std.specs.Prelude.{◌+◌, ◌-◌, ◌≤◌, ◌&&◌, ◌==◌, not, if◌then◌else◌};
 ghost use Rattle.std.specs.Option.{option_map};
 ghost use Rattle.std.specs.Vec.{vec_len, vec_capacity};
@@ -61,9 +62,12 @@ impl Placer {
     /// out the word is not added.
     pub fn add(&mut self, source: &[u8], word: Expanded) -> Result<Option<PlacedWord>, AllocError>
         requires source { length source.now < 2 ^ 32 }
-        ensures value { IfOk result (λ placed. (words : List ExpandedWord) → length words < 2 ^ 31 - 1 → WereAdded source.now words self.old → placed ≡ word_added source.now words word) }
-        ensures added { OnOk result ((words : List ExpandedWord) → length words < 2 ^ 31 - 1 → WereAdded source.now words self.old → WereAdded source.now (words ++ word ∷ []) self.new) }
-        ensures err { OnErr result ((words : List ExpandedWord) → WereAdded source.now words self.old → WereAdded source.now words self.new) }
+        ensures value { IfOk result (λ placed. (words : List ExpandedWord) → length words < 2 ^ 31 - 1
+            → WereAdded source.now words self.old → placed ≡ word_added source.now words word) }
+        ensures added { OnOk result ((words : List ExpandedWord) → length words < 2 ^ 31 - 1
+            → WereAdded source.now words self.old → WereAdded source.now (words ++ word ∷ []) self.new) }
+        ensures err { OnErr result ((words : List ExpandedWord)
+            → WereAdded source.now words self.old → WereAdded source.now words self.new) }
     {
         if self.is_faulty {
             return Ok(None);
@@ -81,7 +85,8 @@ impl Placer {
     /// The words that were added with their places, and their labels. It gives None where one of them is faulty, by its
     /// shape, its label or its address.
     pub fn finish(self) -> Option<Placed>
-        ensures { (source : List ℕ) (words : List ExpandedWord) → WereAdded source words self → result ≡ (if is_some (place_fault source words) then None else Some (layout_of source words)) }
+        ensures { (source : List ℕ) (words : List ExpandedWord) → WereAdded source words self
+            → result ≡ (if is_some (place_fault source words) then None else Some (layout_of source words)) }
     {
         if !self.is_whole() {
             return None;
@@ -104,7 +109,8 @@ impl Placer {
     ) -> Result<PlacedWord, AsmStop>
         requires source { length source.now < 2 ^ 32 }
         ensures flag { self.new.is_faulty ≡ self.old.is_faulty }
-        ensures value { (words : List ExpandedWord) → length words < 2 ^ 31 - 1 → IsKept source.now words (kept_by self.old) → PlacesNext source.now words word result (kept_by self.new) }
+        ensures value { (words : List ExpandedWord) → length words < 2 ^ 31 - 1
+            → IsKept source.now words (kept_by self.old) → PlacesNext source.now words word result (kept_by self.new) }
         ensures err { OnErr result (kept_by self.new ≡ kept_by self.old) }
     {
         let text = word.text.text(source);
@@ -145,11 +151,17 @@ impl Placer {
         requires within { 0 < placed.size → placed.address + placed.size ≤ memory_end }
         ensures flag { self.new.is_faulty ≡ self.old.is_faulty }
         ensures err { OnErr result (kept_by self.new ≡ kept_by self.old) }
-        ensures words { OnOk result (self.new.words.items ≡ closed_by (closed_opener (opens_brace text.now) (closes_brace text.now) self.old.openers.items) placed.address (self.old.words.items ++ placed ∷ [])) }
-        ensures labels { OnOk result (self.new.labels ≡ self.old.labels ++ label_of (option_map (λ bytes. bytes.items) name) placed.address) }
-        ensures openers { OnOk result (self.new.openers.items ≡ openers_step (opens_brace text.now) (closes_brace text.now) (length self.old.words.items) self.old.openers.items) }
-        ensures scope { OnOk result (scope_text source.now self.new.scope ≡ scope_behind placed.form (scope_text source.now self.old.scope) text.now) }
-        ensures address { OnOk result (self.old.address < 2 ^ 63 → length text.now < 2 ^ 32 → self.new.address ≡ address_behind placed.form text.now self.old.address) }
+        ensures words { OnOk result (self.new.words.items
+            ≡ closed_by (closed_opener (opens_brace text.now) (closes_brace text.now) self.old.openers.items) placed.address
+            (self.old.words.items ++ placed ∷ [])) }
+        ensures labels { OnOk result (self.new.labels
+            ≡ self.old.labels ++ label_of (option_map (λ bytes. bytes.items) name) placed.address) }
+        ensures openers { OnOk result (self.new.openers.items
+            ≡ openers_step (opens_brace text.now) (closes_brace text.now) (length self.old.words.items) self.old.openers.items) }
+        ensures scope { OnOk result (scope_text source.now self.new.scope
+            ≡ scope_behind placed.form (scope_text source.now self.old.scope) text.now) }
+        ensures address { OnOk result (self.old.address < 2 ^ 63 → length text.now < 2 ^ 32
+            → self.new.address ≡ address_behind placed.form text.now self.old.address) }
         ensures small { OnOk result (length text.now < 2 ^ 32 → self.new.address < self.old.address + 2 ^ 32) }
         ensures top { OnOk result (self.new.top ≡ (if nat_lt 0 placed.size then placed.address + placed.size else self.old.top)) }
     {
@@ -169,7 +181,8 @@ impl Placer {
 
 /// What is wrong with the address of a word of this form and text that comes next and defines this name.
 fn kind_at(placer: &Placer, form: Form, text: &[u8], name: &Option<Vec<u8>>) -> Option<FaultKind>
-    ensures { result ≡ least (place_kinds (is_among placer.now.labels (option_map (λ bytes. bytes.items) name.now)) placer.now.address (size_of form text.now) (is_mark form) (nat_lt placer.now.address placer.now.top)) }
+    ensures { result ≡ least (place_kinds (is_among placer.now.labels (option_map (λ bytes. bytes.items) name.now))
+        placer.now.address (size_of form text.now) (is_mark form) (nat_lt placer.now.address placer.now.top)) }
 {
     placing_kind(
         is_defined(&placer.labels, name),

@@ -1,8 +1,9 @@
 -- That a disassembly assembles to its ROM.
-use Rattle.std.proofs.Common.{◌≡◌, ℕ, zero, suc, ◌+◌, ◌-◌, ◌*◌, ◌/◌, ◌%◌, ◌<◌, ◌≤◌, ◌⊎◌, inl, inr, true, false, List, [], ◌∷◌, ◌++◌, length, take, drop, get_or, map, refl, ap, sym, ◌∙◌, arith, append_assoc, append-nil, length-take, length-drop}
+use Rattle.std.proofs.Common.{◌≡◌, ℕ, zero, suc, ◌+◌, ◌-◌, ◌*◌, ◌/◌, ◌%◌, ◌<◌, ◌≤◌, inl, inr, true, false, List, [], ◌∷◌, ◌++◌, length, take, drop, get_or, map, refl, ap, sym, ◌∙◌, arith, append_assoc, append-nil, length-take, length-drop}
+use Rattle.std.proofs.Math.Seq.{drop-append_seam}
 use Rattle.std.specs.Prelude.{◌==◌, slice_index}
 use Rattle.std.specs.List.{flat_map, list_any, AllByRecursion}
-use Rattle.std.proofs.lemmas.Bool.{cases_lt, cases_Bool}
+use Rattle.std.proofs.lemmas.Bool.{cases_Bool}
 use Rattle.std.proofs.lemmas.List.{drop_all, take-append-drop, map-append, get_or-take, get_or-drop, drop_more, drop-drop}
 use Rattle.std.proofs.lemmas.List.Concat.{flat_map-append}
 use Rattle.tal_words.specs.declared.form.Form.TheVariants.{Op, Raw1, Raw2}
@@ -42,14 +43,15 @@ instructions_known (suc more) address (opcode ∷ bytes) small room =
     let count = immediate_length opcode in
     let here = room (omega arith) in
     let size = length-take count bytes in
-    let left = length-drop count bytes in (
+    let left = length-drop (length (take count bytes)) bytes in (
       record {
         place = omega arith;
         byte = small 0 (omega arith);
         short = omega (arith, size, immediate_length-le opcode);
         small = λ k within. rw (get_or-take count bytes k 0 (omega (arith, size))) (small (suc k) (omega (arith, size)));
       },
-      instructions_known more (address + 1 + count) (drop count bytes) (λ k within. rw (get_or-drop count bytes k 0) (small (suc (count + k)) (omega (arith, left)))) (λ some. omega (arith, left)),
+      instructions_known more (address + 1 + length (take count bytes)) (drop (length (take count bytes)) bytes)
+          (λ k within. rw (get_or-drop (length (take count bytes)) bytes k 0) (small (suc (length (take count bytes) + k)) (omega (arith, left)))) (λ some. omega (arith, left)),
     )
 
 -- the bytes of the instructions are those that were read
@@ -60,8 +62,9 @@ instruction_bytes zero address [] enough = refl
 instruction_bytes zero address (opcode ∷ bytes) enough = absurd (omega arith)
 instruction_bytes (suc more) address [] enough = refl
 instruction_bytes (suc more) address (opcode ∷ bytes) enough =
-    let count = immediate_length opcode in
-    rw (instruction_bytes more (address + 1 + count) (drop count bytes) (omega (arith, length-drop count bytes)), take-append-drop count bytes) refl
+    let front = take (immediate_length opcode) bytes in
+    rw (instruction_bytes more (address + 1 + length front) (drop (length front) bytes) (omega (arith, length-drop (length front) bytes)))
+    (ap (λ (all : List ℕ). opcode ∷ all) (rw (take-append-drop (immediate_length opcode) bytes) at (ap (λ (all : List ℕ). front ++ all) (drop-append_seam front (drop (immediate_length opcode) bytes)))))
 
 -- the words of an instruction with their bytes
 abbrev coded_immediate : List ℕ → List Coded
@@ -78,16 +81,8 @@ immediate_stands (byte ∷ []) short small =
     (record { plain = byte_plain byte below; shape = Raw1 byte; formed = form-byte byte below; bare = refl; encodes = refl }, tt)
 immediate_stands (byte ∷ next ∷ []) short small =
     let below : byte < 256 = small 0 (omega arith) in
-    let next_below : next < 256 = small 1 (omega arith) in (
-      record {
-        plain = short_plain byte next below next_below;
-        shape = Raw2 (256 * byte + next);
-        formed = form-short byte next below next_below;
-        bare = refl;
-        encodes = short_again byte next below next_below;
-      },
-      tt,
-    )
+    let next_below : next < 256 = small 1 (omega arith) in
+    (record { plain = short_plain byte next below next_below; shape = Raw2 (256 * byte + next); formed = form-short byte next below next_below; bare = refl; encodes = short_again byte next below next_below }, tt)
 immediate_stands (byte ∷ next ∷ last ∷ bytes) short small = absurd (omega arith)
 
 all_stand : (is : List Instruction) → AllByRecursion IsInstruction is → AllByRecursion StandsFor (flat_map coded_of is)
@@ -184,16 +179,11 @@ long_text : (before name digits address : List ℕ) → ((((before ++ name) ++ 3
 long_text before name digits address = simp (append_assoc, append-nil) refl
 
 -- the line of an instruction
-line_text : (before name immediate address : List ℕ)
+pub line_text : (before name immediate address : List ℕ)
     → ((((before ++ name) ++ behind_name immediate) ++ 32 ∷ 40 ∷ 32 ∷ []) ++ address) ++ 32 ∷ 41 ∷ 10 ∷ []
     ≡ before ++ text_of_items (PlainWord name 32 ∷ (immediate_items immediate ++ Comment address 10 ∷ []))
 line_text before name [] address = simp (append_assoc, append-nil) refl
 line_text before name (byte ∷ bytes) address = long_text before name (hex_of_bytes (byte ∷ bytes)) address
-
-pub instruction_text : (before : List ℕ) (i : Instruction)
-    → ((((before ++ name_of_op i.opcode) ++ behind_name i.immediate) ++ 32 ∷ 40 ∷ 32 ∷ []) ++ hex_of_short i.address) ++ 32 ∷ 41 ∷ 10 ∷ []
-    ≡ before ++ text_of_items (instruction_items i)
-instruction_text before i = line_text before (name_of_op i.opcode) i.immediate (hex_of_short i.address)
 
 none-from : (n address : ℕ) → instructions_from n address [] ≡ []
 unfolding instructions_from
@@ -205,7 +195,7 @@ enough : (n m address : ℕ) (bytes : List ℕ) → length bytes ≤ n → lengt
 unfolding instructions_from
 enough n m address [] first second = none-from n address ∙ sym (none-from m address)
 enough (suc n) (suc m) address (opcode ∷ bytes) first second =
-    let count = immediate_length opcode in
+    let count = length (take (immediate_length opcode) bytes) in
     rw (enough n m (address + 1 + count) (drop count bytes) (omega (arith, length-drop count bytes)) (omega (arith, length-drop count bytes))) refl
 enough n m address (opcode ∷ bytes) first second = absurd (omega arith)
 
@@ -229,9 +219,7 @@ unfolding disassembly
 disassembled_start rom labels text is = let all : length rom - 0 ≡ length rom = omega arith in record { rest = rw (is, all) refl; within = omega arith }
 
 pub disassembled_end : (rom : List ℕ) (labels : List Label) (text : List ℕ) (offset : ℕ) → length rom ≤ offset → DisassembledTo rom labels text offset → text ≡ disassembly rom labels
-disassembled_end rom labels text offset past up =
-    let none : instructions_at rom offset ≡ [] = ap (instructions_from (length rom - offset) (rom_start + offset)) (drop_all offset rom past) ∙ none-from (length rom - offset) (rom_start + offset) in
-    sym (append-nil text) ∙ ap (λ (is : List Instruction). text ++ text_of_items (flat_map (items_of labels) is)) (sym none) ∙ up.rest
+disassembled_end rom labels text offset past up = sym (append-nil text) ∙ rw (drop_all offset rom past, none-from) at up.rest
 
 module _ (rom : List ℕ) (labels : List Label) (text : List ℕ) (offset : ℕ) (within : offset < length rom) (up : DisassembledTo rom labels text offset) where
   abbrev pub instruction_at : Instruction
@@ -241,31 +229,15 @@ module _ (rom : List ℕ) (labels : List Label) (text : List ℕ) (offset : ℕ)
     immediate = take (immediate_length (get_or rom offset 0)) (drop (offset + 1) rom);
   }
 
-  -- what stands behind an instruction, whose immediate may be cut short
-  later : (immediate_length (get_or rom offset 0) < length (drop (offset + 1) rom)) ⊎ (length (drop (offset + 1) rom) ≤ immediate_length (get_or rom offset 0))
-      → instructions_from (length rom - offset - 1) (rom_start + offset + 1 + immediate_length (get_or rom offset 0)) (drop (immediate_length (get_or rom offset 0)) (drop (offset + 1) rom))
-      ≡ instructions_at rom (offset + 1 + length instruction_at.immediate)
-  later (inl whole) =
-      let count = immediate_length (get_or rom offset 0) in
-      let taken : length instruction_at.immediate ≡ count = omega (arith, length-take count (drop (offset + 1) rom)) in
-      let size = length-drop (offset + 1) rom in
-      let place : rom_start + offset + 1 + count ≡ rom_start + (offset + 1 + count) = omega arith in
-      let behind = drop-drop count (offset + 1) rom in
-      rw (taken, place, behind) (enough _ _ _ _ (omega (arith, length-drop (offset + 1 + count) rom)) (omega (arith, length-drop (offset + 1 + count) rom)))
-  later (inr cut) =
-      let count = immediate_length (get_or rom offset 0) in
-      let taken : length instruction_at.immediate ≡ length (drop (offset + 1) rom) = omega (arith, length-take count (drop (offset + 1) rom)) in
-      let none = drop_all count (drop (offset + 1) rom) cut in
-      let end = drop_all (offset + 1 + length instruction_at.immediate) rom (omega (arith, taken, length-drop (offset + 1) rom)) in
-      rw (none, end) (none-from _ _ ∙ sym (none-from _ _))
-
   -- the next instruction, and those behind it
   instructions_more : instructions_at rom offset ≡ instruction_at ∷ instructions_at rom (offset + 1 + length instruction_at.immediate)
   unfolding instructions_from
   instructions_more =
-      let left = drop_more rom offset 0 within in
+      let count = length instruction_at.immediate in
       let size : length rom - offset ≡ suc (length rom - offset - 1) = omega arith in
-      rw (left, size) (ap (λ (is : List Instruction). instruction_at ∷ is) (later (cases_lt (immediate_length (get_or rom offset 0)) (length (drop (offset + 1) rom)))))
+      let place : rom_start + offset + 1 + count ≡ rom_start + (offset + 1 + count) = omega arith in
+      let left = length-drop (offset + 1 + count) rom in
+      rw (drop_more rom offset 0 within, size, place, drop-drop count (offset + 1) rom) (ap (λ (is : List Instruction). instruction_at ∷ is) (enough _ _ _ _ (omega (arith, left)) (omega (arith, left))))
 
   pub disassembled_more : (labelled more : List ℕ) (next : ℕ) → labelled ≡ text ++ text_of_items (label_items labels (rom_start + offset))
       → more ≡ labelled ++ text_of_items (instruction_items instruction_at) → next ≡ offset + 1 + length instruction_at.immediate → next ≤ length rom

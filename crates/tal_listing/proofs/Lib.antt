@@ -3,4 +3,3 @@ pub mod DisassemblyLemmas
 pub mod ChainLemmas
 pub mod ListingLemmas
 pub mod LabelNames
-pub mod ListedBytes

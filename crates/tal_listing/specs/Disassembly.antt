@@ -31,8 +31,9 @@ unfoldable pub instructions_from : ℕ → ℕ → List ℕ → List Instruction
 instructions_from zero address bytes = []
 instructions_from (suc more) address [] = []
 instructions_from (suc more) address (opcode ∷ bytes) =
-    record { address = address; opcode = opcode; immediate = take (immediate_length opcode) bytes }
-    ∷ instructions_from more (address + 1 + immediate_length opcode) (drop (immediate_length opcode) bytes)
+    let immediate = take (immediate_length opcode) bytes in
+    record { address = address; opcode = opcode; immediate = immediate }
+    ∷ instructions_from more (address + 1 + length immediate) (drop (length immediate) bytes)
 
 -- the comment with the name of a label, on a line of its own
 abbrev pub label_item : Label → Item

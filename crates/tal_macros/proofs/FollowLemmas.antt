@@ -1,5 +1,5 @@
 -- A pass that goes on as the expansion of its source does.
-use Rattle.std.proofs.Common.{◌≡◌, ℕ, ◌+◌, ◌⊎◌, inl, inr, true, false, List, [], drop, Some, None, ap, sym, ◌∙◌, arith}
+use Rattle.std.proofs.Common.{◌≡◌, ℕ, ◌⊎◌, inl, inr, true, false, List, [], drop, Some, None, ap, sym, ◌∙◌, arith}
 use Rattle.std.proofs.lemmas.List.{drop-drop}
 use Rattle.tal_words.specs.declared.span.Word.{Word}
 use Rattle.tal_words.specs.declared.span.Expanded.{Expanded}
@@ -7,11 +7,14 @@ use Rattle.tal_words.specs.Order.{collected}
 use Rattle.tal_words.specs.Comments.{words_of}
 use Rattle.tal_macros.specs.declared.pass.Pass.{Pass}
 use Rattle.tal_macros.specs.Expansion.{Visited, parts_of, parts_from, known_at, visit_list}
-use Rattle.tal_macros.specs.Steps.{steps_given, reached, next_word, count_to_next, visits_before_fault}
+use Rattle.tal_macros.specs.Steps.{steps_given, reached, next_word, visits_before_fault, Progress, words_left, advanced}
 use Rattle.tal_macros.specs.Passing.{rest, left, Passes, Visits, Follows}
 use Rattle.tal_macros.proofs.StepLemmas.{collected-rest, fault-steps}
 
 module _ (source : List ℕ) (words : List Word) where
+  abbrev pub progress : ℕ → Progress
+  progress visited = record { source = source; visited = visited }
+
   pub follows-start : (pass : Pass) → left source words pass ≡ rest source [] 0 (parts_from source 0 words) → pass.count ≡ 0 → words ≡ words_of source
       → Follows source words 0 pass
   unfolding visits_before_fault known_at visit_list parts_of
@@ -39,16 +42,12 @@ module _ (source : List ℕ) (words : List Word) where
       pub follows-given : Follows source words new.count new
       follows-given = grind (arith, behind)
 
-      pub next-given : word.is_use ≡ false → (given : Expanded) → given ≡ record { text = word.text; origin = word.origin }
-          → (next_word (drop visited (visits_before_fault source)) ≡ Some given)
-          × (new.count ≡ visited + count_to_next (drop visited (visits_before_fault source)))
-      next-given plain given is = grind arith
+      pub next-given : word.is_use ≡ false → (given : Expanded) → given ≡ record { text = word.text; origin = word.origin } → (next_word (words_left (progress visited)) ≡ Some given) × (progress new.count ≡ advanced (progress visited))
+      next-given plain given is = (grind arith, ap progress (grind arith))
 
     -- where nothing is left to visit
-    pub next-none : reached (left source words old) ≡ [] → Passes source words old new
-        → (next_word (drop visited (visits_before_fault source)) ≡ None)
-        × (new.count ≡ visited + count_to_next (drop visited (visits_before_fault source)))
-    next-none none passes = grind arith
+    pub next-none : reached (left source words old) ≡ [] → Passes source words old new → (next_word (words_left (progress visited)) ≡ None) × (progress new.count ≡ advanced (progress visited))
+    next-none none passes = (grind arith, ap progress (grind arith))
 
   -- after a step that gives no word
   pub follows-turn : (visited : ℕ) (old new : Pass) → Follows source words visited old

@@ -5,8 +5,10 @@ ghost use Rattle.tal_words.specs.declared.span.Expanded.{Expanded as ExpandedWor
 ghost use Rattle.tal_words.specs.Order.{collected};
 ghost use Rattle.tal_words.specs.Faults.{Gives};
 ghost use Rattle.tal_words.specs.Comments.{words_of};
-ghost use Rattle.tal_macros.specs.Expansion.{Visited, expanded_of, expansion_fault, judged_part, visit_list, parts_of, without_uses, visit_limit};
-ghost use Rattle.tal_macros.specs.Steps.{Progress, steps_given, given, next_word, words_left, visits_before_fault, advanced, NextGives, progress_after};
+ghost use Rattle.tal_macros.specs.Expansion.{Visited, expanded_of, expansion_fault, judged_part, visit_list, parts_of};
+ghost use Rattle.tal_macros.specs.Expansion.{without_uses, visit_limit};
+ghost use Rattle.tal_macros.specs.Steps.{Progress, steps_given, given, next_word, words_left, visits_before_fault, advanced};
+ghost use Rattle.tal_macros.specs.Steps.{NextGives, progress_after};
 
 use crate::pass::{Pass, Turn};
 use std::alloc::Global;

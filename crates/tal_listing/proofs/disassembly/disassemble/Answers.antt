@@ -1,5 +1,4 @@
-use Rattle.std.proofs.Common.{ℕ, ◌+◌, List, length, drop, get_or, ap, sym, subst, arith, rules, length-take, length-drop}
-use Rattle.tal_rom.specs.PlainWords.{AssemblesTo}
+use Rattle.std.proofs.Common.{◌+◌, length, drop, get_or, ap, arith, rules, length-take, length-drop}
 use Rattle.tal_listing.specs.Disassembly.{immediate_length}
 use Rattle.tal_listing.proofs.DisassemblyLemmas.{disassembly_assembles, disassembled_start, disassembled_more, disassembled_end}
 use Rattle.tal_listing.proofs.disassembly.disassemble.Goals as goal
@@ -24,5 +23,4 @@ returns-clause-value c = disassembled_end c.args.rom.now c.args.labels.now c.loo
 pub returns-clause-assembles : goal.returns-clause-assembles
 returns-clause-assembles c = λ readable short.
     let is = disassembled_end c.args.rom.now c.args.labels.now c.loop-offset.text.items c.loop-offset.offset (omega arith) c.loop-offset.invariant in
-    let P : List ℕ → Type 0 = λ text. AssemblesTo text c.args.rom.now in
-    subst P (sym is) (disassembly_assembles c.args.rom.now c.args.labels.now (λ i within. omega (arith, c.type_inv.rom i)) c.requires readable (omega (arith, ap length is)))
+    rw is (disassembly_assembles c.args.rom.now c.args.labels.now (λ i within. omega (arith, c.type_inv.rom i)) c.requires readable (omega (arith, ap length is)))

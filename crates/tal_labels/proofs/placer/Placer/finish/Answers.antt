@@ -1,4 +1,5 @@
 use Rattle.std.proofs.Common.{◌≡◌, ℕ, Bool, not, ◌&&◌, List, [], ◌∷◌, length, Option, Some, None, refl, sym, ◌∙◌, ap, arith}
+use Rattle.tal_labels.proofs.StrayLemmas.{twice}
 use Rattle.std.specs.Prelude.{◌==◌, is_some}
 use Rattle.std.proofs.lemmas.Bool.Decides.{nat_tests}
 use Rattle.tal_words.specs.declared.span.Expanded.{Expanded}
@@ -15,9 +16,6 @@ whole_step : (faulty : Bool) (added place : Option Fault) (openers ones : List �
     → (added ≡ None → ones ≡ [] → place ≡ None) → (place ≡ None → (added ≡ None) × (ones ≡ [])) → (not faulty && length openers == 0) ≡ not (is_some place)
 whole_step faulty added place openers [] e same sound parts = grind (arith, nat_tests)
 whole_step faulty added place openers (one ∷ ones) e same sound parts = grind (arith, nat_tests)
-
-twice : (b : Bool) → b ≡ not (not b)
-twice b = grind arith
 
 -- a placer is whole where no word has a fault
 whole_is : (source : List ℕ) (words : List Expanded) (placer : Placer) → WereAdded source words placer → (whole : Bool) → whole ≡ (not placer.is_faulty && length placer.openers.items == 0)

@@ -20,15 +20,12 @@ invariant_of-self c =
 pub returns-in-Ok-Word-clause-answer : goal.returns-in-Ok-Word-clause-answer
 returns-in-Ok-Word-clause-answer c =
     let turn = rw c.in-Ok-Word.field-0-is at c.in-Ok-Word.ensures in
-    rw (← c.loop-word.invariant.kept)
-    (next-given _ _ _ _ _ c.loop-word.invariant.follows _ turn.3 turn.1 _ turn.2).0
+    rw (← c.loop-word.invariant.kept) (next-given _ _ _ _ _ c.loop-word.invariant.follows _ turn.3 turn.1 _ turn.2).0
 
 pub returns-in-Ok-Word-clause-progress : goal.returns-in-Ok-Word-clause-progress
 returns-in-Ok-Word-clause-progress c =
     let turn = rw c.in-Ok-Word.field-0-is at c.in-Ok-Word.ensures in
-    rw (← c.loop-word.invariant.kept)
-    (ap (λ n. record { source = c.loop-word.self-inside.source.now; visited = n })
-    (next-given _ _ _ _ _ c.loop-word.invariant.follows _ turn.3 turn.1 _ turn.2).1)
+    rw (← c.loop-word.invariant.kept) (next-given _ _ _ _ _ c.loop-word.invariant.follows _ turn.3 turn.1 _ turn.2).1
 
 pub returns-in-Ok-End-clause-answer : goal.returns-in-Ok-End-clause-answer
 returns-in-Ok-End-clause-answer c =
@@ -39,9 +36,7 @@ returns-in-Ok-End-clause-answer c =
 pub returns-in-Ok-End-clause-progress : goal.returns-in-Ok-End-clause-progress
 returns-in-Ok-End-clause-progress c =
     let turn = rw c.in-Ok-End.field-0-is at c.in-Ok-End.ensures in
-    rw (← c.loop-word.invariant.kept)
-    (ap (λ n. record { source = c.loop-word.self-inside.source.now; visited = n })
-    (next-none _ _ _ _ _ c.loop-word.invariant.follows (ap reached turn.0) turn.1).1)
+    rw (← c.loop-word.invariant.kept) (next-none _ _ _ _ _ c.loop-word.invariant.follows (ap reached turn.0) turn.1).1
 
 pub returns-in-Err-Refused-clause-answer : goal.returns-in-Err-Refused-clause-answer
 returns-in-Err-Refused-clause-answer c =
@@ -52,6 +47,4 @@ returns-in-Err-Refused-clause-answer c =
 pub returns-in-Err-Refused-clause-progress : goal.returns-in-Err-Refused-clause-progress
 returns-in-Err-Refused-clause-progress c =
     let turn = rw c.in-Err-Refused.field-0-is at c.in-Err-Refused.ensures in
-    rw (← c.loop-word.invariant.kept)
-    (ap (λ n. record { source = c.loop-word.self-inside.source.now; visited = n })
-    (next-none _ _ _ _ _ c.loop-word.invariant.follows turn.0.visits turn.1).1)
+    rw (← c.loop-word.invariant.kept) (next-none _ _ _ _ _ c.loop-word.invariant.follows turn.0.visits turn.1).1
