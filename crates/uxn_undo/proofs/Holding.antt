@@ -3,7 +3,7 @@ use Rattle.std.proofs.Common.{◌≡◌, ℕ, zero, suc, ◌<◌, ◌≤◌, Lis
 use Rattle.std.specs.Prelude.{◌-◌, nat_le, sum_by}
 use Rattle.std.proofs.lemmas.Bool.{cases_lt, cases_Bool}
 use Rattle.std.proofs.lemmas.Bool.Decides.{nat_tests}
-use Rattle.std.proofs.lemmas.List.{take-take}
+use Rattle.std.proofs.lemmas.List.{take-take, length-take-le}
 use Rattle.std.proofs.lemmas.List.Sums.{sum_by-cons}
 use Rattle.uxn_undo.specs.Kept.{Kept, Holds, byte_count, most_moments, most_bytes, fitting, number_held}
 use Rattle.uxn_undo.specs.Laws.{HoldingLaw}
@@ -139,5 +139,14 @@ number given held holds =
       ]
     ]
 
+newest : (given : List Kept) → Holds given (take (number_held given) given)
+newest given =
+    let all = fits most_moments most_bytes given in
+    let size : length (take (number_held given) given) ≡ number_held given = length-take-le (number_held given) given all.within in
+    record {
+      number = rw size (record { within = all.within; moments = all.moments; bytes = all.bytes; greatest = all.greatest });
+      newest = rw size refl;
+    }
+
 pub holding_law : HoldingLaw
-holding_law = record { none = none; one_more = one_more; number = number }
+holding_law = record { none = none; one_more = one_more; number = number; newest = newest }

@@ -29,6 +29,7 @@ pub record HoldingLaw : Type 0 where
   pub none : Holds [] []
   pub one_more : (given held now : List Kept) (kept : Kept) → Holds given held → Holds (kept ∷ held) now → Holds (kept ∷ given) now
   pub number : (given held : List Kept) → Holds given held → length held ≡ number_held given
+  pub newest : (given : List Kept) → Holds given (take (number_held given) given)
 
 -- where moments in a row are held, going back gives the byte of the memory of the moment gone to
 abbrev pub GoingBackLaw : Type 0
