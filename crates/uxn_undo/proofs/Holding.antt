@@ -1,10 +1,11 @@
 -- What keeps one moment after another holds the newest of all of them.
 use Rattle.std.proofs.Common.{◌≡◌, ℕ, zero, suc, ◌<◌, ◌≤◌, List, [], ◌∷◌, length, take, refl, sym, ap, ◌∙◌, inl, inr, arith}
-use Rattle.std.specs.Prelude.{sum_by}
-use Rattle.std.proofs.lemmas.Bool.{cases_lt}
-use Rattle.std.proofs.lemmas.List.{take-take}
+use Rattle.std.specs.Prelude.{◌-◌, nat_le, sum_by}
+use Rattle.std.proofs.lemmas.Bool.{cases_lt, cases_Bool}
+use Rattle.std.proofs.lemmas.Bool.Decides.{nat_tests}
+use Rattle.std.proofs.lemmas.List.{take-take, length-take-le}
 use Rattle.std.proofs.lemmas.List.Sums.{sum_by-cons}
-use Rattle.uxn_undo.specs.Kept.{Kept, Holds, byte_count, most_moments, most_bytes}
+use Rattle.uxn_undo.specs.Kept.{Kept, Holds, byte_count, most_moments, most_bytes, fitting, number_held}
 use Rattle.uxn_undo.specs.Laws.{HoldingLaw}
 
 -- what is held of the older moments is as good as all of them, as far as it goes
@@ -55,5 +56,97 @@ one_more given held now kept before after =
       newest = after.newest ∙ same;
     }
 
+-- as many are held as fit
+record Fits (left room : ℕ) (given : List Kept) (number : ℕ) : Type 0 where
+  within : number ≤ length given
+  moments : number ≤ left
+  bytes : sum_by byte_count (take number given) ≤ room
+  greatest : (more : ℕ) → number < more → more ≤ length given → more ≤ left → room < sum_by byte_count (take more given)
+
+one_more_fits : (left room : ℕ) (kept : Kept) (older : List Kept) (number : ℕ) → byte_count kept ≤ room → Fits left (room - byte_count kept) older number
+    → (more : ℕ) → suc number < more → more ≤ suc (length older) → more ≤ suc left → room < sum_by byte_count (take more (kept ∷ older))
+one_more_fits left room kept older number small fits zero above within few = absurd (omega arith)
+one_more_fits left room kept older number small fits (suc more) above within few =
+    let full : room - byte_count kept < sum_by byte_count (take more older) = fits.greatest more (omega arith) (omega arith) (omega arith) in
+    omega (arith, full, sum_by-cons byte_count kept (take more older))
+
+one_fits : (left room : ℕ) (kept : Kept) (older : List Kept) (number : ℕ) → byte_count kept ≤ room → Fits left (room - byte_count kept) older number
+    → Fits (suc left) room (kept ∷ older) (suc number)
+one_fits left room kept older number small fits =
+    let within : number ≤ length older = fits.within in
+    let moments : number ≤ left = fits.moments in
+    let bytes : sum_by byte_count (take number older) ≤ room - byte_count kept = fits.bytes in
+    record {
+      within = omega arith;
+      moments = omega arith;
+      bytes = omega (arith, sum_by-cons byte_count kept (take number older));
+      greatest = one_more_fits left room kept older number small fits;
+    }
+
+all_too_large : (room : ℕ) (kept : Kept) (older : List Kept) → room < byte_count kept → (more : ℕ) → 0 < more
+    → room < sum_by byte_count (take more (kept ∷ older))
+all_too_large room kept older large zero above = absurd (omega arith)
+all_too_large room kept older large (suc more) above = omega (arith, sum_by-cons byte_count kept (take more older))
+
+too_large : (left room : ℕ) (kept : Kept) (older : List Kept) → room < byte_count kept → Fits (suc left) room (kept ∷ older) 0
+too_large left room kept older large = record {
+  within = omega arith;
+  moments = omega arith;
+  bytes = omega arith;
+  greatest = λ more above within few. all_too_large room kept older large more above;
+}
+
+fits : (left room : ℕ) (given : List Kept) → Fits left room given (fitting left room given)
+unfolding fitting
+fits zero room given = record {
+  within = omega arith;
+  moments = omega arith;
+  bytes = omega arith;
+  greatest = λ more above within few. absurd (omega arith);
+}
+fits (suc left) room [] = record {
+  within = omega arith;
+  moments = omega arith;
+  bytes = omega arith;
+  greatest = λ more above within few. absurd (omega arith);
+}
+fits (suc left) room (kept ∷ older) =
+    elim (cases_Bool (nat_le (byte_count kept) room)) [
+      | inl is ↦
+          let small : byte_count kept ≤ room = grind (arith, nat_tests) in
+          rw is (one_fits left room kept older (fitting left (room - byte_count kept) older) small (fits left (room - byte_count kept) older))
+      | inr not ↦
+          let large : room < byte_count kept = grind (arith, nat_tests) in
+          rw not (too_large left room kept older large)
+    ]
+
+number : (given held : List Kept) → Holds given held → length held ≡ number_held given
+number given held holds =
+    let all = fits most_moments most_bytes given in
+    elim (cases_lt (length held) (number_held given)) [
+      | inl fewer ↦
+          let full : most_bytes < sum_by byte_count (take (number_held given) given) =
+          holds.number.greatest (number_held given) fewer all.within all.moments in
+          let bytes : sum_by byte_count (take (number_held given) given) ≤ most_bytes = all.bytes in
+          absurd (omega arith)
+      | inr at_least ↦ elim (cases_lt (number_held given) (length held)) [
+        | inl more ↦
+            let full : most_bytes < sum_by byte_count (take (length held) given) =
+            all.greatest (length held) more holds.number.within holds.number.moments in
+            let bytes : sum_by byte_count (take (length held) given) ≤ most_bytes = holds.number.bytes in
+            absurd (omega arith)
+        | inr at_most ↦ omega arith
+      ]
+    ]
+
+newest : (given : List Kept) → Holds given (take (number_held given) given)
+newest given =
+    let all = fits most_moments most_bytes given in
+    let size : length (take (number_held given) given) ≡ number_held given = length-take-le (number_held given) given all.within in
+    record {
+      number = rw size (record { within = all.within; moments = all.moments; bytes = all.bytes; greatest = all.greatest });
+      newest = rw size refl;
+    }
+
 pub holding_law : HoldingLaw
-holding_law = record { none = none; one_more = one_more }
+holding_law = record { none = none; one_more = one_more; number = number; newest = newest }

@@ -1,7 +1,7 @@
 -- One moment more is kept.
 use Rattle.std.proofs.Common.{◌≡◌, ℕ, zero, suc, ◌+◌, ◌<◌, ◌≤◌, List, ◌∷◌, ◌++◌, length, take, sym, ap, ◌∙◌, arith}
 use Rattle.std.specs.Prelude.{sum_by}
-use Rattle.std.proofs.lemmas.List.{length-take, length-append, take_all}
+use Rattle.std.proofs.lemmas.List.{length-take, length-append}
 use Rattle.std.proofs.lemmas.List.FromFn.{length-map-range_with_len}
 use Rattle.std.proofs.lemmas.List.Sums.{sum_by-cons}
 use Rattle.circular_buffer.specs.Buffer.{Buffer, buffer}
@@ -37,8 +37,9 @@ room_taken before held kept room =
     }
 
 pub record Keeps (records : Buffer Record) (bytes : Buffer ℕ) (before : List Kept) (r : Record) (kept : Kept) : Type 0 where
-  pub rings : AreRings (buffer (take records.capacity (r ∷ records.items)) records.capacity) (buffer (kept.bytes ++ bytes.items) bytes.capacity)
-  pub holds : Holds (kept ∷ before) (joined (take records.capacity (r ∷ records.items)) (kept.bytes ++ bytes.items))
+  pub room : length records.items < records.capacity
+  pub rings : AreRings (buffer (r ∷ records.items) records.capacity) (buffer (kept.bytes ++ bytes.items) bytes.capacity)
+  pub holds : Holds (kept ∷ before) (joined (r ∷ records.items) (kept.bytes ++ bytes.items))
 
 pub keeps : (records : Buffer Record) (bytes : Buffer ℕ) (before held : List Kept) (r : Record) (memory : List ℕ)
     → joined records.items bytes.items ≡ held → AreRings records bytes → MakesRoom (count_of r) before held
@@ -50,16 +51,16 @@ keeps records bytes before held r memory is rings room =
     let moments : length held < 65536 = room.moments in
     let small : sum_by byte_count held + count_of r ≤ 16777216 = room.bytes in
     let capacity : records.capacity ≡ 65536 = rings.moments in
-    let all : take records.capacity (r ∷ records.items) ≡ r ∷ records.items = take_all records.capacity (r ∷ records.items) (omega arith) in
     let count : length kept.bytes ≡ count_of r = length-map-range_with_len _ 0 r.span.count in
     let long = length-append kept.bytes bytes.items in
     record {
-      rings = rw all (record {
+      room = omega arith;
+      rings = record {
         moments = rings.moments;
         room = rings.room;
         few = omega arith;
         small = omega (arith, long);
         filled = long ∙ sym (sum_by-cons count_of r records.items ∙ ap (λ n. count_of r + n) (sym rings.filled) ∙ ap (λ n. n + length bytes.items) (sym count));
-      });
-      holds = rw (all, joined-push r records.items kept.bytes bytes.items count, is) (room_taken before held kept room);
+      };
+      holds = rw (joined-push r records.items kept.bytes bytes.items count, is) (room_taken before held kept room);
     }

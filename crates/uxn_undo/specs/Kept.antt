@@ -1,5 +1,5 @@
 -- What is kept of the moments of a run, the newest first (profile).
-use Rattle.std.specs.Prelude.{◌≡◌, ℕ, ◌<◌, ◌≤◌, if◌then◌else◌, List, [], ◌∷◌, length, take, sum_by, slice_index}
+use Rattle.std.specs.Prelude.{◌≡◌, ℕ, zero, suc, ◌-◌, ◌<◌, ◌≤◌, nat_le, if◌then◌else◌, List, [], ◌∷◌, length, take, sum_by, slice_index}
 use Rattle.uxn_stacks.specs.Cells.{Cells}
 use Rattle.uxn_opcodes.specs.declared.Core.{Core}
 use Rattle.uxn_undo.specs.declared.span.Span.{Span}
@@ -43,6 +43,15 @@ pub record IsHeld (given : List Kept) (number : ℕ) : Type 0 where
   pub bytes : sum_by byte_count (take number given) ≤ most_bytes
   pub greatest : (more : ℕ) → number < more → more ≤ length given → more ≤ most_moments
       → most_bytes < sum_by byte_count (take more given)
+
+-- that number: moments are held from the newest on, until one more is one too many, or its bytes are
+unfoldable pub fitting : ℕ → ℕ → List Kept → ℕ
+fitting zero room given = 0
+fitting (suc left) room [] = 0
+fitting (suc left) room (kept ∷ older) = if nat_le (byte_count kept) room then suc (fitting left (room - byte_count kept) older) else 0
+
+abbrev pub number_held : List Kept → ℕ
+number_held given = fitting most_moments most_bytes given
 
 -- the newest of the given moments are held, as many as there is room for
 pub record Holds (given held : List Kept) : Type 0 where

@@ -4,7 +4,7 @@ use Rattle.uxn_opcodes.specs.declared.Core.{Core}
 use Rattle.uxn_undo.specs.declared.span.Span.{Span}
 use Rattle.uxn_undo.specs.Spans.{covers}
 use Rattle.uxn_undo.specs.Changes.{span_of}
-use Rattle.uxn_undo.specs.Kept.{Kept, kept_at, Holds, byte_back}
+use Rattle.uxn_undo.specs.Kept.{Kept, kept_at, number_held, Holds, byte_back}
 
 -- a moment of a run: the machine, and the bytes stored in its ports
 pub record Given : Type 0 where
@@ -28,6 +28,8 @@ Follow (given ∷ older) last = DiffersWithin (span_of given.core given.stored) 
 pub record HoldingLaw : Type 0 where
   pub none : Holds [] []
   pub one_more : (given held now : List Kept) (kept : Kept) → Holds given held → Holds (kept ∷ held) now → Holds (kept ∷ given) now
+  pub number : (given held : List Kept) → Holds given held → length held ≡ number_held given
+  pub newest : (given : List Kept) → Holds given (take (number_held given) given)
 
 -- where moments in a row are held, going back gives the byte of the memory of the moment gone to
 abbrev pub GoingBackLaw : Type 0

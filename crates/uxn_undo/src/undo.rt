@@ -98,13 +98,17 @@ impl Undo {
         let span = span_of(core, stored);
         self.make_room(usize::from(span.count));
         put_bytes(&mut self.bytes, &core.memory, span);
-        self.records.push_front(Record {
+        let pushed = self.records.try_push_front(Record {
             at: core.at,
             working: core.working,
             returns: core.returns,
             stored: *stored,
             span,
         });
+        match pushed {
+            Ok(()) => {}
+            Err(_record) => unreachable!(),
+        }
     }
 
     /// How many moments are kept.

@@ -1,6 +1,7 @@
-use Rattle.std.proofs.Common.{arith}
+use Rattle.std.proofs.Common.{◌<◌, length, arith}
+use Rattle.std.proofs.lemmas.Bool.{false≢true}
 use Rattle.uxn_undo.specs.declared.undo.Record.{Record}
-use Rattle.uxn_undo.proofs.Joined.{bytes-held}
+use Rattle.uxn_undo.proofs.Joined.{length-held, bytes-held}
 use Rattle.uxn_undo.proofs.Keeping.{keeps}
 use Rattle.uxn_undo.proofs.undo.Undo.keep.Goals as goal
 
@@ -20,7 +21,7 @@ invariant_of-self g c =
     } in
     let kept = keeps c.self.inside.records c.self.inside.bytes c.args.self.now c.make_room.new.self r c.args.core.now.memory c.self.view_is
     c.self.invariant (rw c.from.ensures at c.make_room.ensures) in
-    rw (c.push_front.ensures.items, c.put_bytes.ensures) kept.rings
+    rw (c.in-Ok.ensures.ok, c.put_bytes.ensures) kept.rings
 
 pub returns : goal.returns
 returns g c =
@@ -33,4 +34,12 @@ returns g c =
     } in
     let kept = keeps c.self.inside.records c.self.inside.bytes c.args.self.now c.make_room.new.self r c.args.core.now.memory c.self.view_is
     c.self.invariant (rw c.from.ensures at c.make_room.ensures) in
-    rw (c.push_front.ensures.items, c.put_bytes.ensures, ← c.stored_page-stored.ensures, ← c.span_of-span.ensures) kept.holds
+    rw (c.in-Ok.ensures.ok, c.put_bytes.ensures, ← c.stored_page-stored.ensures, ← c.span_of-span.ensures) kept.holds
+
+pub unreachable-requires : goal.unreachable-requires
+unreachable-requires g c =
+    let size = length-held c.self.inside.records.items c.self.inside.bytes.items c.make_room.new.self c.self.view_is in
+    let capacity = c.self.invariant.moments in
+    let few = c.make_room.ensures.moments in
+    let room : length c.self.inside.records.items < c.self.inside.records.capacity = omega (arith, size, capacity, few) in
+    false≢true (c.in-Err.ensures.variant.1 room)
