@@ -294,3 +294,47 @@ fn is_failing(alloc: Global) -> Result<bool, AllocError> {
 fn a_tree_that_fails_is_told(rt: HostRuntime) {
     assert!(rt; is_failing(rt.alloc()) == Ok(true));
 }
+
+/// So many bytes, words of one letter with a blank behind each.
+fn letters(alloc: Global, size: usize) -> Result<Vec<u8>, AllocError> {
+    let mut bytes = Vec::new(alloc);
+    for at in 0..size {
+        bytes.push(if at % 2 == 0 { b'a' } else { b' ' })?;
+    }
+    Ok(bytes)
+}
+
+/// Over a tree with a file of so many bytes: the fault of a source, or None where it is spliced to these bytes alone.
+fn fault_over(
+    alloc: Global,
+    size: usize,
+    source: &[u8],
+) -> Result<Option<IncludeKind>, AllocError> {
+    let mut nodes = Vec::new(alloc);
+    if let Ok(path) = Path::read(b"large.tal") {
+        let bytes = Bytes::from(letters(alloc, size)?);
+        let folder = false;
+        nodes.push((path, Node { folder, bytes }))?;
+    }
+    if let (true, Ok(main)) = (MemTree::can_hold(&nodes, size), Path::read(b"a.tal")) {
+        let mut tree = MemTree::new(alloc, &nodes, 0, size, &[])?;
+        let answer = splice(alloc, &mut tree, &main, source);
+        if let Err(SpliceStop::Refused(fault)) = &answer {
+            return Ok(Some(fault.kind));
+        }
+        if let Ok(flat) = &answer {
+            if flat.text().len() == size {
+                return Ok(None);
+            }
+        }
+    }
+    Ok(Some(IncludeKind::BadPath))
+}
+
+#[test]
+fn large_files_are_met(rt: HostRuntime) {
+    let alloc = rt.alloc();
+    assert!(rt; fault_over(alloc, 4_194_304, b"~large.tal") == Ok(None));
+    assert!(rt; fault_over(alloc, 4_194_304, b"~large.tal b") == Ok(Some(IncludeKind::LongFlat)));
+    assert!(rt; fault_over(alloc, 4_194_305, b"~large.tal") == Ok(Some(IncludeKind::Long)));
+}
