@@ -1,5 +1,5 @@
 -- What a runner answers for parts of a run, one after the other, whether they were done or stopped.
-use Rattle.std.proofs.Common.{◌≡◌, ℕ, ◌+◌, ◌≤◌, ◌⊎◌, Bool, true, false, cond, List, [], ◌++◌, refl, ap, subst, sym, ◌∙◌, arith}
+use Rattle.std.proofs.Common.{◌≡◌, ℕ, ◌+◌, ◌≤◌, ◌⊎◌, Bool, true, false, cond, List, refl, ap, subst, sym, ◌∙◌, arith}
 use Rattle.std.specs.Prelude.{Option, Some, None, IfSome, Result, Ok, Err, OnOk, IfErr}
 use Rattle.uxn_io.specs.Files.{Nodes}
 use Rattle.uxn_io.specs.Faults.{Ledger}
@@ -20,7 +20,7 @@ use Rattle.vector_loop.specs.declared.output.Outputs.{Outputs}
 use Rattle.vector_loop.specs.Outputs.{IsOutput, OutputsThere}
 use Rattle.vector_loop.specs.Making.{MadeOrCut, MadeBy}
 use Rattle.vector_loop.specs.Follows.{Running, running, state_of, FollowsFrom, FallsShortFrom, HasGrown}
-use Rattle.vector_loop.specs.Answers.{Telling, Count, none, HasRoom, running_of, HasOutputs, SameRunner, faults_of, Stopped, Reaches, Answers}
+use Rattle.vector_loop.specs.Answers.{Telling, Count, none, HasRoom, running_of, HasOutputs, SameRunner, faults_of, Reaches, Answers}
 use Rattle.vector_loop.proofs.Trails.{followed_by-again, followed_by-at}
 use Rattle.vector_loop.proofs.Along.{follows-nothing, follows-both, short-first, short-later}
 use Rattle.vector_loop.proofs.Counting.{both, grown-both, grown-none, grown-within, room-left}

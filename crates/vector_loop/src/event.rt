@@ -47,8 +47,9 @@ impl<'r, 'a, T: Tree, O: Sink, E: Sink, W: Watcher> Runner<'r, 'a, T, O, E, W> {
     pub(crate) fn run_vector_in(&mut self, port: u8) -> Result<(), Stop>
         requires port { port < 255 }
         requires room { HasRoom self.old.tally self.old.budget (of_vectors 1) }
-        ensures { Answers (telling_of (meaning_of T.told O.told E.told T.sure O.sure E.sure) T.faults O.faults E.faults W.held W.shown W.may_refuse)
-            self.old self.new (vector_in self.old.budget port) (of_vectors 1) result }
+        ensures { Answers (telling_of (meaning_of T.told O.told E.told T.sure O.sure E.sure)
+            T.faults O.faults E.faults W.held W.shown W.may_refuse) self.old self.new
+            (vector_in self.old.budget port) (of_vectors 1) result }
     {
         let at = self.bus.stored_short(port);
         if at == 0 {
@@ -61,8 +62,9 @@ impl<'r, 'a, T: Tree, O: Sink, E: Sink, W: Watcher> Runner<'r, 'a, T, O, E, W> {
     /// Gives the console a byte of a kind.
     pub(crate) fn give_console(&mut self, byte: u8, kind: u8) -> Result<(), Stop>
         requires { HasRoom self.old.tally self.old.budget (of_vectors 1) }
-        ensures { Answers (telling_of (meaning_of T.told O.told E.told T.sure O.sure E.sure) T.faults O.faults E.faults W.held W.shown W.may_refuse)
-            self.old self.new (console self.old.budget byte kind) (of_vectors 1) result }
+        ensures { Answers (telling_of (meaning_of T.told O.told E.told T.sure O.sure E.sure)
+            T.faults O.faults E.faults W.held W.shown W.may_refuse) self.old self.new
+            (console self.old.budget byte kind) (of_vectors 1) result }
     {
         self.bus.give(byte, kind);
         self.run_vector_in(CONSOLE_VECTOR)
@@ -71,8 +73,9 @@ impl<'r, 'a, T: Tree, O: Sink, E: Sink, W: Watcher> Runner<'r, 'a, T, O, E, W> {
     /// Gives the controller or the mouse an input, which is settled after its vector.
     fn give_device(&mut self, input: &Input) -> Result<(), Stop>
         requires { HasRoom self.old.tally self.old.budget (of_vectors 1) }
-        ensures { Answers (telling_of (meaning_of T.told O.told E.told T.sure O.sure E.sure) T.faults O.faults E.faults W.held W.shown W.may_refuse)
-            self.old self.new (device self.old.budget input.now) (of_vectors 1) result }
+        ensures { Answers (telling_of (meaning_of T.told O.told E.told T.sure O.sure E.sure)
+            T.faults O.faults E.faults W.held W.shown W.may_refuse) self.old self.new
+            (device self.old.budget input.now) (of_vectors 1) result }
     {
         self.bus.apply(input);
         self.run_vector_in(vector_port(input))?;
@@ -89,8 +92,9 @@ impl<'r, 'a, T: Tree, O: Sink, E: Sink, W: Watcher> Runner<'r, 'a, T, O, E, W> {
         requires outputs { HasOutputs T.told outputs.now self.old }
         requires frames { event.now ≡ events.Frame → frames_begun self.old.bus.now < 1000000 }
         requires room { HasRoom self.old.tally self.old.budget (of_events 1) }
-        ensures { Answers (telling_of (meaning_of T.told O.told E.told T.sure O.sure E.sure) T.faults O.faults E.faults W.held W.shown W.may_refuse)
-            self.old self.new (give self.old.budget outputs.now event.now) (of_events 1) result }
+        ensures { Answers (telling_of (meaning_of T.told O.told E.told T.sure O.sure E.sure)
+            T.faults O.faults E.faults W.held W.shown W.may_refuse) self.old self.new
+            (give self.old.budget outputs.now event.now) (of_events 1) result }
     {
         self.tally.events += 1;
         match event {

@@ -4,7 +4,17 @@ ghost use Rattle.uxn_io.specs.Faults.{Ledger};
 ghost use Rattle.uxn_opcodes.specs.Ports.{blame_of};
 ghost use Rattle.play_script.specs.Held.{bytes_in};
 ghost use Rattle.varvara_bus.specs.State.{DeviceState, storing};
-ghost use Rattle.varvara_bus.specs.Bus.{SameLent, FilesStay, HasRoot, BusStandsFor, Reads, ChangesDevices, meaning_of, frames_begun, bus_faults};
+ghost use Rattle.varvara_bus.specs.Bus.{
+  SameLent,
+  FilesStay,
+  HasRoot,
+  BusStandsFor,
+  Reads,
+  ChangesDevices,
+  meaning_of,
+  frames_begun,
+  bus_faults,
+};
 ghost use Rattle.vector_loop.specs.State.{new_tally};
 ghost use Rattle.vector_loop.specs.Outputs.{OutputsThere};
 ghost use Rattle.vector_loop.specs.Watch.{IsPage};
@@ -47,8 +57,9 @@ impl<'r, 'a, T: Tree, O: Sink, E: Sink, W: Watcher> Runner<'r, 'a, T, O, E, W> {
     /// Gives the console a byte of a kind, unless the run is over.
     fn give_byte(&mut self, byte: u8, kind: u8) -> Result<(), Stop>
         requires { HasRoom self.old.tally self.old.budget (of_vectors 1) }
-        ensures { Answers (telling_of (meaning_of T.told O.told E.told T.sure O.sure E.sure) T.faults O.faults E.faults W.held W.shown W.may_refuse)
-            self.old self.new (unless_over (console self.old.budget byte kind)) (of_vectors 1) result }
+        ensures { Answers (telling_of (meaning_of T.told O.told E.told T.sure O.sure E.sure)
+            T.faults O.faults E.faults W.held W.shown W.may_refuse) self.old self.new
+            (unless_over (console self.old.budget byte kind)) (of_vectors 1) result }
     {
         if self.is_over() {
             return Ok(());
@@ -59,8 +70,10 @@ impl<'r, 'a, T: Tree, O: Sink, E: Sink, W: Watcher> Runner<'r, 'a, T, O, E, W> {
     /// Gives the bytes of an argument and the newline behind it, each unless the run is over.
     fn give_argument(&mut self, text: &[u8], kind: u8) -> Result<(), Stop>
         requires { HasRoom self.old.tally self.old.budget (of_vectors (length text.now + 1)) }
-        ensures { Answers (telling_of (meaning_of T.told O.told E.told T.sure O.sure E.sure) T.faults O.faults E.faults W.held W.shown W.may_refuse)
-            self.old self.new (give_each (console_byte self.old.budget) (argument_bytes text.now ++ (10, kind) ∷ [])) (of_vectors (length text.now + 1)) result }
+        ensures { Answers (telling_of (meaning_of T.told O.told E.told T.sure O.sure E.sure)
+            T.faults O.faults E.faults W.held W.shown W.may_refuse) self.old self.new
+            (give_each (console_byte self.old.budget) (argument_bytes text.now ++ (10, kind) ∷ []))
+            (of_vectors (length text.now + 1)) result }
     {
         for byte in text {
             self.give_byte(*byte, ARGUMENT)?;
@@ -71,8 +84,10 @@ impl<'r, 'a, T: Tree, O: Sink, E: Sink, W: Watcher> Runner<'r, 'a, T, O, E, W> {
     /// Gives the arguments, each byte unless the run is over.
     fn give_arguments(&mut self, arguments: &[Bytes]) -> Result<(), Stop>
         requires { HasRoom self.old.tally self.old.budget (of_vectors (length (arguments_given (bytes_in arguments.now)))) }
-        ensures { Answers (telling_of (meaning_of T.told O.told E.told T.sure O.sure E.sure) T.faults O.faults E.faults W.held W.shown W.may_refuse)
-            self.old self.new (give_each (console_byte self.old.budget) (arguments_given (bytes_in arguments.now))) (of_vectors (length (arguments_given (bytes_in arguments.now)))) result }
+        ensures { Answers (telling_of (meaning_of T.told O.told E.told T.sure O.sure E.sure)
+            T.faults O.faults E.faults W.held W.shown W.may_refuse) self.old self.new
+            (give_each (console_byte self.old.budget) (arguments_given (bytes_in arguments.now)))
+            (of_vectors (length (arguments_given (bytes_in arguments.now)))) result }
     {
         let mut following = arguments.len();
         for text in arguments {
@@ -87,8 +102,9 @@ impl<'r, 'a, T: Tree, O: Sink, E: Sink, W: Watcher> Runner<'r, 'a, T, O, E, W> {
         requires outputs { HasOutputs T.told outputs.now self.old }
         requires frames { frames_begun self.old.bus.now < 1000000 }
         requires room { HasRoom self.old.tally self.old.budget (of_events 1) }
-        ensures { Answers (telling_of (meaning_of T.told O.told E.told T.sure O.sure E.sure) T.faults O.faults E.faults W.held W.shown W.may_refuse)
-            self.old self.new (unless_over (give self.old.budget outputs.now event.now)) (of_events 1) result }
+        ensures { Answers (telling_of (meaning_of T.told O.told E.told T.sure O.sure E.sure)
+            T.faults O.faults E.faults W.held W.shown W.may_refuse) self.old self.new
+            (unless_over (give self.old.budget outputs.now event.now)) (of_events 1) result }
     {
         if self.is_over() {
             return Ok(());
@@ -101,8 +117,9 @@ impl<'r, 'a, T: Tree, O: Sink, E: Sink, W: Watcher> Runner<'r, 'a, T, O, E, W> {
         requires outputs { HasOutputs T.told outputs.now self.old }
         requires frames { frames_begun self.old.bus.now + length events.now ≤ 1000000 }
         requires room { HasRoom self.old.tally self.old.budget (of_events (length events.now)) }
-        ensures { Answers (telling_of (meaning_of T.told O.told E.told T.sure O.sure E.sure) T.faults O.faults E.faults W.held W.shown W.may_refuse)
-            self.old self.new (give_each (give self.old.budget outputs.now) events.now) (of_events (length events.now)) result }
+        ensures { Answers (telling_of (meaning_of T.told O.told E.told T.sure O.sure E.sure)
+            T.faults O.faults E.faults W.held W.shown W.may_refuse) self.old self.new
+            (give_each (give self.old.budget outputs.now) events.now) (of_events (length events.now)) result }
     {
         for event in events {
             self.give_next(event, outputs)?;
@@ -115,8 +132,9 @@ impl<'r, 'a, T: Tree, O: Sink, E: Sink, W: Watcher> Runner<'r, 'a, T, O, E, W> {
         requires outputs { HasOutputs T.told outputs.now self.old }
         requires frames { frames_begun self.old.bus.now + length script.now.events ≤ 1000000 }
         requires room { HasRoom self.old.tally self.old.budget (most_of script.now) }
-        ensures { Answers (telling_of (meaning_of T.told O.told E.told T.sure O.sure E.sure) T.faults O.faults E.faults W.held W.shown W.may_refuse)
-            self.old self.new (run self.old.budget outputs.now script.now) (most_of script.now) result }
+        ensures { Answers (telling_of (meaning_of T.told O.told E.told T.sure O.sure E.sure)
+            T.faults O.faults E.faults W.held W.shown W.may_refuse) self.old self.new
+            (run self.old.budget outputs.now script.now) (most_of script.now) result }
     {
         make_ready(self.bus, script.args());
         self.run_vector(RESET)?;

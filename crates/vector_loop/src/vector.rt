@@ -74,8 +74,9 @@ impl<'r, 'a, T: Tree, O: Sink, E: Sink, W: Watcher> Runner<'r, 'a, T, O, E, W> {
     /// Runs instructions from an address on, up to and with the first BRK, or as many as the budget allows.
     pub(crate) fn run_vector(&mut self, at: u16) -> Result<VectorEnd, Stop>
         requires { HasRoom self.old.tally self.old.budget (of_vectors 1) }
-        ensures answers { Answers (telling_of (meaning_of T.told O.told E.told T.sure O.sure E.sure) T.faults O.faults E.faults W.held W.shown W.may_refuse)
-            self.old self.new (vector self.old.budget at) (of_vectors 1) result }
+        ensures answers { Answers (telling_of (meaning_of T.told O.told E.told T.sure O.sure E.sure)
+            T.faults O.faults E.faults W.held W.shown W.may_refuse) self.old self.new
+            (vector self.old.budget at) (of_vectors 1) result }
         ensures end { IfOk result (λ end. (devices : DeviceState) → BusStandsFor T.told self.old.bus.now devices
             → end ≡ vector_end self.old.budget at (state_of (running_of self.old) devices)) }
         ensures same { SameBus T.told self.old.bus.now self.new.bus.now }

@@ -1,4 +1,4 @@
-use Rattle.std.proofs.Common.{refl, rules, arith}
+use Rattle.std.proofs.Common.{refl, rules}
 use Rattle.vector_loop.proofs.Answering.{ok-handed, err-handed}
 use Rattle.vector_loop.proofs.event.run_event.Goals as goal
 

@@ -1,5 +1,5 @@
-use Rattle.std.proofs.Common.{◌≤◌, length, refl, arith, ap, ◌∙◌, rules}
-use Rattle.vector_loop.specs.Run.{arguments_given, most_of}
+use Rattle.std.proofs.Common.{refl, arith, rules}
+use Rattle.vector_loop.specs.Run.{most_of}
 use Rattle.vector_loop.proofs.Counting.{room-new}
 use Rattle.vector_loop.proofs.Giving.{all-given}
 use Rattle.vector_loop.proofs.Runs.{ends-handed}

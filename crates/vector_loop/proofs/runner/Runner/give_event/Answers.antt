@@ -1,13 +1,13 @@
 use Rattle.std.proofs.Common.{ap, refl, lit≤, arith}
-use Rattle.play_script.specs.declared.script.Event.TheVariants.{Input, EndInput, Frame, Device, Shot, Expect}
+use Rattle.play_script.specs.declared.script.Event.TheVariants.{Input, EndInput, Frame, Device, Shot}
 use Rattle.varvara_bus.specs.State.{DeviceState}
 use Rattle.vector_loop.specs.declared.tally.Tally.{Tally}
 use Rattle.vector_loop.specs.State.{State, with_next_frame, with_counted}
 use Rattle.vector_loop.specs.Trail.{stays, makes, followed_by}
-use Rattle.vector_loop.specs.Event.{shown_and_heard, shot, give}
+use Rattle.vector_loop.specs.Event.{shown_and_heard, shot}
 use Rattle.vector_loop.specs.Outputs.{appended_to, picture_bytes}
 use Rattle.vector_loop.specs.Answers.{none, of_vectors, of_events}
-use Rattle.vector_loop.proofs.Counting.{both, grown-counted, grown-compared}
+use Rattle.vector_loop.proofs.Counting.{grown-counted, grown-compared}
 use Rattle.vector_loop.proofs.Frames.{shot-is}
 use Rattle.vector_loop.proofs.Events.{one_event, with_compared, frame-given, expect-given, answers-given}
 use Rattle.vector_loop.proofs.Answering.{answers-then, answers-as, answers-within, answers-change, answers-made}

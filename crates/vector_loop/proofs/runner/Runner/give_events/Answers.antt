@@ -1,4 +1,4 @@
-use Rattle.std.proofs.Common.{◌≡◌, ◌*◌, ◌+◌, get_or, drop, Err, ap, rules, arith}
+use Rattle.std.proofs.Common.{◌≡◌, ◌+◌, get_or, drop, Err, rules, arith}
 use Rattle.play_script.specs.declared.script.Event.TheVariants.{Input}
 use Rattle.vector_loop.specs.Event.{unless_over, give_each, give}
 use Rattle.vector_loop.specs.Answers.{of_events}

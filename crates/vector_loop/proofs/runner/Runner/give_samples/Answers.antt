@@ -7,7 +7,7 @@ use Rattle.vector_loop.specs.Outputs.{appended_to, samples_bytes}
 use Rattle.vector_loop.specs.Event.{heard, ended_vectors}
 use Rattle.vector_loop.specs.Answers.{none, of_vectors}
 use Rattle.vector_loop.proofs.Frames.{kept, heard-as}
-use Rattle.vector_loop.proofs.Answering.{answers-then, answers-first, answers-where, answers-within, answers-stored, answers-made, outputs-still}
+use Rattle.vector_loop.proofs.Answering.{answers-then, answers-first, answers-where, answers-within, answers-stored, answers-made}
 use Rattle.vector_loop.proofs.runner.Runner.give_samples.Goals as goal
 
 pub returns-in_err-keep_samples : goal.returns-in_err-keep_samples

@@ -1,4 +1,4 @@
-use Rattle.std.proofs.Common.{◌≡◌, ◌+◌, ◌*◌, ◌≤◌, Ok, Err, length, refl, ap, ◌∙◌, rules, arith}
+use Rattle.std.proofs.Common.{◌≡◌, Ok, Err, length, refl, ap, ◌∙◌, rules, arith}
 use Rattle.play_script.specs.Held.{bytes_in}
 use Rattle.varvara_bus.specs.State.{storing}
 use Rattle.vector_loop.specs.State.{with_stored}

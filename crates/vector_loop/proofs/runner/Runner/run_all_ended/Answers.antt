@@ -2,7 +2,7 @@ use Rattle.std.proofs.Common.{◌≡◌, ℕ, ◌+◌, Err, false, [], ◌∷◌
 use Rattle.vector_loop.specs.State.{State}
 use Rattle.vector_loop.specs.Trail.{Trail}
 use Rattle.vector_loop.specs.Event.{unless_over, give_each, vector_where}
-use Rattle.vector_loop.specs.Answers.{none, of_vectors}
+use Rattle.vector_loop.specs.Answers.{of_vectors}
 use Rattle.vector_loop.proofs.Giving.{each-next, each-end}
 use Rattle.vector_loop.proofs.Answering.{answers-by, answers-within, going-start, going-on, going-stopped, going-end, room-after}
 use Rattle.vector_loop.proofs.Frames.{voice-at}

@@ -1,5 +1,5 @@
-use Rattle.std.proofs.Common.{◌≡◌, ◌+◌, ◌-◌, Err, refl, ap, ◌∙◌, rules, arith}
-use Rattle.std.specs.Prelude.{ℕ, Option, Ok, None}
+use Rattle.std.proofs.Common.{◌≡◌, ◌+◌, ◌-◌, Err, refl, ap, rules, arith}
+use Rattle.std.specs.Prelude.{ℕ, Option, Ok}
 use Rattle.vector_loop.specs.declared.tally.VectorEnd.TheVariants.{Broke, Cut}
 use Rattle.vector_loop.specs.State.{counting_vector, counting_cut}
 use Rattle.vector_loop.specs.Vector.{vector}

@@ -1,6 +1,6 @@
 use Rattle.std.proofs.Common.{◌≡◌, Ok, Err, rules, arith}
 use Rattle.vector_loop.specs.Event.{vector_in, unless_over, heard, shown_and_heard}
-use Rattle.vector_loop.specs.Answers.{none, of_vectors}
+use Rattle.vector_loop.specs.Answers.{of_vectors}
 use Rattle.vector_loop.proofs.Answering.{answers-by, answers-then, answers-first, answers-within, answers-over, answers-not_over, room-after, outputs-still}
 use Rattle.vector_loop.proofs.runner.Runner.show_and_sound.Goals as goal
 
