@@ -2,8 +2,10 @@ pub mod Trails
 pub mod Along
 pub mod Vectors
 pub mod Events
+pub mod Giving
+pub mod Counting
+pub mod Answering
 pub mod Runs
 pub mod Makings
 pub mod Frames
 pub mod Rootless
-pub mod Refreshing

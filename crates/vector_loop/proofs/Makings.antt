@@ -1,28 +1,32 @@
+-- What a run makes outside by itself: pictures and samples, piece by piece.
 use Rattle.std.proofs.Common.{◌≡◌, ℕ, suc, ◌+◌, ◌-◌, ◌*◌, ◌/◌, ◌%◌, ◌<◌, ◌≤◌, List, [], ◌∷◌, ◌++◌, length, map, take, drop, slice_set, refl, ap, sym, ◌∙◌, arith, append_assoc, length-append, length-drop}
 use Rattle.std.proofs.Math.Seq.{take-append_seam}
 use Rattle.std.proofs.lemmas.List.{append-nil, map-append, length-set, take_more, take_more_set}
 use Rattle.std.proofs.lemmas.List.Concat.{flat_map-append, flat_map-cons}
 use Rattle.std.proofs.lemmas.Grind.{common_steps}
-use Rattle.std.specs.Prelude.{Result, Err, ℤ, slice_index_or, pos}
+use Rattle.std.specs.Prelude.{Option, Result, Ok, Err, OnOk, OnErr, ℤ, slice_index_or, pos}
 use Rattle.std.specs.List.{flat_map, range_with_len}
 use Rattle.std.specs.Int.{w16, cast_unsigned}
 use Rattle.audio_mixer.specs.Laws.{short_of}
 use Rattle.uxn_io.specs.Outside.{Change, ToFile}
+use Rattle.uxn_io.specs.Files.{Nodes}
+use Rattle.uxn_io.specs.Taking.{remains-all}
 use Rattle.uxn_opcodes.specs.declared.Stop.{Stop}
+use Rattle.uxn_opcodes.specs.declared.Stop.TheVariants.{NoMemory, TreeFault}
 use Rattle.screen_frame.specs.Colours.{colours_of}
 use Rattle.screen_frame.specs.Ppm.{head_bytes}
 use Rattle.screen_layers.specs.Pictures.{picture_row_of}
 use Rattle.varvara_bus.specs.declared.bus.Bus.{Bus}
 use Rattle.varvara_bus.specs.History.{colour_bytes}
 use Rattle.varvara_bus.specs.State.{DeviceState}
-use Rattle.varvara_bus.specs.Bus.{BusStandsFor, Meaning}
+use Rattle.varvara_bus.specs.Bus.{ChangesDevices, FilesStay, BusStandsFor, Meaning, Makes, StopsShort, bus_faults, frames_begun, screen_of, sure_of}
 use Rattle.varvara_bus.specs.InstructionLaws.{same-itself, same-again, makes-none, makes-both, stops-first, stops-later}
-use Rattle.vector_loop.specs.Making.{Made, CutShort}
+use Rattle.vector_loop.specs.Making.{MadeBy, MadeOrCut}
 use Rattle.vector_loop.specs.Outputs.{picture_bytes, sample_bytes, samples_bytes}
 
--- a stop is the one that was answered
-pub same-stop : (answer : Result (Unit {0}) Stop) (stop other : Stop) → answer ≡ Err stop → answer ≡ Err other → stop ≡ other
-same-stop answer stop other is same = cc
+-- a fault of the tree is no want of memory
+pub no-memory : (stop : Stop) → stop ≡ TreeFault → stop ≡ NoMemory → ⊥
+no-memory stop fault wanted = cc
 
 -- bytes for a file
 abbrev pub to_file : List ℕ → List ℕ → List Change
@@ -75,86 +79,141 @@ sample_more samples into i short within size is before =
     let more : 2 * (i + 1) ≡ 2 * i + 2 = omega arith in
     rw more (taken ∙ ap (λ front. front ++ (short % 256 ∷ short / 256 ∷ [])) before ∙ ap (λ last. samples_bytes (map short_of (take i samples)) ++ last) bytes ∙ sym joined)
 
+-- where the tree is as it was each file is there still
+pub files-kept : {T O E : Type 0} (told_tree : T → Option Nodes) (before now : Bus T O E) → ChangesDevices before now
+    → FilesStay before.devices.now.root (told_tree before.tree.now) (told_tree now.tree.now)
+files-kept told_tree before now changes = record { stays = λ path outside there. rw changes.tree there }
+
+pub same_faults : {T O E : Type 0} (of_tree : T → ℕ) (of_out : O → ℕ) (of_err : E → ℕ) (a b : Bus T O E) → ChangesDevices a b
+    → bus_faults of_tree of_out of_err b ≡ bus_faults of_tree of_out of_err a
+same_faults of_tree of_out of_err a b others = rw (others.tree, others.out, others.err) refl
+
+module _ {T O E : Type 0} (meaning : Meaning T O E) where
+  -- where nothing but what the devices stand for changes nothing is made
+  pub makes-nothing : (before now : Bus T O E) → ChangesDevices before now → Makes meaning before now []
+  makes-nothing before now changes = record {
+    world = rw (changes.tree, changes.out, changes.err) refl;
+    remains = rw (changes.tree, changes.out, changes.err) (remains-all (sure_of meaning before) (meaning.tree before.tree.now));
+  }
+
+  by-where : (a b : Bus T O E) (changes other : DeviceState → List Change) (r : Result (Unit {0}) Stop)
+      → ((s : DeviceState) → BusStandsFor meaning.tree a s → other s ≡ changes s) → MadeBy meaning a b changes r → MadeBy meaning a b other r
+  by-where a b changes other (Ok x) same made = record {
+    makes = λ s stands. rw (same s stands) (made.makes s stands);
+    stands = made.stands;
+    height = made.height;
+  }
+  by-where a b changes other (Err stop) same cut = record { cut = λ s stands. rw (same s stands) (cut.cut s stands); fault = cut.fault }
+
+  by-then : (a b c : Bus T O E) (first more : DeviceState → List Change) (r : Result (Unit {0}) Stop) → MadeBy meaning a b first (Ok (tt {0}))
+      → MadeBy meaning b c more r → MadeBy meaning a c (λ s. first s ++ more s) r
+  by-then a b c first more (Ok x) p q = record {
+    makes = λ s stands. makes-both meaning a b c (first s) (more s) (p.makes s stands) (q.makes s (p.stands s stands));
+    stands = λ s stands. q.stands s (p.stands s stands);
+    height = q.height ∙ p.height;
+  }
+  by-then a b c first more (Err stop) p q = record {
+    cut = λ s stands. stops-later meaning a b c stop (first s) (more s) (p.makes s stands) (q.cut s (p.stands s stands));
+    fault = q.fault;
+  }
+
+  -- what the bus answered for a piece, with the stop that it names
+  pub appended : (a b : Bus T O E) (changes : List Change) (r : Result (Unit {0}) Stop) → OnOk r (Makes meaning a b changes)
+      → OnOk r ((s : DeviceState) → BusStandsFor meaning.tree a s → BusStandsFor meaning.tree b s) → OnErr r (r ≡ Err TreeFault)
+      → OnErr r (StopsShort meaning a b TreeFault changes) → (screen_of b).height ≡ (screen_of a).height → MadeBy meaning a b (λ s. changes) r
+  appended a b changes (Ok x) makes kept err cut height = record { makes = λ s stands. makes; stands = kept; height = height }
+  appended a b changes (Err stop) makes kept err cut height =
+      let fault : stop ≡ TreeFault = cc in
+      record { cut = λ s stands. rw fault cut; fault = fault }
+
 module _ {T O E : Type 0} (meaning : Meaning T O E) (of_tree : T → ℕ) (of_out : O → ℕ) (of_err : E → ℕ) where
-  pub made-nothing : (bus : Bus T O E) → Made meaning of_tree of_out of_err bus bus (λ s. [])
+  pub made-nothing : (bus : Bus T O E) → MadeOrCut meaning of_tree of_out of_err bus bus (λ s. []) (Ok (tt {0}))
   made-nothing bus = record {
-    makes = λ s stands. makes-none meaning bus;
-    stands = λ s stands. stands;
-    height = refl;
-    faults = refl;
+    made = record { makes = λ s stands. makes-none meaning bus; stands = λ s stands. stands; height = refl };
+    ledger = refl;
     same = same-itself meaning.tree bus;
   }
 
-  -- the same changes, in the states that the bus stood for
-  pub made-where : (a b : Bus T O E) (changes other : DeviceState → List Change) → ((s : DeviceState) → BusStandsFor meaning.tree a s → changes s ≡ other s)
-      → Made meaning of_tree of_out of_err a b changes → Made meaning of_tree of_out of_err a b other
-  made-where a b changes other same made = record {
-    makes = λ s stands. rw (← same s stands) (made.makes s stands);
-    stands = made.stands;
-    height = made.height;
-    faults = made.faults;
-    same = made.same;
+  -- the devices stand for the same still, and nothing else changed
+  pub made-kept : (a b : Bus T O E) → ChangesDevices a b → ((s : DeviceState) → BusStandsFor meaning.tree a s → BusStandsFor meaning.tree b s)
+      → frames_begun b ≡ frames_begun a → (screen_of b).height ≡ (screen_of a).height → MadeOrCut meaning of_tree of_out of_err a b (λ s. []) (Ok (tt {0}))
+  made-kept a b others kept frames height = record {
+    made = record { makes = λ s stands. makes-nothing meaning a b others; stands = kept; height = height };
+    ledger = same_faults of_tree of_out of_err a b others;
+    same = record { lent = others.lent; files = files-kept meaning.tree a b others; frames = frames; clock = others.clock; root = others.root };
   }
 
-  pub cut-where : (a b : Bus T O E) (changes other : DeviceState → List Change) (stop : Stop) → ((s : DeviceState) → BusStandsFor meaning.tree a s → changes s ≡ other s)
-      → CutShort meaning of_tree of_out of_err a b changes stop → CutShort meaning of_tree of_out of_err a b other stop
-  cut-where a b changes other stop same cut = record {
-    cut = λ s stands. rw (← same s stands) (cut.cut s stands);
-    ledger = cut.ledger;
-    fault = cut.fault;
-    same = cut.same;
+  -- the same changes, in the states that the bus stood for
+  pub made-where : (a b : Bus T O E) (changes other : DeviceState → List Change) (r : Result (Unit {0}) Stop)
+      → ((s : DeviceState) → BusStandsFor meaning.tree a s → other s ≡ changes s)
+      → MadeOrCut meaning of_tree of_out of_err a b changes r → MadeOrCut meaning of_tree of_out of_err a b other r
+  made-where a b changes other r same p = record { made = by-where meaning a b changes other r same p.made; ledger = p.ledger; same = p.same }
+
+  -- changes, and then others, whatever these answer
+  pub made-then : (a b c : Bus T O E) (first more : DeviceState → List Change) (r : Result (Unit {0}) Stop)
+      → MadeOrCut meaning of_tree of_out of_err a b first (Ok (tt {0})) → MadeOrCut meaning of_tree of_out of_err b c more r
+      → MadeOrCut meaning of_tree of_out of_err a c (λ s. first s ++ more s) r
+  made-then a b c first more r p q =
+      let faults : bus_faults of_tree of_out of_err b ≡ bus_faults of_tree of_out of_err a = p.ledger in
+      record {
+        made = by-then meaning a b c first more r p.made q.made;
+        ledger = rw (← faults) q.ledger;
+        same = same-again meaning.tree a b c p.same q.same;
+      }
+
+  -- not all of them, whatever would follow
+  pub made-first : (a b : Bus T O E) (first more : DeviceState → List Change) (stop : Stop) → MadeOrCut meaning of_tree of_out of_err a b first (Err stop)
+      → MadeOrCut meaning of_tree of_out of_err a b (λ s. first s ++ more s) (Err stop)
+  made-first a b first more stop p = record {
+    made = record { cut = λ s stands. stops-first meaning a b stop (first s) (more s) (p.made.cut s stands); fault = p.made.fault };
+    ledger = p.ledger;
+    same = p.same;
   }
 
   -- bytes for one file, after which others are to come
   pub record Putting (before now : Bus T O E) (path : List ℕ) (whole rest : DeviceState → List ℕ) : Type 0 where
     pub done : DeviceState → List ℕ
-    pub made : Made meaning of_tree of_out of_err before now (λ s. to_file path (done s))
+    pub made : MadeOrCut meaning of_tree of_out of_err before now (λ s. to_file path (done s)) (Ok (tt {0}))
     pub parts : (s : DeviceState) → BusStandsFor meaning.tree before s → whole s ≡ done s ++ rest s
 
   pub putting-start : (bus : Bus T O E) (path : List ℕ) (whole : DeviceState → List ℕ) → Putting bus bus path whole whole
   putting-start bus path whole = record { done = λ s. []; made = made-nothing bus; parts = λ s stands. refl }
 
   -- the next of them
-  pub putting-more : (a b c : Bus T O E) (path : List ℕ) (whole rest piece later : DeviceState → List ℕ) → ((s : DeviceState) → BusStandsFor meaning.tree a s → rest s ≡ piece s ++ later s)
-      → Putting a b path whole rest → Made meaning of_tree of_out of_err b c (λ s. to_file path (piece s)) → Putting a c path whole later
+  pub putting-more : (a b c : Bus T O E) (path : List ℕ) (whole rest piece later : DeviceState → List ℕ)
+      → ((s : DeviceState) → BusStandsFor meaning.tree a s → rest s ≡ piece s ++ later s)
+      → Putting a b path whole rest → MadeOrCut meaning of_tree of_out of_err b c (λ s. to_file path (piece s)) (Ok (tt {0})) → Putting a c path whole later
   putting-more a b c path whole rest piece later next putting made = record {
     done = λ s. putting.done s ++ piece s;
-    made = record {
-      makes = λ s stands.
-          rw (map-append (λ byte. ToFile path byte) (putting.done s) (piece s))
-          (makes-both meaning a b c (to_file path (putting.done s)) (to_file path (piece s)) (putting.made.makes s stands)
-          (made.makes s (putting.made.stands s stands)));
-      stands = λ s stands. made.stands s (putting.made.stands s stands);
-      height = made.height ∙ putting.made.height;
-      faults = made.faults ∙ putting.made.faults;
-      same = same-again meaning.tree a b c putting.made.same made.same;
-    };
-    parts = λ s stands. putting.parts s stands ∙ ap (λ bytes. putting.done s ++ bytes) (next s stands) ∙ sym (append_assoc (putting.done s) (piece s) (later s));
+    made = made-where a c (λ s. to_file path (putting.done s) ++ to_file path (piece s)) (λ s. to_file path (putting.done s ++ piece s)) (Ok (tt {0}))
+        (λ s stands. map-append (λ byte. ToFile path byte) (putting.done s) (piece s))
+        (made-then a b c (λ s. to_file path (putting.done s)) (λ s. to_file path (piece s)) (Ok (tt {0})) putting.made made);
+    parts = λ s stands. putting.parts s stands ∙ ap (λ bytes. putting.done s ++ bytes) (next s stands)
+        ∙ sym (append_assoc (putting.done s) (piece s) (later s));
   }
 
-  pub putting-end : (a b : Bus T O E) (path : List ℕ) (whole rest : DeviceState → List ℕ) → ((s : DeviceState) → BusStandsFor meaning.tree a s → rest s ≡ [])
-      → Putting a b path whole rest → Made meaning of_tree of_out of_err a b (λ s. to_file path (whole s))
-  putting-end a b path whole rest none putting = made-where a b (λ s. to_file path (putting.done s)) (λ s. to_file path (whole s))
-      (λ s stands. ap (to_file path) (sym (append-nil (putting.done s)) ∙ ap (λ bytes. putting.done s ++ bytes) (sym (none s stands)) ∙ sym (putting.parts s stands)))
-      putting.made
+  -- whatever the rest answers, the whole does
+  pub putting-answers : (a b c : Bus T O E) (path : List ℕ) (whole rest : DeviceState → List ℕ) (more : DeviceState → List Change) (r : Result (Unit {0}) Stop)
+      → ((s : DeviceState) → BusStandsFor meaning.tree a s → to_file path (rest s) ≡ more s)
+      → Putting a b path whole rest → MadeOrCut meaning of_tree of_out of_err b c more r
+      → MadeOrCut meaning of_tree of_out of_err a c (λ s. to_file path (whole s)) r
+  putting-answers a b c path whole rest more r same putting made =
+      made-where a c (λ s. to_file path (putting.done s) ++ more s) (λ s. to_file path (whole s)) r
+      (λ s stands. ap (to_file path) (putting.parts s stands) ∙ map-append (λ byte. ToFile path byte) (putting.done s) (rest s)
+      ∙ ap (λ changes. to_file path (putting.done s) ++ changes) (same s stands))
+      (made-then a b c (λ s. to_file path (putting.done s)) more r putting.made made)
 
-  parts-mapped : (path whole done piece later : List ℕ) → whole ≡ done ++ (piece ++ later) → to_file path whole ≡ (to_file path done ++ to_file path piece) ++ to_file path later
-  parts-mapped path whole done piece later is =
-      ap (to_file path) is
-      ∙ map-append (λ byte. ToFile path byte) done (piece ++ later)
-      ∙ ap (λ changes. to_file path done ++ changes) (map-append (λ byte. ToFile path byte) piece later)
-      ∙ sym (append_assoc (to_file path done) (to_file path piece) (to_file path later))
+  pub putting-end : (a b : Bus T O E) (path : List ℕ) (whole rest : DeviceState → List ℕ)
+      → ((s : DeviceState) → BusStandsFor meaning.tree a s → rest s ≡ []) → Putting a b path whole rest
+      → MadeOrCut meaning of_tree of_out of_err a b (λ s. to_file path (whole s)) (Ok (tt {0}))
+  putting-end a b path whole rest none putting =
+      putting-answers a b b path whole rest (λ s. []) (Ok (tt {0})) (λ s stands. ap (to_file path) (none s stands)) putting (made-nothing b)
 
-  pub putting-cut : (a b c : Bus T O E) (path : List ℕ) (whole rest piece later : DeviceState → List ℕ) (stop : Stop) → ((s : DeviceState) → BusStandsFor meaning.tree a s → rest s ≡ piece s ++ later s)
-      → Putting a b path whole rest → CutShort meaning of_tree of_out of_err b c (λ s. to_file path (piece s)) stop
-      → CutShort meaning of_tree of_out of_err a c (λ s. to_file path (whole s)) stop
-  putting-cut a b c path whole rest piece later stop next putting cut = record {
-    cut = λ s stands.
-        rw (parts-mapped path (whole s) (putting.done s) (piece s) (later s) (putting.parts s stands ∙ ap (λ bytes. putting.done s ++ bytes) (next s stands)))
-        (stops-first meaning a c stop (to_file path (putting.done s) ++ to_file path (piece s)) (to_file path (later s))
-        (stops-later meaning a b c stop (to_file path (putting.done s)) (to_file path (piece s)) (putting.made.makes s stands)
-        (cut.cut s (putting.made.stands s stands))));
-    ledger = rw (← putting.made.faults) cut.ledger;
-    fault = cut.fault;
-    same = same-again meaning.tree a b c putting.made.same cut.same;
-  }
+  pub putting-cut : (a b c : Bus T O E) (path : List ℕ) (whole rest piece later : DeviceState → List ℕ) (stop : Stop)
+      → ((s : DeviceState) → BusStandsFor meaning.tree a s → rest s ≡ piece s ++ later s)
+      → Putting a b path whole rest → MadeOrCut meaning of_tree of_out of_err b c (λ s. to_file path (piece s)) (Err stop)
+      → MadeOrCut meaning of_tree of_out of_err a c (λ s. to_file path (whole s)) (Err stop)
+  putting-cut a b c path whole rest piece later stop next putting cut =
+      putting-answers a b c path whole rest (λ s. to_file path (piece s) ++ to_file path (later s)) (Err stop)
+      (λ s stands. ap (to_file path) (next s stands) ∙ map-append (λ byte. ToFile path byte) (piece s) (later s)) putting
+      (made-first b c (λ s. to_file path (piece s)) (λ s. to_file path (later s)) stop cut)

@@ -50,17 +50,6 @@ pub record IsCompared (before now : Tally) : Type 0 where
   pub expects : now.expects ≤ before.expects + 1
   pub misses : now.misses ≤ before.misses + 1
 
--- so many more vectors, each of at most so many instructions, and so many events can be counted up to a limit
-pub record HasRoom (limit : ℕ) (tally : Tally) (begun given budget : ℕ) : Type 0 where
-  pub instructions : tally.instructions + begun * budget ≤ limit
-  pub vectors : tally.vectors + begun ≤ limit
-  pub cuts : tally.cuts + begun ≤ limit
-  pub events : tally.events + given ≤ limit
-  pub frames : tally.frames + given ≤ limit
-  pub shots : tally.shots + given ≤ limit
-  pub expects : tally.expects + given ≤ limit
-  pub misses : tally.misses + given ≤ limit
-
 module _ {T O E W : Type 0} (meaning : Meaning T O E) (refuses : Type 0) where
   -- not all of a trail was done: a front of its changes is made, and whoever is to blame for the stop did not surely take all of
   -- them; memory was wanting only to a watcher that may refuse, or where the trail takes the names of a folder

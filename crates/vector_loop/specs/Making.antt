@@ -9,24 +9,26 @@ use Rattle.varvara_bus.specs.declared.bus.Bus.{Bus}
 use Rattle.varvara_bus.specs.State.{DeviceState}
 use Rattle.varvara_bus.specs.Bus.{SameBus, BusStandsFor, Meaning, Makes, StopsShort, bus_faults, screen_of}
 
-module _ {T O E : Type 0} (meaning : Meaning T O E) (of_tree : T → ℕ) (of_out : O → ℕ) (of_err : E → ℕ) where
+module _ {T O E : Type 0} (meaning : Meaning T O E) where
   -- the changes were made, from each state that the bus stood for, which it still stands for
   pub record Made (before now : Bus T O E) (changes : DeviceState → List Change) : Type 0 where
     pub makes : (state : DeviceState) → BusStandsFor meaning.tree before state → Makes meaning before now (changes state)
     pub stands : (state : DeviceState) → BusStandsFor meaning.tree before state → BusStandsFor meaning.tree now state
     pub height : (screen_of now).height ≡ (screen_of before).height
-    pub faults : bus_faults of_tree of_out of_err now ≡ bus_faults of_tree of_out of_err before
-    pub same : SameBus meaning.tree before now
 
   -- a front of them was made, since the tree failed
   pub record CutShort (before now : Bus T O E) (changes : DeviceState → List Change) (stop : Stop) : Type 0 where
     pub cut : (state : DeviceState) → BusStandsFor meaning.tree before state → StopsShort meaning before now stop (changes state)
-    pub ledger : Ledger (bus_faults of_tree of_out of_err before) (bus_faults of_tree of_out of_err now)
-        (blame_of {T = Unit {0}} (Err stop))
     pub fault : stop ≡ TreeFault
-    pub same : SameBus meaning.tree before now
 
   -- the one or the other, by the answer
-  abbrev pub MadeOrCut : Bus T O E → Bus T O E → (DeviceState → List Change) → Result (Unit {0}) Stop → Type 0
-  MadeOrCut before now changes (Ok _) = Made before now changes
-  MadeOrCut before now changes (Err stop) = CutShort before now changes stop
+  abbrev pub MadeBy : Bus T O E → Bus T O E → (DeviceState → List Change) → Result (Unit {0}) Stop → Type 0
+  MadeBy before now changes (Ok _) = Made before now changes
+  MadeBy before now changes (Err stop) = CutShort before now changes stop
+
+  -- and what stays, and who counted a fault
+  pub record MadeOrCut (of_tree : T → ℕ) (of_out : O → ℕ) (of_err : E → ℕ) (before now : Bus T O E) (changes : DeviceState → List Change)
+      (result : Result (Unit {0}) Stop) : Type 0 where
+    pub made : MadeBy before now changes result
+    pub ledger : Ledger (bus_faults of_tree of_out of_err before) (bus_faults of_tree of_out of_err now) (blame_of result)
+    pub same : SameBus meaning.tree before now

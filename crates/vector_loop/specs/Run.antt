@@ -1,5 +1,5 @@
 -- The reference run of a script: the reset vector, the arguments, the events, and no more once the state is not 0.
-use Rattle.std.specs.Prelude.{ℕ, ◌==◌, if◌then◌else◌, List, [], ◌∷◌, ◌++◌, length, map}
+use Rattle.std.specs.Prelude.{ℕ, ◌+◌, ◌*◌, ◌==◌, if◌then◌else◌, List, [], ◌∷◌, ◌++◌, length, map}
 use Rattle.console_port.specs.Console.{event_byte}
 use Rattle.console_port.specs.declared.EventKind.{EventKind}
 use Rattle.console_port.specs.declared.EventKind.TheVariants as event_kind
@@ -9,6 +9,7 @@ use Rattle.vector_loop.specs.declared.output.Outputs.{Outputs}
 use Rattle.vector_loop.specs.State.{State, with_stored}
 use Rattle.vector_loop.specs.Trail.{Trail, followed_by}
 use Rattle.vector_loop.specs.Vector.{vector}
+use Rattle.vector_loop.specs.Answers.{Count}
 use Rattle.vector_loop.specs.Event.{give_each, console, give}
 
 -- a byte of the console with its kind
@@ -42,3 +43,10 @@ run budget outputs script state =
     followed_by (vector budget 0x0100 (with_stored (made_ready script.arguments) state)) (λ reset.
     followed_by (give_each (console_byte budget) (arguments_given script.arguments) reset)
     (give_each (give budget outputs) script.events))
+
+-- how much is counted of it at most
+abbrev pub most_of : ScriptView → Count
+most_of script = record {
+  vectors = 1 + length (arguments_given script.arguments) + length script.events * 5;
+  events = length script.events;
+}

@@ -1,20 +1,20 @@
 //! Events.
-ghost use Rattle.std.specs.Prelude.{◌≡◌, ◌==◌, ◌+◌, ◌*◌, ◌^◌, ◌<◌, ◌≤◌, ◌⊎◌, OnOk, IfErr};
+ghost use Rattle.std.specs.Prelude.{◌≡◌, ◌==◌, ◌+◌, ◌*◌, ◌^◌, ◌-◌, ◌<◌, ◌≤◌, ◌⊎◌, OnOk, IfErr};
 ghost use Rattle.play_script.specs.declared.script.Event.TheVariants as events;
 ghost use Rattle.uxn_io.specs.Faults.{Ledger};
 ghost use Rattle.uxn_opcodes.specs.Ports.{blame_of};
-ghost use Rattle.varvara_bus.specs.Bus.{BusStandsFor, SameLent, SameBus, FilesStay, HasRoot, meaning_of, frames_begun, bus_faults};
+ghost use Rattle.varvara_bus.specs.Bus.{BusStandsFor, SameLent, FilesStay, HasRoot, meaning_of, frames_begun, bus_faults};
 ghost use Rattle.varvara_bus.specs.Reads.{read_of};
 ghost use Rattle.varvara_bus.specs.State.{DeviceState};
-ghost use Rattle.vector_loop.specs.State.{counting_expect};
-ghost use Rattle.vector_loop.specs.Event.{vector_in, console, device, give};
+ghost use Rattle.vector_loop.specs.State.{counting_expect, is_over};
+ghost use Rattle.vector_loop.specs.Event.{vector_in, console, device, happens, give};
 ghost use Rattle.vector_loop.specs.Outputs.{OutputsThere};
-ghost use Rattle.vector_loop.specs.Follows.{running, FollowsFrom, FallsShortFrom, HasGrown, IsCompared};
+ghost use Rattle.vector_loop.specs.Follows.{running, state_of, FollowsFrom, FallsShortFrom, HasGrown, IsCompared};
+ghost use Rattle.vector_loop.specs.Answers.{telling_of, of_vectors, of_events, HasRoom, HasOutputs, running_of, Answers};
 
-use crate::frame::give_frame;
 use crate::output::{Outputs, keep_picture};
+use crate::runner::Runner;
 use crate::tally::Tally;
-use crate::vector::run_vector;
 use crate::watch::Watcher;
 use console_port::EventKind;
 use input_ports::{Input, vector_port};
@@ -27,102 +27,89 @@ use varvara_bus::Bus;
 const CONSOLE_VECTOR: u8 = 0x10;
 
 /// The port of the state, which ends the run where it is not 0.
-pub(crate) const STATE: u8 = 0x0f;
+const STATE: u8 = 0x0f;
 
-/// Runs the vector whose address is in two ports, unless it is 0.
-pub(crate) fn run_vector_in<'a, T: Tree, O: Sink, E: Sink, W: Watcher>(
-    core: &mut Core,
-    bus: &mut Bus<'a, T, O, E>,
-    port: u8,
-    budget: u32,
-    tally: &mut Tally,
-    watcher: &mut W,
-) -> Result<(), Stop>
-    requires port { port < 255 }
-    requires budget { 1 ≤ budget }
-    requires instructions { tally.old.instructions ≤ 2 ^ 62 }
-    requires vectors { tally.old.vectors ≤ 2 ^ 62 }
-    requires cuts { tally.old.cuts ≤ 2 ^ 62 }
-    ensures ok { OnOk result (FollowsFrom (meaning_of T.told O.told E.told T.sure O.sure E.sure) W.held W.shown
-        (running core.old bus.old tally.old watcher.old) (running core.new bus.new tally.new watcher.new) (vector_in budget port)) }
-    ensures err { IfErr result (λ stop. FallsShortFrom (meaning_of T.told O.told E.told T.sure O.sure E.sure) W.may_refuse
-        (running core.old bus.old tally.old watcher.old) (running core.new bus.new tally.new watcher.new) stop (vector_in budget port)) }
-    ensures grown { HasGrown tally.old tally.new 1 0 budget }
-    ensures ledger { Ledger (bus_faults T.faults O.faults E.faults bus.old) (bus_faults T.faults O.faults E.faults bus.new) (blame_of result) }
-    ensures memory { IfErr result (λ stop. stop ≡ Stop.NoMemory → W.may_refuse ⊎ HasRoot bus.old.devices.now) }
-    ensures same { SameBus T.told bus.old bus.new }
-{
-    let at = bus.stored_short(port);
-    if at == 0 {
-        return Ok(());
+impl<'r, 'a, T: Tree, O: Sink, E: Sink, W: Watcher> Runner<'r, 'a, T, O, E, W> {
+    /// Whether the run is over: the byte in the port of the state is not 0.
+    pub(crate) fn is_over(&self) -> bool
+        ensures { (devices : DeviceState) → BusStandsFor T.told self.now.bus.now devices
+            → result ≡ is_over (state_of (running_of self.now) devices) }
+    {
+        self.bus.stored(STATE) != 0
     }
-    match run_vector(core, bus, at, budget, tally, watcher) {
-        Ok(_) => Ok(()),
-        Err(stop) => Err(stop),
-    }
-}
 
-/// Gives the console a byte of a kind.
-pub(crate) fn give_console<'a, T: Tree, O: Sink, E: Sink, W: Watcher>(
-    core: &mut Core,
-    bus: &mut Bus<'a, T, O, E>,
-    byte: u8,
-    kind: EventKind,
-    budget: u32,
-    tally: &mut Tally,
-    watcher: &mut W,
-) -> Result<(), Stop>
-    requires budget { 1 ≤ budget }
-    requires instructions { tally.old.instructions ≤ 2 ^ 62 }
-    requires vectors { tally.old.vectors ≤ 2 ^ 62 }
-    requires cuts { tally.old.cuts ≤ 2 ^ 62 }
-    ensures ok { OnOk result (FollowsFrom (meaning_of T.told O.told E.told T.sure O.sure E.sure) W.held W.shown
-        (running core.old bus.old tally.old watcher.old) (running core.new bus.new tally.new watcher.new) (console budget byte kind)) }
-    ensures err { IfErr result (λ stop. FallsShortFrom (meaning_of T.told O.told E.told T.sure O.sure E.sure) W.may_refuse
-        (running core.old bus.old tally.old watcher.old) (running core.new bus.new tally.new watcher.new) stop (console budget byte kind)) }
-    ensures grown { HasGrown tally.old tally.new 1 0 budget }
-    ensures ledger { Ledger (bus_faults T.faults O.faults E.faults bus.old) (bus_faults T.faults O.faults E.faults bus.new) (blame_of result) }
-    ensures memory { IfErr result (λ stop. stop ≡ Stop.NoMemory → W.may_refuse ⊎ HasRoot bus.old.devices.now) }
-    ensures same { SameBus T.told bus.old bus.new }
-{
-    bus.give(byte, kind);
-    match run_vector_in(core, bus, CONSOLE_VECTOR, budget, tally, watcher) {
-        Ok(()) => Ok(()),
-        Err(stop) => Err(stop),
-    }
-}
-
-/// Gives the controller or the mouse an input, which is settled after its vector.
-fn give_device<'a, T: Tree, O: Sink, E: Sink, W: Watcher>(
-    core: &mut Core,
-    bus: &mut Bus<'a, T, O, E>,
-    input: &Input,
-    budget: u32,
-    tally: &mut Tally,
-    watcher: &mut W,
-) -> Result<(), Stop>
-    requires budget { 1 ≤ budget }
-    requires instructions { tally.old.instructions ≤ 2 ^ 62 }
-    requires vectors { tally.old.vectors ≤ 2 ^ 62 }
-    requires cuts { tally.old.cuts ≤ 2 ^ 62 }
-    ensures ok { OnOk result (FollowsFrom (meaning_of T.told O.told E.told T.sure O.sure E.sure) W.held W.shown
-        (running core.old bus.old tally.old watcher.old) (running core.new bus.new tally.new watcher.new) (device budget input.now)) }
-    ensures err { IfErr result (λ stop. FallsShortFrom (meaning_of T.told O.told E.told T.sure O.sure E.sure) W.may_refuse
-        (running core.old bus.old tally.old watcher.old) (running core.new bus.new tally.new watcher.new) stop (device budget input.now)) }
-    ensures grown { HasGrown tally.old tally.new 1 0 budget }
-    ensures ledger { Ledger (bus_faults T.faults O.faults E.faults bus.old) (bus_faults T.faults O.faults E.faults bus.new) (blame_of result) }
-    ensures memory { IfErr result (λ stop. stop ≡ Stop.NoMemory → W.may_refuse ⊎ HasRoot bus.old.devices.now) }
-    ensures same { SameBus T.told bus.old bus.new }
-{
-    bus.apply(input);
-    match run_vector_in(core, bus, vector_port(input), budget, tally, watcher) {
-        Ok(()) => {
-            if bus.stored(STATE) == 0 {
-                bus.settle(input);
-            }
-            Ok(())
+    /// Runs the vector whose address is in two ports, unless it is 0.
+    pub(crate) fn run_vector_in(&mut self, port: u8) -> Result<(), Stop>
+        requires port { port < 255 }
+        requires room { HasRoom self.old.tally self.old.budget (of_vectors 1) }
+        ensures { Answers (telling_of (meaning_of T.told O.told E.told T.sure O.sure E.sure)
+            T.faults O.faults E.faults W.held W.shown W.may_refuse) self.old self.new
+            (vector_in self.old.budget port) (of_vectors 1) result }
+    {
+        let at = self.bus.stored_short(port);
+        if at == 0 {
+            return Ok(());
         }
-        Err(stop) => Err(stop),
+        self.run_vector(at)?;
+        Ok(())
+    }
+
+    /// Gives the console a byte of a kind.
+    pub(crate) fn give_console(&mut self, byte: u8, kind: EventKind) -> Result<(), Stop>
+        requires { HasRoom self.old.tally self.old.budget (of_vectors 1) }
+        ensures { Answers (telling_of (meaning_of T.told O.told E.told T.sure O.sure E.sure)
+            T.faults O.faults E.faults W.held W.shown W.may_refuse) self.old self.new
+            (console self.old.budget byte kind) (of_vectors 1) result }
+    {
+        self.bus.give(byte, kind);
+        self.run_vector_in(CONSOLE_VECTOR)
+    }
+
+    /// Gives the controller or the mouse an input, which is settled after its vector.
+    fn give_device(&mut self, input: &Input) -> Result<(), Stop>
+        requires { HasRoom self.old.tally self.old.budget (of_vectors 1) }
+        ensures { Answers (telling_of (meaning_of T.told O.told E.told T.sure O.sure E.sure)
+            T.faults O.faults E.faults W.held W.shown W.may_refuse) self.old self.new
+            (device self.old.budget input.now) (of_vectors 1) result }
+    {
+        self.bus.apply(input);
+        self.run_vector_in(vector_port(input))?;
+        if self.is_over() {
+            return Ok(());
+        }
+        self.bus.settle(input);
+        Ok(())
+    }
+
+    /// Gives an event: its ports are stored, its vector is run unless it is 0, and what is 0 again after the vector is
+    /// stored, unless the state is then not 0.
+    pub(crate) fn give_event(&mut self, event: &Event, outputs: &Outputs) -> Result<(), Stop>
+        requires outputs { HasOutputs T.told outputs.now self.old }
+        requires frames { event.now ≡ events.Frame → frames_begun self.old.bus.now < 1000000 }
+        requires room { HasRoom self.old.tally self.old.budget (of_events 1) }
+        ensures { Answers (telling_of (meaning_of T.told O.told E.told T.sure O.sure E.sure)
+            T.faults O.faults E.faults W.held W.shown W.may_refuse) self.old self.new
+            (give self.old.budget outputs.now event.now) (of_events 1) result }
+    {
+        self.tally.events += 1;
+        match event {
+            Event::Input(byte) => self.give_console(*byte, EventKind::Input),
+            Event::EndInput => self.give_console(0, EventKind::End),
+            Event::Device(input) => self.give_device(input),
+            Event::Frame => {
+                self.tally.frames += 1;
+                self.bus.frame_begins();
+                self.show_and_sound(outputs)
+            }
+            Event::Expect(port, byte) => {
+                compare(self.core, self.bus, *port, *byte, &mut self.tally);
+                Ok(())
+            }
+            Event::Shot => {
+                self.tally.shots += 1;
+                keep_picture(self.bus, &outputs.frames)
+            }
+        }
     }
 }
 
@@ -134,8 +121,8 @@ fn compare<'a, T: Tree, O: Sink, E: Sink>(
     byte: u8,
     tally: &mut Tally,
 )
-    requires expects { tally.old.expects ≤ 2 ^ 61 }
-    requires misses { tally.old.misses ≤ 2 ^ 61 }
+    requires expects { tally.old.expects < 2 ^ 64 - 1 }
+    requires misses { tally.old.misses < 2 ^ 64 - 1 }
     ensures counted { (devices : DeviceState) → BusStandsFor T.told bus.now devices
         → tally.new ≡ counting_expect (read_of devices core.now port == byte) tally.old }
     ensures grown { IsCompared tally.old tally.new }
@@ -186,53 +173,14 @@ pub fn run_event<'a, T: Tree, O: Sink, E: Sink, W: Watcher>(
     ensures files { FilesStay bus.old.devices.now.root (T.told bus.old.tree.now) (T.told bus.new.tree.now) }
     ensures begun { frames_begun bus.new ≤ frames_begun bus.old + 1 }
 {
-    tally.events += 1;
-    match event {
-        Event::Input(byte) => match give_console(
-            core,
-            bus,
-            *byte,
-            EventKind::Input,
-            budget,
-            tally,
-            watcher,
-        ) {
-            Ok(()) => Ok(()),
-            Err(stop) => Err(stop),
-        },
-        Event::EndInput => match give_console(
-            core,
-            bus,
-            0,
-            EventKind::End,
-            budget,
-            tally,
-            watcher,
-        ) {
-            Ok(()) => Ok(()),
-            Err(stop) => Err(stop),
-        },
-        Event::Device(input) => match give_device(core, bus, input, budget, tally, watcher) {
-            Ok(()) => Ok(()),
-            Err(stop) => Err(stop),
-        },
-        Event::Frame => {
-            tally.frames += 1;
-            match give_frame(core, bus, outputs, budget, tally, watcher) {
-                Ok(()) => Ok(()),
-                Err(stop) => Err(stop),
-            }
-        }
-        Event::Expect(port, byte) => {
-            compare(core, bus, *port, *byte, tally);
-            Ok(())
-        }
-        Event::Shot => {
-            tally.shots += 1;
-            match keep_picture(bus, &outputs.frames) {
-                Ok(()) => Ok(()),
-                Err(stop) => Err(stop),
-            }
-        }
-    }
+    let mut runner = Runner {
+        core,
+        bus,
+        watcher,
+        tally: *tally,
+        budget,
+    };
+    let given = runner.give_event(event, outputs);
+    *tally = runner.tally;
+    given
 }

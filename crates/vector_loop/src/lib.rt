@@ -5,6 +5,7 @@ mod event;
 mod frame;
 mod output;
 mod run;
+mod runner;
 mod tally;
 #[cfg(test)]
 mod tests;

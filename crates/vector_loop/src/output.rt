@@ -37,10 +37,7 @@ fn append_to<'a, T: Tree, O: Sink, E: Sink>(
     ensures { MadeOrCut (meaning_of T.told O.told E.told T.sure O.sure E.sure) T.faults O.faults E.faults bus.old bus.new
         (λ state. map (λ byte. ToFile path.now byte) bytes.now) result }
 {
-    match bus.append(path, bytes) {
-        Ok(()) => Ok(()),
-        Err(stop) => Err(stop),
-    }
+    bus.append(path, bytes)
 }
 
 /// Appends a row of the picture.
@@ -57,10 +54,7 @@ fn append_row<'a, T: Tree, O: Sink, E: Sink>(
         (λ state. map (λ byte. ToFile path.now byte) (picture_row_of palette.now.colours state.picture y)) result }
 {
     let count = bus.screen().picture_row(y, palette, row);
-    match append_to(bus, path, &row[..count]) {
-        Ok(()) => Ok(()),
-        Err(stop) => Err(stop),
-    }
+    append_to(bus, path, &row[..count])
 }
 
 /// Appends the picture that is shown.
@@ -76,16 +70,10 @@ fn append_picture<'a, T: Tree, O: Sink, E: Sink>(
     let width = bus.screen().width();
     let height = bus.screen().height();
     let head = ppm_head(width, height);
-    match append_to(bus, path, head.as_slice()) {
-        Ok(()) => {}
-        Err(stop) => return Err(stop),
-    }
+    append_to(bus, path, head.as_slice())?;
     let mut row = [0; ROW];
     for y in 0..height {
-        match append_row(bus, path, &palette, y, &mut row) {
-            Ok(()) => {}
-            Err(stop) => return Err(stop),
-        }
+        append_row(bus, path, &palette, y, &mut row)?;
     }
     Ok(())
 }
@@ -103,10 +91,7 @@ pub(crate) fn keep_picture<'a, T: Tree, O: Sink, E: Sink>(
         None => Ok(()),
         Some(path) => {
             let _ = bus.refresh();
-            match append_picture(bus, path) {
-                Ok(()) => Ok(()),
-                Err(stop) => Err(stop),
-            }
+            append_picture(bus, path)
         }
     }
 }
@@ -138,10 +123,7 @@ pub(crate) fn keep_samples<'a, T: Tree, O: Sink, E: Sink>(
         Some(path) => {
             let mut bytes = [0; 2 * SAMPLES];
             put_samples(samples, &mut bytes);
-            match append_to(bus, path, &bytes) {
-                Ok(()) => Ok(()),
-                Err(stop) => Err(stop),
-            }
+            append_to(bus, path, &bytes)
         }
     }
 }

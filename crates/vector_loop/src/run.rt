@@ -1,12 +1,23 @@
 //! Whole runs.
-ghost use Rattle.std.specs.Prelude.{◌≡◌, ◌+◌, ◌*◌, ◌^◌, ◌<◌, ◌≤◌, ◌++◌, [], ◌∷◌, ◌⊎◌, length, OnOk, IfOk, IfErr};
+ghost use Rattle.std.specs.Prelude.{◌≡◌, ◌+◌, ◌*◌, ◌^◌, ◌<◌, ◌≤◌, ◌++◌, [], ◌∷◌, ◌⊎◌, ℕ, List, length, OnOk, IfOk, IfErr};
 ghost use Rattle.uxn_io.specs.Faults.{Ledger};
 ghost use Rattle.uxn_opcodes.specs.Ports.{blame_of};
 ghost use Rattle.play_script.specs.Held.{bytes_in};
 ghost use Rattle.varvara_bus.specs.State.{DeviceState, storing};
-ghost use Rattle.varvara_bus.specs.Bus.{SameLent, FilesStay, HasRoot, BusStandsFor, ChangesDevices, meaning_of, frames_begun, bus_faults};
+ghost use Rattle.varvara_bus.specs.Bus.{
+  SameLent,
+  FilesStay,
+  HasRoot,
+  BusStandsFor,
+  Reads,
+  ChangesDevices,
+  meaning_of,
+  frames_begun,
+  bus_faults,
+};
 ghost use Rattle.vector_loop.specs.State.{new_tally};
 ghost use Rattle.vector_loop.specs.Outputs.{OutputsThere};
+ghost use Rattle.vector_loop.specs.Watch.{IsPage};
 ghost use Rattle.vector_loop.specs.Event.{unless_over, give_each, console, give};
 ghost use Rattle.vector_loop.specs.Run.{
   console_byte,
@@ -14,15 +25,15 @@ ghost use Rattle.vector_loop.specs.Run.{
   arguments_given,
   kind_before,
   made_ready,
+  most_of,
   run,
 };
-ghost use Rattle.vector_loop.specs.Follows.{running, FallsShortFrom, EndsFrom, HasRoom};
-ghost use Rattle.vector_loop.specs.Answers.{telling_of, Answers};
+ghost use Rattle.vector_loop.specs.Follows.{running, FallsShortFrom, EndsFrom};
+ghost use Rattle.vector_loop.specs.Answers.{telling_of, of_vectors, of_events, HasRoom, HasOutputs, moment_in, Answers};
 
-use crate::event::{STATE, give_console, run_event};
 use crate::output::Outputs;
+use crate::runner::Runner;
 use crate::tally::Tally;
-use crate::vector::run_vector;
 use crate::watch::{Moment, Watcher};
 use console_port::{EventKind, KIND};
 use play_script::{Event, Script};
@@ -33,64 +44,112 @@ use varvara_bus::Bus;
 /// Where the reset vector begins.
 const RESET: u16 = 0x0100;
 
-/// Gives the console a byte of a kind, unless the run is over.
-fn give_byte<'a, T: Tree, O: Sink, E: Sink, W: Watcher>(
-    core: &mut Core,
-    bus: &mut Bus<'a, T, O, E>,
-    byte: u8,
-    kind: EventKind,
-    budget: u32,
-    tally: &mut Tally,
-    watcher: &mut W,
-) -> Result<(), Stop>
-    requires budget { 1 ≤ budget }
-    requires room { HasRoom (2 ^ 61) tally.old 1 0 budget }
-    ensures { Answers (telling_of (meaning_of T.told O.told E.told T.sure O.sure E.sure) T.faults O.faults E.faults W.held W.shown W.may_refuse)
-        (running core.old bus.old tally.old watcher.old) (running core.new bus.new tally.new watcher.new)
-        (unless_over (console budget byte kind)) 1 0 budget result }
-{
-    if bus.stored(STATE) != 0 {
-        return Ok(());
-    }
-    match give_console(core, bus, byte, kind, budget, tally, watcher) {
-        Ok(()) => Ok(()),
-        Err(stop) => Err(stop),
-    }
-}
-
-/// Gives the bytes of an argument and the newline behind it, each unless the run is over.
-fn give_argument<'a, T: Tree, O: Sink, E: Sink, W: Watcher>(
-    core: &mut Core,
-    bus: &mut Bus<'a, T, O, E>,
-    text: &[u8],
-    kind: EventKind,
-    budget: u32,
-    tally: &mut Tally,
-    watcher: &mut W,
-) -> Result<(), Stop>
-    requires budget { 1 ≤ budget }
-    requires room { HasRoom (2 ^ 61) tally.old (length text.now + 1) 0 budget }
-    ensures { Answers (telling_of (meaning_of T.told O.told E.told T.sure O.sure E.sure) T.faults O.faults E.faults W.held W.shown W.may_refuse)
-        (running core.old bus.old tally.old watcher.old) (running core.new bus.new tally.new watcher.new)
-        (give_each (console_byte budget) (argument_bytes text.now ++ (10, kind) ∷ [])) (length text.now + 1) 0 budget result }
-{
-    for byte in text {
-        match give_byte(
-            core,
-            bus,
-            *byte,
-            EventKind::Argument,
-            budget,
-            tally,
-            watcher,
-        ) {
-            Ok(()) => {}
-            Err(stop) => return Err(stop),
+impl<'r, 'a, T: Tree, O: Sink, E: Sink, W: Watcher> Runner<'r, 'a, T, O, E, W> {
+    /// Gives the console a byte of a kind, unless the run is over.
+    fn give_byte(&mut self, byte: u8, kind: EventKind) -> Result<(), Stop>
+        requires { HasRoom self.old.tally self.old.budget (of_vectors 1) }
+        ensures { Answers (telling_of (meaning_of T.told O.told E.told T.sure O.sure E.sure)
+            T.faults O.faults E.faults W.held W.shown W.may_refuse) self.old self.new
+            (unless_over (console self.old.budget byte kind)) (of_vectors 1) result }
+    {
+        if self.is_over() {
+            return Ok(());
         }
+        self.give_console(byte, kind)
     }
-    match give_byte(core, bus, b'\n', kind, budget, tally, watcher) {
-        Ok(()) => Ok(()),
-        Err(stop) => Err(stop),
+
+    /// Gives the bytes of an argument and the newline behind it, each unless the run is over.
+    fn give_argument(&mut self, text: &[u8], kind: EventKind) -> Result<(), Stop>
+        requires { HasRoom self.old.tally self.old.budget (of_vectors (length text.now + 1)) }
+        ensures { Answers (telling_of (meaning_of T.told O.told E.told T.sure O.sure E.sure)
+            T.faults O.faults E.faults W.held W.shown W.may_refuse) self.old self.new
+            (give_each (console_byte self.old.budget) (argument_bytes text.now ++ (10, kind) ∷ []))
+            (of_vectors (length text.now + 1)) result }
+    {
+        for byte in text {
+            self.give_byte(*byte, EventKind::Argument)?;
+        }
+        self.give_byte(b'\n', kind)
+    }
+
+    /// Gives the arguments, each byte unless the run is over.
+    fn give_arguments(&mut self, arguments: &[Bytes]) -> Result<(), Stop>
+        requires { HasRoom self.old.tally self.old.budget (of_vectors (length (arguments_given (bytes_in arguments.now)))) }
+        ensures { Answers (telling_of (meaning_of T.told O.told E.told T.sure O.sure E.sure)
+            T.faults O.faults E.faults W.held W.shown W.may_refuse) self.old self.new
+            (give_each (console_byte self.old.budget) (arguments_given (bytes_in arguments.now)))
+            (of_vectors (length (arguments_given (bytes_in arguments.now)))) result }
+    {
+        let mut following = arguments.len();
+        for text in arguments {
+            following -= 1;
+            self.give_argument(text.as_slice(), kind_before(following))?;
+        }
+        Ok(())
+    }
+
+    /// Gives an event, unless the run is over.
+    fn give_next(&mut self, event: &Event, outputs: &Outputs) -> Result<(), Stop>
+        requires outputs { HasOutputs T.told outputs.now self.old }
+        requires frames { frames_begun self.old.bus.now < 1000000 }
+        requires room { HasRoom self.old.tally self.old.budget (of_events 1) }
+        ensures { Answers (telling_of (meaning_of T.told O.told E.told T.sure O.sure E.sure)
+            T.faults O.faults E.faults W.held W.shown W.may_refuse) self.old self.new
+            (unless_over (give self.old.budget outputs.now event.now)) (of_events 1) result }
+    {
+        if self.is_over() {
+            return Ok(());
+        }
+        self.give_event(event, outputs)
+    }
+
+    /// Gives the events, each unless the run is over.
+    fn give_events(&mut self, events: &[Event], outputs: &Outputs) -> Result<(), Stop>
+        requires outputs { HasOutputs T.told outputs.now self.old }
+        requires frames { frames_begun self.old.bus.now + length events.now ≤ 1000000 }
+        requires room { HasRoom self.old.tally self.old.budget (of_events (length events.now)) }
+        ensures { Answers (telling_of (meaning_of T.told O.told E.told T.sure O.sure E.sure)
+            T.faults O.faults E.faults W.held W.shown W.may_refuse) self.old self.new
+            (give_each (give self.old.budget outputs.now) events.now) (of_events (length events.now)) result }
+    {
+        for event in events {
+            self.give_next(event, outputs)?;
+        }
+        Ok(())
+    }
+
+    /// Runs the reset vector, and gives the arguments and the events of a script.
+    fn run(&mut self, script: &Script, outputs: &Outputs) -> Result<(), Stop>
+        requires outputs { HasOutputs T.told outputs.now self.old }
+        requires frames { frames_begun self.old.bus.now + length script.now.events ≤ 1000000 }
+        requires room { HasRoom self.old.tally self.old.budget (most_of script.now) }
+        ensures { Answers (telling_of (meaning_of T.told O.told E.told T.sure O.sure E.sure)
+            T.faults O.faults E.faults W.held W.shown W.may_refuse) self.old self.new
+            (run self.old.budget outputs.now script.now) (most_of script.now) result }
+    {
+        make_ready(self.bus, script.args());
+        self.run_vector(RESET)?;
+        self.give_arguments(script.args())?;
+        self.give_events(script.events(), outputs)
+    }
+
+    /// Shows the watcher the end of the run.
+    fn finish(&mut self) -> Result<(), Stop>
+        ensures ok { OnOk result ((page : List ℕ) → IsPage (Reads T.told self.old.bus.now self.old.core.now) page
+            → W.held self.new.watcher.now ≡ W.ended (W.held self.old.watcher.now) self.old.core.now page (moment_in self.old)) }
+        ensures err { IfErr result (λ stop. stop ≡ Stop.NoMemory) }
+        ensures refused { IfErr result (λ stop. W.may_refuse) }
+        ensures others { record self.old { watcher = self.new.watcher } ≡ self.new }
+        ensures watcher { self.new.watcher.ghost_name ≡ self.old.watcher.ghost_name }
+    {
+        let moment = Moment {
+            instructions: self.tally.instructions,
+            address: self.core.at,
+        };
+        match self.watcher.finish(self.core, self.bus, moment) {
+            Ok(()) => Ok(()),
+            Err(_) => Err(Stop::NoMemory),
+        }
     }
 }
 
@@ -103,87 +162,6 @@ fn kind_before(following: usize) -> EventKind
     } else {
         EventKind::Spacer
     }
-}
-
-/// Gives the arguments, each byte unless the run is over.
-fn give_arguments<'a, T: Tree, O: Sink, E: Sink, W: Watcher>(
-    core: &mut Core,
-    bus: &mut Bus<'a, T, O, E>,
-    arguments: &[Bytes],
-    budget: u32,
-    tally: &mut Tally,
-    watcher: &mut W,
-) -> Result<(), Stop>
-    requires budget { 1 ≤ budget }
-    requires room { HasRoom (2 ^ 61) tally.old (length (arguments_given (bytes_in arguments.now))) 0 budget }
-    ensures { Answers (telling_of (meaning_of T.told O.told E.told T.sure O.sure E.sure) T.faults O.faults E.faults W.held W.shown W.may_refuse)
-        (running core.old bus.old tally.old watcher.old) (running core.new bus.new tally.new watcher.new)
-        (give_each (console_byte budget) (arguments_given (bytes_in arguments.now))) (length (arguments_given (bytes_in arguments.now))) 0 budget result }
-{
-    let mut following = arguments.len();
-    for text in arguments {
-        following -= 1;
-        let kind = kind_before(following);
-        match give_argument(core, bus, text.as_slice(), kind, budget, tally, watcher) {
-            Ok(()) => {}
-            Err(stop) => return Err(stop),
-        }
-    }
-    Ok(())
-}
-
-/// Gives an event, unless the run is over.
-fn give_event<'a, T: Tree, O: Sink, E: Sink, W: Watcher>(
-    core: &mut Core,
-    bus: &mut Bus<'a, T, O, E>,
-    event: &Event,
-    outputs: &Outputs,
-    budget: u32,
-    tally: &mut Tally,
-    watcher: &mut W,
-) -> Result<(), Stop>
-    requires outputs { OutputsThere outputs.now bus.old.devices.now.root (T.told bus.old.tree.now) }
-    requires frames { frames_begun bus.old < 1000000 }
-    requires budget { 1 ≤ budget }
-    requires room { HasRoom (2 ^ 61) tally.old 5 1 budget }
-    ensures { Answers (telling_of (meaning_of T.told O.told E.told T.sure O.sure E.sure) T.faults O.faults E.faults W.held W.shown W.may_refuse)
-        (running core.old bus.old tally.old watcher.old) (running core.new bus.new tally.new watcher.new)
-        (unless_over (give budget outputs.now event.now)) 5 1 budget result }
-{
-    if bus.stored(STATE) != 0 {
-        return Ok(());
-    }
-    match run_event(core, bus, event, outputs, budget, tally, watcher) {
-        Ok(()) => Ok(()),
-        Err(stop) => Err(stop),
-    }
-}
-
-/// Gives the events, each unless the run is over.
-fn give_events<'a, T: Tree, O: Sink, E: Sink, W: Watcher>(
-    core: &mut Core,
-    bus: &mut Bus<'a, T, O, E>,
-    events: &[Event],
-    outputs: &Outputs,
-    budget: u32,
-    tally: &mut Tally,
-    watcher: &mut W,
-) -> Result<(), Stop>
-    requires outputs { OutputsThere outputs.now bus.old.devices.now.root (T.told bus.old.tree.now) }
-    requires frames { frames_begun bus.old + length events.now ≤ 1000000 }
-    requires budget { 1 ≤ budget }
-    requires room { HasRoom (2 ^ 61) tally.old (length events.now * 5) (length events.now) budget }
-    ensures { Answers (telling_of (meaning_of T.told O.told E.told T.sure O.sure E.sure) T.faults O.faults E.faults W.held W.shown W.may_refuse)
-        (running core.old bus.old tally.old watcher.old) (running core.new bus.new tally.new watcher.new)
-        (give_each (give budget outputs.now) events.now) (length events.now * 5) (length events.now) budget result }
-{
-    for event in events {
-        match give_event(core, bus, event, outputs, budget, tally, watcher) {
-            Ok(()) => {}
-            Err(stop) => return Err(stop),
-        }
-    }
-    Ok(())
 }
 
 /// Tells the program by port 17 whether arguments will come.
@@ -226,7 +204,7 @@ pub fn run_script<'a, T: Tree, O: Sink, E: Sink, W: Watcher>(
     ensures files { OnOk result (FilesStay bus.old.devices.now.root (T.told bus.old.tree.now) (T.told bus.new.tree.now)) }
 {
     script.known();
-    let mut tally = Tally {
+    let tally = Tally {
         instructions: 0,
         vectors: 0,
         cuts: 0,
@@ -236,33 +214,14 @@ pub fn run_script<'a, T: Tree, O: Sink, E: Sink, W: Watcher>(
         expects: 0,
         misses: 0,
     };
-    make_ready(bus, script.args());
-    match run_vector(core, bus, RESET, budget, &mut tally, watcher) {
-        Ok(_) => {}
-        Err(stop) => return Err(stop),
-    }
-    match give_arguments(core, bus, script.args(), budget, &mut tally, watcher) {
-        Ok(()) => {}
-        Err(stop) => return Err(stop),
-    }
-    match give_events(
+    let mut runner = Runner {
         core,
         bus,
-        script.events(),
-        outputs,
-        budget,
-        &mut tally,
         watcher,
-    ) {
-        Ok(()) => {}
-        Err(stop) => return Err(stop),
-    }
-    let moment = Moment {
-        instructions: tally.instructions,
-        address: core.at,
+        tally,
+        budget,
     };
-    let Ok(()) = watcher.finish(core, bus, moment) else {
-        return Err(Stop::NoMemory);
-    };
-    Ok(tally)
+    runner.run(script, outputs)?;
+    runner.finish()?;
+    Ok(runner.tally)
 }

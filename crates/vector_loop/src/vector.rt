@@ -6,7 +6,9 @@ ghost use Rattle.varvara_bus.specs.State.{DeviceState};
 ghost use Rattle.varvara_bus.specs.Bus.{BusStandsFor, SameBus, HasRoot, meaning_of, bus_faults};
 ghost use Rattle.vector_loop.specs.Vector.{instructions, breaks, vector, vector_end};
 ghost use Rattle.vector_loop.specs.Follows.{running, state_of, FollowsFrom, FallsShortFrom, HasGrown};
+ghost use Rattle.vector_loop.specs.Answers.{telling_of, of_vectors, HasRoom, running_of, Answers};
 
+use crate::runner::Runner;
 use crate::tally::{Tally, VectorEnd};
 use crate::watch::{Moment, Watcher};
 use uxn_io::{Sink, Tree};
@@ -25,8 +27,7 @@ fn run_instructions<'a, T: Tree, O: Sink, E: Sink, W: Watcher>(
     watcher: &mut W,
 ) -> Result<Option<u64>, Stop>
     requires budget { 1 ≤ budget }
-    requires most { budget ≤ 2 ^ 62 }
-    requires instructions { start ≤ 2 ^ 62 }
+    requires room { start + budget < 2 ^ 64 }
     ensures within { IfOk result (λ broke. IfSome broke (λ left. left ≤ budget)) }
     ensures some { IfOk result (λ broke. IfSome broke (λ left. 1 ≤ left)) }
     ensures broke { IfOk result (λ broke. IfSome broke (λ left. (before : Tally) → before.instructions ≡ start
@@ -69,6 +70,41 @@ fn run_instructions<'a, T: Tree, O: Sink, E: Sink, W: Watcher>(
     }
 }
 
+impl<'r, 'a, T: Tree, O: Sink, E: Sink, W: Watcher> Runner<'r, 'a, T, O, E, W> {
+    /// Runs instructions from an address on, up to and with the first BRK, or as many as the budget allows.
+    pub(crate) fn run_vector(&mut self, at: u16) -> Result<VectorEnd, Stop>
+        requires { HasRoom self.old.tally self.old.budget (of_vectors 1) }
+        ensures answers { Answers (telling_of (meaning_of T.told O.told E.told T.sure O.sure E.sure)
+            T.faults O.faults E.faults W.held W.shown W.may_refuse) self.old self.new
+            (vector self.old.budget at) (of_vectors 1) result }
+        ensures end { IfOk result (λ end. (devices : DeviceState) → BusStandsFor T.told self.old.bus.now devices
+            → end ≡ vector_end self.old.budget at (state_of (running_of self.old) devices)) }
+        ensures same { SameBus T.told self.old.bus.now self.new.bus.now }
+    {
+        self.core.at = at;
+        self.tally.vectors += 1;
+        let budget = u64::from(self.budget);
+        let broke = run_instructions(
+            self.core,
+            self.bus,
+            self.tally.instructions,
+            budget,
+            self.watcher,
+        )?;
+        match broke {
+            Some(left) => {
+                self.tally.instructions += budget - left + 1;
+                Ok(VectorEnd::Broke)
+            }
+            None => {
+                self.tally.instructions += budget;
+                self.tally.cuts += 1;
+                Ok(VectorEnd::Cut)
+            }
+        }
+    }
+}
+
 /// Runs instructions from an address on, up to and with the first BRK, or exactly `budget` of them.
 pub fn run_vector<'a, T: Tree, O: Sink, E: Sink, W: Watcher>(
     core: &mut Core,
@@ -97,19 +133,14 @@ pub fn run_vector<'a, T: Tree, O: Sink, E: Sink, W: Watcher>(
     ensures memory { IfErr result (λ stop. stop ≡ Stop.NoMemory → W.may_refuse ⊎ HasRoot bus.old.devices.now) }
     ensures same { SameBus T.told bus.old bus.new }
 {
-    core.at = at;
-    tally.vectors += 1;
-    let budget = u64::from(budget);
-    match run_instructions(core, bus, tally.instructions, budget, watcher) {
-        Ok(Some(left)) => {
-            tally.instructions += budget - left + 1;
-            Ok(VectorEnd::Broke)
-        }
-        Ok(None) => {
-            tally.instructions += budget;
-            tally.cuts += 1;
-            Ok(VectorEnd::Cut)
-        }
-        Err(stop) => Err(stop),
-    }
+    let mut runner = Runner {
+        core,
+        bus,
+        watcher,
+        tally: *tally,
+        budget,
+    };
+    let end = runner.run_vector(at);
+    *tally = runner.tally;
+    end
 }

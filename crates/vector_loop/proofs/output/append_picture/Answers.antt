@@ -1,17 +1,18 @@
-use Rattle.std.proofs.Common.{◌+◌, ◌-◌, ◌∙◌}
+use Rattle.std.proofs.Common.{◌≡◌, ◌+◌, ◌-◌, ◌∙◌, Err, rules}
 use Rattle.std.specs.List.{flat_map, range_with_len}
 use Rattle.screen_layers.specs.Pictures.{picture_row_of}
 use Rattle.vector_loop.specs.Outputs.{picture_bytes}
 use Rattle.vector_loop.proofs.Makings.{picture-parts, rows-next, rows-end, putting-start, putting-more, putting-end, putting-cut}
 use Rattle.vector_loop.proofs.output.append_picture.Goals as goal
 
-pub returns-in-Err : goal.returns-in-Err
-returns-in-Err g c =
-    putting-cut _ _ _ _ _ _ _ c.args.path.now picture_bytes picture_bytes (λ s. c.as_slice.result.now)
+pub returns-in_err-append_to : goal.returns-in_err-append_to
+returns-in_err-append_to g c =
+    let result : c.from_residual.result ≡ Err c.in_err-append_to.field-0.0 = search rules in
+    rw result (putting-cut _ _ _ _ _ _ _ c.args.path.now picture_bytes picture_bytes (λ s. c.as_slice.result.now)
     (λ s. flat_map (picture_row_of c.palette-palette.result.colours s.picture) (range_with_len 0 (c.height-height.result - 0))) _
     (λ s stands. picture-parts s c.width-width.result c.height-height.result c.palette-palette.result.colours _ (c.width-width.ensures ∙ (c.screen.ensures.screen s stands).width)
     (c.height-height.ensures ∙ (c.screen-2.ensures.screen s stands).height) (c.palette-palette.ensures s stands) (c.as_slice.ensures.value ∙ c.ppm_head-head.ensures))
-    (putting-start _ _ _ _ _ c.args.path.now picture_bytes) c.in-Err.ensures
+    (putting-start _ _ _ _ _ c.args.path.now picture_bytes) c.in_err-append_to.ensures)
 
 pub loop-y-init : goal.loop-y-init
 loop-y-init g c = record {
@@ -20,7 +21,7 @@ loop-y-init g c = record {
       (λ s. flat_map (picture_row_of c.palette-palette.result.colours s.picture) (range_with_len 0 (c.height-height.result - 0)))
       (λ s stands. picture-parts s c.width-width.result c.height-height.result c.palette-palette.result.colours _ (c.width-width.ensures ∙ (c.screen.ensures.screen s stands).width)
       (c.height-height.ensures ∙ (c.screen-2.ensures.screen s stands).height) (c.palette-palette.ensures s stands) (c.as_slice.ensures.value ∙ c.ppm_head-head.ensures))
-      (putting-start _ _ _ _ _ c.args.path.now picture_bytes) c.in-Ok.ensures;
+      (putting-start _ _ _ _ _ c.args.path.now picture_bytes) c.in_ok-append_to.ensures;
 }
 
 pub append_row-requires-clause-there : goal.append_row-requires-clause-there
@@ -31,7 +32,7 @@ append_row-requires-clause-there g c = record {
 
 pub append_row-requires-clause-row : goal.append_row-requires-clause-row
 append_row-requires-clause-row g c =
-    rw (c.loop-y.invariant.putting.made.height, ← c.screen-2.ensures.held, ← c.height-height.ensures) c.loop-y-test.true
+    rw (c.loop-y.invariant.putting.made.made.height, ← c.screen-2.ensures.held, ← c.height-height.ensures) c.loop-y-test.true
 
 pub loop-y-preserved : goal.loop-y-preserved
 loop-y-preserved g c = record {
@@ -39,15 +40,16 @@ loop-y-preserved g c = record {
       putting-more _ _ _ _ _ _ _ c.args.path.now picture_bytes _ (λ s. picture_row_of c.palette-palette.result.colours s.picture c.loop-y.y)
       (λ s. flat_map (picture_row_of c.palette-palette.result.colours s.picture) (range_with_len (c.loop-y.y + 1) (c.height-height.result - (c.loop-y.y + 1))))
       (λ s stands. rows-next (picture_row_of c.palette-palette.result.colours s.picture) c.loop-y.y c.height-height.result c.loop-y-test.true)
-      c.loop-y.invariant.putting c.in-Ok-append_row.ensures;
+      c.loop-y.invariant.putting c.in_ok-append_row.ensures;
 }
 
-pub returns-in-Err-append_row : goal.returns-in-Err-append_row
-returns-in-Err-append_row g c =
-    putting-cut _ _ _ _ _ _ _ c.args.path.now picture_bytes _ (λ s. picture_row_of c.palette-palette.result.colours s.picture c.loop-y.y)
+pub returns-in_err-append_row : goal.returns-in_err-append_row
+returns-in_err-append_row g c =
+    let result : c.from_residual-in_err-append_row.result ≡ Err c.in_err-append_row.field-0.0 = search rules in
+    rw result (putting-cut _ _ _ _ _ _ _ c.args.path.now picture_bytes _ (λ s. picture_row_of c.palette-palette.result.colours s.picture c.loop-y.y)
     (λ s. flat_map (picture_row_of c.palette-palette.result.colours s.picture) (range_with_len (c.loop-y.y + 1) (c.height-height.result - (c.loop-y.y + 1)))) _
     (λ s stands. rows-next (picture_row_of c.palette-palette.result.colours s.picture) c.loop-y.y c.height-height.result c.loop-y-test.true)
-    c.loop-y.invariant.putting c.in-Err-append_row.ensures
+    c.loop-y.invariant.putting c.in_err-append_row.ensures)
 
 pub returns : goal.returns
 returns g c =

@@ -1,0 +1,53 @@
+use Rattle.std.proofs.Common.{ap, refl, lit≤, arith}
+use Rattle.play_script.specs.declared.script.Event.TheVariants.{Input, EndInput, Frame, Device, Shot}
+use Rattle.varvara_bus.specs.State.{DeviceState}
+use Rattle.vector_loop.specs.declared.tally.Tally.{Tally}
+use Rattle.vector_loop.specs.State.{State, with_next_frame, with_counted}
+use Rattle.vector_loop.specs.Trail.{stays, makes, followed_by}
+use Rattle.vector_loop.specs.Event.{shown_and_heard, shot}
+use Rattle.vector_loop.specs.Outputs.{appended_to, picture_bytes}
+use Rattle.vector_loop.specs.Answers.{none, of_vectors, of_events}
+use Rattle.vector_loop.proofs.Counting.{grown-counted, grown-compared}
+use Rattle.vector_loop.proofs.Frames.{shot-is}
+use Rattle.vector_loop.proofs.Events.{one_event, with_compared, frame-given, expect-given, answers-given}
+use Rattle.vector_loop.proofs.Answering.{answers-then, answers-as, answers-within, answers-change, answers-made}
+use Rattle.vector_loop.proofs.runner.Runner.give_event.Goals as goal
+
+pub returns-in-Input : goal.returns-in-Input
+returns-in-Input g c = rw c.in-Input.is
+    (answers-given _ c.args.self.now _ c.args.self.now.budget c.args.outputs.now (Input c.in-Input.byte) 1 _ (lit≤ tt) c.give_console.ensures)
+
+pub returns-in-EndInput : goal.returns-in-EndInput
+returns-in-EndInput g c = rw c.in-EndInput.is
+    (answers-given _ c.args.self.now _ c.args.self.now.budget c.args.outputs.now EndInput 1 _ (lit≤ tt) c.give_console-in-EndInput.ensures)
+
+pub returns-in-Device : goal.returns-in-Device
+returns-in-Device g c = rw c.in-Device.is
+    (answers-given _ c.args.self.now _ c.args.self.now.budget c.args.outputs.now (Device c.in-Device.input) 1 _ (lit≤ tt) c.give_device.ensures)
+
+pub returns-in-Frame : goal.returns-in-Frame
+returns-in-Frame g c = rw c.in-Frame.is
+    (answers-as _ _ _ (λ s. followed_by (stays (with_next_frame (with_counted Frame s))) (shown_and_heard c.args.self.now.budget c.args.outputs.now)) _ (of_events 1) _
+    (frame-given c.args.self.now.budget c.args.outputs.now)
+    (answers-then _ _ _ _ (λ s. stays (with_next_frame (with_counted Frame s))) (shown_and_heard c.args.self.now.budget c.args.outputs.now) one_event (of_vectors 5) (tt {0}) _
+    (answers-change _ _ _ (λ s. with_next_frame (with_counted Frame s)) one_event (tt {0}) refl refl c.frame_begins.ensures.others (omega (arith, c.frame_begins.ensures.frames))
+    (grown-counted Frame c.args.self.now.tally c.args.self.now.budget) c.frame_begins.ensures.devices (λ devices stands. refl))
+    c.show_and_sound.ensures))
+
+pub returns-in-Expect : goal.returns-in-Expect
+returns-in-Expect g c =
+    let now : DeviceState → Tally → State = λ devices tally. record { core = c.args.self.now.core.now; devices = devices; tally = tally } in
+    rw c.in-Expect.is
+    (answers-within _ _ _ _ one_event (of_events 1) _ (omega arith) (omega arith)
+    (answers-as _ _ _ (λ s. stays (with_compared c.in-Expect.port c.in-Expect.byte s)) _ one_event _
+    (expect-given c.args.self.now.budget c.args.outputs.now c.in-Expect.port c.in-Expect.byte)
+    (answers-change _ _ _ (with_compared c.in-Expect.port c.in-Expect.byte) one_event (tt {0}) refl refl
+    (record { lent = record { devices = refl; tree = refl; out = refl; err = refl }; tree = refl; out = refl; err = refl; clock = refl; root = refl }) (omega arith)
+    (grown-compared c.args.self.now.tally _ c.args.self.now.budget c.compare.ensures.grown) (λ devices stands. stands)
+    (λ devices stands. ap (now devices) (c.compare.ensures.counted devices stands)))))
+
+pub returns-in-Shot : goal.returns-in-Shot
+returns-in-Shot g c = rw c.in-Shot.is
+    (answers-given _ c.args.self.now _ c.args.self.now.budget c.args.outputs.now Shot 0 _ (lit≤ tt)
+    (answers-as _ _ _ (λ s. makes (appended_to c.args.outputs.now.frames (picture_bytes s.devices)) s) (shot c.args.outputs.now) none _ (shot-is c.args.outputs.now)
+    (answers-made _ _ _ (λ d. appended_to c.args.outputs.now.frames (picture_bytes d)) _ refl refl c.keep_picture.ensures)))
