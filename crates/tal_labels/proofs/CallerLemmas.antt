@@ -9,7 +9,7 @@ use Rattle.tal_words.specs.declared.span.Expanded.{Expanded}
 use Rattle.tal_words.specs.declared.form.Form.{Form}
 use Rattle.tal_words.specs.Forms.{form, size}
 use Rattle.tal_labels.specs.declared.placed.PlacedWord.{PlacedWord}
-use Rattle.tal_words.specs.Order.{each, collected}
+use Rattle.tal_words.specs.Order.{collected}
 use Rattle.tal_words.specs.Source.{expanded_text}
 use Rattle.tal_labels.specs.Places.{address_after}
 use Rattle.tal_labels.specs.Shapes.{open_count, closing_distance, judged_shape, shape_fault}
