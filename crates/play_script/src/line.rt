@@ -1,11 +1,11 @@
 //! What a line means.
 
-ghost use Rattle.std.specs.Prelude.{◌≡◌, ◌≢◌, ℕ, length, option_map, IfOk, IfSome};
+ghost use Rattle.std.specs.Prelude.{◌≡◌, ◌≢◌, ◌≤◌, ℕ, length, option_map, IfOk, IfSome};
 ghost use Rattle.line_texts.specs.Lines.{words_of};
 ghost use Rattle.input_ports.specs.declared.Input.{Input as DeviceInput};
 ghost use Rattle.play_script.specs.Gathered.{shown, FitsLine, IsRead};
 ghost use Rattle.play_script.specs.Held.{bytes_in, texts_if};
-ghost use Rattle.play_script.specs.Limits.{AreTexts, IsBit, IsEvent, IsPlayer};
+ghost use Rattle.play_script.specs.Limits.{AreTexts, IsBit, IsEvent, IsPlayer, IsSecond};
 ghost use Rattle.play_script.specs.Rows.{made_of, line_of, device_of, version_of, clock, clock_of, events, keys_of, expect_of};
 ghost use Rattle.play_script.specs.Rows.{further, buttons_of, mouse_buttons_of, mouse_of, scroll_of};
 ghost use Rattle.play_script.specs.Values.{one_or, texts_of};
@@ -178,7 +178,7 @@ fn keys_of(version: Version, values: &[u8]) -> Option<Meaning>
 {
     let (word, more) = first_word(values)?;
     let byte = byte_of(word)?;
-    let count = count_of(version, more)?;
+    let count = further_of(version, MOST_TIMES, more)? as u32;
     Some(Meaning::Times(Event::Device(Input::Key(byte)), count))
 }
 
@@ -197,26 +197,16 @@ fn expect_of(version: Version, values: &[u8]) -> Option<Meaning>
     }
 }
 
-// How often a key is struck, which version 1 does not say.
+// How often a key is struck or which player's a button is, which version 1 does not say.
 #[tactic(auto, unfolding(crate::specs::Values::one_or))]
-fn count_of(version: Version, values: &[u8]) -> Option<u32>
-    ensures { result ≡ one_or 1000000 (further version (words_of values.now)) }
+fn further_of(version: Version, most: u64, values: &[u8]) -> Option<u64>
+    requires { 1 ≤ most }
+    ensures number { result ≡ one_or most (further version (words_of values.now)) }
+    ensures limits { IfSome result (λ number. (1 ≤ number) × (number ≤ most) × (number ≢ 1 → IsSecond version)) }
 {
     match version {
         Version::First => Some(1),
-        Version::Second => Some(one_or(MOST_TIMES, values)? as u32),
-    }
-}
-
-// The number of a player, which version 1 does not say.
-#[tactic(auto, unfolding(crate::specs::Values::one_or))]
-fn player_of(version: Version, values: &[u8]) -> Option<u8>
-    ensures number { result ≡ one_or 4 (further version (words_of values.now)) }
-    ensures limits { IfSome result (λ player. player ≢ 1 → IsPlayer version player) }
-{
-    match version {
-        Version::First => Some(1),
-        Version::Second => Some(one_or(PLAYERS, values)? as u8),
+        Version::Second => one_or(most, values),
     }
 }
 
@@ -227,7 +217,8 @@ fn button_in(version: Version, values: &[u8]) -> Option<(u8, u8)>
     ensures limits { IfSome result (λ b. IsBit b.0 × (b.1 ≢ 1 → IsPlayer version b.1)) }
 {
     let (word, more) = first_word(values)?;
-    Some((bit_in(buttons(), word)?, player_of(version, more)?))
+    let mask = bit_in(buttons(), word)?;
+    Some((mask, further_of(version, PLAYERS, more)? as u8))
 }
 
 #[tactic(auto, unfolding(crate::specs::Rows::mouse_buttons_of))]
