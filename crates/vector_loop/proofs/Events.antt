@@ -15,7 +15,7 @@ use Rattle.vector_loop.specs.declared.runner.Runner.{Runner}
 use Rattle.vector_loop.specs.State.{State, with_stored, with_next_frame, with_counted, counting_event, counting_expect}
 use Rattle.vector_loop.specs.Trail.{Trail, stays, followed_by}
 use Rattle.vector_loop.specs.Vector.{vector}
-use Rattle.vector_loop.specs.Event.{vector_at, vector_in, unless_over, device, shown_and_heard, frame, expected, happens, give}
+use Rattle.vector_loop.specs.Event.{vector_at, vector_in, unless_over, shown_and_heard, frame, expected, happens, give}
 use Rattle.vector_loop.specs.Answers.{Telling, Count, of_vectors, of_events, Answers}
 use Rattle.vector_loop.proofs.Counting.{both, grown-counted}
 use Rattle.vector_loop.proofs.Answering.{answers-change, answers-then, answers-as, answers-within}
@@ -55,10 +55,6 @@ applying input state = with_stored (stores_of (stored state.devices.history) inp
 
 abbrev pub settling : Input → State → Trail
 settling input state = unless_over (λ after. stays (with_stored (stores_after input) after)) state
-
-device-is : (budget : ℕ) (input : Input) (state : State) → device budget input state ≡ followed_by (vector_in budget (vector_of input) (applying input state)) (settling input)
-unfolding device
-device-is budget input state = refl
 
 give-is : (budget : ℕ) (outputs : Outputs) (event : Event) (state : State)
     → give budget outputs event state ≡ happens budget outputs event (with_counted event state)

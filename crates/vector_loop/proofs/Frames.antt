@@ -8,7 +8,7 @@ use Rattle.vector_loop.specs.declared.output.Outputs.{Outputs}
 use Rattle.vector_loop.specs.State.{State, with_rendered, is_over}
 use Rattle.vector_loop.specs.Trail.{Trail, stays, makes, followed_by}
 use Rattle.vector_loop.specs.Outputs.{appended_to, samples_bytes, picture_bytes}
-use Rattle.vector_loop.specs.Event.{vector_in, unless_over, give_each, samples_kept, vector_where, ended_vectors, heard, shown_and_heard, shot}
+use Rattle.vector_loop.specs.Event.{vector_in, unless_over, give_each, samples_kept, vector_where, ended_vectors, heard, shot}
 
 -- a vector that is not run, since its note has not ended
 pub not-ended : (budget voice : ℕ) (ended : Bool) (state : State) → ended ≡ false → unless_over (vector_where budget ended voice) state ≡ stays state
@@ -43,10 +43,6 @@ heard-as budget outputs state samples ended is_frame is_ended =
     heard-is budget outputs state
     ∙ ap (λ s. followed_by (makes (appended_to outputs.samples (samples_bytes s)) (with_rendered state)) (ended_vectors budget (endings 735 state.devices.sounds))) same
     ∙ ap (λ e. followed_by (kept outputs samples (with_rendered state)) (ended_vectors budget e)) (sym is_ended)
-
-pub both-is : (budget : ℕ) (outputs : Outputs) (state : State) → shown_and_heard budget outputs state ≡ followed_by (vector_in budget 0x20 state) (unless_over (heard budget outputs))
-unfolding shown_and_heard
-both-is budget outputs state = refl
 
 pub shot-is : (outputs : Outputs) (state : State) → shot outputs state ≡ makes (appended_to outputs.frames (picture_bytes state.devices)) state
 unfolding shot

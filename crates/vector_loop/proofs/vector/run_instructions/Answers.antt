@@ -1,5 +1,6 @@
 use Rattle.std.proofs.Common.{◌≡◌, suc, ◌+◌, ◌-◌, refl, ◌∙◌, inr, arith}
 use Rattle.varvara_bus.specs.InstructionLaws.{same-itself, same-again, instruction-lent, instruction-fault}
+use Rattle.vector_loop.specs.Follows.{running}
 use Rattle.vector_loop.proofs.Along.{not-break, is-break, stop-no-break}
 use Rattle.vector_loop.proofs.Vectors.{along-left, along-counted, along-start, along-ran, broke-follows, broke-ends, cut-follows, cut-ends, stop-short, refused-short}
 use Rattle.vector_loop.proofs.vector.run_instructions.Goals as goal
@@ -19,9 +20,9 @@ loop-core-preserved g c =
     let one : c.loop-core.left ≡ suc (c.loop-core.left - 1) = omega (arith, c.loop-core.invariant.some) in
     let ran = rw c.in-Ok-Ran.field-0-is at c.in-Ok-Ran.ensures.instruction in
     record {
-      along = λ before started. along-counted _ _ _ _ _ _ before _ _ _ (c.args.start + (c.args.budget - c.loop-core.left) + 1) _
+      along = λ before started. along-counted _ _ _ (running c.args.core.now c.args.bus.now before c.args.watcher.now) _ _ before _ c.args.budget _ (c.args.start + (c.args.budget - c.loop-core.left) + 1) _
           (omega (arith, c.loop-core.invariant.some, c.loop-core.invariant.within))
-          (along-ran _ _ _ _ _ _ _ _ _ _ (along-left _ _ _ _ _ _ _ _ one (c.loop-core.invariant.along before started)) c.in-Ok.ensures.ok ran (not-break _ _ _ _ _ ran));
+          (along-ran _ _ _ (running c.args.core.now c.args.bus.now before c.args.watcher.now) (running c.loop-core.core c.loop-core.bus (record before { instructions = c.args.start + (c.args.budget - c.loop-core.left) }) c.loop-core.watcher) c.args.budget _ _ _ _ (along-left _ _ _ (running c.args.core.now c.args.bus.now before c.args.watcher.now) (running c.loop-core.core c.loop-core.bus (record before { instructions = c.args.start + (c.args.budget - c.loop-core.left) }) c.loop-core.watcher) c.args.budget c.loop-core.left (suc (c.loop-core.left - 1)) one (c.loop-core.invariant.along before started)) c.in-Ok.ensures.ok ran (not-break _ _ _ _ _ ran));
       same = same-again _ _ _ _ c.loop-core.invariant.same (instruction-lent _ _ _ _ _ _ ran);
       faults = c.in-Ok-Ran.ensures.ledger ∙ c.loop-core.invariant.faults;
       some = omega (arith, c.loop-core.invariant.some, c.if-left-eq0.false);
@@ -29,19 +30,19 @@ loop-core-preserved g c =
     }
 
 pub returns-in_default-clause-err : goal.returns-in_default-clause-err
-returns-in_default-clause-err g c before started = refused-short _ _ _ _ _ _ _ _ _ (c.loop-core.invariant.along before started) c.in_default.ensures.err
+returns-in_default-clause-err g c before started = refused-short _ _ _ (running c.args.core.now c.args.bus.now before c.args.watcher.now) (running c.loop-core.core c.loop-core.bus (record before { instructions = c.args.start + (c.args.budget - c.loop-core.left) }) c.loop-core.watcher) c.args.budget _ _ _ (c.loop-core.invariant.along before started) c.in_default.ensures.err
 
 pub returns-in-Ok-Broke-clause-broke : goal.returns-in-Ok-Broke-clause-broke
 returns-in-Ok-Broke-clause-broke g c before started =
     let one : c.loop-core.left ≡ suc (c.loop-core.left - 1) = omega (arith, c.loop-core.invariant.some) in
     let ran = rw c.in-Ok-Broke.field-0-is at c.in-Ok-Broke.ensures.instruction in
-    broke-follows _ _ _ _ _ _ _ _ _ _ (along-left _ _ _ _ _ _ _ _ one (c.loop-core.invariant.along before started)) c.in-Ok.ensures.ok ran (is-break _ _ _ _ _ ran)
+    broke-follows _ _ _ (running c.args.core.now c.args.bus.now before c.args.watcher.now) (running c.loop-core.core c.loop-core.bus (record before { instructions = c.args.start + (c.args.budget - c.loop-core.left) }) c.loop-core.watcher) c.args.budget _ _ _ _ (along-left _ _ _ (running c.args.core.now c.args.bus.now before c.args.watcher.now) (running c.loop-core.core c.loop-core.bus (record before { instructions = c.args.start + (c.args.budget - c.loop-core.left) }) c.loop-core.watcher) c.args.budget c.loop-core.left (suc (c.loop-core.left - 1)) one (c.loop-core.invariant.along before started)) c.in-Ok.ensures.ok ran (is-break _ _ _ _ _ ran)
 
 pub returns-in-Ok-Broke-clause-broke_end : goal.returns-in-Ok-Broke-clause-broke_end
 returns-in-Ok-Broke-clause-broke_end g c before started =
     let one : c.loop-core.left ≡ suc (c.loop-core.left - 1) = omega (arith, c.loop-core.invariant.some) in
     let ran = rw c.in-Ok-Broke.field-0-is at c.in-Ok-Broke.ensures.instruction in
-    broke-ends _ _ _ _ _ _ _ (along-left _ _ _ _ _ _ _ _ one (c.loop-core.invariant.along before started)) (is-break _ _ _ _ _ ran)
+    broke-ends _ _ _ (running c.args.core.now c.args.bus.now before c.args.watcher.now) (running c.loop-core.core c.loop-core.bus (record before { instructions = c.args.start + (c.args.budget - c.loop-core.left) }) c.loop-core.watcher) c.args.budget _ (along-left _ _ _ (running c.args.core.now c.args.bus.now before c.args.watcher.now) (running c.loop-core.core c.loop-core.bus (record before { instructions = c.args.start + (c.args.budget - c.loop-core.left) }) c.loop-core.watcher) c.args.budget c.loop-core.left (suc (c.loop-core.left - 1)) one (c.loop-core.invariant.along before started)) (is-break _ _ _ _ _ ran)
 
 pub returns-in-Ok-Broke-clause-same : goal.returns-in-Ok-Broke-clause-same
 returns-in-Ok-Broke-clause-same g c =
@@ -51,7 +52,7 @@ returns-in-Ok-Broke-clause-same g c =
 pub returns-in-Err-clause-err : goal.returns-in-Err-clause-err
 returns-in-Err-clause-err g c before started =
     let one : c.loop-core.left ≡ suc (c.loop-core.left - 1) = omega (arith, c.loop-core.invariant.some) in
-    stop-short _ _ _ _ _ _ _ _ _ _ _ _ (along-left _ _ _ _ _ _ _ _ one (c.loop-core.invariant.along before started)) c.in-Err.ensures.instruction (stop-no-break _ _ _ _ _ _ c.in-Err.ensures.instruction)
+    stop-short _ _ _ (running c.args.core.now c.args.bus.now before c.args.watcher.now) (running c.loop-core.core c.loop-core.bus (record before { instructions = c.args.start + (c.args.budget - c.loop-core.left) }) c.loop-core.watcher) c.args.budget _ _ _ _ _ _ (along-left _ _ _ (running c.args.core.now c.args.bus.now before c.args.watcher.now) (running c.loop-core.core c.loop-core.bus (record before { instructions = c.args.start + (c.args.budget - c.loop-core.left) }) c.loop-core.watcher) c.args.budget c.loop-core.left (suc (c.loop-core.left - 1)) one (c.loop-core.invariant.along before started)) c.in-Err.ensures.instruction (stop-no-break _ _ _ _ _ _ c.in-Err.ensures.instruction)
 
 pub returns-in-Err-clause-memory : goal.returns-in-Err-clause-memory
 returns-in-Err-clause-memory g c wanted =
@@ -64,16 +65,16 @@ pub returns-then-left-eq0-clause-cut : goal.returns-then-left-eq0-clause-cut
 returns-then-left-eq0-clause-cut g c none before started =
     let last : c.loop-core.left ≡ 1 = omega (arith, c.loop-core.invariant.some, c.if-left-eq0.true) in
     let ran = rw c.in-Ok-Ran.field-0-is at c.in-Ok-Ran.ensures.instruction in
-    cut-follows _ _ _ _ _ _ (along-counted _ _ _ _ _ _ before _ _ _ (c.args.start + (c.args.budget - c.loop-core.left) + 1) (c.args.start + c.args.budget)
+    cut-follows _ _ _ (running c.args.core.now c.args.bus.now before c.args.watcher.now) _ c.args.budget (along-counted _ _ _ (running c.args.core.now c.args.bus.now before c.args.watcher.now) _ _ before _ c.args.budget _ (c.args.start + (c.args.budget - c.loop-core.left) + 1) (c.args.start + c.args.budget)
     (omega (arith, c.loop-core.invariant.within, last))
-    (along-ran _ _ _ _ _ _ _ _ _ _ (along-left _ _ _ _ _ _ _ _ last (c.loop-core.invariant.along before started)) c.in-Ok.ensures.ok ran (not-break _ _ _ _ _ ran)))
+    (along-ran _ _ _ (running c.args.core.now c.args.bus.now before c.args.watcher.now) (running c.loop-core.core c.loop-core.bus (record before { instructions = c.args.start + (c.args.budget - c.loop-core.left) }) c.loop-core.watcher) c.args.budget _ _ _ _ (along-left _ _ _ (running c.args.core.now c.args.bus.now before c.args.watcher.now) (running c.loop-core.core c.loop-core.bus (record before { instructions = c.args.start + (c.args.budget - c.loop-core.left) }) c.loop-core.watcher) c.args.budget c.loop-core.left 1 last (c.loop-core.invariant.along before started)) c.in-Ok.ensures.ok ran (not-break _ _ _ _ _ ran)))
 
 pub returns-then-left-eq0-clause-cut_end : goal.returns-then-left-eq0-clause-cut_end
 returns-then-left-eq0-clause-cut_end g c none before started =
     let last : c.loop-core.left ≡ 1 = omega (arith, c.loop-core.invariant.some, c.if-left-eq0.true) in
     let ran = rw c.in-Ok-Ran.field-0-is at c.in-Ok-Ran.ensures.instruction in
-    cut-ends _ _ _ _ _ _
-    (along-ran _ _ _ _ _ _ _ _ _ _ (along-left _ _ _ _ _ _ _ _ last (c.loop-core.invariant.along before started)) c.in-Ok.ensures.ok ran (not-break _ _ _ _ _ ran))
+    cut-ends _ _ _ (running c.args.core.now c.args.bus.now before c.args.watcher.now) _ c.args.budget
+    (along-ran _ _ _ (running c.args.core.now c.args.bus.now before c.args.watcher.now) (running c.loop-core.core c.loop-core.bus (record before { instructions = c.args.start + (c.args.budget - c.loop-core.left) }) c.loop-core.watcher) c.args.budget _ _ _ _ (along-left _ _ _ (running c.args.core.now c.args.bus.now before c.args.watcher.now) (running c.loop-core.core c.loop-core.bus (record before { instructions = c.args.start + (c.args.budget - c.loop-core.left) }) c.loop-core.watcher) c.args.budget c.loop-core.left 1 last (c.loop-core.invariant.along before started)) c.in-Ok.ensures.ok ran (not-break _ _ _ _ _ ran))
 
 pub returns-then-left-eq0-clause-same : goal.returns-then-left-eq0-clause-same
 returns-then-left-eq0-clause-same g c =
