@@ -6,17 +6,17 @@ use Rattle.uxn_undo.specs.Kept.{Kept, most_moments, most_bytes}
 
 -- a record with its bytes
 abbrev pub with_bytes : Record → List ℕ → Kept
-with_bytes record_ bytes = record {
-  at = record_.at;
-  working = record_.working;
-  returns = record_.returns;
-  stored = record_.stored;
-  span = record_.span;
+with_bytes entry bytes = record {
+  at = entry.at;
+  working = entry.working;
+  returns = entry.returns;
+  stored = entry.stored;
+  span = entry.span;
   bytes = bytes;
 }
 
 abbrev pub count_of : Record → ℕ
-count_of record_ = record_.span.count
+count_of entry = entry.span.count
 
 -- each record with as many bytes as it has addresses
 unfoldable pub joined : List Record → List ℕ → List Kept
