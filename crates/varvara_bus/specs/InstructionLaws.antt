@@ -18,7 +18,7 @@ use Rattle.uxn_opcodes.specs.declared.rows.Access.TheVariants.{Nothing, Read, Wr
 use Rattle.uxn_opcodes.specs.Ports.{blame_of}
 use Rattle.uxn_opcodes.specs.Rule.{opcode_at, begun}
 use Rattle.uxn_opcodes.specs.Instruction.{Written, WriteStops, writes_of, Finishes, Stops, Instruction}
-use Rattle.uxn_opcodes.specs.Model.{Machine, Carries, StandsAt, after_instruction, access_done, written_by}
+use Rattle.uxn_opcodes.specs.Model.{Machine, Carries, StandsAt, StopsAt, after_instruction, access_done, written_by}
 use Rattle.uxn_opcodes.specs.Model.{writes_in, carried-ran, carried-broke, carried-stopped}
 use Rattle.varvara_bus.specs.declared.bus.Bus.{Bus}
 use Rattle.varvara_bus.specs.State.{DeviceState}
@@ -55,17 +55,41 @@ access-writes Nothing core so_far = refl
 access-writes (Read port mode) core so_far = refl
 access-writes (Write port width value) core so_far = refl
 
+-- the machine where the writes of an instruction begin, and where so many of them are done
+abbrev begins_with : DeviceState → Core → Machine Devised
+begins_with devices core = record { core = (begun core).core; ports = record { devices = devices; changes = [] } }
+
+abbrev reached_by : DeviceState → Core → List (ℕ × ℕ) → Machine Devised
+reached_by devices core writes = written_by varvara writes (begins_with devices core)
+
+-- the changes of these writes and of one more
+abbrev changes_with : DeviceState → Core → List (ℕ × ℕ) → ℕ → ℕ → List Change
+changes_with devices core writes port byte =
+    (reached_by devices core writes).ports.changes
+    ++ (effect (reached_by devices core writes).ports.devices (reached_by devices core writes).core port byte).changes
+
 -- the changes of an instruction other than BRK are those of its writes
 instruction-writes : (devices : DeviceState) (core : Core) → opcode_at core ≢ 0
-    → (instruction_effect devices core).changes ≡ (written_by varvara (writes_in (begun core).access) (record {
-      core =
-          (begun core).core;
-      ports = record { devices = devices; changes = [] };
-    })).ports.changes
+    → (instruction_effect devices core).changes ≡ (reached_by devices core (writes_in (begun core).access)).ports.changes
 unfolding instruction_effect after_instruction
 instruction-writes devices core goes_on =
     let e : (opcode_at core == 0) ≡ false = grind (arith, nat_tests) in
     rw e (access-writes (begun core).access (begun core).core (record { devices = devices; changes = [] }))
+
+-- those of the first of its writes come first among them
+changes-then : (devices : DeviceState) (core : Core) (first after : List (ℕ × ℕ)) (port byte : ℕ) → opcode_at core ≢ 0
+    → writes_in (begun core).access ≡ first ++ (port, byte) ∷ after
+    → Grows (changes_with devices core first port byte) (instruction_effect devices core).changes
+changes-then devices core first after port byte goes_on in_order =
+    let later = writes-grow after (varvara.write (reached_by devices core first).ports (reached_by devices core first).core port byte) in
+    record {
+      more = later.more;
+      parts =
+          instruction-writes devices core goes_on
+          ∙ ap (λ writes. (reached_by devices core writes).ports.changes) in_order
+          ∙ ap (λ (m : Machine Devised). m.ports.changes) (written-append first ((port, byte) ∷ after) (begins_with devices core))
+          ∙ later.parts;
+    }
 
 -- the same over nothing, and over two steps
 pub same-itself : {T O E : Type 0} (told_tree : T → Option Nodes) (bus : Bus T O E) → SameBus told_tree bus bus
@@ -178,27 +202,26 @@ module _ {T O E : Type 0} (meaning : Meaning T O E) where
   unfolding Instruction
   goes-on core core_new before now stop stopped = stopped.0
 
-  -- one that stopped has made a front of its changes
+  -- one that stopped at a write, after others, has made a front of its changes
+  stopped-at : (before now : Bus T O E) (core core_new : Core) (stop : Stop) (devices : DeviceState) → opcode_at core ≢ 0
+      → StopsAt (bus_rules meaning) (StandsSince before) varvara (writes_in (begun core).access) (begins_with devices core) stop core_new now
+      → StopsShort meaning before now stop (instruction_effect devices core).changes
+  stopped-at before now core core_new stop devices other at =
+      let later = changes-then devices core at.before at.after at.port at.byte other at.in_order in
+      rw later.parts
+      (stops-first before now stop (changes_with devices core at.before at.port at.byte) later.more
+      (stops-later before at.ports now stop (reached_by devices core at.before).ports.changes
+      (effect (reached_by devices core at.before).ports.devices (reached_by devices core at.before).core at.port at.byte).changes
+      at.same_ports.makes
+      (at.stops.cut (reached_by devices core at.before).ports.devices at.same_ports.devices)))
+
   pub instruction-cut : (core core_new : Core) (before now : Bus T O E) (stop : Stop) (devices : DeviceState)
       → BusStandsFor meaning.tree before devices → Instruction (bus_rules meaning) core before (Err stop) core_new now
       → StopsShort meaning before now stop (instruction_effect devices core).changes
   instruction-cut core core_new before now stop devices stands stopped =
-      let begins : Machine Devised = record { core = (begun core).core; ports = record { devices = devices; changes = [] } } in
-      let at = carried-stopped (bus_rules meaning) (StandsSince before) varvara (carries before) core before
-      (record { devices = devices; changes = [] }) stop core_new now
-      (starts before devices stands) stopped in
-      let reached : Machine Devised = written_by varvara at.before begins in
-      let last : Machine Devised = varvara.write reached.ports reached.core at.port at.byte in
-      let grown = writes-grow at.after last in
-      let short = stops-later before at.ports now stop
-      reached.ports.changes (effect reached.ports.devices reached.core at.port at.byte).changes at.same_ports.makes
-      (at.stops.cut reached.ports.devices at.same_ports.devices) in
-      let whole : (instruction_effect devices core).changes ≡ last.ports.changes ++ grown.more =
-      instruction-writes devices core (goes-on core core_new before now stop stopped)
-      ∙ ap (λ writes. (written_by varvara writes begins).ports.changes) at.in_order
-      ∙ ap (λ (m : Machine Devised). m.ports.changes) (written-append at.before ((at.port, at.byte) ∷ at.after) begins)
-      ∙ grown.parts in
-      rw whole (stops-first before now stop last.ports.changes grown.more short)
+      stopped-at before now core core_new stop devices (goes-on core core_new before now stop stopped)
+      (carried-stopped (bus_rules meaning) (StandsSince before) varvara (carries before) core before
+      (record { devices = devices; changes = [] }) stop core_new now (starts before devices stands) stopped)
 
   -- whatever became of an instruction, the same four are lent, and memory was wanting only where there is a root
   same-root : (before now : Bus T O E) → SameBus meaning.tree before now → HasRoot now.devices.now → HasRoot before.devices.now
