@@ -17,7 +17,7 @@ pub loop-byte-preserved : goal.loop-byte-preserved
 loop-byte-preserved g c =
     let whole = argument_bytes c.args.text.now ++ (10, c.args.kind) ∷ [] in
     let within : c.loop-byte.byte-index < length whole = omega (arith, c.loop-byte-test.true, argument-length c.args.text.now c.args.kind) in
-    going-on _ _ _ _ _ _ (unless_over (console c.args.self.now.budget (get_or c.args.text.now c.loop-byte.byte-index 0) 2)) _ (of_vectors c.loop-byte.byte-index) (of_vectors 1) c.in_ok-give_byte.field-0
+    going-on _ _ _ _ _ _ (unless_over (console c.args.self.now.budget (get_or c.args.text.now c.loop-byte.byte-index 0) 2)) (give_each (console_byte c.args.self.now.budget) (drop (c.loop-byte.byte-index + 1) whole)) (of_vectors c.loop-byte.byte-index) (of_vectors 1) c.in_ok-give_byte.field-0
     (rw (argument-at c.args.text.now c.args.kind c.loop-byte.byte-index c.loop-byte-test.true) at (each-next (console_byte c.args.self.now.budget) whole c.loop-byte.byte-index (0, 0) within)) c.loop-byte.invariant
     (answers-by _ _ _ (λ n. unless_over (console n (get_or c.args.text.now c.loop-byte.byte-index 0) 2)) (of_vectors 1) _ _ c.loop-byte.invariant.done.same.budget c.in_ok-give_byte.ensures)
 

@@ -29,7 +29,7 @@ loop-text-preserved g c =
     let size = given-length (bytes_in c.args.arguments.now) c.loop-text.text-index c.text-item.result.list (c.loop-text.following - 1) within is left in
     record {
       begun = c.loop-text.invariant.begun + (length c.text-item.result.list + 1);
-      going = going-on _ _ _ _ _ _ _ _ (of_vectors c.loop-text.invariant.begun) (of_vectors (length c.text-item.result.list + 1)) c.in_ok-give_argument.field-0
+      going = going-on _ _ _ _ _ _ _ (give_each (console_byte c.args.self.now.budget) (arguments_given (drop (c.loop-text.text-index + 1) (bytes_in c.args.arguments.now)))) (of_vectors c.loop-text.invariant.begun) (of_vectors (length c.text-item.result.list + 1)) c.in_ok-give_argument.field-0
           (argument-step c.args.self.now.budget (bytes_in c.args.arguments.now) c.loop-text.text-index c.text-item.result.list (c.loop-text.following - 1) within is left)
           c.loop-text.invariant.going (answers-by _ _ _ (λ n. give_each (console_byte n) (argument_bytes c.text-item.result.list ++ (10, kind_before (c.loop-text.following - 1)) ∷ [])) _ _ _ c.loop-text.invariant.going.done.same.budget (rw (c.as_slice.ensures, c.kind_before.ensures) at c.in_ok-give_argument.ensures));
       counted = omega (arith, c.loop-text.invariant.counted, size);

@@ -23,7 +23,7 @@ give_next-requires-clause-room g c =
 pub loop-event-preserved : goal.loop-event-preserved
 loop-event-preserved g c =
     rw (one_more c.loop-event.event-index)
-    (going-on _ _ _ _ _ _ _ _ (of_events c.loop-event.event-index) (of_events 1) c.in_ok-give_next.field-0
+    (going-on _ _ _ _ _ _ (unless_over (give c.args.self.now.budget c.args.outputs.now (get_or c.args.events.now c.loop-event.event-index (Input 0)))) (give_each (give c.args.self.now.budget c.args.outputs.now) (drop (c.loop-event.event-index + 1) c.args.events.now)) (of_events c.loop-event.event-index) (of_events 1) c.in_ok-give_next.field-0
     (each-next (give c.args.self.now.budget c.args.outputs.now) c.args.events.now c.loop-event.event-index (Input 0) c.loop-event-test.true)
     c.loop-event.invariant (answers-by _ _ _ (λ n. unless_over (give n c.args.outputs.now (get_or c.args.events.now c.loop-event.event-index (Input 0)))) (of_events 1) _ _ c.loop-event.invariant.done.same.budget c.in_ok-give_next.ensures))
 

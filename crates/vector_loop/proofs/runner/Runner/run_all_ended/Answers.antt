@@ -18,7 +18,7 @@ run_ended-requires-clause-room g c =
 pub loop-voice-preserved : goal.loop-voice-preserved
 loop-voice-preserved g c =
     let given : ℕ → State → Trail = λ voice. vector_where c.args.self.now.budget (slice_index_or c.args.ended.now voice false) voice in
-    going-on _ _ _ _ _ _ (unless_over (given c.loop-voice.voice)) _ (of_vectors c.loop-voice.voice) (of_vectors 1) c.in_ok-run_ended.field-0
+    going-on _ _ _ _ _ _ (unless_over (given c.loop-voice.voice)) (give_each given (drop (c.loop-voice.voice + 1) (0 ∷ 1 ∷ 2 ∷ 3 ∷ []))) (of_vectors c.loop-voice.voice) (of_vectors 1) c.in_ok-run_ended.field-0
     (rw (voice-at c.loop-voice.voice c.loop-voice-test.true) at (each-next given (0 ∷ 1 ∷ 2 ∷ 3 ∷ []) c.loop-voice.voice 0 c.loop-voice-test.true))
     c.loop-voice.invariant (answers-by _ _ _ (λ n. unless_over (vector_where n (slice_index_or c.args.ended.now c.loop-voice.voice false) c.loop-voice.voice)) (of_vectors 1) _ _ c.loop-voice.invariant.done.same.budget (rw c.from.ensures at c.in_ok-run_ended.ensures))
 
