@@ -1,4 +1,4 @@
-use Rattle.std.proofs.Common.{◌≡◌, [], ◌∷◌, ◌++◌, ◌+◌, ◌-◌, ◌<◌, Err, length, drop, arith, rules, ap}
+use Rattle.std.proofs.Common.{◌≡◌, [], ◌∷◌, ◌++◌, ◌+◌, ◌-◌, ◌<◌, Ok, Err, length, drop, arith, rules, ap}
 use Rattle.play_script.specs.Held.{bytes_in}
 use Rattle.vector_loop.specs.Event.{give_each}
 use Rattle.vector_loop.specs.Run.{console_byte, argument_bytes, kind_before, arguments_given}
@@ -29,9 +29,9 @@ loop-text-preserved g c =
     let size = given-length (bytes_in c.args.arguments.now) c.loop-text.text-index c.text-item.result.list (c.loop-text.following - 1) within is left in
     record {
       begun = c.loop-text.invariant.begun + (length c.text-item.result.list + 1);
-      going = going-on _ _ _ _ _ _ _ _ (of_vectors c.loop-text.invariant.begun) (of_vectors (length c.text-item.result.list + 1)) c.in_ok-give_argument.field-0
+      going = going-on _ _ _ _ _ _ _ (give_each (console_byte c.args.self.now.budget) (arguments_given (drop (c.loop-text.text-index + 1) (bytes_in c.args.arguments.now)))) (of_vectors c.loop-text.invariant.begun) (of_vectors (length c.text-item.result.list + 1)) c.in_ok-give_argument.field-0
           (argument-step c.args.self.now.budget (bytes_in c.args.arguments.now) c.loop-text.text-index c.text-item.result.list (c.loop-text.following - 1) within is left)
-          c.loop-text.invariant.going (answers-by _ _ _ (λ n. give_each (console_byte n) (argument_bytes c.text-item.result.list ++ (10, kind_before (c.loop-text.following - 1)) ∷ [])) _ _ _ c.loop-text.invariant.going.done.same.budget (rw (c.as_slice.ensures, c.kind_before.ensures) at c.in_ok-give_argument.ensures));
+          c.loop-text.invariant.going (answers-by _ _ _ (λ n. give_each (console_byte n) (argument_bytes c.text-item.result.list ++ (10, kind_before (c.loop-text.following - 1)) ∷ [])) _ (Ok c.in_ok-give_argument.field-0) c.args.self.now.budget c.loop-text.invariant.going.done.same.budget (rw (c.as_slice.ensures, c.kind_before.ensures) at c.in_ok-give_argument.ensures));
       counted = omega (arith, c.loop-text.invariant.counted, size);
       following = omega (arith, c.loop-text.invariant.following, c.loop-text-test.true);
     }
@@ -47,7 +47,7 @@ returns-in_err-give_argument g c =
     rw result (answers-within _ _ _ _ (of_vectors (c.loop-text.invariant.begun + (length c.text-item.result.list + 1))) _ _ (omega (arith, c.loop-text.invariant.counted, size)) (omega arith)
     (going-stopped _ _ _ _ _ _ _ (give_each (console_byte c.args.self.now.budget) (arguments_given (drop (c.loop-text.text-index + 1) (bytes_in c.args.arguments.now)))) (of_vectors c.loop-text.invariant.begun) (of_vectors (length c.text-item.result.list + 1)) c.in_err-give_argument.field-0.0
     (argument-step c.args.self.now.budget (bytes_in c.args.arguments.now) c.loop-text.text-index c.text-item.result.list (c.loop-text.following - 1) within is left)
-    c.loop-text.invariant.going (answers-by _ _ _ (λ n. give_each (console_byte n) (argument_bytes c.text-item.result.list ++ (10, kind_before (c.loop-text.following - 1)) ∷ [])) _ _ _ c.loop-text.invariant.going.done.same.budget (rw (c.as_slice.ensures, c.kind_before.ensures) at c.in_err-give_argument.ensures))))
+    c.loop-text.invariant.going (answers-by _ _ _ (λ n. give_each (console_byte n) (argument_bytes c.text-item.result.list ++ (10, kind_before (c.loop-text.following - 1)) ∷ [])) _ (Err c.in_err-give_argument.field-0.0) c.args.self.now.budget c.loop-text.invariant.going.done.same.budget (rw (c.as_slice.ensures, c.kind_before.ensures) at c.in_err-give_argument.ensures))))
 
 pub returns : goal.returns
 returns g c =

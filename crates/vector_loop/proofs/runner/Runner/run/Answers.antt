@@ -27,7 +27,7 @@ returns-in_err-run_vector g c =
 pub give_arguments-requires : goal.give_arguments-requires
 give_arguments-requires g c =
     let size : length (arguments_given (bytes_in c.args-3.result.now)) ≡ length (arguments_given c.args.script.now.arguments) = ap (λ texts. length (arguments_given texts)) c.args-3.ensures in
-    room-after _ _ _ _ (of_vectors 1) _ (most_of c.args.script.now) _ (omega (arith, size)) (omega arith) c.requires.room c.in_ok-run_vector.ensures.answers
+    room-after _ (record c.args.self.now { bus = record c.args.self.now.bus { now = c.make_ready.new.bus } }) c.run_vector.new.self (vector c.args.self.now.budget 0x0100) (of_vectors 1) _ (most_of c.args.script.now) (Ok c.in_ok-run_vector.field-0) (omega (arith, size)) (omega arith) c.requires.room c.in_ok-run_vector.ensures.answers
 
 pub returns-in_err-give_arguments : goal.returns-in_err-give_arguments
 unfolding run
