@@ -206,37 +206,3 @@ fn memory_and_sources_have_an_end(rt: HostRuntime) {
         );
     }
 }
-
-/// Says whether the three words of `;x @x INC` are patched one by one.
-fn patches(alloc: Global) -> Result<bool, AsmStop> {
-    let source = b";x @x INC";
-    let words = words(alloc, source)?;
-    let expanded = tal_macros::expand(alloc, source, &words)?;
-    let mut placer = tal_labels::Placer::new(alloc);
-    let mut patcher = crate::Patcher::new(alloc)?;
-    let mut good = true;
-    for (word, (start, waiting)) in expanded.iter().zip(&STARTS) {
-        match placer.add(source, *word)? {
-            Some(placed) => patcher.add(source, &placed)?,
-            None => return Ok(false),
-        }
-        good = good
-            && patcher.image().len() == 65_280
-            && patcher.image().starts_with(start)
-            && patcher.waiting() == *waiting
-            && patcher.fits();
-    }
-    Ok(good)
-}
-
-/// The first bytes of the image after each word, and how many words wait.
-static STARTS: [([u8; 5], u32); 3] = [
-    ([0, 0, 0, 0, 0], 1),
-    ([0xa0, 1, 3, 0, 0], 0),
-    ([0xa0, 1, 3, 1, 0], 0),
-];
-
-#[test]
-fn references_are_filled_as_their_targets_are_defined(rt: HostRuntime) {
-    assert!(rt; matches!(patches(rt.alloc()), Ok(true)));
-}
