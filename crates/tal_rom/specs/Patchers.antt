@@ -1,5 +1,6 @@
 -- What a patcher stands for.
-use Rattle.std.specs.Prelude.{◌≡◌, ◌<◌, ◌≤◌, ℕ, ◌+◌, zero, suc, Bool, true, false, not, ◌&&◌, if◌then◌else◌, List, [], ◌∷◌, ◌++◌, length, map, slice_index, slice_set, fold}
+use Rattle.std.specs.Prelude.{◌≡◌, ◌<◌, ◌≤◌, ℕ, ◌+◌, zero, suc, Bool, true, false, not}
+use Rattle.std.specs.Prelude.{◌&&◌, if◌then◌else◌, List, [], ◌∷◌, ◌++◌, length, map, slice_index, slice_set, fold}
 use Rattle.std.specs.Prelude.{Option, Some, None, is_some}
 use Rattle.std.specs.List.{AllByRecursion, filter, flat_map, list_any}
 use Rattle.std.specs.Str.{bytes_eq}
@@ -59,7 +60,8 @@ holes_by _ address is_hole = []
 -- the hole of an entry that waits for a full name
 abbrev pub name_hole : List Label → List ℕ → Entry → List Hole
 name_hole labels name entry =
-    holes_by entry.form entry.address (not (opens entry.text) && bytes_eq name entry.full && not (is_some (address_named labels entry.full)))
+    holes_by entry.form entry.address
+    (not (opens entry.text) && bytes_eq name entry.full && not (is_some (address_named labels entry.full)))
 
 -- the hole of an entry whose lambda is open
 abbrev pub brace_hole : Entry → List Hole
@@ -112,7 +114,8 @@ closed_or address entry entries closed [] [] = entry ∷ entries
 
 abbrev pub closed_last : ℕ → List Entry → List Entry
 closed_last address [] = []
-closed_last address (entry ∷ entries) = closed_or address entry entries (closed_last address entries) (flat_map brace_hole entries) (brace_hole entry)
+closed_last address (entry ∷ entries) =
+    closed_or address entry entries (closed_last address entries) (flat_map brace_hole entries) (brace_hole entry)
 
 module _ (source : List ℕ) where
   -- a placed word in a scope
@@ -127,7 +130,8 @@ module _ (source : List ℕ) where
 
   abbrev pub entries_from : List ℕ → List PlacedWord → List Entry
   entries_from scope [] = []
-  entries_from scope (placed ∷ words) = entry_in scope placed ∷ entries_from (next_scope placed.form scope (expanded_text source placed.word)) words
+  entries_from scope (placed ∷ words) =
+      entry_in scope placed ∷ entries_from (next_scope placed.form scope (expanded_text source placed.word)) words
 
   -- the scope behind them
   abbrev pub scope_from : List ℕ → List PlacedWord → List ℕ

@@ -39,7 +39,8 @@ impl Names {
     pub fn want(&mut self, alloc: Global, name: Vec<u8>, hole: Hole) -> Result<(), AllocError>
         requires { known_in self.old name.items ≡ None }
         ensures known { (other : List ℕ) → known_in self.new other ≡ known_in self.old other }
-        ensures ok { OnOk result ((other : List ℕ) → wanted_in self.new other ≡ wanted_in self.old other ++ (if bytes_eq other name.items then hole ∷ [] else [])) }
+        ensures ok { OnOk result ((other : List ℕ) → wanted_in self.new other
+            ≡ wanted_in self.old other ++ (if bytes_eq other name.items then hole ∷ [] else [])) }
         ensures err { OnErr result ((other : List ℕ) → wanted_in self.new other ≡ wanted_in self.old other) }
     {
         if self.entries.get(name.as_slice()).is_some() {
@@ -59,7 +60,8 @@ impl Names {
         requires unknown { known_in self.old name.now ≡ None }
         requires there { is_some (found_in self.old name.now) ≡ true }
         ensures known { (other : List ℕ) → known_in self.new other ≡ known_in self.old other }
-        ensures ok { OnOk result ((other : List ℕ) → wanted_in self.new other ≡ wanted_in self.old other ++ (if bytes_eq other name.now then hole ∷ [] else [])) }
+        ensures ok { OnOk result ((other : List ℕ) → wanted_in self.new other
+            ≡ wanted_in self.old other ++ (if bytes_eq other name.now then hole ∷ [] else [])) }
         ensures err { OnErr result ((other : List ℕ) → wanted_in self.new other ≡ wanted_in self.old other) }
     {
         match self.entries.get_mut(name) {
@@ -79,8 +81,10 @@ impl Names {
         address: u16,
     ) -> Result<Vec<Hole>, AllocError>
         ensures holes { IfOk result (λ holes. holes.items ≡ wanted_in self.old name.items) }
-        ensures known { OnOk result ((other : List ℕ) → known_in self.new other ≡ (if bytes_eq other name.items then Some address else known_in self.old other)) }
-        ensures wanted { OnOk result ((other : List ℕ) → wanted_in self.new other ≡ (if bytes_eq other name.items then [] else wanted_in self.old other)) }
+        ensures known { OnOk result ((other : List ℕ) → known_in self.new other
+            ≡ (if bytes_eq other name.items then Some address else known_in self.old other)) }
+        ensures wanted { OnOk result ((other : List ℕ) → wanted_in self.new other
+            ≡ (if bytes_eq other name.items then [] else wanted_in self.old other)) }
         ensures known_err { OnErr result ((other : List ℕ) → known_in self.new other ≡ known_in self.old other) }
         ensures wanted_err { OnErr result ((other : List ℕ) → wanted_in self.new other ≡ wanted_in self.old other) }
     {

@@ -118,7 +118,8 @@ impl Patch {
     pub fn put_word(&mut self, form: Form, text: &[u8], address: u64)
         requires bare { is_reference form ≡ false }
         requires at { 0 < size form text.now → address ≤ 65536 }
-        ensures { (labels : List LabelValue) (entries : List Entry) (full : List ℕ) → ComesNext entries (new_entry form text.now address full)
+        ensures { (labels : List LabelValue) (entries : List Entry) (full : List ℕ)
+            → ComesNext entries (new_entry form text.now address full)
             → Holds labels entries self.old → Holds labels (entries ++ new_entry form text.now address full ∷ []) self.new }
     {
         match form {
@@ -135,7 +136,8 @@ impl Patch {
         ensures ok { OnOk result ((labels : List LabelValue) (entries : List Entry) (text full : List ℕ) → opens text ≡ true
             → ComesNext entries (new_entry (Refer hole.rune) text hole.address full)
             → Holds labels entries self.old → Holds labels (entries ++ new_entry (Refer hole.rune) text hole.address full ∷ []) self.new) }
-        ensures err { OnErr result ((labels : List LabelValue) (entries : List Entry) → Holds labels entries self.old → Holds labels entries self.new) }
+        ensures err { OnErr result ((labels : List LabelValue) (entries : List Entry) → Holds labels entries self.old
+            → Holds labels entries self.new) }
     {
         self.openers.push(hole)?;
         self.waiting = self.waiting.saturating_add(1);
@@ -146,8 +148,10 @@ impl Patch {
     pub fn refer(&mut self, alloc: Global, name: Vec<u8>, hole: Hole) -> Result<(), AllocError>
         ensures ok { OnOk result ((labels : List LabelValue) (entries : List Entry) (text : List ℕ) → opens text ≡ false
             → ComesNext entries (new_entry (Refer hole.rune) text hole.address name.items)
-            → Holds labels entries self.old → Holds labels (entries ++ new_entry (Refer hole.rune) text hole.address name.items ∷ []) self.new) }
-        ensures err { OnErr result ((labels : List LabelValue) (entries : List Entry) → Holds labels entries self.old → Holds labels entries self.new) }
+            → Holds labels entries self.old
+            → Holds labels (entries ++ new_entry (Refer hole.rune) text hole.address name.items ∷ []) self.new) }
+        ensures err { OnErr result ((labels : List LabelValue) (entries : List Entry) → Holds labels entries self.old
+            → Holds labels entries self.new) }
     {
         match self.names.address_of(name.as_slice()) {
             Some(target) => {
@@ -166,7 +170,8 @@ impl Patch {
     pub fn define(&mut self, alloc: Global, name: Vec<u8>, address: u16) -> Result<(), AllocError>
         ensures ok { OnOk result ((labels : List LabelValue) (entries : List Entry) → address_named labels name.items ≡ None
             → Holds labels entries self.old → Holds (labels ++ record { name = name.items; address = address } ∷ []) entries self.new) }
-        ensures err { OnErr result ((labels : List LabelValue) (entries : List Entry) → Holds labels entries self.old → Holds labels entries self.new) }
+        ensures err { OnErr result ((labels : List LabelValue) (entries : List Entry) → Holds labels entries self.old
+            → Holds labels entries self.new) }
     {
         let holes = self.names.define(alloc, name, address)?;
         self.fill_all(&holes, address);
@@ -175,7 +180,8 @@ impl Patch {
 
     /// Closes the last lambda that is open, and fills the reference that opened it.
     pub fn close(&mut self, address: u16)
-        ensures { (labels : List LabelValue) (entries : List Entry) → Holds labels entries self.old → Holds labels (closed_last address entries) self.new }
+        ensures { (labels : List LabelValue) (entries : List Entry) → Holds labels entries self.old
+            → Holds labels (closed_last address entries) self.new }
     {
         match self.openers.pop() {
             Some(hole) => self.fill_all(&[hole], address),

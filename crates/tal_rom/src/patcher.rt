@@ -66,7 +66,8 @@ impl Patcher {
         requires given { WasGiven source.now word.now }
         ensures added { OnOk result ((words : List ExpandedWord) → length words < 2 ^ 31 - 1 → WerePatched source.now words self.old
             → word_added source.now words word.now.word ≡ Some word.now → WerePatched source.now (words ++ word.now.word ∷ []) self.new) }
-        ensures err { OnErr result ((words : List ExpandedWord) → WerePatched source.now words self.old → WerePatched source.now words self.new) }
+        ensures err { OnErr result ((words : List ExpandedWord) → WerePatched source.now words self.old
+            → WerePatched source.now words self.new) }
     {
         let text = word.word.text.text(source);
         self.take(source, word, text)?;
@@ -80,8 +81,10 @@ impl Patcher {
         requires read { text.now ≡ expanded_text source.now word.now.word }
         ensures scope { self.new.scope ≡ self.old.scope }
         ensures added { OnOk result ((words : List ExpandedWord) → length words < 2 ^ 31 - 1 → WerePatched source.now words self.old
-            → word_added source.now words word.now.word ≡ Some word.now → HoldsAll source.now (words ++ word.now.word ∷ []) self.new.patch) }
-        ensures err { OnErr result ((labels : List LabelValue) (entries : List Entry) → Holds labels entries self.old.patch → Holds labels entries self.new.patch) }
+            → word_added source.now words word.now.word ≡ Some word.now
+            → HoldsAll source.now (words ++ word.now.word ∷ []) self.new.patch) }
+        ensures err { OnErr result ((labels : List LabelValue) (entries : List Entry) → Holds labels entries self.old.patch
+            → Holds labels entries self.new.patch) }
     {
         match word.form {
             Form::Refer(rune) => {
