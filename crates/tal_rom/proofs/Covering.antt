@@ -14,21 +14,21 @@ pub record IsLaid (pieces : List Piece) (rom : List ℕ) : Type 0 where
   pub within : length rom ≤ 65280
 
 -- one more word
-found_more : (pieces : List Piece) (piece : Piece) (address : ℕ) → find (covers address) (pieces ++ piece ∷ []) ≡ option_or (find (covers address) pieces) (cond (covers address piece) (Some piece) None)
+pub found_more : (pieces : List Piece) (piece : Piece) (address : ℕ) → find (covers address) (pieces ++ piece ∷ []) ≡ option_or (find (covers address) pieces) (cond (covers address piece) (Some piece) None)
 found_more pieces piece address = find-append (covers address) pieces (piece ∷ [])
 
-covers-true : (address : ℕ) (piece : Piece) → covers address piece ≡ true → (piece.address ≤ address) × (address < piece.address + length piece.bytes)
+pub covers-true : (address : ℕ) (piece : Piece) → covers address piece ≡ true → (piece.address ≤ address) × (address < piece.address + length piece.bytes)
 covers-true address piece e =
     let parts = and_parts _ _ e in
     (leb-true _ _ parts.0, ltb-true _ _ parts.1)
 
-covers-false : (address : ℕ) (piece : Piece) → covers address piece ≡ false → (address < piece.address) ⊎ (piece.address + length piece.bytes ≤ address)
+pub covers-false : (address : ℕ) (piece : Piece) → covers address piece ≡ false → (address < piece.address) ⊎ (piece.address + length piece.bytes ≤ address)
 covers-false address piece e = elim (and_cases _ _ e) [
   | inl before ↦ inl (leb-false _ _ before)
   | inr after ↦ inr (ltb-false _ _ after)
 ]
 
-covers-not : (address : ℕ) (piece : Piece) (b : Bool) → covers address piece ≡ b → ((piece.address ≤ address) → (address < piece.address + length piece.bytes) → ⊥) → covers address piece ≡ false
+pub covers-not : (address : ℕ) (piece : Piece) (b : Bool) → covers address piece ≡ b → ((piece.address ≤ address) → (address < piece.address + length piece.bytes) → ⊥) → covers address piece ≡ false
 covers-not address piece true e never = (let bounds = covers-true address piece e in absurd (never bounds.0 bounds.1))
 covers-not address piece false e never = e
 

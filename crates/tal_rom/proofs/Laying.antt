@@ -32,7 +32,7 @@ use Rattle.tal_rom.proofs.Covering.{IsLaid, next_laid, nothing_laid}
 abbrev pub no_placed_word : PlacedWord
 no_placed_word = record { word = no_word; form = Pad 0; address = 0; size = 0; lambda = None }
 
-some_bytes : (rune : Rune) → 0 < reference_size rune
+pub some_bytes : (rune : Rune) → 0 < reference_size rune
 some_bytes LitRel = omega arith
 some_bytes RawRel = omega arith
 some_bytes LitZero = omega arith

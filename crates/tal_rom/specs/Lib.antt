@@ -4,3 +4,7 @@ pub mod Program
 pub mod Assembly
 pub mod Answers
 pub mod PlainWords
+pub mod Holes
+pub mod Filling
+pub mod Patching
+pub mod Patchers

@@ -1,8 +1,10 @@
 //! The bytes that words stand for.
 
-ghost use Rattle.std.specs.Prelude.{◌≡◌, ◌∷◌, ◌++◌, ◌≤◌, OnOk};
+ghost use Rattle.std.specs.Prelude.{◌≡◌, ◌∷◌, [], ◌++◌, ◌≤◌, OnOk, false, length};
 ghost use Rattle.tal_words.specs.Forms.{encoded, encoded_reference, distance as distance_between, short_bytes as bytes_of_short, low_byte as byte_of_short};
+ghost use Rattle.tal_rom.specs.Filling.{is_reference};
 
+use arrayvec::ArrayVec;
 use std::alloc::AllocError;
 use tal_labels::MEMORY_END;
 use tal_words::{Form, Rune};
@@ -46,35 +48,56 @@ fn distance(address: u64, target: u64) -> u64
     target + 2 * MEMORY_END - (address + 2)
 }
 
-/// Appends an opcode and a short.
-fn append_short(rom: &mut Vec<u8>, opcode: u8, short: u64) -> Result<(), AllocError>
-    ensures { OnOk result (rom.new.items ≡ rom.old.items ++ (opcode ∷ bytes_of_short short)) }
+/// At most three bytes.
+fn few(bytes: &[u8]) -> ArrayVec<u8, 3>
+    requires { length bytes.now ≤ 3 }
+    ensures { result.items ≡ bytes.now }
 {
-    let [high, low] = short_bytes(short);
-    rom.extend_from_slice(&[opcode, high, low])
+    let mut items = ArrayVec::new();
+    match items.try_extend_from_slice(bytes) {
+        Ok(()) => items,
+        Err(_) => unreachable!(),
+    }
 }
 
-/// Appends the bytes of a reference at an address.
-fn append_reference(
-    rom: &mut Vec<u8>,
-    rune: Rune,
-    address: u64,
-    target: u64,
-) -> Result<(), AllocError>
+/// An opcode and a short.
+fn short_behind(opcode: u8, short: u64) -> ArrayVec<u8, 3>
+    ensures { result.items ≡ opcode ∷ bytes_of_short short }
+{
+    let [high, low] = short_bytes(short);
+    few(&[opcode, high, low])
+}
+
+/// The bytes of a reference at an address.
+pub fn reference_bytes(rune: Rune, address: u64, target: u64) -> ArrayVec<u8, 3>
     requires at { address ≤ 65536 }
     requires to { target ≤ 65535 }
-    ensures { OnOk result (rom.new.items ≡ rom.old.items ++ encoded_reference rune address target) }
+    ensures { result.items ≡ encoded_reference rune address target }
 {
     match rune {
-        Rune::LitRel => rom.extend_from_slice(&[LIT, low_byte(distance(address + 1, target))]),
-        Rune::RawRel => rom.extend_from_slice(&[low_byte(distance(address, target))]),
-        Rune::LitZero => rom.extend_from_slice(&[LIT, low_byte(target)]),
-        Rune::RawZero => rom.extend_from_slice(&[low_byte(target)]),
-        Rune::LitAbs => append_short(rom, LIT2, target),
-        Rune::RawAbs => rom.extend_from_slice(&short_bytes(target)),
-        Rune::Jmi => append_short(rom, JMI, distance(address + 1, target)),
-        Rune::Jci => append_short(rom, JCI, distance(address + 1, target)),
-        Rune::Jsi => append_short(rom, JSI, distance(address + 1, target)),
+        Rune::LitRel => few(&[LIT, low_byte(distance(address + 1, target))]),
+        Rune::RawRel => few(&[low_byte(distance(address, target))]),
+        Rune::LitZero => few(&[LIT, low_byte(target)]),
+        Rune::RawZero => few(&[low_byte(target)]),
+        Rune::LitAbs => short_behind(LIT2, target),
+        Rune::RawAbs => few(&short_bytes(target)),
+        Rune::Jmi => short_behind(JMI, distance(address + 1, target)),
+        Rune::Jci => short_behind(JCI, distance(address + 1, target)),
+        Rune::Jsi => short_behind(JSI, distance(address + 1, target)),
+    }
+}
+
+/// The bytes of a word that is neither a text nor a reference.
+pub fn few_bytes(form: Form) -> ArrayVec<u8, 3>
+    requires { is_reference form ≡ false }
+    ensures { result.items ≡ encoded form [] 0 0 }
+{
+    match form {
+        Form::Raw1(byte) | Form::Op(byte) => few(&[byte]),
+        Form::Lit1(byte) => few(&[LIT, byte]),
+        Form::Raw2(short) => few(&short_bytes(short as u64)),
+        Form::Lit2(short) => short_behind(LIT2, short as u64),
+        _ => few(&[]),
     }
 }
 
@@ -91,20 +114,13 @@ pub fn append_word(
     ensures { OnOk result (rom.new.items ≡ rom.old.items ++ encoded form text.now address target) }
 {
     match form {
-        Form::Raw1(byte) | Form::Op(byte) => rom.extend_from_slice(&[byte]),
-        Form::Lit1(byte) => rom.extend_from_slice(&[LIT, byte]),
-        Form::Raw2(short) => rom.extend_from_slice(&short_bytes(short as u64)),
-        Form::Lit2(short) => append_short(rom, LIT2, short as u64),
         Form::Text => match text {
             [_, rest @ ..] => rom.extend_from_slice(rest),
             [] => Ok(()),
         },
-        Form::Refer(rune) => append_reference(rom, rune, address, target),
-        Form::Pad(_)
-        | Form::Skip(_)
-        | Form::LabelDef
-        | Form::SubDef
-        | Form::LambdaEnd
-        | Form::Ignored => Ok(()),
+        Form::Refer(rune) => {
+            rom.extend_from_slice(reference_bytes(rune, address, target).as_slice())
+        }
+        _ => rom.extend_from_slice(few_bytes(form).as_slice()),
     }
 }

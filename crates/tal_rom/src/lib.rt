@@ -3,6 +3,10 @@
 
 mod assembly;
 mod encoding;
+mod hole;
+mod names;
+mod patch;
+mod patcher;
 mod plain;
 mod references;
 mod rom;
@@ -10,6 +14,7 @@ mod rom;
 mod tests;
 
 pub use assembly::{Assembly, assemble, words_cover_once};
+pub use patcher::{Patcher, patched_sources_are_assembled};
 pub use plain::plain_words_assemble_to_their_bytes;
 pub use tal_labels::PlacedWord;
 pub use tal_words::{AsmStop, Fault, FaultKind, Label, fault_word};

@@ -13,7 +13,7 @@ use tal_labels::{Placed, PlacedWord, full_name};
 use tal_words::{FaultKind, Form, Rune, opens, rune_of};
 
 /// The name of a reference: what stands after its rune, or a bare word itself.
-fn name_after_rune(text: &[u8]) -> &[u8]
+pub fn name_after_rune(text: &[u8]) -> &[u8]
     ensures { result.now ≡ name_of_reference text.now }
 {
     match text {
@@ -75,7 +75,7 @@ pub fn reference_kind(form: Form, address: u64, target: Option<u16>) -> Option<F
 }
 
 /// Whether a reference at an address can hold its target.
-fn reaches(rune: Rune, address: u64, target: u64) -> bool
+pub fn reaches(rune: Rune, address: u64, target: u64) -> bool
     requires at { address < 2 ^ 16 }
     requires to { target < 2 ^ 16 }
     ensures { result ≡ reaches_target rune address target }

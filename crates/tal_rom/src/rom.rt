@@ -30,7 +30,7 @@ fn written_len(bytes: &[u8]) -> usize
 }
 
 /// Takes the zeros at the end away.
-fn trim(bytes: &mut Vec<u8>)
+pub fn trim(bytes: &mut Vec<u8>)
     ensures value { bytes.new.items ≡ trimmed bytes.old.items }
     ensures shorter { length bytes.new.items ≤ length bytes.old.items }
 {

@@ -1,0 +1,16 @@
+use Rattle.std.proofs.Common.{◌≡◌, refl, ap, sym, ◌∙◌}
+use Rattle.tal_rom.specs.Rom.{byte_at}
+use Rattle.tal_rom.proofs.patch.Patch.new.Goals as goal
+
+pub returns : goal.returns
+unfolding byte_at
+returns c = record {
+  ascending = tt;
+  size = c.in_ok-zeros.ensures.size;
+  each = λ at within. c.in_ok-zeros.ensures.each at;
+  waiting = refl;
+  fits = refl;
+  known = c.new.ensures.known;
+  wanted = c.new.ensures.wanted;
+  openers = c.new-2.ensures.items;
+}

@@ -1,0 +1,6 @@
+use Rattle.std.proofs.Common.{◌≡◌, take}
+use Rattle.tal_rom.specs.Filling.{overlaid}
+use Rattle.tal_rom.proofs.patch.put.Given as goal
+
+abbrev pub invariant-loop-offset : goal.invariant-loop-offset
+invariant-loop-offset l = l.memory.items ≡ overlaid l.initial.memory.items l.at (take l.offset l.bytes)

@@ -1,0 +1,100 @@
+//! Full names, with their addresses or with the references that wait for them.
+
+ghost use Rattle.std.specs.Prelude.{◌≡◌, ◌∷◌, [], ◌++◌, None, Some, ℕ, List, OnOk, OnErr, IfOk, if◌then◌else◌, is_some, true};
+ghost use Rattle.std.specs.Str.{bytes_eq};
+ghost use Rattle.tal_rom.specs.Holes.{found_in, known_in, wanted_in};
+
+use crate::hole::{Hole, Named};
+use indexmap::IndexMap;
+use std::alloc::{AllocError, Global};
+
+/// Full names that were defined or that references look up.
+#[derive(Drop)]
+pub struct Names {
+    entries: IndexMap<Vec<u8>, Named>,
+}
+
+impl Names {
+    /// No names.
+    pub fn new(alloc: Global) -> Names
+        ensures known { (name : List ℕ) → known_in result name ≡ None }
+        ensures wanted { (name : List ℕ) → wanted_in result name ≡ [] }
+    {
+        Names {
+            entries: IndexMap::new(alloc),
+        }
+    }
+
+    /// The address of a full name that is defined.
+    pub fn address_of(&self, name: &[u8]) -> Option<u16>
+        ensures { result ≡ known_in self.now name.now }
+    {
+        match self.entries.get(name) {
+            Some(named) => named.address,
+            None => None,
+        }
+    }
+
+    /// Adds a reference that waits for a full name, which is not defined.
+    pub fn want(&mut self, alloc: Global, name: Vec<u8>, hole: Hole) -> Result<(), AllocError>
+        requires { known_in self.old name.items ≡ None }
+        ensures known { (other : List ℕ) → known_in self.new other ≡ known_in self.old other }
+        ensures ok { OnOk result ((other : List ℕ) → wanted_in self.new other
+            ≡ wanted_in self.old other ++ (if bytes_eq other name.items then hole ∷ [] else [])) }
+        ensures err { OnErr result ((other : List ℕ) → wanted_in self.new other ≡ wanted_in self.old other) }
+    {
+        if self.entries.get(name.as_slice()).is_some() {
+            return self.want_too(name.as_slice(), hole);
+        }
+        let holes = vec![in alloc; hole]?;
+        let named = Named {
+            address: None,
+            holes,
+        };
+        self.entries.insert(name, named)?;
+        Ok(())
+    }
+
+    /// Adds a reference to those that wait for a full name.
+    fn want_too(&mut self, name: &[u8], hole: Hole) -> Result<(), AllocError>
+        requires unknown { known_in self.old name.now ≡ None }
+        requires there { is_some (found_in self.old name.now) ≡ true }
+        ensures known { (other : List ℕ) → known_in self.new other ≡ known_in self.old other }
+        ensures ok { OnOk result ((other : List ℕ) → wanted_in self.new other
+            ≡ wanted_in self.old other ++ (if bytes_eq other name.now then hole ∷ [] else [])) }
+        ensures err { OnErr result ((other : List ℕ) → wanted_in self.new other ≡ wanted_in self.old other) }
+    {
+        match self.entries.get_mut(name) {
+            Some(named) => {
+                named.holes.push(hole)?;
+                Ok(())
+            }
+            None => unreachable!(),
+        }
+    }
+
+    /// Defines a full name, and gives the references that waited for it.
+    pub fn define(
+        &mut self,
+        alloc: Global,
+        name: Vec<u8>,
+        address: u16,
+    ) -> Result<Vec<Hole>, AllocError>
+        ensures holes { IfOk result (λ holes. holes.items ≡ wanted_in self.old name.items) }
+        ensures known { OnOk result ((other : List ℕ) → known_in self.new other
+            ≡ (if bytes_eq other name.items then Some address else known_in self.old other)) }
+        ensures wanted { OnOk result ((other : List ℕ) → wanted_in self.new other
+            ≡ (if bytes_eq other name.items then [] else wanted_in self.old other)) }
+        ensures known_err { OnErr result ((other : List ℕ) → known_in self.new other ≡ known_in self.old other) }
+        ensures wanted_err { OnErr result ((other : List ℕ) → wanted_in self.new other ≡ wanted_in self.old other) }
+    {
+        let named = Named {
+            address: Some(address),
+            holes: Vec::new(alloc),
+        };
+        match self.entries.insert(name, named)? {
+            Some(before) => Ok(before.holes),
+            None => Ok(Vec::new(alloc)),
+        }
+    }
+}

@@ -1,0 +1,191 @@
+//! Memory as words are added, and the references in it that wait.
+
+ghost use Rattle.std.specs.Prelude.{◌≡◌, ◌<◌, ◌≤◌, ◌^◌, ◌-◌, ◌+◌, ◌&&◌, ◌∷◌, [], ◌++◌, None, Some, ℕ, List, OnOk, OnErr, IfOk, fold, length, take, true, false, slice_index};
+ghost use Rattle.std.specs.List.{list_all};
+ghost use Rattle.tal_words.specs.Braces.{opens};
+ghost use Rattle.tal_words.specs.Forms.{size, reaches as reaches_target};
+ghost use Rattle.tal_words.specs.Labels.{address_named};
+ghost use Rattle.tal_words.specs.declared.name.Label.{Label as LabelValue};
+ghost use Rattle.tal_words.specs.declared.form.Form.TheVariants.{Refer};
+ghost use Rattle.tal_rom.specs.Filling.{overlaid, filled_hole, is_reference};
+ghost use Rattle.tal_rom.specs.Patchers.{Entry, Holds, ComesNext, new_entry, closed_last};
+
+use crate::encoding::{few_bytes, reference_bytes};
+use crate::hole::Hole;
+use crate::names::Names;
+use crate::references::reaches;
+use std::alloc::{AllocError, Global};
+use tal_labels::MEMORY_END;
+use tal_words::Form;
+
+/// Memory with the bytes that are known, and the references that wait.
+#[derive(Drop)]
+pub struct Patch {
+    memory: Vec<u8>,
+    waiting: u32,
+    fits: bool,
+    names: Names,
+    openers: Vec<Hole>,
+}
+
+/// Lays bytes over those in memory from an address on.
+fn put(memory: &mut Vec<u8>, at: u64, bytes: &[u8])
+    requires { 0 < length bytes.now → at ≤ 65536 }
+    ensures { memory.new.items ≡ overlaid memory.old.items at bytes.now }
+{
+    for (offset, byte) in bytes.iter().enumerate() {
+        let index = at as usize + offset;
+        if index < memory.len() {
+            memory[index] = *byte;
+        }
+    }
+}
+
+/// So many zeros.
+fn zeros(alloc: Global, count: usize) -> Result<Vec<u8>, AllocError>
+    ensures size { IfOk result (λ bytes. length bytes.items ≡ count) }
+    ensures each { IfOk result (λ bytes. (at : ℕ) → slice_index bytes.items at ≡ 0) }
+{
+    vec![in alloc; 0; count]
+}
+
+impl Patch {
+    /// Memory of zeros, to which no word was added.
+    pub fn new(alloc: Global) -> Result<Patch, AllocError>
+        ensures { IfOk result (λ patch. Holds [] [] patch) }
+    {
+        Ok(Patch {
+            memory: zeros(alloc, MEMORY_END as usize)?,
+            waiting: 0,
+            fits: true,
+            names: Names::new(alloc),
+            openers: Vec::new(alloc),
+        })
+    }
+
+    /// How many references wait.
+    pub fn waiting(&self) -> u32
+        ensures { result ≡ self.now.waiting }
+    {
+        self.waiting
+    }
+
+    /// Whether all relative bytes whose targets are known fit.
+    pub fn fits(&self) -> bool
+        ensures { result ≡ self.now.fits }
+    {
+        self.fits
+    }
+
+    /// All of memory.
+    pub fn memory(&self) -> &[u8]
+        ensures { result.now ≡ self.now.memory.items }
+    {
+        &self.memory
+    }
+
+    /// Puts the bytes of a reference that has its target.
+    fn fill(&mut self, hole: Hole, target: u16)
+        ensures memory { self.new.memory.items ≡ filled_hole target self.old.memory.items hole }
+        ensures fits { self.new.fits ≡ (self.old.fits && reaches_target hole.rune hole.address target) }
+        ensures waiting { self.new.waiting ≡ self.old.waiting }
+        ensures names { self.new.names ≡ self.old.names }
+        ensures openers { self.new.openers ≡ self.old.openers }
+    {
+        if reaches(hole.rune, hole.address as u64, target as u64) {
+            let bytes = reference_bytes(hole.rune, hole.address as u64, target as u64);
+            put(&mut self.memory, hole.address as u64, bytes.as_slice());
+        } else {
+            self.fits = false;
+        }
+    }
+
+    /// Puts the bytes of references that waited for this target.
+    fn fill_all(&mut self, holes: &[Hole], target: u16)
+        ensures memory { self.new.memory.items ≡ fold (filled_hole target) self.old.memory.items holes.now }
+        ensures fits { self.new.fits ≡ (self.old.fits && list_all (λ hole. reaches_target hole.rune hole.address target) holes.now) }
+        ensures waiting { self.new.waiting ≡ self.old.waiting - length holes.now }
+        ensures names { self.new.names ≡ self.old.names }
+        ensures openers { self.new.openers ≡ self.old.openers }
+    {
+        for hole in holes {
+            self.fill(*hole, target);
+            self.waiting = self.waiting.saturating_sub(1);
+        }
+    }
+
+    /// Adds a word that is no reference.
+    pub fn put_word(&mut self, form: Form, text: &[u8], address: u64)
+        requires bare { is_reference form ≡ false }
+        requires at { 0 < size form text.now → address ≤ 65536 }
+        ensures { (labels : List LabelValue) (entries : List Entry) (full : List ℕ)
+            → ComesNext entries (new_entry form text.now address full)
+            → Holds labels entries self.old → Holds labels (entries ++ new_entry form text.now address full ∷ []) self.new }
+    {
+        match form {
+            Form::Text => {
+                let (_, rest) = text.split_at(text.len().min(1));
+                put(&mut self.memory, address, rest);
+            }
+            _ => put(&mut self.memory, address, few_bytes(form).as_slice()),
+        }
+    }
+
+    /// Adds a reference that opens a lambda.
+    pub fn open(&mut self, hole: Hole) -> Result<(), AllocError>
+        ensures ok { OnOk result ((labels : List LabelValue) (entries : List Entry) (text full : List ℕ) → opens text ≡ true
+            → ComesNext entries (new_entry (Refer hole.rune) text hole.address full)
+            → Holds labels entries self.old → Holds labels (entries ++ new_entry (Refer hole.rune) text hole.address full ∷ []) self.new) }
+        ensures err { OnErr result ((labels : List LabelValue) (entries : List Entry) → Holds labels entries self.old
+            → Holds labels entries self.new) }
+    {
+        self.openers.push(hole)?;
+        self.waiting = self.waiting.saturating_add(1);
+        Ok(())
+    }
+
+    /// Adds a reference to a full name.
+    pub fn refer(&mut self, alloc: Global, name: Vec<u8>, hole: Hole) -> Result<(), AllocError>
+        ensures ok { OnOk result ((labels : List LabelValue) (entries : List Entry) (text : List ℕ) → opens text ≡ false
+            → ComesNext entries (new_entry (Refer hole.rune) text hole.address name.items)
+            → Holds labels entries self.old
+            → Holds labels (entries ++ new_entry (Refer hole.rune) text hole.address name.items ∷ []) self.new) }
+        ensures err { OnErr result ((labels : List LabelValue) (entries : List Entry) → Holds labels entries self.old
+            → Holds labels entries self.new) }
+    {
+        match self.names.address_of(name.as_slice()) {
+            Some(target) => {
+                self.fill(hole, target);
+                Ok(())
+            }
+            None => {
+                self.names.want(alloc, name, hole)?;
+                self.waiting = self.waiting.saturating_add(1);
+                Ok(())
+            }
+        }
+    }
+
+    /// Defines a full name that is new, and fills the references that waited for it.
+    pub fn define(&mut self, alloc: Global, name: Vec<u8>, address: u16) -> Result<(), AllocError>
+        ensures ok { OnOk result ((labels : List LabelValue) (entries : List Entry) → address_named labels name.items ≡ None
+            → Holds labels entries self.old → Holds (labels ++ record { name = name.items; address = address } ∷ []) entries self.new) }
+        ensures err { OnErr result ((labels : List LabelValue) (entries : List Entry) → Holds labels entries self.old
+            → Holds labels entries self.new) }
+    {
+        let holes = self.names.define(alloc, name, address)?;
+        self.fill_all(&holes, address);
+        Ok(())
+    }
+
+    /// Closes the last lambda that is open, and fills the reference that opened it.
+    pub fn close(&mut self, address: u16)
+        ensures { (labels : List LabelValue) (entries : List Entry) → Holds labels entries self.old
+            → Holds labels (closed_last address entries) self.new }
+    {
+        match self.openers.pop() {
+            Some(hole) => self.fill_all(&[hole], address),
+            None => {}
+        }
+    }
+}
