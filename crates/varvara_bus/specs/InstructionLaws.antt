@@ -204,7 +204,8 @@ module _ {T O E : Type 0} (meaning : Meaning T O E) where
 
   -- one that stopped at a write, after others, has made a front of its changes
   stopped-at : (before now : Bus T O E) (core core_new : Core) (stop : Stop) (devices : DeviceState) → opcode_at core ≢ 0
-      → StopsAt (bus_rules meaning) (StandsSince before) varvara (writes_in (begun core).access) (begins_with devices core) stop core_new now
+      → StopsAt (bus_rules meaning) (StandsSince before) varvara (writes_in (begun core).access) (begins_with devices core)
+      stop core_new now
       → StopsShort meaning before now stop (instruction_effect devices core).changes
   stopped-at before now core core_new stop devices other at =
       let later = changes-then devices core at.before at.after at.port at.byte other at.in_order in
