@@ -2,11 +2,13 @@
 #![tactic(auto)]
 
 mod keyword;
+mod law;
 mod reading;
 mod setup;
 mod setup_line;
 #[cfg(test)]
 mod tests;
 
+pub use law::turns_are_the_run;
 pub use reading::read_setup;
 pub use setup::{Setup, SetupKind, SetupStop, Turns};
