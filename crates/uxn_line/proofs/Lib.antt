@@ -1,2 +1,4 @@
 pub mod Stepping
 pub mod Turning
+pub mod Alone
+pub mod MachineTurns

@@ -5,3 +5,4 @@ pub mod Limits
 pub mod Gathered
 pub mod Places
 pub mod Streams
+pub mod Machines

@@ -3,6 +3,7 @@
 
 mod keyword;
 mod law;
+mod machine;
 mod reading;
 mod setup;
 mod setup_line;
@@ -10,5 +11,6 @@ mod setup_line;
 mod tests;
 
 pub use law::turns_are_the_run;
+pub use machine::Machine;
 pub use reading::read_setup;
 pub use setup::{Setup, SetupKind, SetupStop, Turns};
