@@ -2,3 +2,4 @@ pub mod Stepping
 pub mod Turning
 pub mod Alone
 pub mod MachineTurns
+pub mod NewMachines

@@ -8,6 +8,7 @@ use Rattle.play_script.specs.declared.script.Event.{Event}
 use Rattle.play_script.specs.declared.script.Event.TheVariants.{Input, EndInput, Frame, Device, Shot, Expect}
 use Rattle.play_script.specs.declared.script.Version.TheVariants.{First}
 use Rattle.play_script.specs.Scripts.{ScriptView, view}
+use Rattle.varvara_bus.specs.declared.time.Clock.{Clock as BusClock}
 use Rattle.varvara_bus.specs.State.{new_state}
 use Rattle.vector_loop.specs.declared.output.Outputs.{Outputs}
 use Rattle.vector_loop.specs.State.{State, new_tally, with_stored}
@@ -39,11 +40,15 @@ AreOfConsole (event ∷ events) = IsOfConsole event × AreOfConsole events
 abbrev pub no_outputs : Outputs
 no_outputs = record { frames = None; samples = None }
 
+-- the clock of a script
+abbrev pub clock_by : Clock → BusClock
+clock_by time = record { seconds = time.seconds; offset = time.offset }
+
 -- the new machine of a ROM, with the clock of its script and no root
 abbrev pub new_machine : List ℕ → Clock → State
 new_machine rom time = record {
   core = new_core rom;
-  devices = new_state (record { seconds = time.seconds; offset = time.offset }) None nodes_map.empty false;
+  devices = new_state (clock_by time) None nodes_map.empty false;
   tally = new_tally;
 }
 

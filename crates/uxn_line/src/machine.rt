@@ -1,6 +1,10 @@
 //! One machine of a line: its core and its devices, with nothing outside. It can stop between any two instructions.
-ghost use Rattle.std.specs.Prelude.{◌≡◌, ℕ, ◌<◌, ◌∷◌, [], List, false, ◌↔◌};
+ghost use Rattle.std.specs.Prelude.{◌≤◌, IfOk, length, ◌≡◌, ℕ, ◌<◌, ◌∷◌, [], List, false, ◌↔◌};
+ghost use Rattle.uxn_memory.specs.Bytes.{largest_rom};
 ghost use Rattle.uxn_opcodes.specs.Rule.{opcode_at};
+ghost use Rattle.play_script.specs.Held.{bytes_in};
+ghost use Rattle.vector_loop.specs.Run.{made_ready};
+ghost use Rattle.uxn_line.specs.Streams.{clock_by, first_place};
 ghost use Rattle.varvara_bus.specs.History.{stored, stored_short};
 ghost use Rattle.varvara_bus.specs.State.{DeviceState, storing};
 ghost use Rattle.varvara_bus.specs.Model.{instruction_effect};
@@ -8,15 +12,20 @@ ghost use Rattle.vector_loop.specs.State.{is_over};
 ghost use Rattle.uxn_line.specs.Places.{Place, Gift, console_of, turn};
 ghost use Rattle.uxn_line.specs.Machines.{Rests, HasDone, StandsAt};
 
-use uxn_io::{NoSink, NoTree};
+use play_script::Script;
+use std::alloc::{AllocError, Global};
+use uxn_io::{Bytes, NoSink, NoTree};
 use uxn_opcodes::{Core, Turn, step};
-use varvara_bus::{Bus, Devices};
+use varvara_bus::{Bus, Clock, Devices};
 
 /// The port of the state, which ends a run where it is not 0.
 const STATE: u8 = 0x0f;
 
 /// The port of the console's vector.
 const VECTOR: u8 = 0x10;
+
+/// The port of the kind of the last console event.
+const KIND: u8 = 0x17;
 
 /// A machine in the middle of its run.
 #[derive(Drop)]
@@ -71,7 +80,54 @@ fn state_of(devices: &mut Devices) -> u8
     bus.stored(STATE)
 }
 
+/// The clock of a machine that is given a script.
+fn clock_of(script: &Script) -> Clock
+    ensures { result ≡ clock_by script.now.clock }
+{
+    let clock = script.clock();
+    Clock {
+        seconds: clock.seconds,
+        offset: clock.offset,
+    }
+}
+
+/// Tells the program by port 17 whether arguments will come.
+fn make_ready(devices: &mut Devices, arguments: &[Bytes])
+    ensures { (state : DeviceState) → Rests devices.old state
+        → Rests devices.new (storing (made_ready (bytes_in arguments.now)) state) }
+{
+    if arguments.is_empty() {
+        return;
+    }
+    let mut tree = NoTree;
+    let mut out = NoSink;
+    let mut err = NoSink;
+    let mut bus = Bus::new(devices, &mut tree, &mut out, &mut err);
+    bus.store(KIND, 1);
+}
+
 impl Machine {
+    /// The new machine of a ROM, with the clock of a script, about to run its reset vector.
+    pub fn new(
+        alloc: Global,
+        rom: &[u8],
+        script: &Script,
+        budget: u32,
+    ) -> Result<Machine, AllocError>
+        requires { length rom.now ≤ largest_rom }
+        ensures { IfOk result (λ machine. StandsAt machine (first_place budget rom.now script.now)) }
+    {
+        script.known();
+        let mut devices = Devices::new(alloc, None, clock_of(script))?;
+        make_ready(&mut devices, script.args());
+        let core = Core::new(alloc, rom)?;
+        Ok(Machine {
+            core,
+            devices,
+            left: budget,
+        })
+    }
+
     /// Runs one instruction of the vector that runs.
     pub fn run(&mut self)
         requires { 0 < self.old.left }
