@@ -4,6 +4,8 @@
 mod keyword;
 mod law;
 mod machine;
+#[cfg(test)]
+mod machine_tests;
 mod reading;
 mod setup;
 mod setup_line;
