@@ -1,1 +1,5 @@
 pub mod Stepping
+pub mod Turning
+pub mod Alone
+pub mod MachineTurns
+pub mod NewMachines

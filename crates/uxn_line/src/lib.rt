@@ -2,11 +2,17 @@
 #![tactic(auto)]
 
 mod keyword;
+mod law;
+mod machine;
+#[cfg(test)]
+mod machine_tests;
 mod reading;
 mod setup;
 mod setup_line;
 #[cfg(test)]
 mod tests;
 
+pub use law::turns_are_the_run;
+pub use machine::Machine;
 pub use reading::read_setup;
 pub use setup::{Setup, SetupKind, SetupStop, Turns};

@@ -1,0 +1,98 @@
+-- The machines of a line, the run of each, and the stream of bytes that it hands on (profile).
+use Rattle.std.specs.Prelude.{◌≡◌, ℕ, zero, suc, ◌≤◌, List, [], ◌∷◌, ◌++◌, map, pos, None}
+use Rattle.std.specs.FinMap as nodes_map
+use Rattle.std.specs.Prelude.{slice_index_or, false}
+use Rattle.uxn_opcodes.specs.Rule.{new_core}
+use Rattle.play_script.specs.declared.script.Clock.{Clock}
+use Rattle.play_script.specs.declared.script.Event.{Event}
+use Rattle.play_script.specs.declared.script.Event.TheVariants.{Input, EndInput, Frame, Device, Shot, Expect}
+use Rattle.play_script.specs.declared.script.Version.TheVariants.{First}
+use Rattle.play_script.specs.Scripts.{ScriptView, view}
+use Rattle.varvara_bus.specs.declared.time.Clock.{Clock as BusClock}
+use Rattle.varvara_bus.specs.State.{new_state}
+use Rattle.vector_loop.specs.declared.output.Outputs.{Outputs}
+use Rattle.vector_loop.specs.State.{State, new_tally, with_stored}
+use Rattle.vector_loop.specs.Trail.{Trail}
+use Rattle.vector_loop.specs.Vector.{begun_at}
+use Rattle.vector_loop.specs.Run.{ConsoleByte, arguments_given, made_ready, run}
+use Rattle.uxn_line.specs.Places.{Gift, OfArgument, OfEvent, Place, place, HasEnded, after_turns, put_by}
+
+-- what a line is made of: a ROM for each machine, the script of the first one, and the budget of every vector
+pub record Job : Type 0 where
+  pub roms : List (List ℕ)
+  pub script : ScriptView
+  pub budget : ℕ
+
+-- an event of the console
+abbrev pub IsOfConsole : Event → Type 0
+IsOfConsole (Input byte) = Unit {0}
+IsOfConsole EndInput = Unit {0}
+IsOfConsole Frame = ⊥
+IsOfConsole (Device input) = ⊥
+IsOfConsole Shot = ⊥
+IsOfConsole (Expect port byte) = ⊥
+
+abbrev pub AreOfConsole : List Event → Type 0
+AreOfConsole [] = Unit {0}
+AreOfConsole (event ∷ events) = IsOfConsole event × AreOfConsole events
+
+-- a machine of a line keeps no pictures and no samples
+abbrev pub no_outputs : Outputs
+no_outputs = record { frames = None; samples = None }
+
+-- the clock of a script
+abbrev pub clock_by : Clock → BusClock
+clock_by time = record { seconds = time.seconds; offset = time.offset }
+
+-- the new machine of a ROM, with the clock of its script and no root
+abbrev pub new_machine : List ℕ → Clock → State
+new_machine rom time = record {
+  core = new_core rom;
+  devices = new_state (clock_by time) None nodes_map.empty false;
+  tally = new_tally;
+}
+
+abbrev pub run_of : ℕ → List ℕ → ScriptView → Trail
+run_of budget rom script = run budget no_outputs script (new_machine rom script.clock)
+
+-- the script of bytes that are handed on: each as an input, and then the end
+abbrev pub script_of_bytes : List ℕ → ScriptView
+script_of_bytes bytes = view First (record { seconds = pos 0; offset = pos 0 }) [] (map (λ byte. Input byte) bytes ++ EndInput ∷ [])
+
+-- the script of a machine, counted from 0, its run, and the bytes that it writes to port 18
+abbrev pub rom_at : Job → ℕ → List ℕ
+rom_at job machine = slice_index_or job.roms machine []
+
+abbrev pub script_at : Job → ℕ → ScriptView
+script_at job zero = job.script
+script_at job (suc machine) = script_of_bytes (put_by (run_of job.budget (rom_at job machine) (script_at job machine)).changes)
+
+abbrev pub run_at : Job → ℕ → Trail
+run_at job machine = run_of job.budget (rom_at job machine) (script_at job machine)
+
+abbrev pub stream : Job → ℕ → List ℕ
+stream job machine = put_by (run_at job machine).changes
+
+-- where a run stands before its first turn: in the reset vector
+abbrev pub gifts_of : ScriptView → List Gift
+gifts_of script = map (λ (given : ConsoleByte). OfArgument given.0 given.1) (arguments_given script.arguments)
+    ++ map (λ event. OfEvent event) script.events
+
+abbrev pub first_place : ℕ → List ℕ → ScriptView → Place
+first_place budget rom script =
+    place (begun_at 0x0100 (with_stored (made_ready script.arguments) (new_machine rom script.clock))) budget (gifts_of script) []
+
+-- where a machine of a line stands after so many turns
+abbrev pub after : Job → ℕ → ℕ → Place
+after job machine count = after_turns job.budget count (first_place job.budget (rom_at job machine) (script_at job machine))
+
+-- the events of the first script are of the console, and a vector may run an instruction
+pub record IsJob (job : Job) : Type 0 where
+  pub budget : 1 ≤ job.budget
+  pub events : AreOfConsole job.script.events
+
+-- turns follow a run: what was written so far is a front of its stream, and at the end all of it, in the last state of the run
+pub record FollowsRun (now : Place) (whole : Trail) : Type 0 where
+  pub rest : List ℕ
+  pub front : put_by whole.changes ≡ now.put ++ rest
+  pub end : HasEnded now → (rest ≡ []) × (whole.last ≡ now.state)

@@ -1,0 +1,161 @@
+//! One machine of a line: its core and its devices, with nothing outside. It can stop between any two instructions.
+ghost use Rattle.std.specs.Prelude.{◌≤◌, IfOk, length, ◌≡◌, ℕ, ◌<◌, ◌∷◌, [], List, false, ◌↔◌};
+ghost use Rattle.uxn_memory.specs.Bytes.{largest_rom};
+ghost use Rattle.uxn_opcodes.specs.Rule.{opcode_at};
+ghost use Rattle.console_port.specs.Console.{event_byte};
+ghost use Rattle.play_script.specs.Held.{bytes_in};
+ghost use Rattle.vector_loop.specs.Run.{made_ready};
+ghost use Rattle.uxn_line.specs.Streams.{clock_by, first_place};
+ghost use Rattle.varvara_bus.specs.History.{stored, stored_short};
+ghost use Rattle.varvara_bus.specs.State.{DeviceState, storing};
+ghost use Rattle.varvara_bus.specs.Model.{instruction_effect};
+ghost use Rattle.vector_loop.specs.State.{is_over};
+ghost use Rattle.uxn_line.specs.Places.{Place, Gift, console_of, turn};
+ghost use Rattle.uxn_line.specs.Machines.{Rests, HasDone, StandsAt};
+
+use console_port::{EventKind, KIND};
+use play_script::Script;
+use std::alloc::{AllocError, Global};
+use uxn_io::{Bytes, NoSink, NoTree};
+use uxn_opcodes::{Core, Turn, step};
+use varvara_bus::{Bus, Clock, Devices};
+
+/// The port of the state, which ends a run where it is not 0.
+const STATE: u8 = 0x0f;
+
+/// The port of the console's vector.
+const VECTOR: u8 = 0x10;
+
+/// A machine in the middle of its run.
+#[derive(Drop)]
+pub struct Machine {
+    /// The core.
+    pub core: Core,
+    /// The devices, which have no root.
+    pub devices: Devices,
+    /// What is left of the budget of the vector that runs; 0 where the machine is idle.
+    pub left: u32,
+}
+
+/// Runs one instruction. Nothing outside is there and there is no root, so it never stops.
+fn run_instruction(core: &mut Core, devices: &mut Devices) -> Turn
+    ensures done { (state : DeviceState) → Rests devices.old state → HasDone core.new devices.new (instruction_effect state core.old) }
+    ensures broke { (state : DeviceState) → Rests devices.old state → (result ≡ Turn.Broke) ↔ (opcode_at core.old ≡ 0) }
+{
+    let mut tree = NoTree;
+    let mut out = NoSink;
+    let mut err = NoSink;
+    let mut bus = Bus::new(devices, &mut tree, &mut out, &mut err);
+    match step(core, &mut bus) {
+        Ok(turn) => turn,
+        Err(_) => Turn::Broke,
+    }
+}
+
+/// Stores a byte and a kind at the console, and gives the address of its vector.
+fn hold(devices: &mut Devices, byte: u8, kind: EventKind) -> u16
+    ensures devices { (state : DeviceState) → Rests devices.old state
+        → Rests devices.new (storing ((0x12, byte) ∷ (0x17, event_byte kind) ∷ []) state) }
+    ensures vector { (state : DeviceState) → Rests devices.old state
+        → result ≡ stored_short (storing ((0x12, byte) ∷ (0x17, event_byte kind) ∷ []) state).history 0x10 }
+{
+    let mut tree = NoTree;
+    let mut out = NoSink;
+    let mut err = NoSink;
+    let mut bus = Bus::new(devices, &mut tree, &mut out, &mut err);
+    bus.give(byte, kind);
+    bus.stored_short(VECTOR)
+}
+
+/// The byte in the port of the state.
+fn state_of(devices: &mut Devices) -> u8
+    ensures devices { devices.new ≡ devices.old }
+    ensures state { (state : DeviceState) → Rests devices.old state → result ≡ stored state.history 0x0f }
+{
+    let mut tree = NoTree;
+    let mut out = NoSink;
+    let mut err = NoSink;
+    let bus = Bus::new(devices, &mut tree, &mut out, &mut err);
+    bus.stored(STATE)
+}
+
+/// The clock of a machine that is given a script.
+fn clock_of(script: &Script) -> Clock
+    ensures { result ≡ clock_by script.now.clock }
+{
+    let clock = script.clock();
+    Clock {
+        seconds: clock.seconds,
+        offset: clock.offset,
+    }
+}
+
+/// Tells the program by port 17 whether arguments will come.
+fn make_ready(devices: &mut Devices, arguments: &[Bytes])
+    ensures { (state : DeviceState) → Rests devices.old state
+        → Rests devices.new (storing (made_ready (bytes_in arguments.now)) state) }
+{
+    if arguments.is_empty() {
+        return;
+    }
+    let mut tree = NoTree;
+    let mut out = NoSink;
+    let mut err = NoSink;
+    let mut bus = Bus::new(devices, &mut tree, &mut out, &mut err);
+    bus.store(KIND, EventKind::Input.byte());
+}
+
+impl Machine {
+    /// The new machine of a ROM, with the clock of a script, about to run its reset vector.
+    pub fn new(
+        alloc: Global,
+        rom: &[u8],
+        script: &Script,
+        budget: u32,
+    ) -> Result<Machine, AllocError>
+        requires { length rom.now ≤ largest_rom }
+        ensures { IfOk result (λ machine. StandsAt machine (first_place budget rom.now script.now)) }
+    {
+        script.known();
+        let mut devices = Devices::new(alloc, None, clock_of(script))?;
+        make_ready(&mut devices, script.args());
+        let core = Core::new(alloc, rom)?;
+        Ok(Machine {
+            core,
+            devices,
+            left: budget,
+        })
+    }
+
+    /// Runs one instruction of the vector that runs.
+    pub fn run(&mut self)
+        requires { 0 < self.old.left }
+        ensures { (budget : ℕ) (now : Place) → StandsAt self.old now → StandsAt self.new (turn budget now) }
+    {
+        self.left = match run_instruction(&mut self.core, &mut self.devices) {
+            Turn::Ran => self.left - 1,
+            Turn::Broke => 0,
+        };
+    }
+
+    /// Gives an idle machine whose run is not over its next byte, with its kind.
+    pub fn give(&mut self, byte: u8, kind: EventKind, budget: u32)
+        requires { self.old.left ≡ 0 }
+        ensures { (now : Place) (gift : Gift) (gifts : List Gift) → StandsAt self.old now → now.gifts ≡ gift ∷ gifts
+            → console_of gift ≡ (byte, kind) → is_over now.state ≡ false → StandsAt self.new (turn budget now) }
+    {
+        let address = hold(&mut self.devices, byte, kind);
+        if address != 0 {
+            self.core.at = address;
+            self.left = budget;
+        }
+    }
+
+    /// Whether the state is not 0, which ends the run of an idle machine.
+    pub fn is_over(&mut self) -> bool
+        ensures over { (now : Place) → StandsAt self.old now → result ≡ is_over now.state }
+        ensures stands { (now : Place) → StandsAt self.old now → StandsAt self.new now }
+    {
+        state_of(&mut self.devices) != 0
+    }
+}
