@@ -70,11 +70,11 @@ ran-left core less ran = let e : (opcode_at core == 0) ≡ false = grind (arith,
 
 -- the giving of a byte, where it is counted already
 stores_by : ConsoleByte → DeviceState → DeviceState
-stores_by bytes devices = storing ((0x12, bytes.0) ∷ (0x17, bytes.1) ∷ []) devices
+stores_by bytes devices = storing ((0x12, bytes.0) ∷ (0x17, event_byte bytes.1) ∷ []) devices
 
 given_place : ℕ → ConsoleByte → State → List Gift → List ℕ → Place
 given_place budget bytes counted gifts put =
-    let held = with_stored ((0x12, bytes.0) ∷ (0x17, bytes.1) ∷ []) counted in
+    let held = with_stored ((0x12, bytes.0) ∷ (0x17, event_byte bytes.1) ∷ []) counted in
     let address = stored_short held.devices.history 0x10 in
     cond (address == 0) (place held 0 gifts put) (place (begun_at address held) budget gifts put)
 
@@ -83,7 +83,7 @@ then-stands : (budget : ℕ) (bytes : ConsoleByte) (counted : State) (gifts : Li
     → address ≢ 0 → StandsAt (machine_of (record core { at = address }) held budget) (given_place budget bytes counted gifts put)
 unfolding given_place stores_by
 then-stands budget bytes counted gifts put core held address same rests is apart =
-    let after = with_stored ((0x12, bytes.0) ∷ (0x17, bytes.1) ∷ []) counted in
+    let after = with_stored ((0x12, bytes.0) ∷ (0x17, event_byte bytes.1) ∷ []) counted in
     let at = stored_short after.devices.history 0x10 in
     let e : (at == 0) ≡ false = grind (arith, nat_tests) in
     let P : Bool → Type 0 = λ b. StandsAt (machine_of (record core { at = address }) held budget)
@@ -100,7 +100,7 @@ else-stands : (budget : ℕ) (bytes : ConsoleByte) (counted : State) (gifts : Li
     → address ≡ 0 → left ≡ 0 → StandsAt (machine_of core held left) (given_place budget bytes counted gifts put)
 unfolding given_place stores_by
 else-stands budget bytes counted gifts put core held address left same rests is none idle =
-    let after = with_stored ((0x12, bytes.0) ∷ (0x17, bytes.1) ∷ []) counted in
+    let after = with_stored ((0x12, bytes.0) ∷ (0x17, event_byte bytes.1) ∷ []) counted in
     let at = stored_short after.devices.history 0x10 in
     let e : (at == 0) ≡ true = grind (arith, nat_tests) in
     let P : Bool → Type 0 = λ b. StandsAt (machine_of core held left)

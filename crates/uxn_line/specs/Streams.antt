@@ -7,7 +7,7 @@ use Rattle.play_script.specs.declared.script.Clock.{Clock}
 use Rattle.play_script.specs.declared.script.Event.{Event}
 use Rattle.play_script.specs.declared.script.Event.TheVariants.{Input, EndInput, Frame, Device, Shot, Expect}
 use Rattle.play_script.specs.declared.script.Version.TheVariants.{First}
-use Rattle.play_script.specs.Scripts.{ScriptView, view}
+use Rattle.play_script.specs.Scripts.{ScriptView, script_with}
 use Rattle.varvara_bus.specs.declared.time.Clock.{Clock as BusClock}
 use Rattle.varvara_bus.specs.State.{new_state}
 use Rattle.vector_loop.specs.declared.output.Outputs.{Outputs}
@@ -57,7 +57,7 @@ run_of budget rom script = run budget no_outputs script (new_machine rom script.
 
 -- the script of bytes that are handed on: each as an input, and then the end
 abbrev pub script_of_bytes : List ℕ → ScriptView
-script_of_bytes bytes = view First (record { seconds = pos 0; offset = pos 0 }) [] (map (λ byte. Input byte) bytes ++ EndInput ∷ [])
+script_of_bytes bytes = script_with First (record { seconds = pos 0; offset = pos 0 }) [] (map (λ byte. Input byte) bytes ++ EndInput ∷ [])
 
 -- the script of a machine, counted from 0, its run, and the bytes that it writes to port 18
 abbrev pub rom_at : Job → ℕ → List ℕ
