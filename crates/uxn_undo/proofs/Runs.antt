@@ -6,6 +6,9 @@ use mathlib.Core.List.{reverse_aux}
 use Rattle.input_ports.specs.declared.Input.{Input as DeviceInput}
 use Rattle.input_ports.specs.Page.{stores_of, stores_after, vector_of}
 use Rattle.audio_mixer.specs.Sounds.{endings}
+use Rattle.console_port.specs.Console.{event_byte}
+use Rattle.console_port.specs.declared.EventKind.{EventKind}
+use Rattle.console_port.specs.declared.EventKind.TheVariants as event_kind
 use Rattle.play_script.specs.declared.script.Event.{Event}
 use Rattle.play_script.specs.declared.script.Event.TheVariants.{Input, EndInput, Frame, Device, Shot, Expect}
 use Rattle.play_script.specs.Scripts.{ScriptView}
@@ -100,10 +103,10 @@ unless_over-runs rest r = record {
   ];
 }
 
-console-runs : (budget byte kind : ℕ) → Runs (console budget byte kind)
+console-runs : (budget byte : ℕ) (kind : EventKind) → Runs (console budget byte kind)
 unfolding console
 console-runs budget byte kind = record {
-  on = λ state is. (vector_in-runs budget 0x10).on (with_stored ((0x12, byte) ∷ (0x17, kind) ∷ []) state) is;
+  on = λ state is. (vector_in-runs budget 0x10).on (with_stored ((0x12, byte) ∷ (0x17, event_byte kind) ∷ []) state) is;
 }
 
 device-runs : (budget : ℕ) (input : DeviceInput) → Runs (device budget input)
@@ -160,8 +163,8 @@ unfolding expected
 expected-runs port byte = record { on = λ state is. record { begins = refl; row = tt; machine = is } }
 
 happens-runs : (budget : ℕ) (outputs : Outputs) (event : Event) → Runs (happens budget outputs event)
-happens-runs budget outputs (Input byte) = console-runs budget byte 1
-happens-runs budget outputs EndInput = console-runs budget 0 4
+happens-runs budget outputs (Input byte) = console-runs budget byte event_kind.Input
+happens-runs budget outputs EndInput = console-runs budget 0 event_kind.End
 happens-runs budget outputs (Device input) = device-runs budget input
 happens-runs budget outputs Frame = frame-runs budget outputs
 happens-runs budget outputs Shot = shot-runs outputs
