@@ -11,7 +11,6 @@ use Rattle.tal_words.specs.Order.{each, collected}
 use Rattle.tal_words.specs.Comments.{depth_after, comment_depth, judged_token, word_given, words_of, word_fault, source_limit}
 use Rattle.tal_words.specs.PlainTexts.{Chunk, chunk_text}
 use Rattle.tal_words.specs.Source.{begins, is_blank, word_text, is_after_blank, begins_token, token_at, tokens_below, tokens_of}
-use Rattle.tal_words.proofs.Tokens.{after_blank-suc}
 use Rattle.tal_words.proofs.PlainTokens.{text_of_chunks, IsChunk, AreChunks, texts_of_tokens}
 
 -- where chunks begin, if the first begins here
@@ -23,6 +22,10 @@ any_none : (p : ℕ → Bool) (xs : List ℕ) (j : ℕ) → list_any p xs ≡ fa
 any_none p [] j none within = absurd (omega arith)
 any_none p (x ∷ xs) zero none within = (or_parts (p x) (list_any p xs) none).0
 any_none p (x ∷ xs) (suc j) none within = any_none p xs j (or_parts (p x) (list_any p xs) none).1 (omega arith)
+
+after_blank-suc : (source : List ℕ) (at : ℕ) → 0 < at → is_after_blank source at ≡ is_blank (get_or source (at - 1) 0)
+after_blank-suc source zero later = absurd (omega arith)
+after_blank-suc source (suc before) later = let one : suc before - 1 ≡ before = omega arith in rw one refl
 
 module _ (source : List ℕ) where
   tokens_more : (at : ℕ) → tokens_below source (at + 1) ≡ tokens_below source at ++ (if begins_token source at then token_at source at ∷ [] else [])
