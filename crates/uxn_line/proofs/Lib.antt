@@ -3,3 +3,4 @@ pub mod Turning
 pub mod Alone
 pub mod MachineTurns
 pub mod NewMachines
+pub mod Handing
