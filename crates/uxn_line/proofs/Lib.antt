@@ -4,3 +4,4 @@ pub mod Alone
 pub mod MachineTurns
 pub mod NewMachines
 pub mod Handing
+pub mod Writing

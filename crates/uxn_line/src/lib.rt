@@ -6,6 +6,7 @@ mod law;
 mod machine;
 #[cfg(test)]
 mod machine_tests;
+mod output;
 mod reading;
 mod setup;
 mod setup_line;
@@ -14,5 +15,6 @@ mod tests;
 
 pub use law::turns_are_the_run;
 pub use machine::Machine;
+pub use output::next_byte;
 pub use reading::read_setup;
 pub use setup::{Setup, SetupKind, SetupStop, Turns};
