@@ -5,3 +5,4 @@ pub mod MachineTurns
 pub mod NewMachines
 pub mod Handing
 pub mod Writing
+pub mod Turned

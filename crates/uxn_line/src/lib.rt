@@ -6,6 +6,7 @@ mod law;
 mod machine;
 #[cfg(test)]
 mod machine_tests;
+mod member;
 mod output;
 mod reading;
 mod setup;
@@ -15,6 +16,7 @@ mod tests;
 
 pub use law::turns_are_the_run;
 pub use machine::Machine;
+pub use member::Member;
 pub use output::next_byte;
 pub use reading::read_setup;
 pub use setup::{Setup, SetupKind, SetupStop, Turns};
