@@ -8,6 +8,8 @@ mod machine;
 mod machine_tests;
 mod member;
 mod output;
+#[cfg(test)]
+mod output_tests;
 mod reading;
 mod setup;
 mod setup_line;
