@@ -1,5 +1,5 @@
 -- What a turn does to what is still to be given and to what was written.
-use Rattle.std.proofs.Common.{◌≡◌, ℕ, zero, suc, ◌-◌, ◌==◌, ◌<◌, Bool, true, false, cond, List, [], ◌∷◌, refl, ap, sym, ◌∙◌, arith}
+use Rattle.std.proofs.Common.{◌≡◌, ℕ, suc, ◌-◌, ◌==◌, ◌<◌, Bool, true, false, cond, List, ◌∷◌, refl, ap, ◌∙◌, arith}
 use Rattle.varvara_bus.specs.History.{stored_short}
 use Rattle.vector_loop.specs.State.{State, is_over}
 use Rattle.vector_loop.specs.Vector.{begun_at}
