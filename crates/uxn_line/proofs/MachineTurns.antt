@@ -1,5 +1,5 @@
 -- A machine that runs an instruction, or is given a byte, stands at the next place of its run.
-use Rattle.std.proofs.Common.{◌≡◌, ◌≢◌, ℕ, zero, suc, ◌==◌, ◌-◌, ◌<◌, Bool, true, false, cond, List, [], ◌∷◌, refl, ap, sym, subst, ◌∙◌, arith}
+use Rattle.std.proofs.Common.{◌++◌, ◌≡◌, ◌≢◌, ℕ, zero, suc, ◌==◌, ◌-◌, ◌<◌, Bool, true, false, cond, List, [], ◌∷◌, refl, ap, sym, subst, ◌∙◌, arith}
 use Rattle.std.proofs.lemmas.Bool.Decides.{nat_tests}
 use Rattle.uxn_opcodes.specs.declared.Core.{Core}
 use Rattle.uxn_opcodes.specs.Rule.{opcode_at}
@@ -15,7 +15,8 @@ use Rattle.console_port.specs.declared.EventKind.{EventKind}
 use Rattle.uxn_line.specs.declared.machine.Machine.{Machine}
 use Rattle.uxn_line.specs.Places.{Gift, OfArgument, OfEvent, console_of, counted_by, Place, place, cut_at}
 use Rattle.uxn_line.specs.Places.{instruction_turn, giving_turn, idle_turn, turn_of, turn}
-use Rattle.uxn_line.specs.Machines.{Rests, HasDone, StandsAt}
+use Rattle.uxn_line.specs.Machines.{Rests, HasDone, StandsAt, handed_on}
+use Rattle.uxn_line.proofs.Handing.{rests-put}
 
 -- a machine of these parts
 abbrev pub machine_of : Core → Devices → ℕ → Machine
@@ -61,6 +62,18 @@ run-stands budget machine now core held left some stands done is_left =
     subst P (sym (run-turn budget (machine.left - 1) now (left-is machine now some stands)))
     (ran-stands (machine.left - 1) now.state now.gifts now.put core held left (subst Q stands.core done)
     (is_left ∙ ap (λ (c : Core). cond (opcode_at c == 0) 0 (machine.left - 1)) stands.core))
+
+turn-put : (less : ℕ) (state : State) (gifts : List Gift) (put : List ℕ) (held : Devices) → Rests held state.devices
+    → (instruction_turn less state gifts put).put ≡ put ++ handed_on state.core
+unfolding instruction_turn
+turn-put less state gifts put held rests = ap (λ bytes. put ++ bytes) (rests-put held state.devices state.core rests)
+
+pub run-put : (budget : ℕ) (machine : Machine) (now : Place) → 0 < machine.left → StandsAt machine now
+    → (turn budget now).put ≡ now.put ++ handed_on machine.core
+run-put budget machine now some stands =
+    ap (λ (p : Place). p.put) (run-turn budget (machine.left - 1) now (left-is machine now some stands))
+    ∙ turn-put (machine.left - 1) now.state now.gifts now.put machine.devices stands.devices
+    ∙ ap (λ c. now.put ++ handed_on c) (sym stands.core)
 
 pub broke-left : (core : Core) (less : ℕ) → opcode_at core ≡ 0 → cond (opcode_at core == 0) 0 less ≡ 0
 broke-left core less broke = let e : (opcode_at core == 0) ≡ true = grind (arith, nat_tests) in ap (λ b. cond b 0 less) e

@@ -6,3 +6,4 @@ pub mod Gathered
 pub mod Places
 pub mod Streams
 pub mod Machines
+pub mod Members

@@ -6,6 +6,10 @@ mod law;
 mod machine;
 #[cfg(test)]
 mod machine_tests;
+mod member;
+mod output;
+#[cfg(test)]
+mod output_tests;
 mod reading;
 mod setup;
 mod setup_line;
@@ -14,5 +18,7 @@ mod tests;
 
 pub use law::turns_are_the_run;
 pub use machine::Machine;
+pub use member::Member;
+pub use output::next_byte;
 pub use reading::read_setup;
 pub use setup::{Setup, SetupKind, SetupStop, Turns};

@@ -1,5 +1,5 @@
 //! One machine of a line: its core and its devices, with nothing outside. It can stop between any two instructions.
-ghost use Rattle.std.specs.Prelude.{◌≤◌, IfOk, length, ◌≡◌, ℕ, ◌<◌, ◌∷◌, [], List, false, ◌↔◌};
+ghost use Rattle.std.specs.Prelude.{◌++◌, ◌≤◌, IfOk, length, ◌≡◌, ℕ, ◌<◌, ◌∷◌, [], List, false, ◌↔◌};
 ghost use Rattle.uxn_memory.specs.Bytes.{largest_rom};
 ghost use Rattle.uxn_opcodes.specs.Rule.{opcode_at};
 ghost use Rattle.console_port.specs.Console.{event_byte};
@@ -11,7 +11,7 @@ ghost use Rattle.varvara_bus.specs.State.{DeviceState, storing};
 ghost use Rattle.varvara_bus.specs.Model.{instruction_effect};
 ghost use Rattle.vector_loop.specs.State.{is_over};
 ghost use Rattle.uxn_line.specs.Places.{Place, Gift, console_of, turn};
-ghost use Rattle.uxn_line.specs.Machines.{Rests, HasDone, StandsAt};
+ghost use Rattle.uxn_line.specs.Machines.{Rests, HasDone, StandsAt, handed_on};
 
 use console_port::{EventKind, KIND};
 use play_script::Script;
@@ -130,7 +130,9 @@ impl Machine {
     /// Runs one instruction of the vector that runs.
     pub fn run(&mut self)
         requires { 0 < self.old.left }
-        ensures { (budget : ℕ) (now : Place) → StandsAt self.old now → StandsAt self.new (turn budget now) }
+        ensures stands { (budget : ℕ) (now : Place) → StandsAt self.old now → StandsAt self.new (turn budget now) }
+        ensures put { (budget : ℕ) (now : Place) → StandsAt self.old now
+            → (turn budget now).put ≡ now.put ++ handed_on self.old.core }
     {
         self.left = match run_instruction(&mut self.core, &mut self.devices) {
             Turn::Ran => self.left - 1,

@@ -1,11 +1,11 @@
 use Rattle.std.proofs.Common.{rules, ◌≡◌, sym, ◌∙◌}
 use Rattle.uxn_opcodes.specs.declared.Turn.TheVariants.{Ran, Broke}
-use Rattle.uxn_line.proofs.MachineTurns.{run-stands, broke-left, ran-left}
+use Rattle.uxn_line.proofs.MachineTurns.{run-stands, run-put, broke-left, ran-left}
 use Rattle.uxn_line.proofs.machine.Machine.run.Goals.{in-Ran, in-Broke}
 use Rattle.uxn_line.proofs.machine.Machine.run.Goals as goal
 
-pub returns : goal.returns
-returns c budget now stands =
+pub returns-clause-stands : goal.returns-clause-stands
+returns-clause-stands c budget now stands =
     let done = c.run_instruction.ensures.done now.state.devices stands.devices in
     let broke = c.run_instruction.ensures.broke now.state.devices stands.devices in
     run-stands budget c.args.self.now now c.run_instruction.new.core c.run_instruction.new.devices c.match-run_instruction.self c.requires stands done
@@ -17,3 +17,6 @@ returns c budget now stands =
           let is : c.run_instruction.result ≡ Broke = search (rules, w.in-Broke) in
           w.self-is ∙ sym (broke-left c.args.self.now.core _ (broke.0 is))
     ])
+
+pub returns-clause-put : goal.returns-clause-put
+returns-clause-put c budget now stands = run-put budget c.args.self.now now c.requires stands
