@@ -26,7 +26,8 @@ pub struct Member {
 impl Member {
     /// Sees whether the run is over. Then nothing is kept for it.
     fn settle(&mut self)
-        ensures stands { (now : Place) → StandsAt self.old.machine now → (self.old.all_given ≡ true) ↔ (now.gifts ≡ []) → MemberAt self.new now }
+        ensures stands { (now : Place) → StandsAt self.old.machine now → (self.old.all_given ≡ true) ↔ (now.gifts ≡ [])
+            → MemberAt self.new now }
         ensures kept { self.new.over ≡ false → self.new.ring ≡ self.old.ring }
         ensures dropped { self.new.over ≡ true → self.new.ring ≡ buffer [] self.old.ring.capacity }
     {
