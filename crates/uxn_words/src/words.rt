@@ -1,14 +1,12 @@
 //! The words of the command line.
-ghost use Rattle.std.specs.Prelude.{◌≡◌, ◌≤◌, IfSome, ◌+◌, ◌==◌, ◌∷◌, [], position, IfOk, Some, true, false, map, string_bytes};
-ghost use Rattle.std.specs.Option.{option_map, option_map_or};
-ghost use Rattle.std.specs.List.{list_all, fold};
-ghost use Rattle.clap.specs.Words.{app_of, found_of, first_value, with_rule};
-ghost use Rattle.uxn_words.specs.Words.{command_of, is_plain, is_legal, option_text, value_in, run_choices, choices_of, budget_in, count_in, task_in, asked_with, settings};
-ghost use Rattle.uxn_words.specs.Asked.{asked, argument, choice_argument, file_argument, parser_of, parser_for};
+ghost use Rattle.std.specs.Prelude.{◌≡◌, ◌≤◌, IfSome, IfOk, true, map, option_map, string_bytes};
+ghost use Rattle.option_table.specs.Words.{are_named, choices_in};
+ghost use Rattle.option_table.specs.Parsing.{found_value};
+ghost use Rattle.uxn_words.specs.Words.{command_of, choices_of, budget_in, count_in, task_in, asked_with, settings};
+ghost use Rattle.uxn_words.specs.Asked.{asked};
 
-use clap::error::ErrorKind;
-use clap::{Arg, ArgAction, ArgMatches};
 use line_texts::number_within;
+use option_table::{Choice, Found, read_line};
 use std::alloc::{AllocError, Global};
 
 /// What the program is asked to do.
@@ -63,6 +61,33 @@ pub struct Settings<'a> {
     pub report: Option<&'a [u8]>,
 }
 
+/// How many options only `debug` has; those behind them are the options of a run.
+const DEBUG_ONLY: usize = 3;
+
+/// The options of `debug`, and behind the first three those of `play`.
+static DEBUG: [Choice; 10] = [
+    Choice::Required("commands"),
+    Choice::Required("log"),
+    Choice::Optional("symbols"),
+    Choice::Switch("rom"),
+    Choice::Optional("script"),
+    Choice::Optional("root"),
+    Choice::Optional("frames"),
+    Choice::Optional("samples"),
+    Choice::Optional("report"),
+    Choice::Optional("budget"),
+];
+
+/// The options of `asm`.
+static ASSEMBLE: [Choice; 3] = [
+    Choice::Required("out"),
+    Choice::Optional("symbols"),
+    Choice::Optional("listing"),
+];
+
+/// The options of `dis`.
+static DISASSEMBLE: [Choice; 1] = [Choice::Optional("symbols")];
+
 /// The command of a name.
 fn command_named(name: &[u8]) -> Option<Command>
     ensures { result ≡ command_of name.now }
@@ -82,117 +107,6 @@ fn command_named(name: &[u8]) -> Option<Command>
     }
 }
 
-/// Whether a word names a file or is a value: it is not empty and does not begin with `-`.
-fn is_plain(word: &[u8]) -> bool
-    ensures { result ≡ is_plain word.now }
-{
-    match word {
-        [] => false,
-        [first, ..] => *first != b'-',
-    }
-}
-
-/// The text behind `--`, where there is some.
-fn option_text(word: &[u8]) -> Option<&[u8]>
-    ensures { option_map (λ text. text.now) result ≡ option_text word.now }
-{
-    if word.len() > 2 && &word[..2] == b"--".as_slice() {
-        Some(&word[2..])
-    } else {
-        None
-    }
-}
-
-/// Whether the text behind `--` has no value behind a `=`, or one that is plain.
-fn has_plain_value(text: &[u8]) -> bool
-    ensures { result ≡ option_map_or is_plain (value_in text.now) true }
-{
-    match text.iter().position(|byte| *byte == b'=') {
-        Some(at) => is_plain(&text[at + 1..]),
-        None => true,
-    }
-}
-
-/// Whether a word may stand on a line of words. `clap` takes some that may not: the empty word, `--`,
-/// `-`, and an option's value that is empty or begins with `-`.
-fn is_legal(word: &[u8]) -> bool
-    ensures { result ≡ is_legal word.now }
-{
-    if is_plain(word) {
-        return true;
-    }
-    match option_text(word) {
-        Some(text) => has_plain_value(text),
-        None => false,
-    }
-}
-
-/// Whether all the words are legal.
-fn are_legal(words: &[String]) -> bool
-    ensures { result ≡ list_all is_legal (map string_bytes words.now) }
-{
-    words.iter().all(|word| is_legal(word.as_bytes()))
-}
-
-/// The parser of a command that has only a file.
-fn file_parser<'a>(alloc: Global) -> Result<clap::Command<'a>, AllocError>
-    ensures { IfOk result (λ parser. app_of parser ≡ parser_of (file_argument ∷ [])) }
-{
-    clap::Command::new(alloc, "uxn")
-        .no_binary_name(true)
-        .disable_help_flag(true)
-        .disable_version_flag(true)
-        .arg(
-            Arg::new(alloc, "file")
-                .action(ArgAction::Set)
-                .required(true),
-        )
-}
-
-/// The parser with an option more that has a value.
-fn with_option<'a>(
-    alloc: Global,
-    parser: clap::Command<'a>,
-    name: &'a str,
-    is_required: bool,
-) -> Result<clap::Command<'a>, AllocError>
-    ensures { IfOk result (λ more. app_of more ≡ with_rule (app_of parser.entry) (argument name.now (Some name.now) true is_required)) }
-{
-    parser.arg(
-        Arg::new(alloc, name)
-            .long(name)
-            .action(ArgAction::Set)
-            .required(is_required),
-    )
-}
-
-/// The parser with a switch more.
-fn with_switch<'a>(
-    alloc: Global,
-    parser: clap::Command<'a>,
-    name: &'a str,
-) -> Result<clap::Command<'a>, AllocError>
-    ensures { IfOk result (λ more. app_of more ≡ with_rule (app_of parser.entry) (argument name.now (Some name.now) false false)) }
-{
-    parser.arg(Arg::new(alloc, name).long(name).action(ArgAction::SetTrue))
-}
-
-/// The parser with the options of a run more.
-fn with_run_options<'a>(
-    alloc: Global,
-    parser: clap::Command<'a>,
-) -> Result<clap::Command<'a>, AllocError>
-    ensures { IfOk result (λ more. app_of more ≡ fold with_rule (app_of parser.entry) (map choice_argument run_choices)) }
-{
-    let parser = with_switch(alloc, parser, "rom")?;
-    let parser = with_option(alloc, parser, "script", false)?;
-    let parser = with_option(alloc, parser, "root", false)?;
-    let parser = with_option(alloc, parser, "frames", false)?;
-    let parser = with_option(alloc, parser, "samples", false)?;
-    let parser = with_option(alloc, parser, "report", false)?;
-    with_option(alloc, parser, "budget", false)
-}
-
 /// The budget that a word says; without a word it is 4,000,000.
 fn budget_in(word: Option<&[u8]>) -> Option<u32>
     ensures number { result ≡ budget_in (option_map (λ text. text.now) word.entry) }
@@ -208,33 +122,24 @@ fn budget_in(word: Option<&[u8]>) -> Option<u32>
 }
 
 /// The value of an option.
-fn value_of<'a>(matches: &ArgMatches<'a>, name: &str) -> Option<&'a [u8]>
-    ensures { option_map (λ text. text.now) result ≡ first_value (found_of matches.now) name.now }
+fn value_of<'a>(found: &Found<'a>, name: &str) -> Option<&'a [u8]>
+    ensures { option_map (λ text. text.now) result ≡ found_value found.now name.now }
 {
-    matches.get_str(name).map(|word| word.as_bytes())
+    found.value(name).map(|word| word.as_bytes())
 }
 
 impl Command {
-    /// The parser of the words after the command's name.
-    fn parser<'a>(self, alloc: Global) -> Result<clap::Command<'a>, AllocError>
-        ensures { IfOk result (λ parser. app_of parser ≡ parser_for (choices_of self)) }
+    /// Its options.
+    fn choices(self) -> &'static [Choice]
+        ensures options { choices_in result.now ≡ choices_of self }
+        ensures named { are_named (choices_in result.now) ≡ true }
     {
-        let parser = file_parser(alloc)?;
         match self {
-            Command::Play => with_run_options(alloc, parser),
-            Command::Debug => {
-                let parser = with_option(alloc, parser, "commands", true)?;
-                let parser = with_option(alloc, parser, "log", true)?;
-                let parser = with_option(alloc, parser, "symbols", false)?;
-                with_run_options(alloc, parser)
-            }
-            Command::Assemble => {
-                let parser = with_option(alloc, parser, "out", true)?;
-                let parser = with_option(alloc, parser, "symbols", false)?;
-                with_option(alloc, parser, "listing", false)
-            }
-            Command::Disassemble => with_option(alloc, parser, "symbols", false),
-            Command::Generate => Ok(parser),
+            Command::Play => &DEBUG[DEBUG_ONLY..],
+            Command::Debug => DEBUG.as_slice(),
+            Command::Assemble => ASSEMBLE.as_slice(),
+            Command::Disassemble => DISASSEMBLE.as_slice(),
+            Command::Generate => &[],
         }
     }
 
@@ -251,28 +156,28 @@ impl Command {
         }
     }
 
-    /// What the parsed words ask for, where the budget and the count are numbers.
-    fn settings<'a>(self, matches: &ArgMatches<'a>) -> Option<Settings<'a>>
-        ensures asked { option_map asked result ≡ task_in self (λ name. first_value (found_of matches.now) name) }
+    /// What a legal line asks for, where its budget and its count are numbers.
+    fn settings<'a>(self, found: &Found<'a>) -> Option<Settings<'a>>
+        ensures asked { option_map asked result ≡ task_in self (found_value found.now) }
         ensures budget { IfSome result (λ settings. 1 ≤ settings.budget) }
     {
-        let file = value_of(matches, "file")?;
+        let file = found.operand()?.as_bytes();
         Some(Settings {
             command: self,
             file,
             count: self.count_in(file)?,
-            rom: matches.get_str("rom") == Some("true"),
-            budget: budget_in(value_of(matches, "budget"))?,
-            out: value_of(matches, "out"),
-            commands: value_of(matches, "commands"),
-            log: value_of(matches, "log"),
-            symbols: value_of(matches, "symbols"),
-            listing: value_of(matches, "listing"),
-            script: value_of(matches, "script"),
-            root: value_of(matches, "root"),
-            frames: value_of(matches, "frames"),
-            samples: value_of(matches, "samples"),
-            report: value_of(matches, "report"),
+            rom: found.has("rom"),
+            budget: budget_in(value_of(found, "budget"))?,
+            out: value_of(found, "out"),
+            commands: value_of(found, "commands"),
+            log: value_of(found, "log"),
+            symbols: value_of(found, "symbols"),
+            listing: value_of(found, "listing"),
+            script: value_of(found, "script"),
+            root: value_of(found, "root"),
+            frames: value_of(found, "frames"),
+            samples: value_of(found, "samples"),
+            report: value_of(found, "report"),
         })
     }
 
@@ -286,20 +191,15 @@ impl Command {
         ensures asked { IfOk result (λ read. option_map asked read ≡ asked_with (map string_bytes words.now) (Some self)) }
         ensures budget { IfOk result (λ read. IfSome read (λ settings. 1 ≤ settings.budget)) }
     {
-        if !are_legal(words) {
-            return Ok(None);
-        }
-        match self.parser(alloc)?.try_get_matches_from(words) {
-            Ok(matches) => Ok(self.settings(&matches)),
-            Err(error) => match error.kind() {
-                ErrorKind::OutOfMemory => Err(AllocError),
-                _ => Ok(None),
-            },
+        match read_line(alloc, self.choices(), words)? {
+            Some(found) => Ok(self.settings(&found)),
+            None => Ok(None),
         }
     }
 }
 
 /// What the words ask for, where they are legal. Errors with want of memory.
+#[tactic(auto, unfolding(crate::specs::Words::settings))]
 pub fn read_words<'a>(
     alloc: Global,
     words: &'a [String],
@@ -307,7 +207,7 @@ pub fn read_words<'a>(
     ensures asked { IfOk result (λ read. option_map asked read ≡ settings (map string_bytes words.now)) }
     ensures budget { IfOk result (λ read. IfSome read (λ settings. 1 ≤ settings.budget)) }
 {
-    let [name, rest @ ..] = words else {
+    let Some((name, rest)) = words.split_first() else {
         return Ok(None);
     };
     match command_named(name.as_bytes()) {

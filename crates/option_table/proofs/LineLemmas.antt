@@ -13,9 +13,9 @@ use Rattle.clap.specs.Faults.{built_fault, check_fault, fault_of, word_fault, de
 use Rattle.clap.specs.declared.error.kind.ErrorKind.TheVariants as kind
 use Rattle.clap.proofs.FaultLemmas.{leaf_fault}
 use Rattle.clap.proofs.WalkLemmas.{list_any-map}
-use Rattle.uxn_words.specs.Asked.{parser_for}
-use Rattle.uxn_words.specs.Words.{Choice, Given, Step, gives, awaits, refuses, choice_named, choice_step, file_name, follow, given, is_given, is_legal, is_plain, is_whole, items_of, each_once, lacks_some, name_in, option_step, option_text, step_of, value_in}
-use Rattle.uxn_words.proofs.ArgumentLemmas.{Fits, apart_named, by_id, by_long, choice_rule, defaults_pass, file_rule, filled_rules, is_apart, repeats, row, rows_given, ruled, rules_for, use_faults, use_rows, values_for, with_defaults}
+use Rattle.option_table.specs.Parsing.{parser_for}
+use Rattle.option_table.specs.Words.{Choice, Given, Step, gives, awaits, refuses, choice_named, choice_step, operand, follow, given, is_given, is_legal, is_plain, is_whole, items_of, each_once, lacks_some, name_before, option_step, option_text, step_of, value_behind}
+use Rattle.option_table.proofs.ArgumentLemmas.{Fits, apart_named, by_id, by_long, choice_rule, defaults_pass, operand_rule, filled_rules, are_named, repeats, row, rows_given, ruled, rules_for, use_faults, use_rows, values_for, with_defaults}
 
 is_false : (b : Bool) → not b ≡ true → b ≡ false
 is_false true e = absurd (true≢false (sym e))
@@ -37,8 +37,8 @@ pub record LongWord (word text : Text) : Type 0 where
   pub plain : is_plain word ≡ false
   pub says : option_text word ≡ Some text
   pub dashes : bytes_eq word (45 ∷ 45 ∷ []) ≡ false
-  pub long : long_of word ≡ Some (name_in text, value_in text)
-  pub value : option_map_or is_plain (value_in text) true ≡ true
+  pub long : long_of word ≡ Some (name_before text, value_behind text)
+  pub value : option_map_or is_plain (value_behind text) true ≡ true
 
 plain_word : (word : Text) → is_plain word ≡ true → PlainWord word
 plain_word [] e = absurd (true≢false (sym e))
@@ -58,7 +58,7 @@ cases false = inr refl
 none_text : {A : Type 0} (text : Text) → None ≡ Some text → A
 none_text text e = absurd (true≢false (sym (ap is_some e)))
 
-long_word : (word text : Text) → option_text word ≡ Some text → option_map_or is_plain (value_in text) true ≡ true → LongWord word text
+long_word : (word text : Text) → option_text word ≡ Some text → option_map_or is_plain (value_behind text) true ≡ true → LongWord word text
 long_word [] text e v = none_text text e
 long_word (a ∷ []) text e v = none_text text e
 long_word (a ∷ b ∷ []) text e v =
@@ -79,7 +79,7 @@ long_word (a ∷ b ∷ c ∷ rest) text e v =
             dashes = ap₂ (λ x y. x && (y && false)) parts.0 second;
             long = ap (λ x. option_and_then long_of_rest (option_and_then (strip_byte 45) (cond x (Some (b ∷ c ∷ rest)) None))) parts.0
                 ∙ ap (λ y. option_and_then long_of_rest (cond y (Some (c ∷ rest)) None)) second
-                ∙ ap (λ t. Some (name_in t, value_in t)) same;
+                ∙ ap (λ t. Some (name_before t, value_behind t)) same;
             value = v;
           }
     ]
@@ -88,7 +88,7 @@ pub legal_word : (word : Text) → is_legal word ≡ true → PlainWord word ⊎
 legal_word word e = go (is_plain word) (option_text word) refl refl e
   where
     go : (b : Bool) (o : Option Text) → is_plain word ≡ b → option_text word ≡ o
-        → (b || option_map_or (λ text. option_map_or is_plain (value_in text) true) o false) ≡ true → PlainWord word ⊎ ((text : Text) × LongWord word text)
+        → (b || option_map_or (λ text. option_map_or is_plain (value_behind text) true) o false) ≡ true → PlainWord word ⊎ ((text : Text) × LongWord word text)
     go true o p t e = inl (plain_word word p)
     go false None p t e = absurd (true≢false (sym e))
     go false (Some text) p t e = inr (text, long_word word text t e)
@@ -172,13 +172,13 @@ twice-rejected : (choices : List Choice) (name : Text) (items : List Given) (ite
 twice-rejected choices name items item None same e = tt
 twice-rejected choices name items item (Some later) same e = ap (λ b. b && not (lacks_some choices (items ++ item ∷ later))) (given-again name items item later same e)
 
-module _ (choices : List Choice) (apart : is_apart choices ≡ true) where
+module _ (choices : List Choice) (apart : are_named choices ≡ true) where
   abbrev rules : List Rule
   rules = rules_for choices
 
   -- the command, as it is built
   abbrev pub shape : Shape
-  shape = record (new_shape (codes "uxn")) {
+  shape = record (new_shape []) {
     rules = rules;
     no_binary_name = true;
     disable_help_flag = true;
@@ -276,8 +276,8 @@ module _ (choices : List Choice) (apart : is_apart choices ≡ true) where
   check-is : (items : List Given) → check_fault shape (with_defaults choices (map row items)) false ≡ cond (lacks_some choices items) (kind.MissingRequiredArgument ∷ []) []
   check-is items =
       ap (λ b. cond b (kind.MissingRequiredArgument ∷ []) [])
-      ((λ i. (not (rows_given choices file_name items i) || list_any (λ (a : Rule). a.required && not (rows_given choices a.id items i)) (map choice_rule choices)))
-      ∙ ap (λ b. not (is_given file_name items) || b) (sym (list_any-map (λ (a : Rule). a.required && not (is_given a.id items)) choice_rule choices)))
+      ((λ i. (not (rows_given choices operand items i) || list_any (λ (a : Rule). a.required && not (rows_given choices a.id items i)) (map choice_rule choices)))
+      ∙ ap (λ b. not (is_given operand items) || b) (sym (list_any-map (λ (a : Rule). a.required && not (is_given a.id items)) choice_rule choices)))
 
   ended-at : (items : List Given) (h : Held) → settle_fault rules false h ≡ [] → settled rules h ≡ held_at items None → each_once items ≡ true
       → Reads (end_fault h) (finished rules h) (Some items)
@@ -330,13 +330,13 @@ module _ (choices : List Choice) (apart : is_apart choices ≡ true) where
   and_false true = refl
   and_false false = refl
 
-  -- the file
+  -- the operand
   first_fault : (word : Text) (h : Held) → PlainWord word → turn_fault shape [] (walk_at h idle false) word ≡ settle_fault rules false h
-  first_fault word h w = plain_fault idle false word h w ∙ ap (λ b. cond b [] (settle_fault rules false h)) (and_false (is_pending file_rule h.pending))
+  first_fault word h w = plain_fault idle false word h w ∙ ap (λ b. cond b [] (settle_fault rules false h)) (and_false (is_pending operand_rule h.pending))
 
-  first_walk : (word : Text) (h : Held) → PlainWord word → walked rules [] (walk_at h idle false) word ≡ walk_at (pushed file_name word (settled rules h)) idle true
+  first_walk : (word : Text) (h : Held) → PlainWord word → walked rules [] (walk_at h idle false) word ≡ walk_at (pushed operand word (settled rules h)) idle true
   first_walk word h w =
-      plain_walk idle false word h w ∙ ap (λ b. walk_at (pushed file_name word (cond b h (settled rules h))) idle true) (and_false (is_pending file_rule h.pending))
+      plain_walk idle false word h w ∙ ap (λ b. walk_at (pushed operand word (cond b h (settled rules h))) idle true) (and_false (is_pending operand_rule h.pending))
 
   second_fault : (word : Text) (h : Held) → PlainWord word → turn_fault shape [] (walk_at h idle true) word ≡ kind.UnknownArgument ∷ []
   second_fault word h w =
@@ -361,15 +361,15 @@ module _ (choices : List Choice) (apart : is_apart choices ≡ true) where
   met_by waiting word o v h = after_flag rules waiting word (long_met rules (option_map choice_rule o) v h).0 (long_met rules (option_map choice_rule o) v h).1
 
   long_passes : (waiting : Waiting) (word text : Text) (h : Held) → LongWord word text
-      → word_fault shape [] false waiting word h ≡ fault_by (choice_named choices (name_in text)) (value_in text) h
-  long_passes waiting word text h w = rw (quiet waiting word, w.dashes, w.long, ← by_long choices (name_in text)) refl
+      → word_fault shape [] false waiting word h ≡ fault_by (choice_named choices (name_before text)) (value_behind text) h
+  long_passes waiting word text h w = rw (quiet waiting word, w.dashes, w.long, ← by_long choices (name_before text)) refl
 
   long_is : (waiting : Waiting) (position : ℕ) (word text : Text) (h : Held) → LongWord word text
-      → word_met rules [] false waiting position word h ≡ met_by waiting word (choice_named choices (name_in text)) (value_in text) h
-  long_is waiting position word text h w = rw (quiet waiting word, w.dashes, w.long, ← by_long choices (name_in text)) refl
+      → word_met rules [] false waiting position word h ≡ met_by waiting word (choice_named choices (name_before text)) (value_behind text) h
+  long_is waiting position word text h w = rw (quiet waiting word, w.dashes, w.long, ← by_long choices (name_before text)) refl
 
   long_turn : (waiting : Waiting) (seen : Bool) (word text : Text) (h : Held) (o : Option Choice) (v : Option Text) → LongWord word text
-      → choice_named choices (name_in text) ≡ o → value_in text ≡ v
+      → choice_named choices (name_before text) ≡ o → value_behind text ≡ v
       → turn_fault shape [] (walk_at h waiting seen) word
       ≡ or_else (fault_by o v h) (step_fault shape (cond seen 2 1) (met_by waiting word o v h).0 (met_by waiting word o v h).1)
   long_turn waiting seen word text h o v w named valued =
@@ -377,7 +377,7 @@ module _ (choices : List Choice) (apart : is_apart choices ≡ true) where
       ∙ ap₂ (λ o v. or_else (fault_by o v h) (step_fault shape (cond seen 2 1) (met_by waiting word o v h).0 (met_by waiting word o v h).1)) named valued
 
   long_walk : (waiting : Waiting) (seen : Bool) (word text : Text) (h : Held) (o : Option Choice) (v : Option Text) → LongWord word text
-      → choice_named choices (name_in text) ≡ o → value_in text ≡ v
+      → choice_named choices (name_before text) ≡ o → value_behind text ≡ v
       → walked rules [] (walk_at h waiting seen) word ≡ after_step rules word (walk_at h waiting seen) (met_by waiting word o v h).0 (met_by waiting word o v h).1
   unfolding walked
   long_walk waiting seen word text h o v w named valued =
@@ -399,12 +399,12 @@ module _ (choices : List Choice) (apart : is_apart choices ≡ true) where
   long_blocked : (waiting : Waiting) (seen : Bool) (word text : Text) (h : Held) → LongWord word text → is_empty (settle_fault rules false h) ≡ false
       → is_empty (turn_fault shape [] (walk_at h waiting seen) word) ≡ false
   long_blocked waiting seen word text h w e =
-      ap is_empty (long_turn waiting seen word text h _ _ w refl refl) ∙ nonempty_first (fault_by (choice_named choices (name_in text)) (value_in text) h) _ (blocked (choice_named choices (name_in text)) (value_in text) h e)
+      ap is_empty (long_turn waiting seen word text h _ _ w refl refl) ∙ nonempty_first (fault_by (choice_named choices (name_before text)) (value_behind text) h) _ (blocked (choice_named choices (name_before text)) (value_behind text) h e)
 
   -- ---- the items
 
   plain_items : (word : Text) (words : List Text) → PlainWord word
-      → items_of choices (word ∷ words) None ≡ option_map (λ items. given file_name word ∷ items) (items_of choices words None)
+      → items_of choices (word ∷ words) None ≡ option_map (λ items. given operand word ∷ items) (items_of choices words None)
   unfolding items_of
   plain_items word words w = rw (w.plain) refl
 
@@ -417,7 +417,7 @@ module _ (choices : List Choice) (apart : is_apart choices ≡ true) where
   unfolding items_of
   no_value_items name word text words w = rw (w.plain) refl
 
-  long_items : (word text : Text) (words : List Text) (o : Option Choice) (v : Option Text) → LongWord word text → choice_named choices (name_in text) ≡ o → value_in text ≡ v
+  long_items : (word text : Text) (words : List Text) (o : Option Choice) (v : Option Text) → LongWord word text → choice_named choices (name_before text) ≡ o → value_behind text ≡ v
       → items_of choices (word ∷ words) None ≡ follow (choice_step o v) (items_of choices words)
   unfolding items_of
   long_items word text words o v w named valued = rw (w.plain, w.says, named, valued) refl
@@ -434,12 +434,12 @@ module _ (choices : List Choice) (apart : is_apart choices ≡ true) where
 
   -- from each state the words are read
   abbrev Readies : List Text → Type 0
-  Readies words = (h : Held) (items : List Given) (seen : Bool) → seen ≡ is_given file_name items → Ready h items
+  Readies words = (h : Held) (items : List Given) (seen : Bool) → seen ≡ is_given operand items → Ready h items
       → Reads (kinds_from (walk_at h idle seen) words) (rows_from (walk_at h idle seen) words) (before items (items_of choices words None))
 
   abbrev Waits : List Text → Type 0
   Waits words = (name : Text) (required : Bool) (items : List Given) (seen : Bool) → arg_by_id rules name ≡ Some (ruled name (Some name) None true required)
-      → bytes_eq name file_name ≡ false → seen ≡ is_given file_name items → each_once items ≡ true
+      → bytes_eq name operand ≡ false → seen ≡ is_given operand items → each_once items ≡ true
       → Reads (kinds_from (walk_at (held_at items (Some (name, []))) (option name) seen) words)
       (rows_from (walk_at (held_at items (Some (name, []))) (option name) seen) words) (before items (items_of choices words (Some name)))
 
@@ -450,33 +450,33 @@ module _ (choices : List Choice) (apart : is_apart choices ≡ true) where
     abbrev later : Option (List Given)
     later = items_of choices words None
 
-    -- the file
-    ready_plain : (h : Held) (items : List Given) (seen : Bool) → PlainWord word → seen ≡ is_given file_name items → Ready h items
-        → Reads (kinds_from (walk_at h idle seen) (word ∷ words)) (rows_from (walk_at h idle seen) (word ∷ words)) (before items (option_map (λ more. given file_name word ∷ more) later))
+    -- the operand
+    ready_plain : (h : Held) (items : List Given) (seen : Bool) → PlainWord word → seen ≡ is_given operand items → Ready h items
+        → Reads (kinds_from (walk_at h idle seen) (word ∷ words)) (rows_from (walk_at h idle seen) (word ∷ words)) (before items (option_map (λ more. given operand word ∷ more) later))
     ready_plain h items true w is ready =
-        stopped (walk_at h idle true) word words _ (ap is_empty (second_fault word h w)) (twice-rejected choices file_name items (given file_name word) later refl (sym is))
+        stopped (walk_at h idle true) word words _ (ap is_empty (second_fault word h w)) (twice-rejected choices operand items (given operand word) later refl (sym is))
     ready_plain h items false w is (inr broken) =
         stopped (walk_at h idle false) word words _ (ap is_empty (first_fault word h w) ∙ broken.fault) (broken-rejects h items _ broken)
     ready_plain h items false w is (inl sound) =
-        let item = given file_name word in
-        let after : walked rules [] (walk_at h idle false) word ≡ walk_at (held_at items (Some (file_name, word ∷ []))) idle true =
-        first_walk word h w ∙ ap (λ (k : Held). walk_at (pushed file_name word k) idle true) sound.rows in
-        let seen : true ≡ is_given file_name (items ++ item ∷ []) = sym (given-push file_name items item ∙ ap (λ b. b || true) (sym is)) in
+        let item = given operand word in
+        let after : walked rules [] (walk_at h idle false) word ≡ walk_at (held_at items (Some (operand, word ∷ []))) idle true =
+        first_walk word h w ∙ ap (λ (k : Held). walk_at (pushed operand word k) idle true) sound.rows in
+        let seen : true ≡ is_given operand (items ++ item ∷ []) = sym (given-push operand items item ∙ ap (λ b. b || true) (sym is)) in
         subst (Reads _ _) (before-item items item later)
-        (turned (walk_at h idle false) (walk_at (held_at items (Some (file_name, word ∷ []))) idle true) word words [] (before (items ++ item ∷ []) later)
+        (turned (walk_at h idle false) (walk_at (held_at items (Some (operand, word ∷ []))) idle true) word words [] (before (items ++ item ∷ []) later)
         (first_fault word h w ∙ sound.faultless) after
-        (next.0 (held_at items (Some (file_name, word ∷ []))) (items ++ item ∷ []) true seen (pending-ready items file_name None (Some 1) true word sound.once refl)))
+        (next.0 (held_at items (Some (operand, word ∷ []))) (items ++ item ∷ []) true seen (pending-ready items operand None (Some 1) true word sound.once refl)))
 
     -- the value of an option
     waits_plain : (name : Text) (required : Bool) (items : List Given) (seen : Bool) → PlainWord word → arg_by_id rules name ≡ Some (ruled name (Some name) None true required)
-        → bytes_eq name file_name ≡ false → seen ≡ is_given file_name items → each_once items ≡ true
+        → bytes_eq name operand ≡ false → seen ≡ is_given operand items → each_once items ≡ true
         → Reads (kinds_from (walk_at (held_at items (Some (name, []))) (option name) seen) (word ∷ words))
         (rows_from (walk_at (held_at items (Some (name, []))) (option name) seen) (word ∷ words)) (before items (option_map (λ more. given name word ∷ more) later))
     waits_plain name required items seen w found other is once =
         let item = given name word in
         let h = held_at items (Some (name, [])) in
         let fault : turn_fault shape [] (walk_at h (option name) seen) word ≡ [] = plain_fault (option name) seen word h w in
-        let still : seen ≡ is_given file_name (items ++ item ∷ []) = is ∙ sym (given-push file_name items item ∙ ap (λ b. is_given file_name items || b) other ∙ or_none _) in
+        let still : seen ≡ is_given operand (items ++ item ∷ []) = is ∙ sym (given-push operand items item ∙ ap (λ b. is_given operand items || b) other ∙ or_none _) in
         subst (Reads _ _) (before-item items item later)
         (turned (walk_at h (option name) seen) (walk_at (held_at items (Some (name, word ∷ []))) idle seen) word words [] (before (items ++ item ∷ []) later)
         fault (value_walk name word items seen required w found)
@@ -484,7 +484,7 @@ module _ (choices : List Choice) (apart : is_apart choices ≡ true) where
 
     -- a use of an option that is whole
     reacts : (h : Held) (items : List Given) (seen : Bool) (name : Text) (has_value required : Bool) (value : Text) (fault : Kinds) → Fits has_value value
-        → bytes_eq name file_name ≡ false → seen ≡ is_given file_name items → Sound h items
+        → bytes_eq name operand ≡ false → seen ≡ is_given operand items → Sound h items
         → turn_fault shape [] (walk_at h idle seen) word
         ≡ or_else (or_else (settle_fault rules false h) (use_fault false (ruled name (Some name) None has_value required) (values_for has_value value) (settled rules h).rows)) []
         → walked rules [] (walk_at h idle seen) word
@@ -503,7 +503,7 @@ module _ (choices : List Choice) (apart : is_apart choices ≡ true) where
               let after : walked rules [] (walk_at h idle seen) word ≡ walk_at (held_at (items ++ item ∷ []) None) idle seen =
               walk ∙ ap (λ (k : Held). walk_at (record k { rows = used r (values_for has_value value) k.rows }) idle seen) sound.rows
               ∙ ap (λ rs. walk_at (held_rows rs) idle seen) (use_rows name (Some name) None has_value required value items fits fresh) in
-              let still : seen ≡ is_given file_name (items ++ item ∷ []) = is ∙ sym (given-push file_name items item ∙ ap (λ b. is_given file_name items || b) other ∙ or_none _) in
+              let still : seen ≡ is_given operand (items ++ item ∷ []) = is ∙ sym (given-push operand items item ∙ ap (λ b. is_given operand items || b) other ∙ or_none _) in
               subst (Reads _ _) (before-item items item later)
               (turned (walk_at h idle seen) (walk_at (held_at (items ++ item ∷ []) None) idle seen) word words [] (before (items ++ item ∷ []) later)
               (fault_is ∙ ap (λ b. or_else (repeats b) []) fresh) after
@@ -511,13 +511,13 @@ module _ (choices : List Choice) (apart : is_apart choices ≡ true) where
               (inl (record { faultless = refl; rows = refl; once = given-fresh items item sound.once fresh }))))
         ]
 
-    module _ (text : Text) (w : LongWord word text) (h : Held) (items : List Given) (seen : Bool) (is : seen ≡ is_given file_name items) (sound : Sound h items) where
+    module _ (text : Text) (w : LongWord word text) (h : Held) (items : List Given) (seen : Bool) (is : seen ≡ is_given operand items) (sound : Sound h items) where
       abbrev Here : Option Choice → Option Text → Type 0
       Here o v = Reads (kinds_from (walk_at h idle seen) (word ∷ words)) (rows_from (walk_at h idle seen) (word ∷ words)) (before items (follow (choice_step o v) (items_of choices words)))
 
       sound_choice : (name : Text) (has_value required : Bool) (v : Option Text)
-          → choice_named choices (name_in text) ≡ Some (record { name = name; has_value = has_value; is_required = required }) → value_in text ≡ v
-          → bytes_eq name file_name ≡ false → arg_by_id rules name ≡ Some (ruled name (Some name) None has_value required)
+          → choice_named choices (name_before text) ≡ Some (record { name = name; has_value = has_value; is_required = required }) → value_behind text ≡ v
+          → bytes_eq name operand ≡ false → arg_by_id rules name ≡ Some (ruled name (Some name) None has_value required)
           → Here (Some (record { name = name; has_value = has_value; is_required = required })) v
       sound_choice name true required None named valued other found =
           turned (walk_at h idle seen) (walk_at (held_at items (Some (name, []))) (option name) seen) word words [] _
@@ -538,16 +538,16 @@ module _ (choices : List Choice) (apart : is_apart choices ≡ true) where
       sound_choice name false required (Some v) named valued other found =
           stopped (walk_at h idle seen) word words _ (ap is_empty (long_turn idle seen word text h _ (Some v) w named valued)) tt
 
-      sound_long : (o : Option Choice) → choice_named choices (name_in text) ≡ o → Here o (value_in text)
-      sound_long None named = stopped (walk_at h idle seen) word words _ (ap is_empty (long_turn idle seen word text h None (value_in text) w named refl)) tt
+      sound_long : (o : Option Choice) → choice_named choices (name_before text) ≡ o → Here o (value_behind text)
+      sound_long None named = stopped (walk_at h idle seen) word words _ (ap is_empty (long_turn idle seen word text h None (value_behind text) w named refl)) tt
       sound_long (Some choice) named =
-          sound_choice choice.name choice.has_value choice.is_required (value_in text) named refl
-          (not_eq-sym file_name choice.name (apart_named choices (name_in text) choice apart named)) (by_id choices (name_in text) choice apart named)
+          sound_choice choice.name choice.has_value choice.is_required (value_behind text) named refl
+          (not_eq-sym operand choice.name (apart_named choices (name_before text) choice apart named)) (by_id choices (name_before text) choice apart named)
 
-    ready_long : (text : Text) (h : Held) (items : List Given) (seen : Bool) → LongWord word text → seen ≡ is_given file_name items → Ready h items
+    ready_long : (text : Text) (h : Held) (items : List Given) (seen : Bool) → LongWord word text → seen ≡ is_given operand items → Ready h items
         → Reads (kinds_from (walk_at h idle seen) (word ∷ words)) (rows_from (walk_at h idle seen) (word ∷ words))
-        (before items (follow (choice_step (choice_named choices (name_in text)) (value_in text)) (items_of choices words)))
-    ready_long text h items seen w is (inl sound) = sound_long text w h items seen is sound (choice_named choices (name_in text)) refl
+        (before items (follow (choice_step (choice_named choices (name_before text)) (value_behind text)) (items_of choices words)))
+    ready_long text h items seen w is (inl sound) = sound_long text w h items seen is sound (choice_named choices (name_before text)) refl
     ready_long text h items seen w is (inr broken) =
         stopped (walk_at h idle seen) word words _ (long_blocked idle seen word text h w broken.fault) (broken-rejects h items _ broken)
 
@@ -584,7 +584,7 @@ module _ (choices : List Choice) (apart : is_apart choices ≡ true) where
 
   -- ---- what a parse gives
 
-  built_is : built (parser_for choices) ≡ record { top = shape; subs = [] }
+  pub built_is : built (parser_for choices) ≡ record { top = shape; subs = [] }
   built_is = ap (λ rs. record { top = record shape { rules = rs }; subs = [] }) (filled_rules choices)
 
   before-nothing : (o : Option (List Given)) → before [] o ≡ o
@@ -610,7 +610,7 @@ illegal_step : (choices : List Choice) (word : Text) (words : List Text) (awaite
 unfolding items_of
 illegal_step choices word words awaited illegal = go awaited (neither (is_plain word) _ illegal)
   where
-    go : (awaited : Option Text) → (is_plain word ≡ false) × (option_map_or (λ text. option_map_or is_plain (value_in text) true) (option_text word) false ≡ false)
+    go : (awaited : Option Text) → (is_plain word ≡ false) × (option_map_or (λ text. option_map_or is_plain (value_behind text) true) (option_text word) false ≡ false)
         → follow (step_of choices awaited word) (items_of choices words) ≡ None
     go (Some name) e = rw (e.0) refl
     go None e = rw (e.0) (text (option_text word) e.1)
@@ -623,9 +623,9 @@ illegal_step choices word words awaited illegal = go awaited (neither (is_plain 
           | false ↦ refl
         ]
 
-        text : (o : Option Text) → option_map_or (λ text. option_map_or is_plain (value_in text) true) o false ≡ false → follow (option_step choices o) (items_of choices words) ≡ None
+        text : (o : Option Text) → option_map_or (λ text. option_map_or is_plain (value_behind text) true) o false ≡ false → follow (option_step choices o) (items_of choices words) ≡ None
         text None bad = refl
-        text (Some t) bad = valued (choice_named choices (name_in t)) (value_in t) bad
+        text (Some t) bad = valued (choice_named choices (name_before t)) (value_behind t) bad
 
 pub illegal : (choices : List Choice) (words : List Text) (awaited : Option Text) → list_all is_legal words ≡ false → items_of choices words awaited ≡ None
 unfolding items_of

@@ -1,4 +1,4 @@
--- The rules of a command with one file and the options of a table, and what one use of each makes.
+-- The rules of a command with one operand and the options of a table, and what one use of each makes.
 use Rattle.std.proofs.Common.{◌≡◌, ◌∙◌, ◌&&◌, ◌||◌, ℕ, Bool, cond, true, false, not, true≢false, refl, sym, ap, ap₂, subst, List, [], ◌∷◌, ◌++◌, map, Option, Some, None, append-nil, codes, is_some, option_map}
 use Rattle.std.specs.List.{find, list_all, fold}
 use Rattle.std.specs.Option.{option_map_or, unwrap_or}
@@ -17,8 +17,8 @@ use Rattle.clap.specs.declared.builder.value_parser.Reading.TheVariants.{AsWritt
 use Rattle.clap.specs.declared.parser.matches.ValueSource.TheVariants.{DefaultValue, CommandLine}
 use Rattle.clap.specs.declared.error.kind.ErrorKind.TheVariants as kind
 use Rattle.std.specs.Prelude.{option_and_then, slice_get}
-use Rattle.uxn_words.specs.Asked.{argument, choice_argument, file_argument}
-use Rattle.uxn_words.specs.Words.{Choice, Given, choice_named, file_name, given, is_given, value_of}
+use Rattle.option_table.specs.Parsing.{argument, choice_argument, from_words, operand_argument}
+use Rattle.option_table.specs.Words.{Choice, Given, choice_named, operand, given, is_given, value_of}
 
 -- ---- rules
 
@@ -35,14 +35,14 @@ ruled id long index has_value required = record (new_rule id) {
   required = required;
 }
 
-abbrev pub file_rule : Rule
-file_rule = ruled file_name None (Some 1) true true
+abbrev pub operand_rule : Rule
+operand_rule = ruled operand None (Some 1) true true
 
 abbrev pub choice_rule : Choice → Rule
 choice_rule choice = ruled choice.name (Some choice.name) None choice.has_value choice.is_required
 
 abbrev pub rules_for : List Choice → List Rule
-rules_for choices = file_rule ∷ map choice_rule choices
+rules_for choices = operand_rule ∷ map choice_rule choices
 
 filled_choice : (i : ℕ) (name : Text) (has_value required : Bool)
     → with_index i (filled (argument name (Some name) has_value required)) ≡ ruled name (Some name) None has_value required
@@ -54,8 +54,8 @@ filled_choices i [] = refl
 filled_choices i (choice ∷ choices) =
     ap₂ (λ r rs. r ∷ rs) (filled_choice i choice.name choice.has_value choice.is_required) (filled_choices i choices)
 
-pub filled_rules : (choices : List Choice) → filled_from 1 (file_argument ∷ map choice_argument choices) ≡ rules_for choices
-filled_rules choices = ap (λ rs. file_rule ∷ rs) (filled_choices 2 choices)
+pub filled_rules : (choices : List Choice) → filled_from 1 (operand_argument ∷ map choice_argument choices) ≡ rules_for choices
+filled_rules choices = ap (λ rs. operand_rule ∷ rs) (filled_choices 2 choices)
 
 -- ---- look-ups
 
@@ -75,9 +75,9 @@ by_long_choice (choice ∷ choices) name =
 pub by_long : (choices : List Choice) (name : Text) → arg_by_long (rules_for choices) name ≡ option_map choice_rule (choice_named choices name)
 by_long choices name = by_long_choice choices name
 
--- no option has the name of the file
-abbrev pub is_apart : List Choice → Bool
-is_apart choices = list_all (λ choice. not (bytes_eq file_name choice.name)) choices
+-- no option has the name of the operand
+abbrev pub are_named : List Choice → Bool
+are_named choices = list_all (λ choice. not (bytes_eq operand choice.name)) choices
 
 both : (a b : Bool) → (a && b) ≡ true → (a ≡ true) × (b ≡ true)
 both true b e = (refl, e)
@@ -91,10 +91,10 @@ by_id_choice (other ∷ choices) id choice e = elim (bytes_eq other.name id) as 
       | false ↦ λ s. by_id_choice choices id choice s
     ] e
 
-pub apart_named : (choices : List Choice) (id : Text) (choice : Choice) → is_apart choices ≡ true → choice_named choices id ≡ Some choice → bytes_eq file_name choice.name ≡ false
+pub apart_named : (choices : List Choice) (id : Text) (choice : Choice) → are_named choices ≡ true → choice_named choices id ≡ Some choice → bytes_eq operand choice.name ≡ false
 apart_named [] id choice apart e = absurd (true≢false (sym (ap is_some e)))
-apart_named (other ∷ choices) id choice apart e = elim (bytes_eq other.name id) as (λ b. cond b (Some other) (choice_named choices id) ≡ Some choice → bytes_eq file_name choice.name ≡ false) [
-  | true ↦ λ s. subst (λ c. bytes_eq file_name c.name ≡ false) (ap (λ o. unwrap_or o choice) s) (is_false (bytes_eq file_name other.name) (both _ _ apart).0)
+apart_named (other ∷ choices) id choice apart e = elim (bytes_eq other.name id) as (λ b. cond b (Some other) (choice_named choices id) ≡ Some choice → bytes_eq operand choice.name ≡ false) [
+  | true ↦ λ s. subst (λ c. bytes_eq operand c.name ≡ false) (ap (λ o. unwrap_or o choice) s) (is_false (bytes_eq operand other.name) (both _ _ apart).0)
   | false ↦ λ s. apart_named choices id choice (both _ _ apart).1 s
 ] e
   where
@@ -103,13 +103,13 @@ apart_named (other ∷ choices) id choice apart e = elim (bytes_eq other.name id
     is_false false e = refl
 
 -- an option that is named is found by its id
-pub by_id : (choices : List Choice) (name : Text) (choice : Choice) → is_apart choices ≡ true → choice_named choices name ≡ Some choice
+pub by_id : (choices : List Choice) (name : Text) (choice : Choice) → are_named choices ≡ true → choice_named choices name ≡ Some choice
     → arg_by_id (rules_for choices) choice.name ≡ Some (choice_rule choice)
 by_id choices name choice apart e =
     let same : choice.name ≡ name = (bytes_eq-Decides choice.name name).0 (found_passes (λ c. bytes_eq c.name name) choices choice e) in
     let here : choice_named choices choice.name ≡ Some choice = ap (choice_named choices) same ∙ e in
-    let other : bytes_eq file_name choice.name ≡ false = apart_named choices name choice apart e in
-    ap (λ b. cond b (Some file_rule) (arg_by_id (map choice_rule choices) choice.name)) other ∙ by_id_choice choices choice.name choice here
+    let other : bytes_eq operand choice.name ≡ false = apart_named choices name choice apart e in
+    ap (λ b. cond b (Some operand_rule) (arg_by_id (map choice_rule choices) choice.name)) other ∙ by_id_choice choices choice.name choice here
 
 -- ---- rows
 
@@ -178,8 +178,8 @@ with_choice rows choice = with_default rows (choice_rule choice)
 abbrev pub with_defaults : List Choice → List Row → List Row
 with_defaults choices rows = fold with_default rows (rules_for choices)
 
-file_default : (rows : List Row) → with_default rows file_rule ≡ rows
-file_default rows = elim (has_row file_name rows) as (λ b. cond b rows rows ≡ rows) [ true ↦ refl | false ↦ refl ]
+operand_default : (rows : List Row) → with_default rows operand_rule ≡ rows
+operand_default rows = elim (has_row operand rows) as (λ b. cond b rows rows ≡ rows) [ true ↦ refl | false ↦ refl ]
 
 found_pushed : {Z : Type 0} (read : Option Row → Z) (p : Row → Bool) (rows : List Row) (r : Row) → read (cond (p r) (Some r) None) ≡ read None
     → read (find p (rows ++ r ∷ [])) ≡ read (find p rows)
@@ -189,64 +189,29 @@ found_pushed read p (x ∷ rows) r e = elim (p x) as (λ b. read (cond b (Some x
   | false ↦ found_pushed read p rows r e
 ]
 
-module _ {Z : Type 0} (read : Option Row → Z) (id : Text) where
-  -- the default of a switch is not seen by `read`
-  abbrev pub Unseen : Choice → Type 0
-  Unseen choice = read (cond (not choice.has_value && bytes_eq choice.name id) (Some (default_row choice.name)) None) ≡ read None
-
-  abbrev pub AllUnseen : List Choice → Type 0
-  AllUnseen [] = Unit {0}
-  AllUnseen (choice ∷ choices) = Unseen choice × AllUnseen choices
-
+-- a reading of the row of an id, of which a default is nothing
+module _ {Z : Type 0} (read : Option Row → Z) (same : (name : Text) → read (Some (default_row name)) ≡ read None) (id : Text) where
   abbrev found : List Row → Z
   found rows = read (find (λ r. bytes_eq r.id id) rows)
 
-  default_unseen : (name : Text) (has_value required : Bool) (rows : List Row)
-      → read (cond (not has_value && bytes_eq name id) (Some (default_row name)) None) ≡ read None
-      → found (with_default rows (ruled name (Some name) None has_value required)) ≡ found rows
-  default_unseen name true required rows e = elim (has_row name rows) as (λ b. found (cond b rows rows) ≡ found rows) [ true ↦ refl | false ↦ refl ]
-  default_unseen name false required rows e =
+  default_unseen : (name : Text) (has_value required : Bool) (rows : List Row) → found (with_default rows (ruled name (Some name) None has_value required)) ≡ found rows
+  default_unseen name true required rows = elim (has_row name rows) as (λ b. found (cond b rows rows) ≡ found rows) [ true ↦ refl | false ↦ refl ]
+  default_unseen name false required rows =
       elim (has_row name rows) as (λ b. has_row name rows ≡ b
       → found (cond b rows (default_rows name AsWritten (codes "false" ∷ []) rows)) ≡ found rows) [
         | true ↦ λ h. refl
         | false ↦ λ h. ap found (absent name (more_values DefaultValue (codes "false" ∷ [])) (default_row name ∷ []) rows h)
-            ∙ found_pushed read (λ r. bytes_eq r.id id) rows (default_row name) e
+            ∙ found_pushed read (λ r. bytes_eq r.id id) rows (default_row name)
+            (elim (bytes_eq name id) as (λ b. read (cond b (Some (default_row name)) None) ≡ read None) [ true ↦ same name | false ↦ refl ])
       ] refl
 
-  choices_unseen : (choices : List Choice) (rows : List Row) → AllUnseen choices → found (fold with_default rows (map choice_rule choices)) ≡ found rows
-  choices_unseen [] rows u = refl
-  choices_unseen (choice ∷ choices) rows u =
-      choices_unseen choices (with_choice rows choice) u.1 ∙ default_unseen choice.name choice.has_value choice.is_required rows u.0
+  choices_unseen : (choices : List Choice) (rows : List Row) → found (fold with_default rows (map choice_rule choices)) ≡ found rows
+  choices_unseen [] rows = refl
+  choices_unseen (choice ∷ choices) rows =
+      choices_unseen choices (with_choice rows choice) ∙ default_unseen choice.name choice.has_value choice.is_required rows
 
-  pub unseen : (choices : List Choice) (rows : List Row) → AllUnseen choices → found (with_defaults choices rows) ≡ found rows
-  unseen choices rows u = choices_unseen choices (with_default rows file_rule) u ∙ ap found (file_default rows)
-
-  -- a reading that no default changes
-  pub blind : ((name : Text) → read (Some (default_row name)) ≡ read None) → (choices : List Choice) → AllUnseen choices
-  blind same [] = tt
-  blind same (choice ∷ choices) = (
-    elim (not choice.has_value && bytes_eq choice.name id) as (λ b. read (cond b (Some (default_row choice.name)) None) ≡ read None) [ true ↦ same choice.name | false ↦ refl ],
-    blind same choices,
-  )
-
--- every switch has this name
-abbrev pub has_only_switch : Text → List Choice → Bool
-has_only_switch name choices = list_all (λ choice. choice.has_value || bytes_eq choice.name name) choices
-
--- then no default of a switch is seen where another name is read
-pub no_switch_unseen : {Z : Type 0} (read : Option Row → Z) (name id : Text) (choices : List Choice) → has_only_switch name choices ≡ true → bytes_eq name id ≡ false
-    → AllUnseen read id choices
-no_switch_unseen read name id [] e apart = tt
-no_switch_unseen read name id (choice ∷ choices) e apart =
-    let parts = both (choice.has_value || bytes_eq choice.name name) _ e in
-    (other choice.has_value (bytes_eq choice.name name) refl parts.0, no_switch_unseen read name id choices parts.1 apart)
-  where
-    other : (has_value same : Bool) → bytes_eq choice.name name ≡ same → (has_value || same) ≡ true
-        → read (cond (not has_value && bytes_eq choice.name id) (Some (default_row choice.name)) None) ≡ read None
-    other true same s h = refl
-    other false false s h = absurd (true≢false (sym h))
-    other false true s h =
-        ap (λ b. read (cond b (Some (default_row choice.name)) None)) (ap (λ n. bytes_eq n id) ((bytes_eq-Decides choice.name name).0 s) ∙ apart)
+  pub unseen : (choices : List Choice) (rows : List Row) → found (with_defaults choices rows) ≡ found rows
+  unseen choices rows = choices_unseen choices (with_default rows operand_rule) ∙ ap found (operand_default rows)
 
 choice_has_no_fault : (name : Text) (has_value required : Bool) (rows : List Row) → default_fault rows (ruled name (Some name) None has_value required) ≡ []
 choice_has_no_fault name true required rows = elim (has_row name rows) as (λ b. cond (b || true) [] (or_else [] []) ≡ []) [ true ↦ refl | false ↦ refl ]
@@ -263,9 +228,9 @@ choices_have_no_fault (choice ∷ choices) rows =
 pub defaults_pass : (choices : List Choice) (rows : List Row) → defaults_fault rows (rules_for choices) ≡ []
 unfolding defaults_fault
 defaults_pass choices rows =
-    (elim (has_row file_name rows) as (λ b. or_else (cond (b || true) [] (or_else [] [])) (defaults_fault (with_default rows file_rule) (map choice_rule choices))
-    ≡ defaults_fault (with_default rows file_rule) (map choice_rule choices)) [ true ↦ refl | false ↦ refl ])
-    ∙ choices_have_no_fault choices (with_default rows file_rule)
+    (elim (has_row operand rows) as (λ b. or_else (cond (b || true) [] (or_else [] [])) (defaults_fault (with_default rows operand_rule) (map choice_rule choices))
+    ≡ defaults_fault (with_default rows operand_rule) (map choice_rule choices)) [ true ↦ refl | false ↦ refl ])
+    ∙ choices_have_no_fault choices (with_default rows operand_rule)
 
 -- ---- what the rows say of the items
 
@@ -280,13 +245,20 @@ items_given id (item ∷ items) = elim (bytes_eq item.name id) as (λ b. explici
 ]
 
 pub rows_given : (choices : List Choice) (id : Text) (items : List Given) → takes.is_given id (with_defaults choices (map row items)) ≡ is_given id items
-rows_given choices id items = unseen explicit id choices (map row items) (blind explicit id (λ name. refl) choices) ∙ items_given id items
+rows_given choices id items = unseen explicit (λ name. refl) id choices (map row items) ∙ items_given id items
 
-pub items_first : (id : Text) (items : List Given) → first_of id (map row items) ≡ value_of id items
-items_first id [] = refl
-items_first id (item ∷ items) = elim (bytes_eq item.name id) as (λ b.
-    option_and_then (λ r. slice_get r.values 0) (cond b (Some (row item)) (find (λ r. bytes_eq r.id id) (map row items)))
+-- the value that the words gave, of a row
+abbrev pub told : Option Row → Option Text
+told found = from_words (option_and_then (λ r. r.source) found) (option_and_then (λ r. slice_get r.values 0) found)
+
+items_told : (id : Text) (items : List Given) → told (find (λ r. bytes_eq r.id id) (map row items)) ≡ value_of id items
+items_told id [] = refl
+items_told id (item ∷ items) = elim (bytes_eq item.name id) as (λ b.
+    told (cond b (Some (row item)) (find (λ r. bytes_eq r.id id) (map row items)))
     ≡ option_map (λ i. i.value) (cond b (Some item) (find (λ i. bytes_eq i.name id) items))) [
       | true ↦ refl
-      | false ↦ items_first id items
+      | false ↦ items_told id items
     ]
+
+pub rows_told : (choices : List Choice) (id : Text) (items : List Given) → told (find (λ r. bytes_eq r.id id) (with_defaults choices (map row items))) ≡ value_of id items
+rows_told choices id items = unseen told (λ name. refl) id choices (map row items) ∙ items_told id items

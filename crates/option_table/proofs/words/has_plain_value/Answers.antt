@@ -2,15 +2,15 @@ use Rattle.std.proofs.Common.{◌≡◌, ◌∙◌, ◌+◌, ◌==◌, rules, te
 use Rattle.std.specs.Prelude.{Some, None, position, option_map}
 use Rattle.std.proofs.lemmas.Iterator.{YieldsList-from_slice}
 use Rattle.std.proofs.lemmas.Iterator.Search.{position_from_yields_List}
-use Rattle.uxn_words.specs.Words.{is_plain, value_in}
-use Rattle.uxn_words.proofs.WordLemmas.{value_at}
-use Rattle.uxn_words.proofs.words.has_plain_value.Goals as goal
+use Rattle.option_table.specs.Words.{is_plain, value_behind}
+use Rattle.option_table.proofs.ReadingLemmas.{value_at}
+use Rattle.option_table.proofs.words.has_plain_value.Goals as goal
 
 pub returns-in-Some : goal.returns-in-Some
 returns-in-Some c =
     let found : c.position.result ≡ position (λ byte. byte == 61) c.args.text.now =
     position_from_yields_List (λ byte. byte == 61) _ _ c.position.result c.position.ensures.ran (YieldsList-from_slice _ c.iter.ensures.rest) (λ x b q k. search (rules, tests)) in
-    let value : value_in c.args.text.now ≡ Some (drop (c.in-Some.at + 1) c.args.text.now) =
+    let value : value_behind c.args.text.now ≡ Some (drop (c.in-Some.at + 1) c.args.text.now) =
     value_at c.args.text.now ∙ ap (option_map (λ at. drop (at + 1) c.args.text.now)) (sym found ∙ c.in-Some.is) in
     let rest : take (length c.args.text.now - (c.in-Some.at + 1)) (drop (c.in-Some.at + 1) c.args.text.now) ≡ drop (c.in-Some.at + 1) c.args.text.now =
     take_all (length c.args.text.now - (c.in-Some.at + 1)) (drop (c.in-Some.at + 1) c.args.text.now) (omega (arith, length-drop {A = ℕ})) in
@@ -20,5 +20,5 @@ pub returns-in-None : goal.returns-in-None
 returns-in-None c =
     let found : c.position.result ≡ position (λ byte. byte == 61) c.args.text.now =
     position_from_yields_List (λ byte. byte == 61) _ _ c.position.result c.position.ensures.ran (YieldsList-from_slice _ c.iter.ensures.rest) (λ x b q k. search (rules, tests)) in
-    let value : value_in c.args.text.now ≡ None = value_at c.args.text.now ∙ ap (option_map (λ at. drop (at + 1) c.args.text.now)) (sym found ∙ c.in-None.is) in
+    let value : value_behind c.args.text.now ≡ None = value_at c.args.text.now ∙ ap (option_map (λ at. drop (at + 1) c.args.text.now)) (sym found ∙ c.in-None.is) in
     rw value refl

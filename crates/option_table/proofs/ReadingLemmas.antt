@@ -1,0 +1,119 @@
+-- What a parse of the words gives, as the values of names.
+use Rattle.std.proofs.Common.{◌≡◌, ◌∙◌, ◌&&◌, ◌||◌, not, inl, inr, ℕ, Bool, cond, true, false, true≢false, refl, ap, ap₂, sym, subst, List, [], ◌∷◌, ◌+◌, ◌==◌, map, length, drop, arith, suc, Option, Some, None, option_map, nat_lt, lt-ltb, count_by, is_some}
+use Rattle.std.specs.Prelude.{option_and_then, position, slice_get}
+use Rattle.std.specs.List.{list_any, list_all, position_or_len, find}
+use Rattle.std.specs.Str.{bytes_eq}
+use Rattle.std.proofs.lemmas.Bool.Decides.{nat_tests}
+use Rattle.clap.specs.Words.{App, HasMatchesOf, Row, Text, fault_of, found_of, first_value, is_simple, is_simple_and_free, kind_of, matched_of, matches_of, rows_of}
+use Rattle.clap.specs.Kinds.{HasKind, IsAmong}
+use Rattle.clap.specs.Facts.{Entry}
+use Rattle.clap.specs.Simple.{is_buildable, is_ready}
+use Rattle.clap.specs.Faults.{is_free_app}
+use Rattle.clap.specs.Walk.{Rule, is_empty, is_early_multiple, row_of}
+use Rattle.clap.specs.declared.error.Error.{Error}
+use Rattle.clap.specs.declared.error.kind.ErrorKind.TheVariants.{OutOfMemory}
+use Rattle.clap.specs.declared.parser.matches.Found.{Found as Matched}
+use Rattle.clap.specs.declared.parser.matches.ArgMatches.{ArgMatches}
+use Rattle.clap.proofs.WalkLemmas.{find_row, first_value-rows}
+use Rattle.option_table.specs.declared.reading.Found.{Found}
+use Rattle.option_table.specs.Words.{Choice, Given, are_named, is_legal, is_whole, items_of, operand, value_behind, value_of, values_in, values_over}
+use Rattle.option_table.specs.Parsing.{choice_argument, found_value, from_words, parser_for}
+use Rattle.option_table.proofs.ArgumentLemmas.{choice_rule, row, rules_for, rows_told, told, with_defaults}
+use Rattle.option_table.proofs.LineLemmas.{Reads, Rejects, built_is, illegal, parsed, shape}
+
+-- ---- the command is one of which `clap` says what it does
+
+each_passes : (p : Rule → Bool) (rule : Choice → Rule) → ((choice : Choice) → p (rule choice) ≡ true) → (choices : List Choice) → list_all p (map rule choices) ≡ true
+each_passes p rule passes [] = refl
+each_passes p rule passes (choice ∷ choices) = ap (λ b. b && list_all p (map rule choices)) (passes choice) ∙ each_passes p rule passes choices
+
+none_early : (n : ℕ) (choices : List Choice) → list_any (is_early_multiple n) (map choice_rule choices) ≡ false
+none_early n [] = refl
+none_early n (choice ∷ choices) = none_early n choices
+
+module _ (choices : List Choice) (named : are_named choices ≡ true) where
+  buildable : is_buildable (parser_for choices) ≡ true
+  buildable = ap (λ b. b && true) (each_passes (λ r. r.is_simple) choice_argument (λ c. refl) choices)
+
+  ready : is_ready (shape choices named) ≡ true
+  ready = ap₂ (λ a b. a && not b) (each_passes (λ r. r.is_simple) choice_rule (λ c. refl) choices)
+      (none_early (count_by (λ (r : Rule). is_some r.index) (rules_for choices)) choices)
+
+  simple : is_simple (parser_for choices) ≡ true
+  simple = ap₂ (λ a b. a && (b && true)) buildable (ap (λ (a : App). is_ready a.top) (built_is choices named) ∙ ready)
+
+  free : is_simple_and_free (parser_for choices) ≡ true
+  free = ap₂ (λ a b. a && b) simple
+      (ap (λ (a : App). is_free_app a) (built_is choices named) ∙ ap (λ b. b && true) (each_passes (λ r. r.is_free) choice_rule (λ c. refl) choices))
+
+-- ---- the value of a name
+
+value-rows : (f : Matched) (id : Text) → from_words (option_and_then (λ entry. entry.source) (matched_of f id)) (first_value f id) ≡ told (find (λ r. bytes_eq r.id id) (rows_of f))
+value-rows f id =
+    ap (from_words (option_and_then (λ entry. entry.source) (matched_of f id))) (first_value-rows f id)
+    ∙ ap (λ s. from_words s (option_and_then (λ r. slice_get r.values 0) (find (λ r. bytes_eq r.id id) (rows_of f))))
+    (source (find (λ e. bytes_eq e.0.now id) f.entries.items) ∙ ap (option_and_then (λ (r : Row). r.source)) (sym (find_row f.entries.items id)))
+  where
+    source : (o : Option Entry) → option_and_then (λ entry. entry.source) (option_map (λ e. e.1) o) ≡ option_and_then (λ (r : Row). r.source) (option_map row_of o)
+    source None = refl
+    source (Some e) = refl
+
+-- ---- the outcomes
+
+rejected : (choices : List Choice) (items : Option (List Given)) → Rejects choices items → option_and_then (values_in choices) items ≡ None
+rejected choices None e = refl
+rejected choices (Some all) e = ap (λ b. cond b (Some (λ name. value_of name all)) None) e
+
+module _ (choices : List Choice) (named : are_named choices ≡ true) (app : App) (is : app ≡ parser_for choices) (words : List Text) (legal : list_all is_legal words ≡ true) where
+  reads : Reads choices named (fault_of app words) (matches_of app words) (items_of choices words None)
+  reads = subst (λ a. Reads choices named (fault_of a words) (matches_of a words) (items_of choices words None)) (sym is) (parsed choices named words legal)
+
+  pub read_ok : (found : Found) → HasMatchesOf app words found.matches → (is_simple_and_free app ≡ true → fault_of app words ≡ [])
+      → Some (found_value found) ≡ values_over choices words
+  unfolding values_over
+  read_ok found has faultless = elim reads [
+    | inl r ↦
+        let rows = (has (ap is_simple is ∙ simple choices named)).0 ∙ r.1.3 in
+        let values : found_value found ≡ (λ name. value_of name r.1.0) =
+        λ i name. (value-rows (found_of found.matches) name ∙ ap (λ rs. told (find (λ row. bytes_eq row.id name) rs)) rows ∙ rows_told choices name r.1.0) i in
+        ap Some values ∙ ap (λ b. cond b (Some (λ name. value_of name r.1.0)) None) (sym r.1.2) ∙ ap (option_and_then (values_in choices)) (sym r.1.1)
+    | inr r ↦ absurd (true≢false (ap is_empty (sym (faultless (ap is_simple_and_free is ∙ free choices named))) ∙ r.0))
+  ]
+
+  pub read_err : (e : Error) → (is_simple_and_free app ≡ true → HasKind (fault_of app words) e) → (kind_of e ≡ OutOfMemory → ⊥) → None ≡ values_over choices words
+  unfolding values_over
+  read_err e fails other = elim reads [
+    | inl r ↦ elim (fails (ap is_simple_and_free is ∙ free choices named)) [
+      | inl memory ↦ absurd (other memory)
+      | inr among ↦ absurd (subst (IsAmong (kind_of e)) r.0 among)
+    ]
+    | inr r ↦ sym (rejected choices _ r.1)
+  ]
+
+pub read_illegal : (choices : List Choice) (words : List Text) → list_all is_legal words ≡ false → None ≡ values_over choices words
+unfolding values_over
+read_illegal choices words bad = ap (option_and_then (values_in choices)) (sym (illegal choices words None bad))
+
+-- ---- a value behind `=`
+
+within : {X : Type 0} (p : X → Bool) (xs : List X) → nat_lt (position_or_len p xs) (length xs) ≡ list_any p xs
+within p [] = refl
+within p (x ∷ xs) = elim (p x) as (λ b. nat_lt (cond (not b) (1 + position_or_len p xs) 0) (length (x ∷ xs)) ≡ (b || list_any p xs)) [
+  | true ↦ lt-ltb 0 (length (x ∷ xs)) (omega arith)
+  | false ↦ next (position_or_len p xs) (length xs) ∙ within p xs
+]
+  where
+    next : (a b : ℕ) → nat_lt (1 + a) (suc b) ≡ nat_lt a b
+    next a b = grind (arith, nat_tests)
+
+pub value_at : (text : Text) → value_behind text ≡ option_map (λ at. drop (at + 1) text) (position (λ byte. byte == 61) text)
+value_at text = sym (go (nat_lt (position_or_len (λ byte. byte == 61) text) (length text)) ∙ ap (λ b. cond b (Some (drop (position_or_len (λ byte. byte == 61) text + 1) text)) None) (within (λ byte. byte == 61) text))
+  where
+    go : (b : Bool) → option_map (λ at. drop (at + 1) text) (cond b (Some (position_or_len (λ byte. byte == 61) text)) None)
+        ≡ cond b (Some (drop (position_or_len (λ byte. byte == 61) text + 1) text)) None
+    go true = refl
+    go false = refl
+
+pub list_all-map : {X Y : Type 0} (p : Y → Bool) (f : X → Y) (xs : List X) → list_all (λ x. p (f x)) xs ≡ list_all p (map f xs)
+list_all-map p f [] = refl
+list_all-map p f (x ∷ xs) = ap (λ b. p (f x) && b) (list_all-map p f xs)

@@ -1,0 +1,8 @@
+use Rattle.std.proofs.Common.{◌≡◌, take}
+use Rattle.clap.specs.Words.{app_of}
+use Rattle.option_table.specs.Words.{choices_in}
+use Rattle.option_table.specs.Parsing.{parser_for}
+use Rattle.option_table.proofs.choice.parser.Given as goal
+
+abbrev pub invariant-loop-choice : goal.invariant-loop-choice
+invariant-loop-choice l = app_of l.parser ≡ parser_for (choices_in (take l.choice-index l.table))

@@ -1,0 +1,148 @@
+-- What the words of a command mean that has one operand, and options by a table (profile).
+use Rattle.std.specs.Prelude.{ℕ, Bool, true, false, not, nat_lt, ◌==◌, ◌&&◌, ◌||◌, List, []}
+use Rattle.std.specs.Prelude.{◌∷◌, codes, length, take, drop, map, Option, Some, None, option_map, option_and_then, find}
+use Rattle.std.specs.Prelude.{if◌then◌else◌}
+use Rattle.std.specs.List.{list_all, list_any, before_first, after_first}
+use Rattle.std.specs.Option.{option_map_or}
+use Rattle.std.specs.Str.{bytes_eq}
+use Rattle.option_table.specs.declared.choice.Choice.{Choice as Row}
+use Rattle.option_table.specs.declared.choice.Choice.TheVariants.{Switch, Optional, Required}
+
+-- ---- tables
+
+-- an option: its name, whether it has a value or is a switch, and whether it may not be missing
+pub record Choice : Type 0 where
+  pub name : List ℕ
+  pub has_value : Bool
+  pub is_required : Bool
+
+abbrev pub switch : List ℕ → Choice
+switch name = record { name = name; has_value = false; is_required = false }
+
+abbrev pub optional : List ℕ → Choice
+optional name = record { name = name; has_value = true; is_required = false }
+
+abbrev pub required : List ℕ → Choice
+required name = record { name = name; has_value = true; is_required = true }
+
+-- the options that the rows of the code are
+abbrev pub choice_in : Row → Choice
+choice_in (Switch name) = switch name.now
+choice_in (Optional name) = optional name.now
+choice_in (Required name) = required name.now
+
+abbrev pub choices_in : List Row → List Choice
+choices_in rows = map choice_in rows
+
+abbrev pub choice_named : List Choice → List ℕ → Option Choice
+choice_named choices name = find (λ choice. bytes_eq choice.name name) choices
+
+-- the operand stands under the empty name, so no option may have that
+abbrev pub operand : List ℕ
+operand = []
+
+abbrev pub are_named : List Choice → Bool
+are_named choices = list_all (λ choice. not (bytes_eq operand choice.name)) choices
+
+-- ---- words
+
+-- a word that is an operand or the value of an option: it is not empty and does not begin with `-` (45)
+abbrev pub is_plain : List ℕ → Bool
+is_plain [] = false
+is_plain (first ∷ rest) = not (first == 45)
+
+-- the text behind `--`, where there is some
+abbrev pub option_text : List ℕ → Option (List ℕ)
+option_text word = if nat_lt 2 (length word) && bytes_eq (take 2 word) (codes "--") then Some (drop 2 word) else None
+
+-- the text behind `--` as the name, and as the value where there is a `=` (61)
+abbrev pub name_before : List ℕ → List ℕ
+name_before text = before_first (λ byte. byte == 61) text
+
+abbrev pub value_behind : List ℕ → Option (List ℕ)
+value_behind text = if list_any (λ byte. byte == 61) text then Some (after_first (λ byte. byte == 61) text) else None
+
+-- a word that may stand on a line: a plain one, `--name`, or `--name=value` with a plain value
+abbrev pub is_legal : List ℕ → Bool
+is_legal word = is_plain word || option_map_or (λ text. option_map_or is_plain (value_behind text) true) (option_text word) false
+
+-- ---- items
+
+-- what a line gives: its operand, or an option by its name; a switch has the value `true`
+pub record Given : Type 0 where
+  pub name : List ℕ
+  pub value : List ℕ
+
+abbrev pub given : List ℕ → List ℕ → Given
+given name value = record { name = name; value = value }
+
+-- what a word gives: an item; the option whose value is the next word; or nothing that is legal
+pub data Step : Type 0 where
+  gives : Given → Step
+  awaits : List ℕ → Step
+  refuses : Step
+
+-- `--name` and `--name=value`, of an option that has a value, and of a switch
+abbrev pub valued_step : List ℕ → Option (List ℕ) → Step
+valued_step name None = awaits name
+valued_step name (Some value) = if is_plain value then gives (given name value) else refuses
+
+abbrev pub switch_step : List ℕ → Option (List ℕ) → Step
+switch_step name None = gives (given name (codes "true"))
+switch_step name (Some value) = refuses
+
+abbrev pub choice_step : Option Choice → Option (List ℕ) → Step
+choice_step None value = refuses
+choice_step (Some choice) value = if choice.has_value then valued_step choice.name value else switch_step choice.name value
+
+abbrev pub option_step : List Choice → Option (List ℕ) → Step
+option_step choices None = refuses
+option_step choices (Some text) = choice_step (choice_named choices (name_before text)) (value_behind text)
+
+-- a word, where an option may await it as its value
+abbrev pub step_of : List Choice → Option (List ℕ) → List ℕ → Step
+step_of choices (Some name) word = if is_plain word then gives (given name word) else refuses
+step_of choices None word = if is_plain word then gives (given operand word) else option_step choices (option_text word)
+
+abbrev pub follow : Step → (Option (List ℕ) → Option (List Given)) → Option (List Given)
+follow (gives item) next = option_map (λ items. item ∷ items) (next None)
+follow (awaits name) next = next (Some name)
+follow refuses next = None
+
+-- the items of the words; an option may await the first word
+unfoldable pub items_of : List Choice → List (List ℕ) → Option (List ℕ) → Option (List Given)
+items_of choices [] None = Some []
+items_of choices [] (Some name) = None
+items_of choices (word ∷ words) awaited = follow (step_of choices awaited word) (items_of choices words)
+
+-- ---- lines
+
+-- an item of this name is among them
+abbrev pub is_given : List ℕ → List Given → Bool
+is_given name items = list_any (λ item. bytes_eq item.name name) items
+
+-- the value of the item of this name
+abbrev pub value_of : List ℕ → List Given → Option (List ℕ)
+value_of name items = option_map (λ item. item.value) (find (λ item. bytes_eq item.name name) items)
+
+-- no two items have one name
+abbrev pub each_once : List Given → Bool
+each_once [] = true
+each_once (item ∷ items) = not (is_given item.name items) && each_once items
+
+-- the operand, or an option that may not be missing, is missing
+abbrev pub lacks_some : List Choice → List Given → Bool
+lacks_some choices items =
+    not (is_given operand items) || list_any (λ choice. choice.is_required && not (is_given choice.name items)) choices
+
+-- nothing that may not be missing is missing, and nothing is given twice
+abbrev pub is_whole : List Choice → List Given → Bool
+is_whole choices items = each_once items && not (lacks_some choices items)
+
+-- the value of each name, where a line is whole
+abbrev pub values_in : List Choice → List Given → Option (List ℕ → Option (List ℕ))
+values_in choices items = if is_whole choices items then Some (λ name. value_of name items) else None
+
+-- the value that a line gives each name, where it is legal
+unfoldable pub values_over : List Choice → List (List ℕ) → Option (List ℕ → Option (List ℕ))
+values_over choices words = option_and_then (values_in choices) (items_of choices words None)

@@ -1,0 +1,65 @@
+//! What a line of words gives over a table.
+ghost use Rattle.std.specs.Prelude.{◌≡◌, IfOk, option_map, is_some, true, map, string_bytes};
+ghost use Rattle.option_table.specs.Words.{are_named, choices_in, operand, values_over};
+ghost use Rattle.option_table.specs.Parsing.{found_value};
+
+use crate::choice::{Choice, parser};
+use crate::words::are_legal;
+use clap::ArgMatches;
+use clap::error::ErrorKind;
+use clap::parser::ValueSource;
+use std::alloc::{AllocError, Global};
+
+/// What a line gives: its operand, and its options by their names.
+#[derive(Drop)]
+pub struct Found<'a> {
+    matches: ArgMatches<'a>,
+}
+
+impl<'a> Found<'a> {
+    /// The operand, which every line that was read has.
+    pub fn operand(&self) -> Option<&'a str>
+        ensures { option_map (λ text. text.now) result ≡ found_value self.now operand }
+    {
+        self.value("")
+    }
+
+    /// The value that the words give an option, or `true` of a switch; nothing where they do not name it.
+    pub fn value(&self, name: &str) -> Option<&'a str>
+        ensures { option_map (λ text. text.now) result ≡ found_value self.now name.now }
+    {
+        match self.matches.value_source(name) {
+            Some(ValueSource::CommandLine) => self.matches.get_str(name),
+            Some(ValueSource::DefaultValue) | None => None,
+        }
+    }
+
+    /// Whether the words name an option or a switch.
+    pub fn has(&self, name: &str) -> bool
+        ensures { result ≡ is_some (found_value self.now name.now) }
+    {
+        self.value(name).is_some()
+    }
+}
+
+/// What a line of words gives over a table, where it is legal: each word is an operand, an option of the table or its value, none comes twice,
+/// and none that is needed is missing. Errors with want of memory.
+pub fn read_line<'a>(
+    alloc: Global,
+    table: &[Choice],
+    words: &'a [String],
+) -> Result<Option<Found<'a>>, AllocError>
+    requires { are_named (choices_in table.now) ≡ true }
+    ensures { IfOk result (λ read. option_map found_value read ≡ values_over (choices_in table.now) (map string_bytes words.now)) }
+{
+    if !are_legal(words) {
+        return Ok(None);
+    }
+    match parser(alloc, table)?.try_get_matches_from(words) {
+        Ok(matches) => Ok(Some(Found { matches })),
+        Err(error) => match error.kind() {
+            ErrorKind::OutOfMemory => Err(AllocError),
+            _ => Ok(None),
+        },
+    }
+}
