@@ -8,7 +8,7 @@ mod reading;
 mod words;
 
 pub use choice::Choice;
-pub use reading::{Found, read_line};
+pub use reading::{Found, read};
 
 #[cfg(test)]
 mod tests;

@@ -44,7 +44,7 @@ impl<'a> Found<'a> {
 
 /// What a line of words gives over a table, where it is legal: each word is an operand, an option of the table or its value, none comes twice,
 /// and none that is needed is missing. Errors with want of memory.
-pub fn read_line<'a>(
+pub fn read<'a>(
     alloc: Global,
     table: &[Choice],
     words: &'a [String],

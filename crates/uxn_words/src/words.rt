@@ -6,7 +6,7 @@ ghost use Rattle.uxn_words.specs.Words.{command_of, choices_of, budget_in, count
 ghost use Rattle.uxn_words.specs.Asked.{asked};
 
 use line_texts::number_within;
-use option_table::{Choice, Found, read_line};
+use option_table::{Choice, Found};
 use std::alloc::{AllocError, Global};
 
 /// What the program is asked to do.
@@ -191,7 +191,7 @@ impl Command {
         ensures asked { IfOk result (λ read. option_map asked read ≡ asked_with (map string_bytes words.now) (Some self)) }
         ensures budget { IfOk result (λ read. IfSome read (λ settings. 1 ≤ settings.budget)) }
     {
-        match read_line(alloc, self.choices(), words)? {
+        match option_table::read(alloc, self.choices(), words)? {
             Some(found) => Ok(self.settings(&found)),
             None => Ok(None),
         }

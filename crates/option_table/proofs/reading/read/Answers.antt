@@ -2,7 +2,7 @@ use Rattle.std.proofs.Common.{◌∙◌, map, string_bytes, sym}
 use Rattle.clap.specs.Words.{app_of}
 use Rattle.option_table.specs.Words.{choices_in}
 use Rattle.option_table.proofs.ReadingLemmas.{read_err, read_illegal, read_ok}
-use Rattle.option_table.proofs.reading.read_line.Goals as goal
+use Rattle.option_table.proofs.reading.read.Goals as goal
 
 pub returns-then-not-are_legal : goal.returns-then-not-are_legal
 returns-then-not-are_legal c = read_illegal (choices_in c.args.table.now) (map string_bytes c.args.words.now) (sym c.are_legal.ensures ∙ c.if-not-are_legal.true)
