@@ -1,11 +1,13 @@
 -- The rules of a command with one operand and the options of a table, and what one use of each makes.
-use Rattle.std.proofs.Common.{◌≡◌, ◌∙◌, ◌&&◌, ◌||◌, ℕ, Bool, cond, true, false, not, true≢false, refl, sym, ap, ap₂, subst, List, [], ◌∷◌, ◌++◌, map, Option, Some, None, append-nil, codes, is_some, option_map}
+use Rattle.std.proofs.Common.{◌≡◌, ◌∙◌, ◌&&◌, ◌||◌, inl, inr, ℕ, Bool, cond, true, false, not, true≢false, refl, sym, ap, ap₂, subst, List, [], ◌∷◌, ◌++◌, map, Option, Some, None, append-nil, codes, is_some, option_map}
 use Rattle.std.specs.List.{find, list_all, fold}
 use Rattle.std.specs.Option.{option_map_or, unwrap_or}
 use Rattle.std.specs.Str.{bytes_eq}
+use Rattle.std.proofs.lemmas.Bool.{and_parts, cases_Bool, false_from_ne_true, not-true, or_parts}
 use Rattle.std.proofs.lemmas.List.{map-append}
 use Rattle.std.proofs.lemmas.Slice.Eq.{bytes_eq-Decides}
-use Rattle.clap.specs.Walk.{Row, Rule, Text, arg_by_id, arg_by_long, at_row, default_rows, first_of, has_row, more_values, used, with_default}
+use Rattle.clap.proofs.WalkLemmas.{find-map}
+use Rattle.clap.specs.Walk.{Row, has_long, Rule, Text, arg_by_id, arg_by_long, at_row, default_rows, has_row, more_values, used, with_default}
 use Rattle.clap.specs.Simple.{filled, filled_from, new_rule, with_index}
 use Rattle.clap.specs.Takes as takes
 use Rattle.clap.specs.Kinds.{Kinds, or_else}
@@ -18,7 +20,7 @@ use Rattle.clap.specs.declared.parser.matches.ValueSource.TheVariants.{DefaultVa
 use Rattle.clap.specs.declared.error.kind.ErrorKind.TheVariants as kind
 use Rattle.std.specs.Prelude.{option_and_then, slice_get}
 use Rattle.option_table.specs.Parsing.{argument, choice_argument, from_words, operand_argument}
-use Rattle.option_table.specs.Words.{Choice, Given, choice_named, operand, given, is_given, value_of}
+use Rattle.option_table.specs.Words.{Choice, Given, are_named, choice_named, operand, given, is_given, value_of}
 
 -- ---- rules
 
@@ -59,57 +61,46 @@ filled_rules choices = ap (λ rs. operand_rule ∷ rs) (filled_choices 2 choices
 
 -- ---- look-ups
 
-pub found_passes : {X : Type 0} (p : X → Bool) (xs : List X) (x : X) → find p xs ≡ Some x → p x ≡ true
-found_passes p [] x e = absurd (true≢false (sym (ap is_some e)))
-found_passes p (y ∷ ys) x e = elim (p y) as (λ b. p y ≡ b → cond b (Some y) (find p ys) ≡ Some x → p x ≡ true) [
-  | true ↦ λ h s. subst (λ z. p z ≡ true) (ap (λ o. unwrap_or o x) s) h
-  | false ↦ λ h s. found_passes p ys x s
-] refl e
-
-by_long_choice : (choices : List Choice) (name : Text) → arg_by_long (map choice_rule choices) name ≡ option_map choice_rule (choice_named choices name)
-by_long_choice [] name = refl
-by_long_choice (choice ∷ choices) name =
-    elim (bytes_eq choice.name name) as (λ b. cond (b || false) (Some (choice_rule choice)) (arg_by_long (map choice_rule choices) name)
-    ≡ option_map choice_rule (cond b (Some choice) (choice_named choices name))) [ true ↦ refl | false ↦ by_long_choice choices name ]
+pub or_none : (b : Bool) → (b || false) ≡ b
+or_none true = refl
+or_none false = refl
 
 pub by_long : (choices : List Choice) (name : Text) → arg_by_long (rules_for choices) name ≡ option_map choice_rule (choice_named choices name)
-by_long choices name = by_long_choice choices name
+by_long choices name = sym (find-map (λ a. not (is_some a.index) && has_long a name) choice_rule choices)
+    ∙ λ i. option_map choice_rule (find (λ choice. or_none (bytes_eq choice.name name) i) choices)
 
--- no option has the name of the operand
-abbrev pub are_named : List Choice → Bool
-are_named choices = list_all (λ choice. not (bytes_eq operand choice.name)) choices
+-- what is found passes, and is one of the list
+found_passes : {X : Type 0} (p q : X → Bool) (xs : List X) (x : X) → list_all q xs ≡ true → find p xs ≡ Some x → (p x ≡ true) × (q x ≡ true)
+found_passes p q [] x all e = absurd (true≢false (sym (ap is_some e)))
+found_passes p q (y ∷ ys) x all e =
+    let parts = and_parts (q y) (list_all q ys) all in
+    elim (p y) as (λ b. p y ≡ b → cond b (Some y) (find p ys) ≡ Some x → (p x ≡ true) × (q x ≡ true)) [
+      | true ↦ λ h s. subst (λ z. (p z ≡ true) × (q z ≡ true)) (ap (λ o. unwrap_or o x) s) (h, parts.0)
+      | false ↦ λ h s. found_passes p q ys x parts.1 s
+    ] refl e
 
-both : (a b : Bool) → (a && b) ≡ true → (a ≡ true) × (b ≡ true)
-both true b e = (refl, e)
-both false b e = absurd (true≢false (sym e))
+pub same-sym : (a b : Text) → bytes_eq a b ≡ bytes_eq b a
+same-sym a b = elim (cases_Bool (bytes_eq b a)) [
+  | inl t ↦ (bytes_eq-Decides a b).1 (sym ((bytes_eq-Decides b a).0 t)) ∙ sym t
+  | inr f ↦ false_from_ne_true (bytes_eq a b) (λ t. true≢false (sym ((bytes_eq-Decides b a).1 (sym ((bytes_eq-Decides a b).0 t))) ∙ f)) ∙ sym f
+]
 
-by_id_choice : (choices : List Choice) (id : Text) (choice : Choice) → choice_named choices id ≡ Some choice → arg_by_id (map choice_rule choices) id ≡ Some (choice_rule choice)
-by_id_choice [] id choice e = absurd (true≢false (sym (ap is_some e)))
-by_id_choice (other ∷ choices) id choice e = elim (bytes_eq other.name id) as (λ b. cond b (Some other) (choice_named choices id) ≡ Some choice
-    → cond b (Some (choice_rule other)) (arg_by_id (map choice_rule choices) id) ≡ Some (choice_rule choice)) [
-      | true ↦ λ s. ap (option_map choice_rule) s
-      | false ↦ λ s. by_id_choice choices id choice s
-    ] e
+-- an option that is named is found by its id, and is not the operand
+pub record IsKnown (choices : List Choice) (name : Text) (has_value required : Bool) : Type 0 where
+  pub found : arg_by_id (rules_for choices) name ≡ Some (ruled name (Some name) None has_value required)
+  pub other : bytes_eq name operand ≡ false
 
-pub apart_named : (choices : List Choice) (id : Text) (choice : Choice) → are_named choices ≡ true → choice_named choices id ≡ Some choice → bytes_eq operand choice.name ≡ false
-apart_named [] id choice apart e = absurd (true≢false (sym (ap is_some e)))
-apart_named (other ∷ choices) id choice apart e = elim (bytes_eq other.name id) as (λ b. cond b (Some other) (choice_named choices id) ≡ Some choice → bytes_eq operand choice.name ≡ false) [
-  | true ↦ λ s. subst (λ c. bytes_eq operand c.name ≡ false) (ap (λ o. unwrap_or o choice) s) (is_false (bytes_eq operand other.name) (both _ _ apart).0)
-  | false ↦ λ s. apart_named choices id choice (both _ _ apart).1 s
-] e
-  where
-    is_false : (b : Bool) → not b ≡ true → b ≡ false
-    is_false true e = absurd (true≢false (sym e))
-    is_false false e = refl
-
--- an option that is named is found by its id
-pub by_id : (choices : List Choice) (name : Text) (choice : Choice) → are_named choices ≡ true → choice_named choices name ≡ Some choice
-    → arg_by_id (rules_for choices) choice.name ≡ Some (choice_rule choice)
-by_id choices name choice apart e =
-    let same : choice.name ≡ name = (bytes_eq-Decides choice.name name).0 (found_passes (λ c. bytes_eq c.name name) choices choice e) in
-    let here : choice_named choices choice.name ≡ Some choice = ap (choice_named choices) same ∙ e in
-    let other : bytes_eq operand choice.name ≡ false = apart_named choices name choice apart e in
-    ap (λ b. cond b (Some operand_rule) (arg_by_id (map choice_rule choices) choice.name)) other ∙ by_id_choice choices choice.name choice here
+pub known : (choices : List Choice) (name : Text) (choice : Choice) → are_named choices ≡ true → choice_named choices name ≡ Some choice
+    → IsKnown choices choice.name choice.has_value choice.is_required
+known choices name choice named e =
+    let passes = found_passes (λ c. bytes_eq c.name name) (λ c. not (bytes_eq c.name operand)) choices choice named e in
+    let other : bytes_eq choice.name operand ≡ false = not-true (bytes_eq choice.name operand) passes.1 in
+    record {
+      found = ap (λ b. cond b (Some operand_rule) (arg_by_id (map choice_rule choices) choice.name)) (same-sym operand choice.name ∙ other)
+          ∙ sym (find-map (λ a. bytes_eq a.id choice.name) choice_rule choices)
+          ∙ ap (option_map choice_rule) (ap (choice_named choices) ((bytes_eq-Decides choice.name name).0 passes.0) ∙ e);
+      other = other;
+    }
 
 -- ---- rows
 
@@ -120,23 +111,19 @@ pub has_row-items : (id : Text) (items : List Given) → has_row id (map row ite
 has_row-items id [] = refl
 has_row-items id (item ∷ items) = ap (λ b. bytes_eq item.name id || b) (has_row-items id items)
 
-neither : (a b : Bool) → (a || b) ≡ false → (a ≡ false) × (b ≡ false)
-neither true b e = absurd (true≢false e)
-neither false b e = (refl, e)
-
 pub absent : (id : Text) (change : Row → List Row) (missing rows : List Row) → has_row id rows ≡ false → at_row id change missing rows ≡ rows ++ missing
 absent id change missing [] e = refl
 absent id change missing (r ∷ rows) e =
-    let parts = neither (bytes_eq r.id id) (has_row id rows) e in
+    let parts = or_parts (bytes_eq r.id id) (has_row id rows) e in
     ap (λ b. cond b (change r ++ rows) (r ∷ at_row id change missing rows)) parts.0 ∙ ap (λ rs. r ∷ rs) (absent id change missing rows parts.1)
 
--- one more use
-abbrev pub repeats : Bool → Kinds
-repeats again = cond again (kind.ArgumentConflict ∷ []) []
+-- one more use, which is refused where the name is not new
+abbrev pub conflict : Bool → Kinds
+conflict is_new = cond is_new [] (kind.ArgumentConflict ∷ [])
 
-repeats-is : (b : Bool) → or_else (cond (b && true) (kind.ArgumentConflict ∷ []) []) [] ≡ repeats b
-repeats-is true = refl
-repeats-is false = refl
+conflict-is : (b : Bool) → or_else (cond (b && true) (kind.ArgumentConflict ∷ []) []) [] ≡ conflict (not b)
+conflict-is true = refl
+conflict-is false = refl
 
 abbrev pub values_for : Bool → Text → List Text
 values_for has_value value = cond has_value (value ∷ []) []
@@ -146,11 +133,11 @@ abbrev pub Fits : Bool → Text → Type 0
 Fits has_value value = has_value ≡ false → value ≡ codes "true"
 
 pub use_faults : (id : Text) (long : Option Text) (index : Option ℕ) (has_value required : Bool) (value : Text) (items : List Given)
-    → use_fault false (ruled id long index has_value required) (values_for has_value value) (map row items) ≡ repeats (is_given id items)
+    → use_fault false (ruled id long index has_value required) (values_for has_value value) (map row items) ≡ conflict (not (is_given id items))
 use_faults id long index true required value items =
-    ap (λ b. or_else (cond (b && true) (kind.ArgumentConflict ∷ []) []) []) (has_row-items id items) ∙ repeats-is (is_given id items)
+    ap (λ b. or_else (cond (b && true) (kind.ArgumentConflict ∷ []) []) []) (has_row-items id items) ∙ conflict-is (is_given id items)
 use_faults id long index false required value items =
-    ap (λ b. or_else (cond (b && true) (kind.ArgumentConflict ∷ []) []) []) (has_row-items id items) ∙ repeats-is (is_given id items)
+    ap (λ b. or_else (cond (b && true) (kind.ArgumentConflict ∷ []) []) []) (has_row-items id items) ∙ conflict-is (is_given id items)
 
 appended : (id : Text) (change remove : Row → List Row) (value : Text) (items : List Given) → is_given id items ≡ false
     → at_row id change (row (given id value) ∷ []) (at_row id remove [] (map row items)) ≡ map row (items ++ given id value ∷ [])

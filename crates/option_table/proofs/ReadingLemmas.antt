@@ -1,11 +1,12 @@
 -- What a parse of the words gives, as the values of names.
-use Rattle.std.proofs.Common.{◌≡◌, ◌∙◌, ◌&&◌, ◌||◌, not, inl, inr, ℕ, Bool, cond, true, false, true≢false, refl, ap, ap₂, sym, subst, List, [], ◌∷◌, ◌+◌, ◌==◌, map, length, drop, arith, suc, Option, Some, None, option_map, nat_lt, lt-ltb, count_by, is_some}
+use Rattle.std.proofs.Common.{◌≡◌, ◌∙◌, ◌&&◌, ◌||◌, not, inl, inr, ℕ, Bool, cond, true, false, refl, ap, ap₂, sym, List, [], ◌∷◌, ◌+◌, ◌==◌, map, length, drop, arith, suc, Option, Some, None, option_map, nat_lt, lt-ltb, count_by, is_some}
 use Rattle.std.specs.Prelude.{option_and_then, position, slice_get}
 use Rattle.std.specs.List.{list_any, list_all, position_or_len, find}
 use Rattle.std.specs.Str.{bytes_eq}
+use Rattle.std.proofs.lemmas.Bool.{ne_eqb}
 use Rattle.std.proofs.lemmas.Bool.Decides.{nat_tests}
 use Rattle.clap.specs.Words.{App, HasMatchesOf, Row, Text, fault_of, found_of, first_value, is_simple, is_simple_and_free, kind_of, matched_of, matches_of, rows_of}
-use Rattle.clap.specs.Kinds.{HasKind, IsAmong}
+use Rattle.clap.specs.Kinds.{HasKind, IsAmong, Kinds}
 use Rattle.clap.specs.Facts.{Entry}
 use Rattle.clap.specs.Simple.{is_buildable, is_ready}
 use Rattle.clap.specs.Faults.{is_free_app}
@@ -13,13 +14,12 @@ use Rattle.clap.specs.Walk.{Rule, is_empty, is_early_multiple, row_of}
 use Rattle.clap.specs.declared.error.Error.{Error}
 use Rattle.clap.specs.declared.error.kind.ErrorKind.TheVariants.{OutOfMemory}
 use Rattle.clap.specs.declared.parser.matches.Found.{Found as Matched}
-use Rattle.clap.specs.declared.parser.matches.ArgMatches.{ArgMatches}
 use Rattle.clap.proofs.WalkLemmas.{find_row, first_value-rows}
 use Rattle.option_table.specs.declared.reading.Found.{Found}
-use Rattle.option_table.specs.Words.{Choice, Given, are_named, is_legal, is_whole, items_of, operand, value_behind, value_of, values_in, values_over}
+use Rattle.option_table.specs.Words.{Choice, are_named, is_legal, items_of, value_behind, values_in, values_over}
 use Rattle.option_table.specs.Parsing.{choice_argument, found_value, from_words, parser_for}
-use Rattle.option_table.proofs.ArgumentLemmas.{choice_rule, row, rules_for, rows_told, told, with_defaults}
-use Rattle.option_table.proofs.LineLemmas.{Reads, Rejects, built_is, illegal, parsed, shape}
+use Rattle.option_table.proofs.ArgumentLemmas.{choice_rule, rules_for, told}
+use Rattle.option_table.proofs.LineLemmas.{built_is, outcome, parsed, shape, values-wanted, values_at}
 
 -- ---- the command is one of which `clap` says what it does
 
@@ -60,39 +60,31 @@ value-rows f id =
 
 -- ---- the outcomes
 
-rejected : (choices : List Choice) (items : Option (List Given)) → Rejects choices items → option_and_then (values_in choices) items ≡ None
-rejected choices None e = refl
-rejected choices (Some all) e = ap (λ b. cond b (Some (λ name. value_of name all)) None) e
-
 module _ (choices : List Choice) (named : are_named choices ≡ true) (app : App) (is : app ≡ parser_for choices) (words : List Text) (legal : list_all is_legal words ≡ true) where
-  reads : Reads choices named (fault_of app words) (matches_of app words) (items_of choices words None)
-  reads = subst (λ a. Reads choices named (fault_of a words) (matches_of a words) (items_of choices words None)) (sym is) (parsed choices named words legal)
-
-  pub read_ok : (found : Found) → HasMatchesOf app words found.matches → (is_simple_and_free app ≡ true → fault_of app words ≡ [])
-      → Some (found_value found) ≡ values_over choices words
+  values : option_map values_at (outcome choices named (fault_of app words) (matches_of app words)) ≡ values_over choices words
   unfolding values_over
-  read_ok found has faultless = elim reads [
-    | inl r ↦
-        let rows = (has (ap is_simple is ∙ simple choices named)).0 ∙ r.1.3 in
-        let values : found_value found ≡ (λ name. value_of name r.1.0) =
-        λ i name. (value-rows (found_of found.matches) name ∙ ap (λ rs. told (find (λ row. bytes_eq row.id name) rs)) rows ∙ rows_told choices name r.1.0) i in
-        ap Some values ∙ ap (λ b. cond b (Some (λ name. value_of name r.1.0)) None) (sym r.1.2) ∙ ap (option_and_then (values_in choices)) (sym r.1.1)
-    | inr r ↦ absurd (true≢false (ap is_empty (sym (faultless (ap is_simple_and_free is ∙ free choices named))) ∙ r.0))
-  ]
+  values = ap (λ a. option_map values_at (outcome choices named (fault_of a words) (matches_of a words))) is ∙ ap (option_map values_at) (parsed choices named words legal)
+      ∙ sym (values-wanted choices (items_of choices words None)) ∙ sym (ap (λ b. cond b (option_and_then (values_in choices) (items_of choices words None)) None) legal)
+
+  pub read_ok : (found : Found) → HasMatchesOf app words found.matches → (is_simple_and_free app ≡ true → fault_of app words ≡ []) → Some (found_value found) ≡ values_over choices words
+  read_ok found has faultless =
+      ap Some (λ i name. value-rows (found_of found.matches) name i)
+      ∙ ap (λ rows. Some (values_at rows)) (has (ap is_simple is ∙ simple choices named)).0
+      ∙ ap (λ kinds. option_map values_at (outcome choices named kinds (matches_of app words))) (sym (faultless (ap is_simple_and_free is ∙ free choices named))) ∙ values
 
   pub read_err : (e : Error) → (is_simple_and_free app ≡ true → HasKind (fault_of app words) e) → (kind_of e ≡ OutOfMemory → ⊥) → None ≡ values_over choices words
-  unfolding values_over
-  read_err e fails other = elim reads [
-    | inl r ↦ elim (fails (ap is_simple_and_free is ∙ free choices named)) [
-      | inl memory ↦ absurd (other memory)
-      | inr among ↦ absurd (subst (IsAmong (kind_of e)) r.0 among)
-    ]
-    | inr r ↦ sym (rejected choices _ r.1)
+  read_err e fails other = elim (fails (ap is_simple_and_free is ∙ free choices named)) [
+    | inl memory ↦ absurd (other memory)
+    | inr among ↦ sym (ap (λ b. option_map values_at (cond b (Some (matches_of app words)) None)) (not_empty (fault_of app words) among)) ∙ values
   ]
+    where
+      not_empty : (kinds : Kinds) → IsAmong (kind_of e) kinds → is_empty kinds ≡ false
+      not_empty [] among = absurd among
+      not_empty (k ∷ kinds) among = ne_eqb (length (k ∷ kinds)) 0 (λ e. omega arith)
 
 pub read_illegal : (choices : List Choice) (words : List Text) → list_all is_legal words ≡ false → None ≡ values_over choices words
 unfolding values_over
-read_illegal choices words bad = ap (option_and_then (values_in choices)) (sym (illegal choices words None bad))
+read_illegal choices words bad = sym (ap (λ b. cond b (option_and_then (values_in choices) (items_of choices words None)) None) bad)
 
 -- ---- a value behind `=`
 

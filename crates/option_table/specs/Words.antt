@@ -42,7 +42,7 @@ abbrev pub operand : List ℕ
 operand = []
 
 abbrev pub are_named : List Choice → Bool
-are_named choices = list_all (λ choice. not (bytes_eq operand choice.name)) choices
+are_named choices = list_all (λ choice. not (bytes_eq choice.name operand)) choices
 
 -- ---- words
 
@@ -76,7 +76,7 @@ pub record Given : Type 0 where
 abbrev pub given : List ℕ → List ℕ → Given
 given name value = record { name = name; value = value }
 
--- what a word gives: an item; the option whose value is the next word; or nothing that is legal
+-- what a legal word gives: an item; the option whose value is the next word; or nothing that the table knows
 pub data Step : Type 0 where
   gives : Given → Step
   awaits : List ℕ → Step
@@ -85,7 +85,7 @@ pub data Step : Type 0 where
 -- `--name` and `--name=value`, of an option that has a value, and of a switch
 abbrev pub valued_step : List ℕ → Option (List ℕ) → Step
 valued_step name None = awaits name
-valued_step name (Some value) = if is_plain value then gives (given name value) else refuses
+valued_step name (Some value) = gives (given name value)
 
 abbrev pub switch_step : List ℕ → Option (List ℕ) → Step
 switch_step name None = gives (given name (codes "true"))
@@ -109,7 +109,7 @@ follow (gives item) next = option_map (λ items. item ∷ items) (next None)
 follow (awaits name) next = next (Some name)
 follow refuses next = None
 
--- the items of the words; an option may await the first word
+-- the items of legal words; an option may await the first word
 unfoldable pub items_of : List Choice → List (List ℕ) → Option (List ℕ) → Option (List Given)
 items_of choices [] None = Some []
 items_of choices [] (Some name) = None
@@ -143,6 +143,6 @@ is_whole choices items = each_once items && not (lacks_some choices items)
 abbrev pub values_in : List Choice → List Given → Option (List ℕ → Option (List ℕ))
 values_in choices items = if is_whole choices items then Some (λ name. value_of name items) else None
 
--- the value that a line gives each name, where it is legal
+-- the value that a line gives each name: all its words are legal, they give items, and these are whole
 unfoldable pub values_over : List Choice → List (List ℕ) → Option (List ℕ → Option (List ℕ))
-values_over choices words = option_and_then (values_in choices) (items_of choices words None)
+values_over choices words = if list_all is_legal words then option_and_then (values_in choices) (items_of choices words None) else None

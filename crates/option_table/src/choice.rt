@@ -39,9 +39,7 @@ impl Choice {
 pub(crate) fn parser<'a>(alloc: Global, table: &[Choice]) -> Result<Command<'a>, AllocError>
     ensures { IfOk result (λ parser. app_of parser ≡ parser_for (choices_in table.now)) }
 {
-    let operand = Arg::new(alloc, "")
-        .action(ArgAction::Set)
-        .required(true);
+    let operand = Arg::new(alloc, "").action(ArgAction::Set).required(true);
     let mut parser = Command::new(alloc, "")
         .no_binary_name(true)
         .disable_help_flag(true)

@@ -1,8 +1,8 @@
-use Rattle.std.proofs.Common.{◌≡◌, ◌∙◌, ap, ap₂, sym, map, take, ◌++◌, ◌∷◌, []}
+use Rattle.std.proofs.Common.{◌∙◌, ap, ap₂, sym, map, take, ◌∷◌, []}
 use Rattle.std.proofs.lemmas.List.{map_more, map-append}
-use Rattle.clap.specs.Words.{app_of, with_rule}
+use Rattle.clap.specs.Words.{with_rule}
 use Rattle.option_table.specs.Words.{choice_in, choices_in}
-use Rattle.option_table.specs.Parsing.{choice_argument, parser_of, operand_argument, parser_for}
+use Rattle.option_table.specs.Parsing.{choice_argument, parser_of, operand_argument}
 use Rattle.option_table.proofs.choice.parser.Goals as goal
 
 pub loop-choice-preserved : goal.loop-choice-preserved
