@@ -3,7 +3,7 @@ use Rattle.std.proofs.Common.{◌≡◌, ◌∙◌, ◌&&◌, ◌||◌, inl, inr
 use Rattle.std.specs.List.{find, list_all, fold}
 use Rattle.std.specs.Option.{option_map_or, unwrap_or}
 use Rattle.std.specs.Str.{bytes_eq}
-use Rattle.std.proofs.lemmas.Bool.{and_parts, cases_Bool, false_from_ne_true, not-true, or_parts}
+use Rattle.std.proofs.lemmas.Bool.{cases_Bool, false_from_ne_true, not-true, or_parts}
 use Rattle.std.proofs.lemmas.List.{map-append}
 use Rattle.std.proofs.lemmas.Slice.Eq.{bytes_eq-Decides}
 use Rattle.clap.proofs.WalkLemmas.{find-map}
@@ -20,7 +20,7 @@ use Rattle.clap.specs.declared.parser.matches.ValueSource.TheVariants.{DefaultVa
 use Rattle.clap.specs.declared.error.kind.ErrorKind.TheVariants as kind
 use Rattle.std.specs.Prelude.{option_and_then, slice_get}
 use Rattle.option_table.specs.Parsing.{argument, choice_argument, from_words, operand_argument}
-use Rattle.option_table.specs.Words.{Choice, Given, are_named, choice_named, operand, given, is_given, value_of}
+use Rattle.option_table.specs.Words.{Choice, Given, choice_named, operand, given, is_given, value_of}
 
 -- ---- rules
 
@@ -69,15 +69,12 @@ pub by_long : (choices : List Choice) (name : Text) → arg_by_long (rules_for c
 by_long choices name = sym (find-map (λ a. not (is_some a.index) && has_long a name) choice_rule choices)
     ∙ λ i. option_map choice_rule (find (λ choice. or_none (bytes_eq choice.name name) i) choices)
 
--- what is found passes, and is one of the list
-found_passes : {X : Type 0} (p q : X → Bool) (xs : List X) (x : X) → list_all q xs ≡ true → find p xs ≡ Some x → (p x ≡ true) × (q x ≡ true)
-found_passes p q [] x all e = absurd (true≢false (sym (ap is_some e)))
-found_passes p q (y ∷ ys) x all e =
-    let parts = and_parts (q y) (list_all q ys) all in
-    elim (p y) as (λ b. p y ≡ b → cond b (Some y) (find p ys) ≡ Some x → (p x ≡ true) × (q x ≡ true)) [
-      | true ↦ λ h s. subst (λ z. (p z ≡ true) × (q z ≡ true)) (ap (λ o. unwrap_or o x) s) (h, parts.0)
-      | false ↦ λ h s. found_passes p q ys x parts.1 s
-    ] refl e
+found_passes : {X : Type 0} (p : X → Bool) (xs : List X) (x : X) → find p xs ≡ Some x → p x ≡ true
+found_passes p [] x e = absurd (true≢false (sym (ap is_some e)))
+found_passes p (y ∷ ys) x e = elim (p y) as (λ b. p y ≡ b → cond b (Some y) (find p ys) ≡ Some x → p x ≡ true) [
+  | true ↦ λ h s. subst (λ z. p z ≡ true) (ap (λ o. unwrap_or o x) s) h
+  | false ↦ λ h s. found_passes p ys x s
+] refl e
 
 pub same-sym : (a b : Text) → bytes_eq a b ≡ bytes_eq b a
 same-sym a b = elim (cases_Bool (bytes_eq b a)) [
@@ -90,15 +87,15 @@ pub record IsKnown (choices : List Choice) (name : Text) (has_value required : B
   pub found : arg_by_id (rules_for choices) name ≡ Some (ruled name (Some name) None has_value required)
   pub other : bytes_eq name operand ≡ false
 
-pub known : (choices : List Choice) (name : Text) (choice : Choice) → are_named choices ≡ true → choice_named choices name ≡ Some choice
+pub known : (choices : List Choice) (name : Text) (choice : Choice) → bytes_eq name operand ≡ false → choice_named choices name ≡ Some choice
     → IsKnown choices choice.name choice.has_value choice.is_required
 known choices name choice named e =
-    let passes = found_passes (λ c. bytes_eq c.name name) (λ c. not (bytes_eq c.name operand)) choices choice named e in
-    let other : bytes_eq choice.name operand ≡ false = not-true (bytes_eq choice.name operand) passes.1 in
+    let same : choice.name ≡ name = (bytes_eq-Decides choice.name name).0 (found_passes (λ c. bytes_eq c.name name) choices choice e) in
+    let other : bytes_eq choice.name operand ≡ false = ap (λ n. bytes_eq n operand) same ∙ named in
     record {
       found = ap (λ b. cond b (Some operand_rule) (arg_by_id (map choice_rule choices) choice.name)) (same-sym operand choice.name ∙ other)
           ∙ sym (find-map (λ a. bytes_eq a.id choice.name) choice_rule choices)
-          ∙ ap (option_map choice_rule) (ap (choice_named choices) ((bytes_eq-Decides choice.name name).0 passes.0) ∙ e);
+          ∙ ap (option_map choice_rule) (ap (choice_named choices) same ∙ e);
       other = other;
     }
 

@@ -1,6 +1,6 @@
 -- A line of words as the parser walks over it, and the items that it gives.
-use Rattle.std.proofs.Common.{◌≡◌, ◌∙◌, ◌==◌, ◌&&◌, ◌||◌, ◌⊎◌, inl, inr, ℕ, Bool, cond, true, false, not, true≢false, refl, sym, ap, ap₂, List, [], ◌∷◌, ◌++◌, map, length, Option, Some, None, append-nil, append_assoc, codes, is_some, option_map, nat_lt, lt-ltb, arith}
-use Rattle.std.specs.List.{find, list_any, list_all, fold}
+use Rattle.std.proofs.Common.{◌≡◌, ◌∙◌, ◌==◌, ◌&&◌, ◌||◌, ◌⊎◌, inl, inr, ℕ, Bool, cond, true, false, not, true≢false, refl, sym, ap, ap₂, List, [], ◌∷◌, ◌++◌, map, length, Option, Some, None, append-nil, append_assoc, codes, is_some, option_map, nat_lt, lt-ltb, arith, ◌+◌, suc, take}
+use Rattle.std.specs.List.{position_or_len, find, list_any, list_all, fold}
 use Rattle.std.specs.Option.{option_map_or}
 use Rattle.std.specs.Prelude.{option_and_then}
 use Rattle.std.specs.Str.{bytes_eq}
@@ -17,7 +17,7 @@ use Rattle.clap.specs.declared.error.kind.ErrorKind.TheVariants as kind
 use Rattle.clap.proofs.FaultLemmas.{leaf_fault}
 use Rattle.clap.proofs.WalkLemmas.{list_any-map}
 use Rattle.option_table.specs.Parsing.{parser_for}
-use Rattle.option_table.specs.Words.{Choice, Given, are_named, choice_named, choice_step, operand, follow, given, is_given, is_legal, is_plain, is_whole, items_of, each_once, lacks_some, name_before, option_text, value_behind, values_in, value_of}
+use Rattle.option_table.specs.Words.{Choice, Given, begins_without, choice_named, choice_step, operand, follow, given, is_given, is_legal, is_legal_text, is_plain, is_whole, items_of, each_once, lacks_some, name_before, option_text, value_behind, values_in, value_of}
 use Rattle.option_table.proofs.ArgumentLemmas.{Fits, IsKnown, by_long, choice_rule, conflict, defaults_pass, filled_rules, known, operand_rule, or_none, row, rows_given, rows_told, ruled, rules_for, same-sym, told, use_faults, use_rows, values_for, with_defaults}
 
 -- ---- words
@@ -33,6 +33,7 @@ pub record LongWord (word text : Text) : Type 0 where
   pub says : option_text word ≡ Some text
   pub dashes : bytes_eq word (45 ∷ 45 ∷ []) ≡ false
   pub long : long_of word ≡ Some (name_before text, value_behind text)
+  pub named : bytes_eq (name_before text) operand ≡ false
 
 plain_word : (word : Text) → is_plain word ≡ true → PlainWord word
 plain_word [] e = absurd (true≢false (sym e))
@@ -48,13 +49,20 @@ plain_word (x ∷ xs) e =
 none_text : {A : Type 0} (text : Text) → None ≡ Some text → A
 none_text text e = absurd (true≢false (sym (ap is_some e)))
 
-long_word : (word text : Text) → option_text word ≡ Some text → LongWord word text
-long_word [] text e = none_text text e
-long_word (a ∷ []) text e = none_text text e
-long_word (a ∷ b ∷ []) text e =
+named_text : (text : Text) → begins_without 61 text ≡ true → bytes_eq (name_before text) operand ≡ false
+named_text [] e = absurd (true≢false (sym e))
+named_text (x ∷ xs) e =
+    let n = position_or_len (λ byte. byte == 61) xs in
+    let one : 1 + n ≡ suc n = omega arith in
+    ap (λ b. bytes_eq (take (cond b (1 + n) 0) (x ∷ xs)) operand) e ∙ ap (λ m. bytes_eq (take m (x ∷ xs)) operand) one
+
+long_word : (word text : Text) → option_text word ≡ Some text → is_legal_text text ≡ true → LongWord word text
+long_word [] text e legal = none_text text e
+long_word (a ∷ []) text e legal = none_text text e
+long_word (a ∷ b ∷ []) text e legal =
     let two : nat_lt 2 2 ≡ false = refl in
     none_text text (ap (λ x. cond (x && ((a == 45) && ((b == 45) && true))) (Some []) None) (sym two) ∙ e)
-long_word (a ∷ b ∷ c ∷ rest) text e =
+long_word (a ∷ b ∷ c ∷ rest) text e legal =
     let many : nat_lt 2 (length (a ∷ b ∷ c ∷ rest)) ≡ true = lt-ltb 2 (length (a ∷ b ∷ c ∷ rest)) (omega arith) in
     let here : cond ((a == 45) && ((b == 45) && true)) (Some (c ∷ rest)) None ≡ Some text = ap (λ x. cond (x && ((a == 45) && ((b == 45) && true))) (Some (c ∷ rest)) None) (sym many) ∙ e in
     let both = cond_some ((a == 45) && ((b == 45) && true)) (c ∷ rest) text here in
@@ -67,16 +75,17 @@ long_word (a ∷ b ∷ c ∷ rest) text e =
       long = ap (λ x. option_and_then long_of_rest (option_and_then (strip_byte 45) (cond x (Some (b ∷ c ∷ rest)) None))) first.0
           ∙ ap (λ y. option_and_then long_of_rest (cond y (Some (c ∷ rest)) None)) second
           ∙ ap (λ t. Some (name_before t, value_behind t)) both.1;
+      named = named_text text (and_parts (begins_without 61 text) (option_map_or is_plain (value_behind text) true) legal).0;
     }
 
 legal_word : (word : Text) → is_legal word ≡ true → PlainWord word ⊎ ((text : Text) × LongWord word text)
 legal_word word e = go (is_plain word) (option_text word) refl refl e
   where
     go : (b : Bool) (o : Option Text) → is_plain word ≡ b → option_text word ≡ o
-        → (b || option_map_or (λ text. option_map_or is_plain (value_behind text) true) o false) ≡ true → PlainWord word ⊎ ((text : Text) × LongWord word text)
+        → (b || option_map_or is_legal_text o false) ≡ true → PlainWord word ⊎ ((text : Text) × LongWord word text)
     go true o p t e = inl (plain_word word p)
     go false None p t e = absurd (true≢false (sym e))
-    go false (Some text) p t e = inr (text, long_word word text t)
+    go false (Some text) p t e = inr (text, long_word word text t e)
 
 -- ---- items
 
@@ -145,7 +154,7 @@ module _ (choices : List Choice) where
     | false ↦ refl
   ]
 
-module _ (choices : List Choice) (named : are_named choices ≡ true) where
+module _ (choices : List Choice) where
   abbrev rules : List Rule
   rules = rules_for choices
 
@@ -417,7 +426,7 @@ module _ (choices : List Choice) (named : are_named choices ≡ true) where
       sound_long : (o : Option Choice) → choice_named choices (name_before text) ≡ o → Here o (value_behind text)
       sound_long None here = stops (walk_at h idle seen) word words (ap (λ (p : Kinds × Walk). is_empty p.0) (long_turn idle seen word text h None (value_behind text) w here refl))
       sound_long (Some choice) here =
-          long_choice choice.name choice.has_value choice.is_required (value_behind text) here refl (known choices (name_before text) choice named here)
+          long_choice choice.name choice.has_value choice.is_required (value_behind text) here refl (known choices (name_before text) choice w.named here)
 
     ready_long : (text : Text) (h : Held) (items : List Given) (seen : Bool) → LongWord word text → seen ≡ is_given operand items → IsReady h items
         → read_from (walk_at h idle seen) (word ∷ words) ≡ wanted choices (before items (follow (choice_step (choice_named choices (name_before text)) (value_behind text)) (items_of choices words)))

@@ -16,7 +16,7 @@ use Rattle.clap.specs.declared.error.kind.ErrorKind.TheVariants.{OutOfMemory}
 use Rattle.clap.specs.declared.parser.matches.Found.{Found as Matched}
 use Rattle.clap.proofs.WalkLemmas.{find_row, first_value-rows}
 use Rattle.option_table.specs.declared.reading.Found.{Found}
-use Rattle.option_table.specs.Words.{Choice, are_named, is_legal, items_of, value_behind, values_in, values_over}
+use Rattle.option_table.specs.Words.{Choice, is_legal, items_of, value_behind, values_in, values_over}
 use Rattle.option_table.specs.Parsing.{choice_argument, found_value, from_words, parser_for}
 use Rattle.option_table.proofs.ArgumentLemmas.{choice_rule, rules_for, told}
 use Rattle.option_table.proofs.LineLemmas.{built_is, outcome, parsed, shape, values-wanted, values_at}
@@ -31,20 +31,20 @@ none_early : (n : ℕ) (choices : List Choice) → list_any (is_early_multiple n
 none_early n [] = refl
 none_early n (choice ∷ choices) = none_early n choices
 
-module _ (choices : List Choice) (named : are_named choices ≡ true) where
+module _ (choices : List Choice) where
   buildable : is_buildable (parser_for choices) ≡ true
   buildable = ap (λ b. b && true) (each_passes (λ r. r.is_simple) choice_argument (λ c. refl) choices)
 
-  ready : is_ready (shape choices named) ≡ true
+  ready : is_ready (shape choices) ≡ true
   ready = ap₂ (λ a b. a && not b) (each_passes (λ r. r.is_simple) choice_rule (λ c. refl) choices)
       (none_early (count_by (λ (r : Rule). is_some r.index) (rules_for choices)) choices)
 
   simple : is_simple (parser_for choices) ≡ true
-  simple = ap₂ (λ a b. a && (b && true)) buildable (ap (λ (a : App). is_ready a.top) (built_is choices named) ∙ ready)
+  simple = ap₂ (λ a b. a && (b && true)) buildable (ap (λ (a : App). is_ready a.top) (built_is choices) ∙ ready)
 
   free : is_simple_and_free (parser_for choices) ≡ true
   free = ap₂ (λ a b. a && b) simple
-      (ap (λ (a : App). is_free_app a) (built_is choices named) ∙ ap (λ b. b && true) (each_passes (λ r. r.is_free) choice_rule (λ c. refl) choices))
+      (ap (λ (a : App). is_free_app a) (built_is choices) ∙ ap (λ b. b && true) (each_passes (λ r. r.is_free) choice_rule (λ c. refl) choices))
 
 -- ---- the value of a name
 
@@ -60,20 +60,20 @@ value-rows f id =
 
 -- ---- the outcomes
 
-module _ (choices : List Choice) (named : are_named choices ≡ true) (app : App) (is : app ≡ parser_for choices) (words : List Text) (legal : list_all is_legal words ≡ true) where
-  values : option_map values_at (outcome choices named (fault_of app words) (matches_of app words)) ≡ values_over choices words
+module _ (choices : List Choice) (app : App) (is : app ≡ parser_for choices) (words : List Text) (legal : list_all is_legal words ≡ true) where
+  values : option_map values_at (outcome choices (fault_of app words) (matches_of app words)) ≡ values_over choices words
   unfolding values_over
-  values = ap (λ a. option_map values_at (outcome choices named (fault_of a words) (matches_of a words))) is ∙ ap (option_map values_at) (parsed choices named words legal)
+  values = ap (λ a. option_map values_at (outcome choices (fault_of a words) (matches_of a words))) is ∙ ap (option_map values_at) (parsed choices words legal)
       ∙ sym (values-wanted choices (items_of choices words None)) ∙ sym (ap (λ b. cond b (option_and_then (values_in choices) (items_of choices words None)) None) legal)
 
   pub read_ok : (found : Found) → HasMatchesOf app words found.matches → (is_simple_and_free app ≡ true → fault_of app words ≡ []) → Some (found_value found) ≡ values_over choices words
   read_ok found has faultless =
       ap Some (λ i name. value-rows (found_of found.matches) name i)
-      ∙ ap (λ rows. Some (values_at rows)) (has (ap is_simple is ∙ simple choices named)).0
-      ∙ ap (λ kinds. option_map values_at (outcome choices named kinds (matches_of app words))) (sym (faultless (ap is_simple_and_free is ∙ free choices named))) ∙ values
+      ∙ ap (λ rows. Some (values_at rows)) (has (ap is_simple is ∙ simple choices)).0
+      ∙ ap (λ kinds. option_map values_at (outcome choices kinds (matches_of app words))) (sym (faultless (ap is_simple_and_free is ∙ free choices))) ∙ values
 
   pub read_err : (e : Error) → (is_simple_and_free app ≡ true → HasKind (fault_of app words) e) → (kind_of e ≡ OutOfMemory → ⊥) → None ≡ values_over choices words
-  read_err e fails other = elim (fails (ap is_simple_and_free is ∙ free choices named)) [
+  read_err e fails other = elim (fails (ap is_simple_and_free is ∙ free choices)) [
     | inl memory ↦ absurd (other memory)
     | inr among ↦ sym (ap (λ b. option_map values_at (cond b (Some (matches_of app words)) None)) (not_empty (fault_of app words) among)) ∙ values
   ]

@@ -37,19 +37,20 @@ choices_in rows = map choice_in rows
 abbrev pub choice_named : List Choice → List ℕ → Option Choice
 choice_named choices name = find (λ choice. bytes_eq choice.name name) choices
 
--- the operand stands under the empty name, so no option may have that
+-- the operand stands under the empty name, which no word gives an option
 abbrev pub operand : List ℕ
 operand = []
 
-abbrev pub are_named : List Choice → Bool
-are_named choices = list_all (λ choice. not (bytes_eq choice.name operand)) choices
-
 -- ---- words
 
--- a word that is an operand or the value of an option: it is not empty and does not begin with `-` (45)
+-- a text that is not empty and does not begin with this byte
+abbrev pub begins_without : ℕ → List ℕ → Bool
+begins_without byte [] = false
+begins_without byte (first ∷ rest) = not (first == byte)
+
+-- a word that is an operand or the value of an option: it does not begin with `-` (45)
 abbrev pub is_plain : List ℕ → Bool
-is_plain [] = false
-is_plain (first ∷ rest) = not (first == 45)
+is_plain word = begins_without 45 word
 
 -- the text behind `--`, where there is some
 abbrev pub option_text : List ℕ → Option (List ℕ)
@@ -62,9 +63,13 @@ name_before text = before_first (λ byte. byte == 61) text
 abbrev pub value_behind : List ℕ → Option (List ℕ)
 value_behind text = if list_any (λ byte. byte == 61) text then Some (after_first (λ byte. byte == 61) text) else None
 
+-- the text has a name, and no value or a plain one
+abbrev pub is_legal_text : List ℕ → Bool
+is_legal_text text = begins_without 61 text && option_map_or is_plain (value_behind text) true
+
 -- a word that may stand on a line: a plain one, `--name`, or `--name=value` with a plain value
 abbrev pub is_legal : List ℕ → Bool
-is_legal word = is_plain word || option_map_or (λ text. option_map_or is_plain (value_behind text) true) (option_text word) false
+is_legal word = is_plain word || option_map_or is_legal_text (option_text word) false
 
 -- ---- items
 

@@ -1,6 +1,6 @@
 //! What a line of words gives over a table.
-ghost use Rattle.std.specs.Prelude.{◌≡◌, IfOk, option_map, is_some, true, map, string_bytes};
-ghost use Rattle.option_table.specs.Words.{are_named, choices_in, operand, values_over};
+ghost use Rattle.std.specs.Prelude.{◌≡◌, IfOk, option_map, is_some, map, string_bytes};
+ghost use Rattle.option_table.specs.Words.{choices_in, operand, values_over};
 ghost use Rattle.option_table.specs.Parsing.{found_value};
 
 use crate::choice::{Choice, parser};
@@ -49,7 +49,6 @@ pub fn read<'a>(
     table: &[Choice],
     words: &'a [String],
 ) -> Result<Option<Found<'a>>, AllocError>
-    requires { are_named (choices_in table.now) ≡ true }
     ensures { IfOk result (λ read. option_map found_value read ≡ values_over (choices_in table.now) (map string_bytes words.now)) }
 {
     if !are_legal(words) {

@@ -13,7 +13,7 @@ static TABLE: [Choice; 3] = [
 type Want = (&'static str, &'static str, Option<&'static str>, bool);
 
 /// Lines, each with what it gives, where it is legal.
-static LINES: [(&[&str], Option<Want>); 19] = [
+static LINES: [(&[&str], Option<Want>); 20] = [
     (&["song", "--from", "a"], Some(("song", "a", None, false))),
     (&["--from=a", "song"], Some(("song", "a", None, false))),
     (
@@ -39,6 +39,7 @@ static LINES: [(&[&str], Option<Want>); 19] = [
     (&["song", "--from", "a", "--fro", "b"], None),
     (&["song", "--from", "a", "other"], None),
     (&["song", "--from", "a", "--"], None),
+    (&["song", "--from", "a", "--=b"], None),
 ];
 
 /// Whether what was found is this.

@@ -2,16 +2,23 @@
 ghost use Rattle.std.specs.Prelude.{◌≡◌, ◌+◌, ◌==◌, position, Some, true, map, string_bytes};
 ghost use Rattle.std.specs.Option.{option_map, option_map_or};
 ghost use Rattle.std.specs.List.{list_all};
-ghost use Rattle.option_table.specs.Words.{is_plain, is_legal, option_text, value_behind};
+ghost use Rattle.option_table.specs.Words.{begins_without, is_plain, is_legal, option_text, value_behind};
+
+/// Whether a text is not empty and does not begin with this byte.
+fn begins_without(byte: u8, text: &[u8]) -> bool
+    ensures { result ≡ begins_without byte text.now }
+{
+    match text {
+        [] => false,
+        [first, ..] => *first != byte,
+    }
+}
 
 /// Whether a word is an operand or a value: it is not empty and does not begin with `-`.
 fn is_plain(word: &[u8]) -> bool
     ensures { result ≡ is_plain word.now }
 {
-    match word {
-        [] => false,
-        [first, ..] => *first != b'-',
-    }
+    begins_without(b'-', word)
 }
 
 /// The text behind `--`, where there is some.
@@ -44,7 +51,7 @@ fn is_legal(word: &[u8]) -> bool
         return true;
     }
     match option_text(word) {
-        Some(text) => has_plain_value(text),
+        Some(text) => begins_without(b'=', text) && has_plain_value(text),
         None => false,
     }
 }

@@ -1,6 +1,6 @@
 //! The words of the command line.
-ghost use Rattle.std.specs.Prelude.{◌≡◌, ◌≤◌, IfSome, IfOk, true, map, option_map, string_bytes};
-ghost use Rattle.option_table.specs.Words.{are_named, choices_in};
+ghost use Rattle.std.specs.Prelude.{◌≡◌, ◌≤◌, IfSome, IfOk, map, option_map, string_bytes};
+ghost use Rattle.option_table.specs.Words.{choices_in};
 ghost use Rattle.option_table.specs.Parsing.{found_value};
 ghost use Rattle.uxn_words.specs.Words.{command_of, choices_of, budget_in, count_in, task_in, asked_with, settings};
 ghost use Rattle.uxn_words.specs.Asked.{asked};
@@ -131,8 +131,7 @@ fn value_of<'a>(found: &Found<'a>, name: &str) -> Option<&'a [u8]>
 impl Command {
     /// Its options.
     fn choices(self) -> &'static [Choice]
-        ensures options { choices_in result.now ≡ choices_of self }
-        ensures named { are_named (choices_in result.now) ≡ true }
+        ensures { choices_in result.now ≡ choices_of self }
     {
         match self {
             Command::Play => &DEBUG[DEBUG_ONLY..],

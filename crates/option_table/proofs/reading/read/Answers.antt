@@ -9,10 +9,10 @@ returns-then-not-are_legal c = read_illegal (choices_in c.args.table.now) (map s
 
 pub returns-in-Ok : goal.returns-in-Ok
 returns-in-Ok c =
-    read_ok (choices_in c.args.table.now) c.requires (app_of c.in_ok-parser.field-0) c.in_ok-parser.ensures (map string_bytes c.args.words.now)
+    read_ok (choices_in c.args.table.now) (app_of c.in_ok-parser.field-0) c.in_ok-parser.ensures (map string_bytes c.args.words.now)
     (sym c.are_legal.ensures ∙ c.if-not-are_legal.false) (record { matches = c.in-Ok.matches }) c.in-Ok.ensures.matches c.in-Ok.ensures.kinds
 
 pub returns : goal.returns
 returns c =
-    read_err (choices_in c.args.table.now) c.requires (app_of c.in_ok-parser.field-0) c.in_ok-parser.ensures (map string_bytes c.args.words.now)
+    read_err (choices_in c.args.table.now) (app_of c.in_ok-parser.field-0) c.in_ok-parser.ensures (map string_bytes c.args.words.now)
     (sym c.are_legal.ensures ∙ c.if-not-are_legal.false) c.in-Err.error c.in-Err.ensures.kinds (λ memory. c.in_default.not-OutOfMemory (c.kind.ensures ∙ memory))
