@@ -162,9 +162,6 @@ with_choice rows choice = with_default rows (choice_rule choice)
 abbrev pub with_defaults : List Choice → List Row → List Row
 with_defaults choices rows = fold with_default rows (rules_for choices)
 
-operand_default : (rows : List Row) → with_default rows operand_rule ≡ rows
-operand_default rows = elim (has_row operand rows) as (λ b. cond b rows rows ≡ rows) [ true ↦ refl | false ↦ refl ]
-
 found_pushed : {Z : Type 0} (read : Option Row → Z) (p : Row → Bool) (rows : List Row) (r : Row) → read (cond (p r) (Some r) None) ≡ read None
     → read (find p (rows ++ r ∷ [])) ≡ read (find p rows)
 found_pushed read p [] r e = e
@@ -178,9 +175,10 @@ module _ {Z : Type 0} (read : Option Row → Z) (same : (name : Text) → read (
   abbrev found : List Row → Z
   found rows = read (find (λ r. bytes_eq r.id id) rows)
 
-  default_unseen : (name : Text) (has_value required : Bool) (rows : List Row) → found (with_default rows (ruled name (Some name) None has_value required)) ≡ found rows
-  default_unseen name true required rows = elim (has_row name rows) as (λ b. found (cond b rows rows) ≡ found rows) [ true ↦ refl | false ↦ refl ]
-  default_unseen name false required rows =
+  default_unseen : (name : Text) (long : Option Text) (index : Option ℕ) (has_value required : Bool) (rows : List Row)
+      → found (with_default rows (ruled name long index has_value required)) ≡ found rows
+  default_unseen name long index true required rows = elim (has_row name rows) as (λ b. found (cond b rows rows) ≡ found rows) [ true ↦ refl | false ↦ refl ]
+  default_unseen name long index false required rows =
       elim (has_row name rows) as (λ b. has_row name rows ≡ b
       → found (cond b rows (default_rows name AsWritten (codes "false" ∷ []) rows)) ≡ found rows) [
         | true ↦ λ h. refl
@@ -192,29 +190,28 @@ module _ {Z : Type 0} (read : Option Row → Z) (same : (name : Text) → read (
   choices_unseen : (choices : List Choice) (rows : List Row) → found (fold with_default rows (map choice_rule choices)) ≡ found rows
   choices_unseen [] rows = refl
   choices_unseen (choice ∷ choices) rows =
-      choices_unseen choices (with_choice rows choice) ∙ default_unseen choice.name choice.has_value choice.is_required rows
+      choices_unseen choices (with_choice rows choice) ∙ default_unseen choice.name (Some choice.name) None choice.has_value choice.is_required rows
 
   pub unseen : (choices : List Choice) (rows : List Row) → found (with_defaults choices rows) ≡ found rows
-  unseen choices rows = choices_unseen choices (with_default rows operand_rule) ∙ ap found (operand_default rows)
+  unseen choices rows = choices_unseen choices (with_default rows operand_rule) ∙ default_unseen operand None (Some 1) true true rows
 
-choice_has_no_fault : (name : Text) (has_value required : Bool) (rows : List Row) → default_fault rows (ruled name (Some name) None has_value required) ≡ []
-choice_has_no_fault name true required rows = elim (has_row name rows) as (λ b. cond (b || true) [] (or_else [] []) ≡ []) [ true ↦ refl | false ↦ refl ]
-choice_has_no_fault name false required rows = elim (has_row name rows) as (λ b. cond (b || false) [] (or_else [] []) ≡ []) [ true ↦ refl | false ↦ refl ]
+default_passes : (id : Text) (long : Option Text) (index : Option ℕ) (has_value required : Bool) (rows : List Row) → default_fault rows (ruled id long index has_value required) ≡ []
+default_passes id long index true required rows = elim (has_row id rows) as (λ b. cond (b || true) [] (or_else [] []) ≡ []) [ true ↦ refl | false ↦ refl ]
+default_passes id long index false required rows = elim (has_row id rows) as (λ b. cond (b || false) [] (or_else [] []) ≡ []) [ true ↦ refl | false ↦ refl ]
 
-choices_have_no_fault : (choices : List Choice) (rows : List Row) → defaults_fault rows (map choice_rule choices) ≡ []
+choices_pass : (choices : List Choice) (rows : List Row) → defaults_fault rows (map choice_rule choices) ≡ []
 unfolding defaults_fault
-choices_have_no_fault [] rows = refl
-choices_have_no_fault (choice ∷ choices) rows =
-    ap (λ k. or_else k (defaults_fault (with_choice rows choice) (map choice_rule choices))) (choice_has_no_fault choice.name choice.has_value choice.is_required rows)
-    ∙ choices_have_no_fault choices (with_choice rows choice)
+choices_pass [] rows = refl
+choices_pass (choice ∷ choices) rows =
+    ap (λ k. or_else k (defaults_fault (with_choice rows choice) (map choice_rule choices))) (default_passes choice.name (Some choice.name) None choice.has_value choice.is_required rows)
+    ∙ choices_pass choices (with_choice rows choice)
 
 -- no default is refused
 pub defaults_pass : (choices : List Choice) (rows : List Row) → defaults_fault rows (rules_for choices) ≡ []
 unfolding defaults_fault
 defaults_pass choices rows =
-    (elim (has_row operand rows) as (λ b. or_else (cond (b || true) [] (or_else [] [])) (defaults_fault (with_default rows operand_rule) (map choice_rule choices))
-    ≡ defaults_fault (with_default rows operand_rule) (map choice_rule choices)) [ true ↦ refl | false ↦ refl ])
-    ∙ choices_have_no_fault choices (with_default rows operand_rule)
+    ap (λ k. or_else k (defaults_fault (with_default rows operand_rule) (map choice_rule choices))) (default_passes operand None (Some 1) true true rows)
+    ∙ choices_pass choices (with_default rows operand_rule)
 
 -- ---- what the rows say of the items
 
@@ -236,13 +233,11 @@ abbrev pub told : Option Row → Option Text
 told found = from_words (option_and_then (λ r. r.source) found) (option_and_then (λ r. slice_get r.values 0) found)
 
 items_told : (id : Text) (items : List Given) → told (find (λ r. bytes_eq r.id id) (map row items)) ≡ value_of id items
-items_told id [] = refl
-items_told id (item ∷ items) = elim (bytes_eq item.name id) as (λ b.
-    told (cond b (Some (row item)) (find (λ r. bytes_eq r.id id) (map row items)))
-    ≡ option_map (λ i. i.value) (cond b (Some item) (find (λ i. bytes_eq i.name id) items))) [
-      | true ↦ refl
-      | false ↦ items_told id items
-    ]
+items_told id items = ap told (sym (find-map (λ r. bytes_eq r.id id) row items)) ∙ of_row (find (λ item. bytes_eq item.name id) items)
+  where
+    of_row : (o : Option Given) → told (option_map row o) ≡ option_map (λ item. item.value) o
+    of_row None = refl
+    of_row (Some item) = refl
 
 pub rows_told : (choices : List Choice) (id : Text) (items : List Given) → told (find (λ r. bytes_eq r.id id) (with_defaults choices (map row items))) ≡ value_of id items
 rows_told choices id items = unseen told (λ name. refl) id choices (map row items) ∙ items_told id items

@@ -202,7 +202,7 @@ module _ (choices : List Choice) where
   abbrev turned : Walk → Text → Kinds → Held × WordStep → Kinds × Walk
   turned w word fault met = (or_else fault (step_fault shape w.position met.0 met.1), after_step rules word w met.0 met.1)
 
-  -- nothing waits: what is pending is the last item, if anything is
+  -- the walk between two words: what is held, what waits for a value, and whether the operand was seen
   abbrev walk_at : Held → Waiting → Bool → Walk
   walk_at h waiting seen = record { held = h; waiting = waiting; position = cond seen 2 1; is_trailing = false; stopped = None }
 

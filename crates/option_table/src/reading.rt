@@ -24,7 +24,8 @@ impl<'a> Found<'a> {
         self.value("")
     }
 
-    /// The value that the words give an option, or `true` of a switch; nothing where they do not name it.
+    /// The value that the words give an option, or `true` of a switch; nothing where they do not name
+    /// it.
     pub fn value(&self, name: &str) -> Option<&'a str>
         ensures { option_map (λ text. text.now) result ≡ found_value self.now name.now }
     {
@@ -42,8 +43,9 @@ impl<'a> Found<'a> {
     }
 }
 
-/// What a line of words gives over a table, where it is legal: each word is an operand, an option of the table or its value, none comes twice,
-/// and none that is needed is missing. Errors with want of memory.
+/// What a line of words gives over a table, where it is legal: each word is the operand, an option of
+/// the table or its value, nothing is given twice, and nothing that is needed is missing. Errors with
+/// want of memory.
 pub fn read<'a>(
     alloc: Global,
     table: &[Choice],
