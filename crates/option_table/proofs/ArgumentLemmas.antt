@@ -1,9 +1,9 @@
 -- The rules of a command with one operand and the options of a table, and what one use of each makes.
 use Rattle.std.proofs.Common.{◌≡◌, ◌∙◌, ◌&&◌, ◌||◌, inl, inr, ℕ, Bool, cond, true, false, not, true≢false, refl, sym, ap, ap₂, subst, List, [], ◌∷◌, ◌++◌, map, Option, Some, None, append-nil, codes, is_some, option_map}
-use Rattle.std.specs.List.{find, list_all, fold}
+use Rattle.std.specs.List.{find, fold}
 use Rattle.std.specs.Option.{option_map_or, unwrap_or}
 use Rattle.std.specs.Str.{bytes_eq}
-use Rattle.std.proofs.lemmas.Bool.{cases_Bool, false_from_ne_true, not-true, or_parts}
+use Rattle.std.proofs.lemmas.Bool.{cases_Bool, false_from_ne_true, or_parts}
 use Rattle.std.proofs.lemmas.List.{map-append}
 use Rattle.std.proofs.lemmas.Slice.Eq.{bytes_eq-Decides}
 use Rattle.clap.proofs.WalkLemmas.{find-map}
