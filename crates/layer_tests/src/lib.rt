@@ -1,0 +1,16 @@
+//! Tests of calls of the lower crates that no command reaches, or that no command-line case can show: the sinks and trees in
+//! memory, how many words an expander visited, which rows of a screen are composed, printed scripts, includes, and moments gone back to.
+#![tactic(auto)]
+
+#[cfg(test)]
+mod expander_tests;
+#[cfg(test)]
+mod include_tests;
+#[cfg(test)]
+mod outside_tests;
+#[cfg(test)]
+mod screen_tests;
+#[cfg(test)]
+mod script_tests;
+#[cfg(test)]
+mod undo_tests;
