@@ -1,5 +1,6 @@
-//! Tests of calls of the lower crates that no command reaches, or that no command-line case can show: the sinks and trees in
-//! memory, how many words an expander visited, which rows of a screen are composed, printed scripts, includes, and moments gone back to.
+//! Tests of calls of the lower crates that no command reaches, or whose answers none shows: the sinks and trees in memory, the
+//! kinds of faults of paths, how many words an expander visited, which rows of a screen are composed, printed scripts, includes, the
+//! source of a workload, and moments gone back to.
 #![tactic(auto)]
 
 #[cfg(test)]
@@ -14,3 +15,5 @@ mod screen_tests;
 mod script_tests;
 #[cfg(test)]
 mod undo_tests;
+#[cfg(test)]
+mod workload_tests;

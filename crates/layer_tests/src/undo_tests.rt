@@ -40,7 +40,41 @@ static RUNS: [Run; 4] = [
     ),
 ];
 
-// Runs so many instructions over a bus with nothing behind it, and keeps the moment before each. False where memory is wanting.
+// Runs so many instructions, and keeps the moment before each. False where one stops.
+fn stepped(
+    core: &mut Core,
+    undo: &mut Undo,
+    count: u32,
+    bus: &mut Bus<'_, MemTree, MemSink, MemSink>,
+) -> bool {
+    for _ in 0..count {
+        undo.keep(core, bus);
+        if step(core, bus).is_err() {
+            return false;
+        }
+    }
+    true
+}
+
+// The same over devices and a tree, with room for 100 bytes on the output. False also where memory is wanting.
+fn ran_over(
+    alloc: Global,
+    core: &mut Core,
+    undo: &mut Undo,
+    count: u32,
+    (devices, tree): (&mut Devices, &mut MemTree),
+) -> bool {
+    let Ok(mut out) = MemSink::new(alloc, 100, &[]) else {
+        return false;
+    };
+    let Ok(mut err) = MemSink::new(alloc, 0, &[]) else {
+        return false;
+    };
+    let mut bus = Bus::new(devices, tree, &mut out, &mut err);
+    stepped(core, undo, count, &mut bus)
+}
+
+// The same over new devices and a tree with nothing in it.
 fn ran(alloc: Global, core: &mut Core, undo: &mut Undo, count: u32) -> bool {
     let clock = Clock {
         seconds: 0,
@@ -52,20 +86,7 @@ fn ran(alloc: Global, core: &mut Core, undo: &mut Undo, count: u32) -> bool {
     let Ok(mut devices) = Devices::new(alloc, None, clock) else {
         return false;
     };
-    let Ok(mut out) = MemSink::new(alloc, 100, &[]) else {
-        return false;
-    };
-    let Ok(mut err) = MemSink::new(alloc, 0, &[]) else {
-        return false;
-    };
-    let mut bus = Bus::new(&mut devices, &mut tree, &mut out, &mut err);
-    for _ in 0..count {
-        undo.keep(core, &bus);
-        if step(core, &mut bus).is_err() {
-            return false;
-        }
-    }
-    true
+    ran_over(alloc, core, undo, count, (&mut devices, &mut tree))
 }
 
 // Whether going back gives what another machine holds that was not run as far.
