@@ -3,8 +3,6 @@
 
 mod mixer;
 mod notes;
-#[cfg(test)]
-mod tests;
 mod voices;
 
 pub use mixer::Mixer;

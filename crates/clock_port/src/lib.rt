@@ -5,9 +5,6 @@ ghost use Rattle.std.specs.Prelude.{◌≡◌, ℕ, pos, neg_ℤ, ◌+ℤ◌, �
 ghost use Rattle.jiff.specs.Words.{civil_nanos};
 ghost use Rattle.clock_port.specs.Calendar.{IsDate, civil_fields, date_fields, day_number, fields_of};
 
-#[cfg(test)]
-mod tests;
-
 use jiff::Timestamp;
 use jiff::civil::DateTime;
 use jiff::tz::Offset;

@@ -7,9 +7,6 @@ ghost use Rattle.uxn_io.specs.Told.{extended};
 ghost use Rattle.console_port.specs.declared.Output.TheVariants.{Standard, Error};
 ghost use Rattle.console_port.specs.Console.{to_out, to_err, event_byte, given};
 
-#[cfg(test)]
-mod tests;
-
 use uxn_io::{Failed, Sink};
 
 /// The port that holds the byte of the last event.

@@ -9,8 +9,6 @@ mod names;
 mod reading;
 mod signs;
 mod stop;
-#[cfg(test)]
-mod tests;
 mod writing;
 
 pub use device::FileDevice;

@@ -4,9 +4,6 @@
 ghost use Rattle.std.specs.Prelude.{◌≡◌, ◌<◌, length, slice_index};
 ghost use Rattle.input_ports.specs.Page.{stores_of, stores_after, vector_of, with_stores, short_stores, buttons_port, bits_set, bits_cleared};
 
-#[cfg(test)]
-mod tests;
-
 /// Where the controller's vector is stored, a short.
 pub const CONTROLLER_VECTOR: u8 = 0x80;
 

@@ -6,8 +6,6 @@ mod line;
 mod printing;
 mod reading;
 mod script;
-#[cfg(test)]
-mod tests;
 mod values;
 
 pub use printing::{print_script, printed_scripts_are_read, version_2_reads_version_1};

@@ -5,9 +5,6 @@ ghost use Rattle.std.specs.Prelude.{ℕ, ◌≡◌, ◌+◌, ◌*◌, ◌/◌, �
 ghost use Rattle.screen_frame.specs.Colours.{short_of, colours_of, shown};
 ghost use Rattle.screen_frame.specs.Ppm.{head_bytes, row_bytes};
 
-#[cfg(test)]
-mod tests;
-
 use arrayvec::ArrayVec;
 use itoa::Buffer;
 

@@ -11,8 +11,6 @@ mod control;
 mod marks;
 mod plane;
 mod size;
-#[cfg(test)]
-mod tests;
 mod tile;
 
 use control::{Layer, has_bit, layer_of, step_of};

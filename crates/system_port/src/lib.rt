@@ -3,8 +3,6 @@
 
 mod debug;
 mod expansions;
-#[cfg(test)]
-mod tests;
 
 pub use debug::{debug_text, exit_code};
 pub use expansions::expansion;

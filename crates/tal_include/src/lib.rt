@@ -5,8 +5,6 @@ mod faults;
 mod laws;
 mod spliced;
 mod splicing;
-#[cfg(test)]
-mod tests;
 
 pub use faults::{IncludeFault, IncludeKind, Origin, SpliceStop};
 pub use laws::flat_texts_have_the_spliced_words;

@@ -10,8 +10,6 @@ mod placing;
 mod plain;
 mod scope;
 mod shapes;
-#[cfg(test)]
-mod tests;
 
 pub use labels::{FIRST_SCOPE, full_name, next_scope};
 pub use placed::{Placed, PlacedWord};

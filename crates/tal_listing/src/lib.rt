@@ -5,8 +5,6 @@ mod chains;
 mod disassembly;
 mod labels;
 mod listings;
-#[cfg(test)]
-mod tests;
 
 pub use disassembly::{disassemble, disassemblies_assemble};
 pub use labels::source_labels_are_read;

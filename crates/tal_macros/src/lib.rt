@@ -6,8 +6,6 @@ mod expansion;
 mod head;
 mod pass;
 mod plain;
-#[cfg(test)]
-mod tests;
 
 pub use expansion::{Expander, expand, expanders_give_the_list};
 pub use plain::{expanded_words_have_no_blanks, plain_words_expand_to_themselves};

@@ -4,8 +4,6 @@
 mod lookups;
 mod reading;
 mod stop;
-#[cfg(test)]
-mod tests;
 mod writing;
 
 pub use lookups::{address_of, nearest};

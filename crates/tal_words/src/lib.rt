@@ -10,8 +10,6 @@ mod opcode;
 mod plain;
 mod runes;
 mod span;
-#[cfg(test)]
-mod tests;
 mod text;
 
 pub use cutting::{SOURCE_LIMIT, words};

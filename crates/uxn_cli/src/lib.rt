@@ -17,8 +17,6 @@ mod refusal;
 mod report;
 mod running;
 mod scripts;
-#[cfg(test)]
-mod tests;
 
 pub use entry::uxn;
 pub use laws::{

@@ -9,8 +9,6 @@ mod line;
 mod place;
 mod printing;
 mod reading;
-#[cfg(test)]
-mod tests;
 
 pub use command::{CommandKind, CommandStop, DebugCommand};
 pub use debugger::{Debugger, the_log_is_that_of_the_run};

@@ -11,4 +11,3 @@ pub mod HeldLemmas
 pub mod ChangeLemmas
 pub mod ChildLemmas
 pub mod SoundLemmas
-pub mod CallLemmas

@@ -9,8 +9,6 @@ mod nothing;
 mod paths;
 mod places;
 mod sinks;
-#[cfg(test)]
-mod tests;
 mod texts;
 mod trees;
 

@@ -44,9 +44,6 @@ ghost use Rattle.uxn_memory.specs.Bytes.{
   copied_down,
 };
 
-#[cfg(test)]
-mod tests;
-
 use std::alloc::{AllocError, Global};
 use std::marker::Model;
 

@@ -12,9 +12,6 @@ ghost use Rattle.uxn_stacks.specs.Cells.{
   pushed_short,
 };
 
-#[cfg(test)]
-mod tests;
-
 use std::marker::Model;
 
 /// A ring of 256 bytes with a pointer to where the next byte is pushed. There is no overflow and no underflow.

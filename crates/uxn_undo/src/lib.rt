@@ -4,8 +4,6 @@
 mod changes;
 mod rows;
 mod span;
-#[cfg(test)]
-mod tests;
 mod undo;
 
 pub use rows::{instructions_change_what_is_kept, the_moments_of_a_run_are_in_a_row};

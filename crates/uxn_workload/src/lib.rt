@@ -4,8 +4,6 @@
 mod growing;
 mod making;
 mod summary;
-#[cfg(test)]
-mod tests;
 
 pub use growing::GrowingSink;
 pub use making::source;

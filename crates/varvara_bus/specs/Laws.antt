@@ -181,14 +181,3 @@ pub first_page : (page : List ℕ) → page ≡ slice_set (slice_set (slice_set 
     → (port : ℕ) → slice_index page port ≡ at_first port
 first_page page is port =
     ap (λ p. slice_index p port) is ∙ page-with_size (replicate 256 0) (length-replicate {A = ℕ} 256 0) (zero-page 256) port
-
--- where a tree told of a file, a file is there
-file_there : (node : Option Node) (size : ℕ) → FileOf size ≡ kind_of node → IsSome (bytes_of node)
-file_there None size is = cc
-file_there (Some (File bytes)) size is = refl
-file_there (Some Folder) size is = cc
-
-pub told_file : (told : Option Nodes) (path : List ℕ) (size : ℕ) → IfSome told (λ nodes. FileOf size ≡ kind_at nodes path)
-    → IsFileWhereTold told path
-told_file None path size is = tt
-told_file (Some nodes) path size is = file_there (nodes_map.get nodes path) size is

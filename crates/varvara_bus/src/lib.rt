@@ -7,8 +7,6 @@ mod files;
 mod page;
 mod ports;
 mod screen;
-#[cfg(test)]
-mod tests;
 mod time;
 mod voices;
 

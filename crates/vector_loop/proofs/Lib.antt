@@ -8,4 +8,3 @@ pub mod Answering
 pub mod Runs
 pub mod Makings
 pub mod Frames
-pub mod Rootless

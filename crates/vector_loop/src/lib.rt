@@ -7,8 +7,6 @@ mod output;
 mod run;
 mod runner;
 mod tally;
-#[cfg(test)]
-mod tests;
 mod vector;
 mod watch;
 

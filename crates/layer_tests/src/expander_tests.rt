@@ -1,0 +1,28 @@
+//! What an Expander gives in turn, and how many words it visited.
+
+use std::test::Fail;
+use tal_macros::Expander;
+use tal_words::words;
+
+/// What an Expander gives of a source in turn: a word, or none, and how many words were visited then.
+static TURNS: [(Option<&str>, u32); 5] = [
+    (Some("#04"), 1),
+    (Some("DUP"), 4),
+    (Some("ADD"), 5),
+    (None, 6),
+    (None, 6),
+];
+
+#[test]
+fn counts_uses_that_are_opened(rt: HostRuntime) -> Result<(), Fail> {
+    let source = b"%none { } %dbl { DUP ADD } #04 none dbl none";
+    let words = words(rt.alloc(), source)?;
+    let mut expander = Expander::new(rt.alloc(), source, &words);
+    for (text, visited) in &TURNS {
+        let given = expander.next()?;
+        let text_given = given.map(|word| word.text.text(source));
+        assert!(rt; text_given == text.map(|text| text.as_bytes()));
+        assert!(rt; expander.visited() == *visited);
+    }
+    Ok(())
+}
