@@ -4,11 +4,10 @@ use Rattle.std.specs.Prelude.{map, slice_get, slice_index, slice_index_or, Optio
 use Rattle.std.proofs.lemmas.Bool.Decides.{nat_tests}
 use Rattle.std.proofs.lemmas.List.{length-map, take-map}
 use Rattle.std.proofs.lemmas.Option.{slice_get-map}
-use Rattle.circular_buffer.specs.Buffer.{Buffer, buffer}
 use Rattle.uxn_undo.specs.declared.row.Row.{Row}
 use Rattle.uxn_undo.specs.declared.undo.Record.{Record}
 use Rattle.uxn_undo.specs.Kept.{Kept}
-use Rattle.uxn_undo.specs.Rings.{Entry, joined, AreRings}
+use Rattle.uxn_undo.specs.Rings.{Entry, joined}
 use Rattle.uxn_undo.proofs.Joined.{length-held}
 use Rattle.uxn_undo.specs.Slots.{entry_of, entry_in, row_in, no_row, slot_before, InOrder, AreSlots}
 

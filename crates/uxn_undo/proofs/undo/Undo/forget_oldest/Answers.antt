@@ -1,11 +1,9 @@
-use Rattle.std.proofs.Common.{◌≡◌, ◌-◌, length, take, Some, None, sym, ap, ◌∙◌, arith}
-use Rattle.std.specs.Prelude.{map, slice_get, option_map}
-use Rattle.std.proofs.lemmas.List.{length-map, take-map}
-use Rattle.std.proofs.lemmas.Option.{slice_get-map}
+use Rattle.std.proofs.Common.{◌-◌, length, sym, arith}
+use Rattle.std.specs.Prelude.{map}
 use Rattle.std.specs.Vec.{vec_len, vec_capacity}
 use Rattle.circular_buffer.specs.Buffer.{buffer}
 use Rattle.uxn_undo.proofs.Joined.{forgotten, forgotten-rings, forgotten-none}
-use Rattle.uxn_undo.proofs.Slots.{in_order-take, last_entry, no_last_entry, fewer_slots, fewer_entries}
+use Rattle.uxn_undo.proofs.Slots.{last_entry, no_last_entry, fewer_slots, fewer_entries}
 use Rattle.uxn_undo.specs.Slots.{entry_in}
 use Rattle.uxn_undo.proofs.undo.Undo.forget_oldest.Goals as goal
 
@@ -40,5 +38,12 @@ returns c =
     let oldest = c.in-Some.oldest.now in
     let done = forgotten (map (entry_in rows) records) c.self.inside.bytes.items (entry_in rows oldest) c.self.invariant.0.filled
     (last_entry rows records oldest (sym c.in-Some.ensures)) in
-    rw (c.truncate_back-2.ensures, c.truncate_back.ensures, c.len-records.ensures.len, c.len-bytes.ensures.len, c.from-count.ensures,
-    fewer_entries rows records, ← c.self.view_is) done.moments
+    rw (
+      c.truncate_back-2.ensures,
+      c.truncate_back.ensures,
+      c.len-records.ensures.len,
+      c.len-bytes.ensures.len,
+      c.from-count.ensures,
+      fewer_entries rows records,
+      ← c.self.view_is,
+    ) done.moments

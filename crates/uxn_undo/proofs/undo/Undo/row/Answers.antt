@@ -22,7 +22,7 @@ returns c =
     let records = c.self.inside.records.items in
     let r = c.nth.result.now in
     let row = c.index-rows-from.result in
-    let there : r.slot < length rows = 
+    let there : r.slot < length rows =
     rw (← c.as_slice-rows.ensures.value, c.as_slice-rows.ensures.len) (slot_within (vec_len c.self.inside.rows) c.self.inside.next records
     (c.args.back - 1) r c.self.invariant.1.order c.nth.ensures) in
     let here : row ≡ slice_index_or rows r.slot row =
