@@ -7,18 +7,17 @@ use Rattle.std.proofs.lemmas.List.{take-take, drop-take, take_at, drop_at, take_
 use Rattle.std.proofs.lemmas.List.Sums.{sum_by-cons, sum_by_more, sum_by_more_le}
 use Rattle.std.proofs.lemmas.List.FromFn.{length-map-range_with_len}
 use Rattle.std.proofs.lemmas.Option.{get_or_from_slice_get, slice_get-get_or}
-use Rattle.uxn_undo.specs.declared.undo.Record.{Record}
 use Rattle.uxn_undo.specs.Spans.{covers, distance_to}
 use Rattle.uxn_undo.specs.Kept.{Kept, byte_count, byte_back}
 use Rattle.circular_buffer.specs.Buffer.{Buffer, buffer}
-use Rattle.uxn_undo.specs.Rings.{with_bytes, count_of, joined, AreRings}
+use Rattle.uxn_undo.specs.Rings.{Entry, with_bytes, count_of, joined, AreRings}
 
-pub length-joined : (records : List Record) (bytes : List ℕ) → length (joined records bytes) ≡ length records
+pub length-joined : (records : List Entry) (bytes : List ℕ) → length (joined records bytes) ≡ length records
 unfolding joined
 length-joined [] bytes = refl
 length-joined (newest ∷ older) bytes = ap suc (length-joined older (drop (count_of newest) bytes))
 
-pub counts-joined : (records : List Record) (bytes : List ℕ) → sum_by byte_count (joined records bytes) ≡ sum_by count_of records
+pub counts-joined : (records : List Entry) (bytes : List ℕ) → sum_by byte_count (joined records bytes) ≡ sum_by count_of records
 unfolding joined
 counts-joined [] bytes = refl
 counts-joined (newest ∷ older) bytes =
@@ -27,7 +26,7 @@ counts-joined (newest ∷ older) bytes =
     ∙ sym (sum_by-cons count_of newest older)
 
 -- one more record, with its bytes
-pub joined-push : (newest : Record) (older : List Record) (bytes others : List ℕ) → length bytes ≡ count_of newest
+pub joined-push : (newest : Entry) (older : List Entry) (bytes others : List ℕ) → length bytes ≡ count_of newest
     → joined (newest ∷ older) (bytes ++ others) ≡ with_bytes newest bytes ∷ joined older others
 unfolding joined
 joined-push newest older bytes others size =
@@ -35,7 +34,7 @@ joined-push newest older bytes others size =
     ∙ ap (λ (z : List ℕ). with_bytes newest bytes ∷ joined older z) (drop_at bytes others (count_of newest) size)
 
 -- the newest records, with their bytes
-joined-take : (n : ℕ) (records : List Record) (bytes : List ℕ)
+joined-take : (n : ℕ) (records : List Entry) (bytes : List ℕ)
     → joined (take n records) (take (sum_by count_of (take n records)) bytes) ≡ take n (joined records bytes)
 unfolding joined
 joined-take zero records bytes = refl
@@ -55,20 +54,20 @@ within (y ∷ ys) zero x is = omega arith
 within (y ∷ ys) (suc i) x is = let less : i < length ys = within ys i x is in omega arith
 
 -- where the last record ends
-last_ends : (records : List Record) (last : Record) (i : ℕ) → length records ≡ suc i → slice_get records i ≡ Some last
+last_ends : (records : List Entry) (last : Entry) (i : ℕ) → length records ≡ suc i → slice_get records i ≡ Some last
     → sum_by count_of (take i records) + count_of last ≡ sum_by count_of records
 last_ends records last i size is =
     let all : take (i + 1) records ≡ records = take_all (i + 1) records (omega arith) in
     let here : get_or records i last ≡ last = get_or_from_slice_get records i last last is in
     let more = sum_by_more count_of records i last (omega arith) in
-    sym (ap (λ (xs : List Record). sum_by count_of xs) (sym all) ∙ more ∙ ap (λ r. sum_by count_of (take i records) + count_of r) here)
+    sym (ap (λ (xs : List Entry). sum_by count_of xs) (sym all) ∙ more ∙ ap (λ r. sum_by count_of (take i records) + count_of r) here)
 
-pub record Forgotten (records : List Record) (bytes : List ℕ) (last : Record) : Type 0 where
+pub record Forgotten (records : List Entry) (bytes : List ℕ) (last : Entry) : Type 0 where
   pub moments : joined (take (length records - 1) records) (take (length bytes - count_of last) bytes) ≡ take (length (joined records bytes) - 1) (joined records bytes)
   pub filled : length (take (length bytes - count_of last) bytes) ≡ sum_by count_of (take (length records - 1) records)
   pub fits : count_of last ≤ length bytes
 
-pub forgotten : (records : List Record) (bytes : List ℕ) (last : Record) → length bytes ≡ sum_by count_of records
+pub forgotten : (records : List Entry) (bytes : List ℕ) (last : Entry) → length bytes ≡ sum_by count_of records
     → slice_get records (length records - 1) ≡ Some last → Forgotten records bytes last
 forgotten records bytes last filled is =
     let i = length records - 1 in
@@ -83,8 +82,8 @@ forgotten records bytes last filled is =
     }
 
 -- a part of a record that does not lie in its bytes
-pub at_joined : {X : Type 0} (f : Kept → X) (g : Record → X) → ((r : Record) (bytes : List ℕ) → f (with_bytes r bytes) ≡ g r)
-    → (records : List Record) (bytes : List ℕ) (i : ℕ) (r : Record) → slice_get records i ≡ Some r
+pub at_joined : {X : Type 0} (f : Kept → X) (g : Entry → X) → ((r : Entry) (bytes : List ℕ) → f (with_bytes r bytes) ≡ g r)
+    → (records : List Entry) (bytes : List ℕ) (i : ℕ) (r : Entry) → slice_get records i ≡ Some r
     → option_map f (slice_get (joined records bytes) i) ≡ Some (g r)
 unfolding joined
 at_joined f g same [] bytes i r is = cc
@@ -94,7 +93,7 @@ at_joined f g same (newest ∷ older) bytes zero r is =
 at_joined f g same (newest ∷ older) bytes (suc i) r is = at_joined f g same older (drop (count_of newest) bytes) i r is
 
 -- a byte that a record keeps
-kept_byte : (bytes : List ℕ) (r : Record) (begin at byte : ℕ) (is : Bool) → covers r.span at ≡ is
+kept_byte : (bytes : List ℕ) (r : Entry) (begin at byte : ℕ) (is : Bool) → covers r.span at ≡ is
     → cond is (slice_index (take (count_of r) (drop begin bytes)) (distance_to r.span at)) byte ≡ cond is (slice_index bytes (begin + distance_to r.span at)) byte
 kept_byte bytes r begin at byte false e = refl
 kept_byte bytes r begin at byte true e =
@@ -102,7 +101,7 @@ kept_byte bytes r begin at byte true e =
     get_or-take (count_of r) (drop begin bytes) (distance_to r.span at) 0 less ∙ get_or-drop begin bytes (distance_to r.span at) 0
 
 -- one moment further back
-pub next_back : (records : List Record) (bytes : List ℕ) (back i begin at byte next : ℕ) (r : Record) → i < back → slice_get records i ≡ Some r
+pub next_back : (records : List Entry) (bytes : List ℕ) (back i begin at byte next : ℕ) (r : Entry) → i < back → slice_get records i ≡ Some r
     → next ≡ cond (covers r.span at) (slice_index bytes (begin + distance_to r.span at)) byte
     → byte_back (take (back - i) (joined (drop i records) (drop begin bytes))) at byte
     ≡ byte_back (take (back - (i + 1)) (joined (drop (i + 1) records) (drop (begin + count_of r) bytes))) at next
@@ -119,16 +118,16 @@ next_back records bytes back i begin at byte next r less is found =
     ∙ ap (λ b. byte_back (take k (joined (drop (i + 1) records) (drop (begin + count_of r) bytes))) at b) same)
 
 -- what the two rings hold
-pub length-held : (records : List Record) (bytes : List ℕ) (held : List Kept) → joined records bytes ≡ held → length records ≡ length held
+pub length-held : (records : List Entry) (bytes : List ℕ) (held : List Kept) → joined records bytes ≡ held → length records ≡ length held
 length-held records bytes held is = sym (length-joined records bytes) ∙ ap (λ (z : List Kept). length z) is
 
-pub bytes-held : (records : Buffer Record) (bytes : Buffer ℕ) (held : List Kept) → joined records.items bytes.items ≡ held
+pub bytes-held : (records : Buffer Entry) (bytes : Buffer ℕ) (held : List Kept) → joined records.items bytes.items ≡ held
     → AreRings records bytes → sum_by byte_count held ≡ length bytes.items
 bytes-held records bytes held is rings =
     ap (λ (z : List Kept). sum_by byte_count z) (sym is) ∙ counts-joined records.items bytes.items ∙ sym rings.filled
 
 -- no moment is held
-pub forgotten-none : (records : List Record) (bytes : List ℕ) → slice_get records (length records - 1) ≡ None
+pub forgotten-none : (records : List Entry) (bytes : List ℕ) → slice_get records (length records - 1) ≡ None
     → joined records bytes ≡ take (length (joined records bytes) - 1) (joined records bytes)
 unfolding joined
 forgotten-none [] bytes none = refl
@@ -138,7 +137,7 @@ forgotten-none (r ∷ older) bytes none =
     let here : slice_get (r ∷ older) (length older) ≡ None = ap (λ i. slice_get (r ∷ older) i) (sym last) ∙ none in
     cc
 
-pub forgotten-rings : (records : Buffer Record) (bytes : Buffer ℕ) (last : Record) → AreRings records bytes
+pub forgotten-rings : (records : Buffer Entry) (bytes : Buffer ℕ) (last : Entry) → AreRings records bytes
     → slice_get records.items (length records.items - 1) ≡ Some last
     → AreRings (buffer (take (length records.items - 1) records.items) records.capacity)
     (buffer (take (length bytes.items - count_of last) bytes.items) bytes.capacity)
@@ -154,7 +153,7 @@ forgotten-rings records bytes last rings is =
       filled = done.filled;
     }
 
-in_span : (r : Record) (at distance : ℕ) (is : Bool) → covers r.span at ≡ is → Some distance ≡ cond is (Some (distance_to r.span at)) None
+in_span : (r : Entry) (at distance : ℕ) (is : Bool) → covers r.span at ≡ is → Some distance ≡ cond is (Some (distance_to r.span at)) None
     → (begin size : ℕ) → begin + count_of r ≤ size → begin + distance < size
 in_span r at distance false e found begin size fits = cc
 in_span r at distance true e found begin size fits =
@@ -163,7 +162,7 @@ in_span r at distance true e found begin size fits =
     omega arith
 
 -- a byte that a record keeps lies in the second ring
-pub in_bytes : (records : List Record) (bytes : List ℕ) (i begin at distance : ℕ) (r : Record) → length bytes ≡ sum_by count_of records
+pub in_bytes : (records : List Entry) (bytes : List ℕ) (i begin at distance : ℕ) (r : Entry) → length bytes ≡ sum_by count_of records
     → slice_get records i ≡ Some r → begin ≡ sum_by count_of (take i records)
     → Some distance ≡ cond (covers r.span at) (Some (distance_to r.span at)) None → begin + distance < length bytes
 in_bytes records bytes i begin at distance r filled is begins found =
@@ -179,7 +178,7 @@ found_in bytes begin distance far byte next false found is = cc
 found_in bytes begin distance far byte next true found is = let same : distance ≡ far = cc in rw (← same) is
 
 -- the byte that is found, or the one that is not
-pub found_byte : (bytes : List ℕ) (r : Record) (begin at distance byte next : ℕ) → Some distance ≡ cond (covers r.span at) (Some (distance_to r.span at)) None
+pub found_byte : (bytes : List ℕ) (r : Entry) (begin at distance byte next : ℕ) → Some distance ≡ cond (covers r.span at) (Some (distance_to r.span at)) None
     → next ≡ slice_index bytes (begin + distance) → next ≡ cond (covers r.span at) (slice_index bytes (begin + distance_to r.span at)) byte
 found_byte bytes r begin at distance byte next found is = found_in bytes begin distance (distance_to r.span at) byte next (covers r.span at) found is
 
@@ -187,11 +186,11 @@ none_in : (kept far byte next : ℕ) (is : Bool) → None ≡ cond is (Some far)
 none_in kept far byte next false none is = is
 none_in kept far byte next true none is = cc
 
-pub no_byte : (bytes : List ℕ) (r : Record) (begin at byte next : ℕ) → None ≡ cond (covers r.span at) (Some (distance_to r.span at)) None
+pub no_byte : (bytes : List ℕ) (r : Entry) (begin at byte next : ℕ) → None ≡ cond (covers r.span at) (Some (distance_to r.span at)) None
     → next ≡ byte → next ≡ cond (covers r.span at) (slice_index bytes (begin + distance_to r.span at)) byte
 no_byte bytes r begin at byte next none is = none_in (slice_index bytes (begin + distance_to r.span at)) (distance_to r.span at) byte next (covers r.span at) none is
 
-pub begins_next : (records : List Record) (i : ℕ) (r : Record) → slice_get records i ≡ Some r
+pub begins_next : (records : List Entry) (i : ℕ) (r : Entry) → slice_get records i ≡ Some r
     → sum_by count_of (take (i + 1) records) ≡ sum_by count_of (take i records) + count_of r
 begins_next records i r is =
     sum_by_more count_of records i r (within records i r is)

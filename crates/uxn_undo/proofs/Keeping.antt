@@ -5,10 +5,9 @@ use Rattle.std.proofs.lemmas.List.{length-take, length-append}
 use Rattle.std.proofs.lemmas.List.FromFn.{length-map-range_with_len}
 use Rattle.std.proofs.lemmas.List.Sums.{sum_by-cons}
 use Rattle.circular_buffer.specs.Buffer.{Buffer, buffer}
-use Rattle.uxn_undo.specs.declared.undo.Record.{Record}
 use Rattle.uxn_undo.specs.Spans.{bytes_at}
 use Rattle.uxn_undo.specs.Kept.{Kept, byte_count, most_moments, most_bytes, Holds}
-use Rattle.uxn_undo.specs.Rings.{with_bytes, count_of, joined, AreRings}
+use Rattle.uxn_undo.specs.Rings.{Entry, with_bytes, count_of, joined, AreRings}
 use Rattle.uxn_undo.specs.Room.{MakesRoom}
 use Rattle.uxn_undo.proofs.Joined.{length-held, bytes-held, joined-push}
 
@@ -36,12 +35,12 @@ room_taken before held kept room =
       newest = ap (λ (z : List Kept). kept ∷ z) room.newest;
     }
 
-pub record Keeps (records : Buffer Record) (bytes : Buffer ℕ) (before : List Kept) (r : Record) (kept : Kept) : Type 0 where
+pub record Keeps (records : Buffer Entry) (bytes : Buffer ℕ) (before : List Kept) (r : Entry) (kept : Kept) : Type 0 where
   pub room : length records.items < records.capacity
   pub rings : AreRings (buffer (r ∷ records.items) records.capacity) (buffer (kept.bytes ++ bytes.items) bytes.capacity)
   pub holds : Holds (kept ∷ before) (joined (r ∷ records.items) (kept.bytes ++ bytes.items))
 
-pub keeps : (records : Buffer Record) (bytes : Buffer ℕ) (before held : List Kept) (r : Record) (memory : List ℕ)
+pub keeps : (records : Buffer Entry) (bytes : Buffer ℕ) (before held : List Kept) (r : Entry) (memory : List ℕ)
     → joined records.items bytes.items ≡ held → AreRings records bytes → MakesRoom (count_of r) before held
     → Keeps records bytes before r (with_bytes r (bytes_at r.span memory))
 keeps records bytes before held r memory is rings room =

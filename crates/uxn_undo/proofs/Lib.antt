@@ -1,6 +1,7 @@
 pub mod Holding
 pub mod GoingBack
 pub mod Joined
+pub mod Slots
 pub mod Operations
 pub mod Keeping
 pub mod Misses

@@ -2,6 +2,7 @@ pub mod Spans
 pub mod Changes
 pub mod Kept
 pub mod Rings
+pub mod Slots
 pub mod Room
 pub mod Laws
 pub mod Row

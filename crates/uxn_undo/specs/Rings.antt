@@ -1,11 +1,20 @@
--- How the moments lie in two rings: records, and the bytes of bank 0 that they keep, both the newest first.
+-- How the moments lie in two rings: entries, and the bytes of bank 0 that they keep, both the newest first.
 use Rattle.std.specs.Prelude.{◌≡◌, ℕ, ◌≤◌, List, [], ◌∷◌, length, take, drop, sum_by}
 use Rattle.circular_buffer.specs.Buffer.{Buffer}
-use Rattle.uxn_undo.specs.declared.undo.Record.{Record}
+use Rattle.uxn_stacks.specs.Cells.{Cells}
+use Rattle.uxn_undo.specs.declared.span.Span.{Span}
 use Rattle.uxn_undo.specs.Kept.{Kept, most_moments, most_bytes}
 
--- a record with its bytes
-abbrev pub with_bytes : Record → List ℕ → Kept
+-- what is kept of a moment beside its bytes
+pub record Entry : Type 0 where
+  pub at : ℕ
+  pub working : Cells
+  pub returns : Cells
+  pub stored : List ℕ
+  pub span : Span
+
+-- an entry with its bytes
+abbrev pub with_bytes : Entry → List ℕ → Kept
 with_bytes entry bytes = record {
   at = entry.at;
   working = entry.working;
@@ -15,16 +24,16 @@ with_bytes entry bytes = record {
   bytes = bytes;
 }
 
-abbrev pub count_of : Record → ℕ
+abbrev pub count_of : Entry → ℕ
 count_of entry = entry.span.count
 
--- each record with as many bytes as it has addresses
-unfoldable pub joined : List Record → List ℕ → List Kept
+-- each entry with as many bytes as it has addresses
+unfoldable pub joined : List Entry → List ℕ → List Kept
 joined [] bytes = []
 joined (newest ∷ older) bytes = with_bytes newest (take (count_of newest) bytes) ∷ joined older (drop (count_of newest) bytes)
 
 -- the two rings hold the same moments
-pub record AreRings (records : Buffer Record) (bytes : Buffer ℕ) : Type 0 where
+pub record AreRings (records : Buffer Entry) (bytes : Buffer ℕ) : Type 0 where
   pub moments : records.capacity ≡ most_moments
   pub room : bytes.capacity ≡ most_bytes
   pub few : length records.items ≤ most_moments

@@ -2,6 +2,7 @@
 #![tactic(auto)]
 
 mod changes;
+mod row;
 mod rows;
 mod span;
 mod undo;

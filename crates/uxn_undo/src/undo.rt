@@ -33,9 +33,11 @@ ghost use Rattle.uxn_undo.specs.Kept.{
   most_moments,
 };
 ghost use Rattle.uxn_undo.specs.Room.{MakesRoom};
+ghost use Rattle.uxn_undo.specs.Slots.{row_in};
 ghost use Rattle.uxn_undo.specs.Laws.{GoingBackLaw, HoldingLaw};
 
 use crate::changes::span_of;
+use crate::row::{Row, put_row};
 use crate::span::Span;
 use circular_buffer::HeapCircularBuffer;
 use std::alloc::{AllocError, Global};
@@ -50,13 +52,12 @@ const MOMENTS: usize = 65_536;
 /// The most bytes of bank 0 that are kept.
 const BYTES: usize = 16_777_216;
 
-// What is kept of a moment beside the bytes of bank 0 that its instruction may change.
+// What is kept of a moment beside the bytes of bank 0 that its instruction may change. Its rings and stored bytes stand in a
+// slot.
 #[derive(Drop)]
 pub(crate) struct Record {
     at: u16,
-    working: Ring,
-    returns: Ring,
-    stored: [u8; 256],
+    slot: u16,
     span: Span,
 }
 
@@ -65,18 +66,23 @@ pub(crate) struct Record {
 pub struct Undo {
     records: HeapCircularBuffer<Record>,
     bytes: HeapCircularBuffer<u8>,
+    rows: Vec<Row>,
+    next: u16,
 }
 
 impl Model for Undo {
-    ghost use Rattle.std.specs.Prelude.{List};
+    ghost use Rattle.std.specs.Prelude.{List, map, vec_len, vec_capacity};
+    ghost use Rattle.circular_buffer.specs.Buffer.{buffer};
     ghost use Rattle.uxn_undo.specs.Kept.{Kept};
     ghost use Rattle.uxn_undo.specs.Rings.{joined, AreRings};
+    ghost use Rattle.uxn_undo.specs.Slots.{entry_in, AreSlots};
 
     ghost Value = { List Kept };
 
-    ghost view = { λ u. joined u.records.items u.bytes.items };
+    ghost view = { λ u. joined (map (entry_in u.rows.items) u.records.items) u.bytes.items };
 
-    ghost invariant = { λ u. AreRings u.records u.bytes };
+    ghost invariant = { λ u. AreRings (buffer (map (entry_in u.rows.items) u.records.items) u.records.capacity) u.bytes
+        × AreSlots (vec_len u.rows) (vec_capacity u.rows) u.next u.records.items };
 }
 
 impl Undo {
@@ -87,7 +93,13 @@ impl Undo {
     {
         let records = HeapCircularBuffer::with_capacity(alloc, MOMENTS)?;
         let bytes = HeapCircularBuffer::with_capacity(alloc, BYTES)?;
-        Ok(Undo { records, bytes })
+        let rows = Vec::with_capacity(alloc, MOMENTS)?;
+        Ok(Undo {
+            records,
+            bytes,
+            rows,
+            next: 0,
+        })
     }
 
     /// Keeps this moment, and drops the oldest ones for which there is no room any more.
@@ -98,17 +110,18 @@ impl Undo {
         let span = span_of(core, stored);
         self.make_room(usize::from(span.count));
         put_bytes(&mut self.bytes, &core.memory, span);
+        let slot = self.next;
+        put_row(&mut self.rows, slot, core, stored);
         let pushed = self.records.try_push_front(Record {
             at: core.at,
-            working: core.working,
-            returns: core.returns,
-            stored: *stored,
+            slot,
             span,
         });
         match pushed {
             Ok(()) => {}
             Err(_record) => unreachable!(),
         }
+        self.next = slot.wrapping_add(1);
     }
 
     /// How many moments are kept.
@@ -133,7 +146,7 @@ impl Undo {
         requires last { back ≤ length self.now }
         ensures { option_map (λ kept. kept.working) (slice_get self.now (back - 1)) ≡ Some result }
     {
-        nth(&self.records, back - 1).working
+        self.row(back).working
     }
 
     /// Its return ring.
@@ -142,7 +155,7 @@ impl Undo {
         requires last { back ≤ length self.now }
         ensures { option_map (λ kept. kept.returns) (slice_get self.now (back - 1)) ≡ Some result }
     {
-        nth(&self.records, back - 1).returns
+        self.row(back).returns
     }
 
     /// The byte that was stored in a port.
@@ -151,7 +164,7 @@ impl Undo {
         requires last { back ≤ length self.now }
         ensures { option_map (λ kept. slice_index kept.stored port) (slice_get self.now (back - 1)) ≡ Some result }
     {
-        nth(&self.records, back - 1).stored[usize::from(port)]
+        self.row(back).stored[usize::from(port)]
     }
 
     /// The byte of bank 0 at an address: what the oldest of the newest `back` moments keeps that keeps this address, or else the
@@ -171,6 +184,17 @@ impl Undo {
             begin += usize::from(span.count);
         }
         byte
+    }
+
+    // The row of the moment so many before.
+    fn row(&self, back: u32) -> &Row
+        requires first { 0 < back }
+        requires last { back ≤ length self.now }
+        ensures { option_map (λ kept. row_in kept) (slice_get self.now (back - 1)) ≡ Some result.now }
+    {
+        let slot = nth(&self.records, back - 1).slot;
+        let rows = self.rows.as_slice();
+        &rows[usize::from(slot)]
     }
 
     // Drops the oldest moments until there is room for one more that keeps so many bytes.

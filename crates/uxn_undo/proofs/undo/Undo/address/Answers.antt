@@ -1,11 +1,16 @@
 use Rattle.std.proofs.Common.{◌-◌, refl, arith}
-use Rattle.uxn_undo.proofs.Joined.{length-held, at_joined}
+use Rattle.std.specs.Prelude.{map}
+use Rattle.uxn_undo.specs.Slots.{entry_in}
+use Rattle.uxn_undo.proofs.Joined.{at_joined}
+use Rattle.uxn_undo.proofs.Slots.{length-records, entry_at}
 use Rattle.uxn_undo.proofs.undo.Undo.address.Goals as goal
 
 pub nth-requires : goal.nth-requires
-nth-requires c = omega (arith, length-held c.self.inside.records.items c.self.inside.bytes.items c.args.self.now c.self.view_is)
+nth-requires c = omega (arith, length-records c.self.inside.rows.items c.self.inside.records.items c.self.inside.bytes.items c.args.self.now c.self.view_is)
 
 pub returns : goal.returns
 returns c =
-    rw (← c.self.view_is) (at_joined (λ kept. kept.at) (λ r. r.at) (λ r bytes. refl) c.self.inside.records.items c.self.inside.bytes.items
-    (c.args.back - 1) c.nth.result.now c.nth.ensures)
+    let rows = c.self.inside.rows.items in
+    let records = c.self.inside.records.items in
+    rw (← c.self.view_is) (at_joined (λ kept. kept.at) (λ r. r.at) (λ r bytes. refl) (map (entry_in rows) records) c.self.inside.bytes.items
+    (c.args.back - 1) (entry_in rows c.nth.result.now) (entry_at rows records (c.args.back - 1) c.nth.result.now c.nth.ensures))

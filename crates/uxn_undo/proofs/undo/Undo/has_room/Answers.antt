@@ -1,20 +1,26 @@
 use Rattle.std.proofs.Common.{◌≡◌, length, sym, ◌∙◌, arith}
-use Rattle.std.specs.Prelude.{sum_by}
+use Rattle.std.specs.Prelude.{map, sum_by}
 use Rattle.std.proofs.lemmas.Bool.Decides.{nat_tests}
+use Rattle.circular_buffer.specs.Buffer.{buffer}
 use Rattle.uxn_undo.specs.Kept.{byte_count}
-use Rattle.uxn_undo.proofs.Joined.{length-held, bytes-held}
+use Rattle.uxn_undo.specs.Slots.{entry_in}
+use Rattle.uxn_undo.proofs.Joined.{bytes-held}
+use Rattle.uxn_undo.proofs.Slots.{length-records}
 use Rattle.uxn_undo.proofs.undo.Undo.has_room.Goals as goal
 
 pub returns-then-len-lt-MOMENTS : goal.returns-then-len-lt-MOMENTS
 returns-then-len-lt-MOMENTS c =
+    let rows = c.self.inside.rows.items in
+    let records = c.self.inside.records in
     let moments : length c.args.self.now ≡ c.len.result =
-    sym (length-held c.self.inside.records.items c.self.inside.bytes.items c.args.self.now c.self.view_is) ∙ sym c.len.ensures.len in
+    sym (length-records rows records.items c.self.inside.bytes.items c.args.self.now c.self.view_is) ∙ sym c.len.ensures.len in
     let bytes : sum_by byte_count c.args.self.now ≡ c.len-then-len-lt-MOMENTS.result =
-    bytes-held c.self.inside.records c.self.inside.bytes c.args.self.now c.self.view_is c.self.invariant ∙ sym c.len-then-len-lt-MOMENTS.ensures.len in
+    bytes-held (buffer (map (entry_in rows) records.items) records.capacity) c.self.inside.bytes c.args.self.now c.self.view_is c.self.invariant.0
+    ∙ sym c.len-then-len-lt-MOMENTS.ensures.len in
     rw (moments, bytes) (grind (arith, nat_tests))
 
 pub returns-else-len-lt-MOMENTS : goal.returns-else-len-lt-MOMENTS
 returns-else-len-lt-MOMENTS c =
     let moments : length c.args.self.now ≡ c.len.result =
-    sym (length-held c.self.inside.records.items c.self.inside.bytes.items c.args.self.now c.self.view_is) ∙ sym c.len.ensures.len in
+    sym (length-records c.self.inside.rows.items c.self.inside.records.items c.self.inside.bytes.items c.args.self.now c.self.view_is) ∙ sym c.len.ensures.len in
     rw moments (grind (arith, nat_tests))

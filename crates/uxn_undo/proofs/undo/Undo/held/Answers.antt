@@ -1,6 +1,12 @@
 use Rattle.std.proofs.Common.{sym, ◌∙◌}
+use Rattle.std.specs.Prelude.{map}
+use Rattle.std.proofs.lemmas.List.{length-map}
+use Rattle.uxn_undo.specs.Slots.{entry_in}
 use Rattle.uxn_undo.proofs.Joined.{length-joined}
 use Rattle.uxn_undo.proofs.undo.Undo.held.Goals as goal
 
 pub returns : goal.returns
-returns c = rw (← c.self.view_is) (c.len.ensures.len ∙ sym (length-joined c.self.inside.records.items c.self.inside.bytes.items))
+returns c =
+    let rows = c.self.inside.rows.items in
+    let records = c.self.inside.records.items in
+    rw (← c.self.view_is) (c.len.ensures.len ∙ sym (length-map records (entry_in rows)) ∙ sym (length-joined (map (entry_in rows) records) c.self.inside.bytes.items))

@@ -1,11 +1,7 @@
-use Rattle.std.proofs.Common.{◌-◌, refl, arith}
-use Rattle.uxn_undo.proofs.Joined.{length-held, at_joined}
+use Rattle.std.proofs.Common.{◌-◌}
+use Rattle.std.specs.Prelude.{slice_get}
+use Rattle.uxn_undo.proofs.Slots.{working_of}
 use Rattle.uxn_undo.proofs.undo.Undo.working.Goals as goal
 
-pub nth-requires : goal.nth-requires
-nth-requires c = omega (arith, length-held c.self.inside.records.items c.self.inside.bytes.items c.args.self.now c.self.view_is)
-
 pub returns : goal.returns
-returns c =
-    rw (← c.self.view_is) (at_joined (λ kept. kept.working) (λ r. r.working) (λ r bytes. refl) c.self.inside.records.items c.self.inside.bytes.items
-    (c.args.back - 1) c.nth.result.now c.nth.ensures)
+returns c = working_of (slice_get c.args.self.now (c.args.back - 1)) c.row.result.now c.row.ensures
