@@ -1,39 +1,32 @@
 -- Bytes laid over others.
-use Rattle.std.proofs.Common.{◌≡◌, ◌≢◌, ℕ, suc, ◌+◌, ◌-◌, ◌<◌, ◌≤◌, inl, inr, List, [], ◌∷◌, ◌++◌, length, get_or, refl, sym, ◌∙◌, ap, arith, get_or-set_other, get_or-set_same}
-use Rattle.std.specs.Prelude.{slice_set}
-use Rattle.std.proofs.lemmas.List.{length-set}
-use Rattle.std.proofs.lemmas.Bool.{cases_lt}
+use Rattle.std.proofs.Common.{◌≡◌, ◌≢◌, ℕ, Bool, suc, ◌+◌, ◌-◌, ◌<◌, ◌≤◌, List, [], ◌∷◌, ◌++◌, length, get_or, cond, refl, ◌∙◌, ap, arith}
+use Rattle.std.specs.Prelude.{slice_set, ◌&&◌, nat_le, nat_lt}
+use Rattle.std.proofs.lemmas.Bool.Decides.{nat_tests}
+use Rattle.std.proofs.lemmas.List.{length-set, get_or-set_other}
+use Rattle.std.proofs.lemmas.Grind.{get_or-set_at, get_or_head, get_or_tail}
 use Rattle.tal_rom.specs.Filling.{overlaid}
 
 pub length-overlaid : (memory : List ℕ) (at : ℕ) (bytes : List ℕ) → length (overlaid memory at bytes) ≡ length memory
 length-overlaid memory at [] = refl
 length-overlaid memory at (byte ∷ bytes) = length-overlaid (slice_set memory at byte) (at + 1) bytes ∙ length-set memory at byte
 
-pub overlaid-before : (memory : List ℕ) (at : ℕ) (bytes : List ℕ) (i : ℕ) → i < at → get_or (overlaid memory at bytes) i 0 ≡ get_or memory i 0
-overlaid-before memory at [] i h = refl
-overlaid-before memory at (byte ∷ bytes) i h =
-    overlaid-before (slice_set memory at byte) (at + 1) bytes i (omega arith) ∙ get_or-set_other memory at i byte 0 (λ same. omega arith)
+-- what is read at an index is a byte that was laid there, or what stood there
+abbrev inside : ℕ → ℕ → ℕ → Bool
+inside at count i = nat_le at i && nat_lt i (at + count)
 
-pub overlaid-behind : (memory : List ℕ) (at : ℕ) (bytes : List ℕ) (i : ℕ) → at + length bytes ≤ i → get_or (overlaid memory at bytes) i 0 ≡ get_or memory i 0
-overlaid-behind memory at [] i h = refl
-overlaid-behind memory at (byte ∷ bytes) i h =
-    overlaid-behind (slice_set memory at byte) (at + 1) bytes i (omega arith) ∙ get_or-set_other memory at i byte 0 (λ same. omega arith)
+step : (memory : List ℕ) (at : ℕ) (byte : ℕ) (bytes : List ℕ) (i : ℕ) → i < length memory
+    → cond (inside (at + 1) (length bytes) i) (get_or bytes (i - (at + 1)) 0) (get_or (slice_set memory at byte) i 0)
+    ≡ cond (inside at (suc (length bytes)) i) (get_or (byte ∷ bytes) (i - at) 0) (get_or memory i 0)
+step memory at byte bytes i within = grind (arith, nat_tests, get_or-set_at, get_or-set_other, get_or_head, get_or_tail)
 
-pub overlaid-inside : (memory : List ℕ) (at : ℕ) (bytes : List ℕ) (i : ℕ) → at ≤ i → i < at + length bytes → i < length memory
-    → get_or (overlaid memory at bytes) i 0 ≡ get_or bytes (i - at) 0
-overlaid-inside memory at [] i from to within = absurd (omega arith)
-overlaid-inside memory at (byte ∷ bytes) i from to within = elim (cases_lt at i) [
-  | inl later ↦ (
-      let same : get_or (byte ∷ bytes) (i - at) 0 ≡ get_or bytes (i - (at + 1)) 0 = ap (λ n. get_or (byte ∷ bytes) n 0) (let e : i - at ≡ suc (i - (at + 1)) = omega arith in e) in
-      overlaid-inside (slice_set memory at byte) (at + 1) bytes i (omega arith) (omega arith) (omega (arith, length-set memory at byte)) ∙ sym same)
-  | inr here ↦ (
-      let same : i ≡ at = omega arith in
-      let zero_off : i - at ≡ 0 = omega arith in
-      overlaid-before (slice_set memory at byte) (at + 1) bytes i (omega arith)
-      ∙ ap (λ n. get_or (slice_set memory at byte) n 0) same
-      ∙ get_or-set_same memory at byte 0 (omega arith)
-      ∙ sym (ap (λ n. get_or (byte ∷ bytes) n 0) zero_off))
-]
+none_inside : (at i : ℕ) (x y : ℕ) → y ≡ cond (inside at 0 i) x y
+none_inside at i x y = grind (arith, nat_tests)
+
+pub overlaid-read : (memory : List ℕ) (at : ℕ) (bytes : List ℕ) (i : ℕ) → i < length memory
+    → get_or (overlaid memory at bytes) i 0 ≡ cond (inside at (length bytes) i) (get_or bytes (i - at) 0) (get_or memory i 0)
+overlaid-read memory at [] i within = none_inside at i _ _
+overlaid-read memory at (byte ∷ bytes) i within =
+    overlaid-read (slice_set memory at byte) (at + 1) bytes i (omega (arith, length-set memory at byte)) ∙ step memory at byte bytes i within
 
 -- one byte more
 pub overlaid-push : (memory : List ℕ) (at : ℕ) (bytes : List ℕ) (byte : ℕ) → overlaid memory at (bytes ++ byte ∷ []) ≡ slice_set (overlaid memory at bytes) (at + length bytes) byte

@@ -7,7 +7,7 @@ use Rattle.tal_rom.proofs.Laying.{no_placed_word, nothing_laid_so, next_laid_so,
 use Rattle.tal_rom.proofs.rom.lay_out.Goals as goal
 
 pub loop-word-init : goal.loop-word-init
-loop-word-init c = nothing_laid_so _ _ _ _ _ c.new-rom.ensures.items refl
+loop-word-init c = nothing_laid_so _ _ _ _ _ (rw c.words-words.ensures c.requires) c.new-rom.ensures.items refl
 
 pub reference_kind-requires : goal.reference_kind-requires
 reference_kind-requires c =
