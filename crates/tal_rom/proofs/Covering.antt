@@ -21,6 +21,9 @@ covers-true address piece e = grind (arith, nat_tests)
 pub covers-past : (address : ℕ) (piece : Piece) → (0 < length piece.bytes → piece.address + length piece.bytes ≤ address) → covers address piece ≡ false
 covers-past address piece past = grind (arith, nat_tests)
 
+pub covers-before : (address : ℕ) (piece : Piece) → address < piece.address → covers address piece ≡ false
+covers-before address piece before = grind (arith, nat_tests)
+
 -- the byte at an address with one word more, which covers no address that one before it covers
 one_more : (address value : ℕ) (piece : Piece) (found : Option Piece) (covered : Bool) → value ≡ byte_of_piece address found → (covered ≡ true → found ≡ None)
     → cond covered (byte_of_piece address (Some piece)) value ≡ byte_of_piece address (option_or found (cond covered (Some piece) None))

@@ -1,15 +1,13 @@
 -- Where all words are added: what waits, what does not fit, and the ROM.
-use Rattle.std.proofs.Common.{◌≡◌, ℕ, suc, ◌+◌, Bool, true, false, not, ◌||◌, List, [], ◌∷◌, ◌++◌, length, map, Option, Some, None, cond, refl, sym, ◌∙◌, ap, arith}
+use Rattle.std.proofs.Common.{◌≡◌, ℕ, ◌+◌, Bool, true, false, not, ◌||◌, List, [], ◌∷◌, ◌++◌, length, map, Option, Some, None, cond, refl, ◌∙◌, ap, arith}
 use Rattle.std.specs.Prelude.{unwrap_or}
 use Rattle.std.specs.List.{filter, list_any, range_with_len}
-use Rattle.tal_words.specs.declared.fault.Fault.{Fault}
-use Rattle.tal_words.specs.declared.fault.FaultKind.{FaultKind}
 use Rattle.tal_words.specs.declared.fault.FaultKind.TheVariants.{TooFar}
 use Rattle.tal_words.specs.declared.name.Label.{Label}
 use Rattle.tal_words.specs.declared.span.Expanded.{Expanded}
 use Rattle.tal_words.specs.declared.form.Form.{Form}
 use Rattle.tal_words.specs.declared.form.Form.TheVariants.{Pad, Skip, Lit1, Lit2, Raw1, Raw2, Op, Text, LabelDef, SubDef, Refer, LambdaEnd, Ignored}
-use Rattle.tal_words.specs.Faults.{Judged, when, least, fault_or, phase_fault}
+use Rattle.tal_words.specs.Faults.{when, least, fault_or, phase_fault}
 use Rattle.tal_words.specs.Forms.{encoded, reaches}
 use Rattle.tal_words.specs.Order.{each}
 use Rattle.tal_words.specs.Source.{expanded_text}
@@ -20,7 +18,7 @@ use Rattle.tal_labels.specs.Placing.{placed_of}
 use Rattle.tal_rom.specs.References.{target_of, reference_kinds, judged_reference, reference_fault}
 use Rattle.tal_macros.specs.Expansion.{expanded_of}
 use Rattle.tal_rom.specs.Assembly.{layout, rom_of}
-use Rattle.tal_rom.specs.Rom.{byte_at, Piece, piece_given, pieces_of, rom_image, trimmed}
+use Rattle.tal_rom.specs.Rom.{byte_at, piece_given, pieces_of, rom_image, trimmed}
 use Rattle.tal_rom.specs.Patching.{Added, waits_by, waits, is_far_by, is_far, known_piece, added_given, added_of, waiting_count, all_fit, image_of}
 
 -- a word without a fault of its reference neither waits nor is far

@@ -1,5 +1,5 @@
 -- The ROM of words that are opcodes, bytes and shorts, one behind the other.
-use Rattle.std.proofs.Common.{◌≡◌, ℕ, ◌+◌, ◌-◌, ◌<◌, ◌≤◌, true, List, [], ◌∷◌, ◌++◌, length, map, Option, None, refl, ap, sym, subst, ◌∙◌, arith, append_assoc, append-nil, length-append}
+use Rattle.std.proofs.Common.{◌≡◌, ℕ, ◌+◌, ◌-◌, ◌≤◌, true, List, [], ◌∷◌, ◌++◌, length, map, Option, None, refl, ap, sym, subst, ◌∙◌, arith, append_assoc, append-nil, length-append}
 use Rattle.std.specs.Prelude.{unwrap_or}
 use Rattle.std.specs.List.{AllByRecursion}
 use Rattle.std.proofs.lemmas.List.{length-map}
@@ -8,27 +8,27 @@ use Rattle.tal_words.specs.declared.fault.FaultKind.{FaultKind}
 use Rattle.tal_words.specs.declared.form.Form.{Form}
 use Rattle.tal_words.specs.declared.form.Form.TheVariants.{Pad, Skip, Lit1, Lit2, Raw1, Raw2, Op, Text, LabelDef, SubDef, Refer, LambdaEnd, Ignored}
 use Rattle.tal_words.specs.declared.name.Label.{Label}
-use Rattle.tal_words.specs.Source.{word_text, expanded_text}
+use Rattle.tal_words.specs.Source.{expanded_text}
 use Rattle.tal_words.specs.Faults.{least, phase_fault, fault_or}
 use Rattle.tal_words.specs.Forms.{size, encoded}
 use Rattle.tal_words.specs.Comments.{source_limit}
 use Rattle.tal_words.specs.Order.{each, collected}
-use Rattle.tal_macros.specs.Expansion.{expanded_of, visit_limit}
+use Rattle.tal_macros.specs.Expansion.{expanded_of}
 use Rattle.tal_labels.specs.declared.placed.PlacedWord.{PlacedWord}
 use Rattle.tal_labels.specs.Places.{address_after}
 use Rattle.tal_labels.specs.Labels.{labels_of}
-use Rattle.tal_labels.specs.Placing.{lambda_address, placed_with, placed_given, placed_of, place_fault}
+use Rattle.tal_labels.specs.Placing.{lambda_address, placed_with, placed_given, placed_of}
 use Rattle.tal_rom.specs.References.{target_of, reference_kinds, judged_reference, reference_fault}
 use Rattle.tal_rom.specs.Rom.{Piece, byte_at, piece_given, pieces_of, rom_image, trimmed}
 use Rattle.tal_rom.specs.Answers.{filled}
 use Rattle.tal_rom.specs.Assembly.{layout, first_fault, rom_of}
 use Rattle.tal_rom.proofs.Covering.{IsLaid, next_laid, nothing_laid}
 use Rattle.tal_rom.proofs.Trimming.{trimmed-image}
-use Rattle.tal_words.specs.PlainTexts.{Item, AreItems, IsPlainWord, text_of_items, words_of_items}
+use Rattle.tal_words.specs.PlainTexts.{Item, AreItems, text_of_items, words_of_items}
 use Rattle.tal_words.proofs.PlainTexts.{words_are, no_word_fault, words_plain}
 use Rattle.tal_macros.proofs.PlainLemmas.{expanded_texts, no_expansion_fault}
 use Rattle.tal_labels.specs.PlainWords.{Coded, texts_of_coded, bytes_of_coded, pad_text, is_bare_form, StandsFor}
-use Rattle.tal_labels.proofs.PlainLemmas.{IsCoded, all_coded, no_more, Spells, spells_from, shaped, Reaches, reaches_more, reaches_pad, formed_pad, plain_faultless}
+use Rattle.tal_labels.proofs.PlainLemmas.{all_coded, no_more, Spells, spells_from, shaped, Reaches, reaches_more, reaches_pad, formed_pad, plain_faultless}
 use Rattle.tal_rom.specs.PlainWords.{AssemblesTo}
 
 -- no opcode, byte or short is a reference

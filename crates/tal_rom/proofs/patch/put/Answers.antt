@@ -3,7 +3,6 @@ use Rattle.std.specs.Prelude.{slice_set}
 use Rattle.std.specs.Global.{Vec}
 use Rattle.std.proofs.lemmas.List.{take_more, set_past}
 use Rattle.tal_rom.specs.Filling.{overlaid}
-use Rattle.tal_rom.proofs.Holding.{holds_more, closes_last}
 use Rattle.tal_rom.proofs.Overlay.{overlaid-push}
 use Rattle.tal_rom.proofs.patch.put.Goals.{then-index-len, else-index-len}
 use Rattle.tal_rom.proofs.patch.put.Goals as goal
