@@ -1,23 +1,21 @@
 -- The ROM of words that are opcodes, bytes and shorts, one behind the other.
-use Rattle.std.proofs.Common.{◌≡◌, ℕ, ◌+◌, ◌-◌, ◌≤◌, true, List, [], ◌∷◌, ◌++◌, length, map, Option, None, refl, ap, sym, subst, ◌∙◌, arith, append_assoc, append-nil, length-append}
-use Rattle.std.specs.Prelude.{unwrap_or}
+use Rattle.std.proofs.Common.{◌≡◌, ℕ, ◌+◌, ◌-◌, ◌≤◌, true, List, [], ◌∷◌, ◌++◌, length, map, Option, None, refl, ap, sym, ◌∙◌, arith, append_assoc, append-nil, length-append}
 use Rattle.std.specs.List.{AllByRecursion}
 use Rattle.std.proofs.lemmas.List.{length-map}
 use Rattle.tal_words.specs.declared.span.Expanded.{Expanded}
-use Rattle.tal_words.specs.declared.fault.FaultKind.{FaultKind}
 use Rattle.tal_words.specs.declared.form.Form.{Form}
-use Rattle.tal_words.specs.declared.form.Form.TheVariants.{Pad, Skip, Lit1, Lit2, Raw1, Raw2, Op, Text, LabelDef, SubDef, Refer, LambdaEnd, Ignored}
+use Rattle.tal_words.specs.declared.form.Form.TheVariants.{Pad, Refer}
 use Rattle.tal_words.specs.declared.name.Label.{Label}
 use Rattle.tal_words.specs.Source.{expanded_text}
-use Rattle.tal_words.specs.Faults.{least, phase_fault, fault_or}
-use Rattle.tal_words.specs.Forms.{size, encoded}
+use Rattle.tal_words.specs.Faults.{phase_fault}
+use Rattle.tal_words.specs.Forms.{size}
 use Rattle.tal_words.specs.Comments.{source_limit}
 use Rattle.tal_words.specs.Order.{each, collected}
 use Rattle.tal_macros.specs.Expansion.{expanded_of}
 use Rattle.tal_labels.specs.declared.placed.PlacedWord.{PlacedWord}
 use Rattle.tal_labels.specs.Places.{address_after}
 use Rattle.tal_labels.specs.Labels.{labels_of}
-use Rattle.tal_labels.specs.Placing.{lambda_address, placed_with, placed_given, placed_of}
+use Rattle.tal_labels.specs.Placing.{lambda_address, placed_given, placed_of}
 use Rattle.tal_rom.specs.References.{target_of, reference_kinds, judged_reference, reference_fault}
 use Rattle.tal_rom.specs.Rom.{Piece, byte_at, piece_given, pieces_of, rom_image, trimmed}
 use Rattle.tal_rom.specs.Answers.{filled}
@@ -33,19 +31,8 @@ use Rattle.tal_rom.specs.PlainWords.{AssemblesTo}
 
 -- no opcode, byte or short is a reference
 bare-no_reference : (shape : Form) (place : ℕ) (target : Option ℕ) → is_bare_form shape ≡ true → reference_kinds shape place target ≡ []
-bare-no_reference (Op n) place target bare = refl
-bare-no_reference (Raw1 n) place target bare = refl
-bare-no_reference (Raw2 n) place target bare = refl
-bare-no_reference (Pad n) place target bare = cc
-bare-no_reference (Skip n) place target bare = cc
-bare-no_reference (Lit1 n) place target bare = cc
-bare-no_reference (Lit2 n) place target bare = cc
-bare-no_reference Text place target bare = cc
-bare-no_reference LabelDef place target bare = cc
-bare-no_reference SubDef place target bare = cc
 bare-no_reference (Refer rune) place target bare = cc
-bare-no_reference LambdaEnd place target bare = cc
-bare-no_reference Ignored place target bare = cc
+bare-no_reference shape place target bare = refl
 
 -- the bytes of words, one behind the other, with so many before them
 abbrev pub pieces_from : ℕ → List Coded → List Piece
@@ -67,53 +54,35 @@ module _ (source : List ℕ) (labels : List Label) where
   pieces_are : (words : List Expanded) (coded : List Coded) (before : List Expanded) (behind : List PlacedWord) (count : ℕ) → Spells source words coded → Reaches source before count
       → each (piece_given source labels) behind (collected (placed_given source) before words) ≡ pieces_from count coded
   pieces_are [] [] before behind count spells reaches = refl
-  pieces_are [] (coded ∷ codeds) before behind count spells reaches = absurd spells
-  pieces_are (word ∷ words) [] before behind count spells reaches = absurd spells
   pieces_are (word ∷ words) (coded ∷ codeds) before behind count spells reaches =
-      let shape = spells.1.shape in
-      let placed = placed_as before word words shape in
-      let rest = collected (placed_given source) (before ++ word ∷ []) words in
-      let target = unwrap_or (target_of source labels behind placed) 0 in
-      let bytes : encoded shape (expanded_text source word) (address_after source before) target ≡ coded.bytes =
-      ap (λ (text : List ℕ). encoded shape text (address_after source before) target) spells.0 ∙ spells.1.encodes (address_after source before) target in
-      ap (λ f. each (piece_given source labels) behind (placed_with source before word words f ++ rest)) (shaped source word coded spells.0 spells.1)
-      ∙ ap (λ (bs : List ℕ). record { address = address_after source before; bytes = bs } ∷ each (piece_given source labels) (behind ++ placed ∷ []) rest) bytes
-      ∙ ap (λ (a : ℕ). record { address = a; bytes = coded.bytes } ∷ each (piece_given source labels) (behind ++ placed ∷ []) rest) reaches.address
-      ∙ ap (λ (pieces : List Piece). record { address = 256 + count; bytes = coded.bytes } ∷ pieces)
-      (pieces_are words codeds (before ++ word ∷ []) (behind ++ placed ∷ []) (count + length coded.bytes) spells.2 (reaches_more source before word coded count spells.0 spells.1 reaches))
+      let placed = placed_as before word words spells.1.shape in
+      let bytes : (piece_given source labels behind placed []).bytes ≡ coded.bytes = rw spells.0 (spells.1.encodes _ _) in
+      let rest = pieces_are words codeds (before ++ word ∷ []) (behind ++ placed ∷ []) (count + length coded.bytes) spells.2 (reaches_more source before word coded count spells.0 spells.1 reaches) in
+      rw (shaped source word coded spells.0 spells.1, bytes, rest, reaches.address) refl
+  pieces_are words coded before behind count spells reaches = absurd spells
 
   -- none of them is a reference
   no_references : (words : List Expanded) (coded : List Coded) (before : List Expanded) (behind : List PlacedWord) → Spells source words coded
       → phase_fault (each (judged_reference source labels) behind (collected (placed_given source) before words)) ≡ None
   no_references [] [] before behind spells = refl
-  no_references [] (coded ∷ codeds) before behind spells = absurd spells
-  no_references (word ∷ words) [] before behind spells = absurd spells
   no_references (word ∷ words) (coded ∷ codeds) before behind spells =
-      let shape = spells.1.shape in
-      let placed = placed_as before word words shape in
-      let rest = collected (placed_given source) (before ++ word ∷ []) words in
-      ap (λ f. phase_fault (each (judged_reference source labels) behind (placed_with source before word words f ++ rest))) (shaped source word coded spells.0 spells.1)
-      ∙ ap (λ (kinds : List FaultKind). fault_or word.origin (least kinds) (phase_fault (each (judged_reference source labels) (behind ++ placed ∷ []) rest)))
-      (bare-no_reference shape (address_after source before) (target_of source labels behind placed) spells.1.bare)
-      ∙ no_references words codeds (before ++ word ∷ []) (behind ++ placed ∷ []) spells.2
+      let placed = placed_as before word words spells.1.shape in
+      rw (shaped source word coded spells.0 spells.1, bare-no_reference spells.1.shape (address_after source before) (target_of source labels behind placed) spells.1.bare)
+      (no_references words codeds (before ++ word ∷ []) (behind ++ placed ∷ []) spells.2)
+  no_references words coded before behind spells = absurd spells
 
   module _ (first : Expanded) (words : List Expanded) (coded : List Coded) (padded : expanded_text source first ≡ pad_text) (spells : Spells source words coded) where
     pieces_padded : pieces_of source labels (placed_of source (first ∷ words)) ≡ record { address = 256; bytes = [] } ∷ pieces_from 0 coded
     unfolding pieces_of placed_of address_after
     pieces_padded =
-        let placed = placed_as [] first words (Pad 256) in
-        let rest = collected (placed_given source) (first ∷ []) words in
-        ap (λ f. each (piece_given source labels) [] (placed_with source [] first words f ++ rest)) (formed_pad source first words coded padded spells)
-        ∙ ap (λ (pieces : List Piece). record { address = 256; bytes = [] } ∷ pieces)
-        (pieces_are words coded (first ∷ []) (placed ∷ []) 0 spells (reaches_pad source first words coded padded spells))
+        rw (
+          formed_pad source first words coded padded spells,
+          pieces_are words coded (first ∷ []) (placed_as [] first words (Pad 256) ∷ []) 0 spells (reaches_pad source first words coded padded spells),
+        ) refl
 
     no_reference_fault : reference_fault source labels (placed_of source (first ∷ words)) ≡ None
     unfolding reference_fault placed_of
-    no_reference_fault =
-        let placed = placed_as [] first words (Pad 256) in
-        let rest = collected (placed_given source) (first ∷ []) words in
-        ap (λ f. phase_fault (each (judged_reference source labels) [] (placed_with source [] first words f ++ rest))) (formed_pad source first words coded padded spells)
-        ∙ no_references words coded (first ∷ []) (placed ∷ []) spells
+    no_reference_fault = rw (formed_pad source first words coded padded spells) (no_references words coded (first ∷ []) (placed_as [] first words (Pad 256) ∷ []) spells)
 
 -- bytes behind those so far leave no gap
 filled_next : (rom bytes : List ℕ) → filled rom (256 + length rom) bytes ≡ rom ++ bytes
@@ -130,15 +99,9 @@ laid_from (coded ∷ codeds) pieces rom laid within =
     let piece : Piece = record { address = 256 + length rom; bytes = coded.bytes } in
     let total = length-append coded.bytes (bytes_of_coded codeds) in
     let size : length (rom ++ coded.bytes) ≡ length rom + length coded.bytes = length-append rom coded.bytes in
-    let next = next_laid pieces rom (256 + length rom) coded.bytes laid (λ some. omega arith) (λ some. omega (arith, total)) in
-    let P : List ℕ → Type 0 = λ bytes. IsLaid (pieces ++ piece ∷ []) bytes in
-    let here : IsLaid (pieces ++ piece ∷ []) (rom ++ coded.bytes) = subst P (filled_next rom coded.bytes) next in
-    let all = laid_from codeds (pieces ++ piece ∷ []) (rom ++ coded.bytes) here (omega (arith, size, total)) in
-    let Q : ℕ → Type 0 = λ count. IsLaid ((pieces ++ piece ∷ []) ++ pieces_from count codeds) ((rom ++ coded.bytes) ++ bytes_of_coded codeds) in
-    let counted = subst Q size all in
-    let R : List Piece → Type 0 = λ ps. IsLaid ps ((rom ++ coded.bytes) ++ bytes_of_coded codeds) in
-    let S : List ℕ → Type 0 = λ bs. IsLaid (pieces ++ piece ∷ pieces_from (length rom + length coded.bytes) codeds) bs in
-    subst S (append_assoc rom coded.bytes (bytes_of_coded codeds)) (subst R (append_assoc pieces (piece ∷ []) (pieces_from (length rom + length coded.bytes) codeds)) counted)
+    let next = rw (filled_next rom coded.bytes) at (next_laid pieces rom (256 + length rom) coded.bytes laid (λ some. omega arith) (λ some. omega (arith, total))) in
+    rw (← append_assoc rom coded.bytes (bytes_of_coded codeds), ← size, ← append_assoc pieces (piece ∷ []) (pieces_from (length (rom ++ coded.bytes)) codeds))
+    (laid_from codeds (pieces ++ piece ∷ []) (rom ++ coded.bytes) next (omega (arith, size, total)))
 
 image_is : (coded : List Coded) → length (bytes_of_coded coded) ≤ 65280 → rom_image (record { address = 256; bytes = [] } ∷ pieces_from 0 coded) ≡ trimmed (bytes_of_coded coded)
 unfolding rom_image

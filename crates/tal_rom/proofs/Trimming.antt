@@ -6,24 +6,15 @@ use Rattle.std.specs.List.{range_with_len}
 use Rattle.tal_rom.specs.Rom.{trimmed, before_trimmed}
 
 -- lists that read the same, with zeros past their ends, are the same without the zeros at their ends
-pub trimmed-same : (xs ys : List ℕ) → ((i : ℕ) → get_or xs i 0 ≡ get_or ys i 0) → trimmed xs ≡ trimmed ys
+trimmed-same : (xs ys : List ℕ) → ((i : ℕ) → get_or xs i 0 ≡ get_or ys i 0) → trimmed xs ≡ trimmed ys
 unfolding trimmed
 trimmed-same [] [] h = refl
-trimmed-same [] (y ∷ ys) h =
-    let zero_here : y ≡ 0 = sym (h 0) in
-    let rest : trimmed ys ≡ [] = sym (trimmed-same [] ys (λ i. h (suc i))) in
-    rw (zero_here, rest) refl
-trimmed-same (x ∷ xs) [] h =
-    let zero_here : x ≡ 0 = h 0 in
-    let rest : trimmed xs ≡ [] = trimmed-same xs [] (λ i. h (suc i)) in
-    rw (zero_here, rest) refl
-trimmed-same (x ∷ xs) (y ∷ ys) h =
-    let here : x ≡ y = h 0 in
-    let rest : trimmed xs ≡ trimmed ys = trimmed-same xs ys (λ i. h (suc i)) in
-    rw (here, rest) refl
+trimmed-same [] (y ∷ ys) h = rw (← h 0, ← trimmed-same [] ys (λ i. h (suc i))) refl
+trimmed-same (x ∷ xs) [] h = rw (h 0, trimmed-same xs [] (λ i. h (suc i))) refl
+trimmed-same (x ∷ xs) (y ∷ ys) h = rw (h 0, trimmed-same xs ys (λ i. h (suc i))) refl
 
 -- a list whose last byte is not 0 is as it was
-pub trimmed-full : (xs : List ℕ) → (0 < length xs → get_or xs (length xs - 1) 0 ≢ 0) → trimmed xs ≡ xs
+trimmed-full : (xs : List ℕ) → (0 < length xs → get_or xs (length xs - 1) 0 ≢ 0) → trimmed xs ≡ xs
 unfolding trimmed
 trimmed-full [] h = refl
 trimmed-full (x ∷ []) h = rw (ne_eqb x 0 (h (omega arith))) refl
@@ -32,13 +23,7 @@ trimmed-full (x ∷ y ∷ ys) h =
     ap (before_trimmed x) (trimmed-full (y ∷ ys) (λ _ zero_last. h (omega arith) (ap (λ k. get_or (x ∷ y ∷ ys) k 0) last ∙ zero_last)))
 
 read_past : (xs : List ℕ) (n i : ℕ) → ((k : ℕ) → n ≤ k → k < length xs → get_or xs k 0 ≡ 0) → get_or (take n xs) i 0 ≡ get_or xs i 0
-read_past xs n i zeros = elim (cases_lt i n) [
-  | inl within ↦ get_or-take n xs i 0 within
-  | inr past ↦ get_or_past (take n xs) i 0 (omega (arith, length-take n xs)) ∙ sym (elim (cases_lt i (length xs)) [
-    | inl inside ↦ zeros i past inside
-    | inr outside ↦ get_or_past xs i 0 outside
-  ])
-]
+read_past xs n i zeros = grind (arith, get_or-take, get_or_past, length-take, zeros i)
 
 -- up to the last byte that is not 0
 pub trimmed-take : (xs : List ℕ) (n : ℕ) → n ≤ length xs → ((k : ℕ) → n ≤ k → k < length xs → get_or xs k 0 ≡ 0) → (0 < n → get_or xs (n - 1) 0 ≢ 0) → take n xs ≡ trimmed xs
