@@ -23,7 +23,7 @@ use Rattle.tal_rom.specs.Rom.{byte_at}
 use Rattle.tal_rom.specs.Filling.{overlaid, filled_hole}
 use Rattle.tal_rom.specs.Patching.{Added, waits, is_far, known_piece}
 use Rattle.tal_rom.specs.Patchers.{Entry, Holds, ComesNext, added_by, holes_by, name_hole, brace_hole, span_of, span_of_entry, AreAscending, closed_or, closed_last}
-use Rattle.tal_rom.proofs.Overlay.{length-overlaid}
+use Rattle.tal_rom.proofs.Moving.{length-overlaid}
 use Rattle.tal_rom.proofs.Moving.{Move, Stays, Fills, word_before, word_after, hole_in, holes_in, fewer_wait, fit_too, filled_read, ascending_push, pushed_read}
 
 spans_of : (labels : List Label) (entries : List Entry) → map span_of (map (added_by labels) entries) ≡ map span_of_entry entries

@@ -3,7 +3,6 @@ pub mod Covering
 pub mod Laying
 pub mod AssemblyLemmas
 pub mod PlainLemmas
-pub mod Overlay
 pub mod Moving
 pub mod Holding
 pub mod WordLemmas

@@ -1,8 +1,12 @@
--- References that get their target, among words of which the others stay as they are.
-use Rattle.std.proofs.Common.{◌≡◌, ℕ, ◌+◌, ◌<◌, ◌≤◌, Bool, true, false, not, ◌&&◌, ◌||◌, List, [], ◌∷◌, ◌++◌, length, get_or, map, Option, Some, None, cond, find, refl, ◌∙◌, ap, arith}
-use Rattle.std.specs.Prelude.{fold}
+-- Bytes that are laid over others in memory, and references that get their target among words that stay as they are.
+use Rattle.std.proofs.Common.{◌≡◌, ◌≢◌, ℕ, suc, ◌+◌, ◌-◌, ◌<◌, ◌≤◌, Bool, true, false, not, ◌&&◌, ◌||◌, List, [], ◌∷◌, ◌++◌, length, get_or, map}
+use Rattle.std.proofs.Common.{Option, Some, None, cond, find, refl, ◌∙◌, ap, arith}
+use Rattle.std.specs.Prelude.{slice_set, fold}
 use Rattle.std.specs.List.{AllByRecursion, filter, flat_map, list_any, list_all}
-use Rattle.std.proofs.lemmas.List.{map-append}
+use Rattle.std.proofs.lemmas.Bool.Decides.{nat_tests}
+use Rattle.std.proofs.lemmas.List.{map-append, length-set, get_or-set_other}
+use Rattle.std.proofs.lemmas.Grind.{get_or-set_at, get_or_head, get_or_tail}
+use Rattle.tal_words.specs.declared.form.Form.{Form}
 use Rattle.tal_words.specs.declared.form.Form.TheVariants.{Refer}
 use Rattle.tal_words.specs.declared.form.Rune.{Rune}
 use Rattle.tal_words.specs.Forms.{size, reaches}
@@ -15,7 +19,36 @@ use Rattle.tal_rom.specs.Patching.{Added, waits, is_far, known_piece}
 use Rattle.tal_rom.specs.Patchers.{span_of, IsAbove, IsBelow, AreAscending}
 use Rattle.tal_rom.proofs.Covering.{covers-true, covers-past, covers-before, byte_more}
 use Rattle.tal_rom.proofs.Laying.{some_bytes}
-use Rattle.tal_rom.proofs.Overlay.{length-overlaid, overlaid-read}
+
+pub length-overlaid : (memory : List ℕ) (at : ℕ) (bytes : List ℕ) → length (overlaid memory at bytes) ≡ length memory
+length-overlaid memory at [] = refl
+length-overlaid memory at (byte ∷ bytes) = length-overlaid (slice_set memory at byte) (at + 1) bytes ∙ length-set memory at byte
+
+-- what is read at an index is a byte that was laid there, or what stood there
+abbrev read_over : List ℕ → Piece → ℕ → ℕ
+read_over memory piece i = cond (covers i piece) (byte_of_piece i (Some piece)) (get_or memory i 0)
+
+none_over : (memory : List ℕ) (at i : ℕ) → get_or memory i 0 ≡ read_over memory (record { address = at; bytes = [] }) i
+none_over memory at i = grind (arith, nat_tests)
+
+more_over : (memory : List ℕ) (at byte : ℕ) (bytes : List ℕ) (i : ℕ) → i < length memory
+    → read_over (slice_set memory at byte) (record { address = at + 1; bytes = bytes }) i ≡ read_over memory (record { address = at; bytes = byte ∷ bytes }) i
+more_over memory at byte bytes i within = grind (arith, nat_tests, get_or-set_at, get_or-set_other, get_or_head, get_or_tail)
+
+overlaid-read : (memory : List ℕ) (piece : Piece) (i : ℕ) → i < length memory → get_or (overlaid memory piece.address piece.bytes) i 0 ≡ read_over memory piece i
+overlaid-read memory piece i within = by memory piece.address piece.bytes within
+  where
+    by : (memory : List ℕ) (at : ℕ) (bytes : List ℕ) → i < length memory → get_or (overlaid memory at bytes) i 0 ≡ read_over memory (record { address = at; bytes = bytes }) i
+    by memory at [] within = none_over memory at i
+    by memory at (byte ∷ bytes) within = by (slice_set memory at byte) (at + 1) bytes (omega (arith, length-set memory at byte)) ∙ more_over memory at byte bytes i within
+
+-- one byte more
+pub overlaid-push : (memory : List ℕ) (at : ℕ) (bytes : List ℕ) (byte : ℕ)
+    → overlaid memory at (bytes ++ byte ∷ []) ≡ slice_set (overlaid memory at bytes) (at + length bytes) byte
+overlaid-push memory at [] byte = (let here : at + 0 ≡ at = omega arith in rw here refl)
+overlaid-push memory at (first ∷ bytes) byte =
+    let next : at + 1 + length bytes ≡ at + length (first ∷ bytes) = omega arith in
+    rw (overlaid-push (slice_set memory at first) (at + 1) bytes byte, next) refl
 
 -- a word that stays as it is, or a reference that gets its target
 pub data Move : Type 0 where
@@ -40,18 +73,8 @@ hole_in (Fills rune text address) = record { rune = rune; address = address } �
 abbrev pub holes_in : List Move → List Hole
 holes_in moves = flat_map hole_in moves
 
--- fewer words wait
-pub fewer_wait : (target : ℕ) (moves : List Move) → length (filter waits (map word_before moves)) ≡ length (filter waits (map (word_after target) moves)) + length (holes_in moves)
-fewer_wait target [] = refl
-fewer_wait target (Stays word ∷ moves) = grind (arith, fewer_wait target moves)
-fewer_wait target (Fills rune text address ∷ moves) = omega (arith, fewer_wait target moves)
-
--- and those that got their target have to fit
-pub fit_too : (target : ℕ) (moves : List Move)
-    → not (list_any is_far (map (word_after target) moves)) ≡ (not (list_any is_far (map word_before moves)) && list_all (λ hole. reaches hole.rune hole.address target) (holes_in moves))
-fit_too target [] = refl
-fit_too target (Stays word ∷ moves) = grind (arith, fit_too target moves)
-fit_too target (Fills rune text address ∷ moves) = grind (arith, fit_too target moves)
+abbrev pub spans_in : List Move → List (ℕ × ℕ)
+spans_in moves = map span_of (map word_before moves)
 
 -- memory at an address, by the bytes that are known
 abbrev pub read_at : List Added → ℕ → ℕ
@@ -63,67 +86,78 @@ short_piece word = by (waits word || is_far word) _ (length-encoded word.form wo
     by : (b : Bool) (bytes : List ℕ) → length bytes ≡ size word.form word.text → length (cond b [] bytes) ≤ size word.form word.text
     by b bytes e = grind arith
 
--- the bytes that are put into a hole are those of the reference with its target
-pub hole_filled : (target : ℕ) (rune : Rune) (text : List ℕ) (address : ℕ) (memory : List ℕ)
-    → filled_hole target memory (record { rune = rune; address = address }) ≡ overlaid memory address (known_piece (reference rune text address (Some target))).bytes
-hole_filled target rune text address memory = grind arith
+module _ (target : ℕ) where
+  -- fewer words wait, and those that got their target have to fit
+  pub fewer_wait : (moves : List Move) → length (filter waits (map word_before moves)) ≡ length (filter waits (map (word_after target) moves)) + length (holes_in moves)
+  fewer_wait [] = refl
+  fewer_wait (Stays word ∷ moves) = grind (arith, fewer_wait moves)
+  fewer_wait (Fills rune text address ∷ moves) = omega (arith, fewer_wait moves)
 
-leaves_holes : (target at : ℕ) (holes : List Hole) (memory : List ℕ) → at < length memory → AllByRecursion (λ hole. at < hole.address) holes
-    → get_or (fold (filled_hole target) memory holes) at 0 ≡ get_or memory at 0
-leaves_holes target at [] memory within h = refl
-leaves_holes target at (hole ∷ holes) memory within h =
-    let piece : Piece = known_piece (reference hole.rune [] hole.address (Some target)) in
-    let none : covers at piece ≡ false = covers-before at piece h.0 in
-    rw (hole_filled target hole.rune [] hole.address memory)
-    (leaves_holes target at holes (overlaid memory hole.address piece.bytes) (omega (arith, within, length-overlaid memory hole.address piece.bytes)) h.1
-    ∙ overlaid-read memory hole.address piece.bytes at within ∙ rw none refl)
+  pub fit_too : (moves : List Move) → not (list_any is_far (map (word_after target) moves))
+      ≡ (not (list_any is_far (map word_before moves)) && list_all (λ hole. reaches hole.rune hole.address target) (holes_in moves))
+  fit_too [] = refl
+  fit_too (Stays word ∷ moves) = grind (arith, fit_too moves)
+  fit_too (Fills rune text address ∷ moves) = grind (arith, fit_too moves)
 
-holes_above : (at low : ℕ) (moves : List Move) → at < low → AllByRecursion (IsAbove low) (map span_of (map word_before moves)) → AllByRecursion (λ hole. at < hole.address) (holes_in moves)
-holes_above at low [] h above = tt
-holes_above at low (Stays word ∷ moves) h above = holes_above at low moves h above.1
-holes_above at low (Fills rune text address ∷ moves) h above = (omega (arith, above.0 (some_bytes rune)), holes_above at low moves h above.1)
+  -- the bytes that are put into a hole are those of the reference with its target
+  pub hole_filled : (rune : Rune) (text : List ℕ) (address : ℕ) (memory : List ℕ)
+      → filled_hole target memory (record { rune = rune; address = address })
+      ≡ overlaid memory address (known_piece (reference rune text address (Some target))).bytes
+  hole_filled rune text address memory = grind arith
 
--- memory at an address once the holes are filled: by the first word, which covers the address, or by the others
-module _ (target at : ℕ) (moves : List Move) (word : Added)
-    (above : 0 < size word.form word.text → AllByRecursion (IsAbove (word.address + size word.form word.text)) (map span_of (map word_before moves))) where
-  abbrev filled : List ℕ → ℕ
-  filled memory = get_or (fold (filled_hole target) memory (holes_in moves)) at 0
+  -- memory at an address once the holes are filled
+  abbrev filled : List Move → List ℕ → ℕ → ℕ
+  filled moves memory at = get_or (fold (filled_hole target) memory (holes_in moves)) at 0
 
-  here_filled : (memory : List ℕ) → at < length memory → covers at (known_piece word) ≡ true → filled memory ≡ get_or memory at 0
-  here_filled memory within c =
-      let bounds = covers-true at (known_piece word) c in
-      let short = short_piece word in
-      leaves_holes target at (holes_in moves) memory within (holes_above at (word.address + size word.form word.text) moves (omega arith) (above (omega arith)))
+  module _ (at : ℕ) where
+    -- words above it leave it
+    stays_filled : (low : ℕ) (moves : List Move) (memory : List ℕ) → at < low → at < length memory → AllByRecursion (IsAbove low) (spans_in moves) → filled moves memory at ≡ get_or memory at 0
+    stays_filled low [] memory below within above = refl
+    stays_filled low (Stays word ∷ moves) memory below within above = stays_filled low moves memory below within above.1
+    stays_filled low (Fills rune text address ∷ moves) memory below within above =
+        let piece : Piece = known_piece (reference rune text address (Some target)) in
+        let none = covers-before at piece (omega (arith, above.0 (some_bytes rune))) in
+        rw (hole_filled rune text address memory)
+        (stays_filled low moves (overlaid memory address piece.bytes) below (omega (arith, within, length-overlaid memory address piece.bytes)) above.1
+        ∙ overlaid-read memory piece at within ∙ rw none refl)
 
-  first_filled : (memory : List ℕ) (covered : Bool) → at < length memory → covers at (known_piece word) ≡ covered
-      → (get_or memory at 0 ≡ read_at (map word_before moves) at → filled memory ≡ read_at (map (word_after target) moves) at)
-      → get_or memory at 0 ≡ cond covered (byte_of_piece at (Some (known_piece word))) (read_at (map word_before moves) at)
-      → filled memory ≡ byte_of_piece at (cond covered (Some (known_piece word)) (find (covers at) (map known_piece (map (word_after target) moves))))
-  first_filled memory true within c later e = here_filled memory within c ∙ e
-  first_filled memory false within c later e = later e
+    -- it is read from the first word, which covers it, or from the others
+    first_filled : (moves : List Move) (word : Added) (memory : List ℕ) (covered : Bool)
+        → (0 < size word.form word.text → AllByRecursion (IsAbove (word.address + size word.form word.text)) (spans_in moves))
+        → at < length memory → covers at (known_piece word) ≡ covered
+        → (get_or memory at 0 ≡ read_at (map word_before moves) at → filled moves memory at ≡ read_at (map (word_after target) moves) at)
+        → get_or memory at 0 ≡ cond covered (byte_of_piece at (Some (known_piece word))) (read_at (map word_before moves) at)
+        → filled moves memory at ≡ byte_of_piece at (cond covered (Some (known_piece word)) (find (covers at) (map known_piece (map (word_after target) moves))))
+    first_filled moves word memory true above within c later e =
+        let bounds = covers-true at (known_piece word) c in
+        let short = short_piece word in
+        stays_filled (word.address + size word.form word.text) moves memory (omega arith) within (above (omega arith)) ∙ e
+    first_filled moves word memory false above within c later e = later e
 
-pub filled_read : (target at : ℕ) (moves : List Move) (memory : List ℕ) → AreAscending (map span_of (map word_before moves)) → at < length memory
-    → get_or memory at 0 ≡ read_at (map word_before moves) at → get_or (fold (filled_hole target) memory (holes_in moves)) at 0 ≡ read_at (map (word_after target) moves) at
-filled_read target at [] memory above within e = e
-filled_read target at (Stays word ∷ moves) memory above within e =
-    first_filled target at moves word above.0 memory (covers at (known_piece word)) within refl (filled_read target at moves memory above.1 within) (e ∙ pushed (covers at (known_piece word)) _ _)
-  where
-    pushed : (b : Bool) (piece : Piece) (o : Option Piece) → byte_of_piece at (cond b (Some piece) o) ≡ cond b (byte_of_piece at (Some piece)) (byte_of_piece at o)
-    pushed b piece o = grind arith
-filled_read target at (Fills rune text address ∷ moves) memory above within e =
-    let word : Added = reference rune text address (Some target) in
-    let bytes = (known_piece word).bytes in
-    let long : at < length (overlaid memory address bytes) = omega (arith, within, length-overlaid memory address bytes) in
-    let none = covers-past at (record { address = address; bytes = [] }) (λ some. omega arith) in
-    rw (hole_filled target rune text address memory)
-    (first_filled target at moves word above.0 (overlaid memory address bytes) (covers at (known_piece word)) long refl (filled_read target at moves (overlaid memory address bytes) above.1 long)
-    (overlaid-read memory address bytes at within ∙ ap (cond (covers at (known_piece word)) (byte_of_piece at (Some (known_piece word)))) (rw none at e)))
+    first_or : (piece : Piece) (covered : Bool) (others : Option Piece)
+        → byte_of_piece at (cond covered (Some piece) others) ≡ cond covered (byte_of_piece at (Some piece)) (byte_of_piece at others)
+    first_or piece covered others = grind arith
+
+    pub filled_read : (moves : List Move) (memory : List ℕ) → AreAscending (spans_in moves) → at < length memory
+        → get_or memory at 0 ≡ read_at (map word_before moves) at → filled moves memory at ≡ read_at (map (word_after target) moves) at
+    filled_read [] memory above within e = e
+    filled_read (Stays word ∷ moves) memory above within e =
+        first_filled moves word memory _ above.0 within refl (filled_read moves memory above.1 within) (e ∙ first_or (known_piece word) (covers at (known_piece word)) _)
+    filled_read (Fills rune text address ∷ moves) memory above within e =
+        let word : Added = reference rune text address (Some target) in
+        let more : List ℕ = overlaid memory address (known_piece word).bytes in
+        let long : at < length more = omega (arith, within, length-overlaid memory address (known_piece word).bytes) in
+        let none = covers-past at (record { address = address; bytes = [] }) (λ some. omega arith) in
+        rw (hole_filled rune text address memory)
+        (first_filled moves word more _ above.0 long refl (filled_read moves more above.1 long) (rw (overlaid-read memory (known_piece word) at within, rw none at e) refl))
 
 -- one word more behind the others
 pub ascending_push : (spans : List (ℕ × ℕ)) (span : ℕ × ℕ) → AreAscending spans → (0 < span.1 → AllByRecursion (IsBelow span.0) spans) → AreAscending (spans ++ span ∷ [])
 ascending_push [] span above below = (λ some. tt, tt)
-ascending_push (first ∷ spans) span above below =
-    (λ some. all_joined (IsAbove (first.0 + first.1)) spans (span ∷ []) (above.0 some) (λ more. (below more).0 some, tt), ascending_push spans span above.1 (λ more. (below more).1))
+ascending_push (first ∷ spans) span above below = (
+  λ some. all_joined (IsAbove (first.0 + first.1)) spans (span ∷ []) (above.0 some) (λ more. (below more).0 some, tt),
+  ascending_push spans span above.1 (λ more. (below more).1),
+)
 
 none_below : (at place : ℕ) (words : List Added) → place ≤ at → AllByRecursion (IsBelow place) (map span_of words) → find (covers at) (map known_piece words) ≡ None
 none_below at place [] h below = refl
@@ -132,11 +166,11 @@ none_below at place (word ∷ words) h below =
     let none = covers-past at (known_piece word) (λ some. (let end = below.0 (omega arith) in omega arith)) in
     rw none (none_below at place words h below.1)
 
-pub pushed_read : (at : ℕ) (words : List Added) (word : Added) (memory : List ℕ) → (0 < size word.form word.text → AllByRecursion (IsBelow word.address) (map span_of words)) → at < length memory
-    → get_or memory at 0 ≡ read_at words at → get_or (overlaid memory word.address (known_piece word).bytes) at 0 ≡ read_at (words ++ word ∷ []) at
+pub pushed_read : (at : ℕ) (words : List Added) (word : Added) (memory : List ℕ) → (0 < size word.form word.text → AllByRecursion (IsBelow word.address) (map span_of words))
+    → at < length memory → get_or memory at 0 ≡ read_at words at → get_or (overlaid memory word.address (known_piece word).bytes) at 0 ≡ read_at (words ++ word ∷ []) at
 pushed_read at words word memory below within e =
-    let piece : Piece = known_piece word in
     let short = short_piece word in
+    let none : covers at (known_piece word) ≡ true → find (covers at) (map known_piece words) ≡ None =
+    λ c. (let bounds = covers-true at (known_piece word) c in none_below at word.address words bounds.0 (below (omega arith))) in
     rw (map-append known_piece words (word ∷ []))
-    (overlaid-read memory word.address piece.bytes at within
-    ∙ byte_more (map known_piece words) piece at (get_or memory at 0) e (λ c. (let bounds = covers-true at piece c in none_below at word.address words bounds.0 (below (omega arith)))))
+    (overlaid-read memory (known_piece word) at within ∙ byte_more (map known_piece words) (known_piece word) at (get_or memory at 0) e none)
