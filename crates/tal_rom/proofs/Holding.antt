@@ -1,30 +1,33 @@
 -- What a patch holds, with one word more and where targets become known.
-use Rattle.std.proofs.Common.{◌≡◌, ℕ, ◌+◌, ◌-◌, Bool, true, false, not, ◌&&◌, ◌||◌, List, [], ◌∷◌, ◌++◌, length, map, Option, Some, None, cond, find, refl, sym, ◌∙◌, ap, arith, append-nil, length-append}
+use Rattle.std.proofs.Common.{◌≡◌, ℕ, ◌+◌, ◌-◌, ◌<◌, ◌≤◌, Bool, true, false, not, ◌&&◌, ◌||◌, List, [], ◌∷◌, ◌++◌, length, get_or, map}
+use Rattle.std.proofs.Common.{Option, Some, None, cond, find, refl, sym, ◌∙◌, ap, arith, append-nil, length-append}
 use Rattle.std.specs.Prelude.{fold, is_some}
 use Rattle.std.specs.Option.{option_or, option_map}
 use Rattle.std.specs.List.{filter, flat_map, list_any, list_all}
 use Rattle.std.specs.Str.{bytes_eq}
-use Rattle.std.proofs.lemmas.List.{map-append}
+use Rattle.std.proofs.Math.Bool.{and-true, and-false}
+use Rattle.std.proofs.lemmas.List.{map-append, length-map}
 use Rattle.std.proofs.lemmas.List.Concat.{flat_map-append}
 use Rattle.std.proofs.lemmas.List.Elements.{filter-append}
 use Rattle.std.proofs.lemmas.List.Folds.{list_any-append, find-append}
+use Rattle.std.proofs.lemmas.List.Sums.{count_by-le-length, length-filter}
 use Rattle.std.proofs.lemmas.Slice.Eq.{bytes_eq-Decides}
 use Rattle.tal_words.specs.declared.name.Label.{Label}
 use Rattle.tal_words.specs.declared.form.Form.{Form}
-use Rattle.tal_words.specs.declared.form.Form.TheVariants.{Refer}
+use Rattle.tal_words.specs.declared.form.Form.TheVariants.{Text, Refer}
 use Rattle.tal_words.specs.declared.form.Rune.{Rune}
 use Rattle.tal_words.specs.Braces.{opens}
-use Rattle.tal_words.specs.Forms.{reaches}
+use Rattle.tal_words.specs.Forms.{encoded, reaches}
 use Rattle.tal_words.specs.Labels.{address_named}
 use Rattle.tal_rom.specs.declared.hole.Hole.{Hole}
 use Rattle.tal_rom.specs.declared.patch.Patch.{Patch}
 use Rattle.tal_rom.specs.Holes.{known_in, wanted_in}
 use Rattle.tal_rom.specs.Rom.{byte_at}
-use Rattle.tal_rom.specs.Filling.{overlaid, filled_hole}
+use Rattle.tal_rom.specs.Filling.{overlaid, filled_hole, is_reference}
 use Rattle.tal_rom.specs.Patching.{Added, waits, is_far, known_piece}
-use Rattle.tal_rom.specs.Patchers.{Entry, Holds, ComesNext, added_by, holes_by, name_hole, brace_hole, span_of, span_of_entry, AreAscending, closed_or, closed_last}
-use Rattle.tal_rom.proofs.Moving.{length-overlaid}
-use Rattle.tal_rom.proofs.Moving.{Move, Stays, Fills, word_before, word_after, hole_in, holes_in, fewer_wait, fit_too, filled_read, ascending_push, pushed_read}
+use Rattle.tal_rom.specs.Patchers.{Entry, Holds, ComesNext, new_entry, added_by, holes_by, name_hole, brace_hole, span_of, span_of_entry, AreAscending, closed_or, closed_last}
+use Rattle.tal_rom.proofs.Moving.{length-overlaid, Move, Stays, Fills, reference, word_before, word_after, hole_in, holes_in, fewer_wait, fit_too, hole_filled, filled_read}
+use Rattle.tal_rom.proofs.Moving.{ascending_push, pushed_read}
 
 spans_of : (labels : List Label) (entries : List Entry) → map span_of (map (added_by labels) entries) ≡ map span_of_entry entries
 spans_of labels [] = refl
@@ -42,22 +45,96 @@ pub record IsMore (labels : List Label) (entry : Entry) (old new : Patch) : Type
 not_either : (a b : Bool) → (not a && not b) ≡ not (a || (b || false))
 not_either a b = grind arith
 
-pub holds_more : (labels : List Label) (entries : List Entry) (entry : Entry) (old new : Patch) → ComesNext entries entry → IsMore labels entry old new → Holds labels entries old → Holds labels (entries ++ entry ∷ []) new
-unfolding byte_at
-holds_more labels entries entry old new next more so =
-    let word : Added = added_by labels entry in
-    let words : List Added = map (added_by labels) entries in
-    let all = map-append (added_by labels) entries (entry ∷ []) in
-    record {
-      ascending = rw (map-append span_of_entry entries (entry ∷ [])) (ascending_push (map span_of_entry entries) (span_of_entry entry) so.ascending next.behind);
-      size = rw (more.memory, length-overlaid) so.size;
-      each = λ at within. rw (more.memory, all)
-          (pushed_read at words word old.memory.items (λ some. rw (spans_of labels entries) (next.behind some)) (omega (arith, so.size)) (so.each at within));
-      waiting = rw (more.waiting, so.waiting, all, filter-append waits words (word ∷ []), length-append (filter waits words)) refl;
-      fits = rw (more.fits, so.fits, all, list_any-append is_far words (word ∷ [])) (not_either (list_any is_far words) (is_far word));
-      known = λ name. more.known name ∙ so.known name;
-      wanted = λ name. rw (more.wanted name, so.wanted name, flat_map-append (name_hole labels name) entries (entry ∷ []), append-nil) refl;
-      openers = rw (more.openers, so.openers, flat_map-append brace_hole entries (entry ∷ []), append-nil) refl;
+module _ (labels : List Label) (entries : List Entry) (entry : Entry) where
+  pub holds_more : (old new : Patch) → ComesNext entries entry → IsMore labels entry old new → Holds labels entries old → Holds labels (entries ++ entry ∷ []) new
+  unfolding byte_at
+  holds_more old new next more so =
+      let word : Added = added_by labels entry in
+      let words : List Added = map (added_by labels) entries in
+      let all = map-append (added_by labels) entries (entry ∷ []) in
+      record {
+        ascending = rw (map-append span_of_entry entries (entry ∷ [])) (ascending_push _ (span_of_entry entry) so.ascending next.behind);
+        size = rw (more.memory, length-overlaid) so.size;
+        each = λ at within. rw (more.memory, all)
+            (pushed_read at words word _ (λ some. rw (spans_of labels entries) (next.behind some)) (omega (arith, so.size)) (so.each at within));
+        waiting = rw (more.waiting, so.waiting, all, filter-append waits words (word ∷ []), length-append (filter waits words)) refl;
+        fits = rw (more.fits, so.fits, all, list_any-append is_far words (word ∷ [])) (not_either (list_any is_far words) (is_far word));
+        known = λ name. more.known name ∙ so.known name;
+        wanted = λ name. rw (more.wanted name, so.wanted name, flat_map-append (name_hole labels name) entries (entry ∷ []), append-nil) refl;
+        openers = rw (more.openers, so.openers, flat_map-append brace_hole entries (entry ∷ []), append-nil) refl;
+      }
+
+  -- how many wait stays a number of 32 bits
+  pub waiting_small : (patch : Patch) → Holds labels entries patch → ComesNext entries entry → patch.waiting < 4294967295
+  waiting_small patch so next =
+      let words = map (added_by labels) entries in
+      omega (arith, so.waiting, length-filter waits words, count_by-le-length waits words, length-map entries (added_by labels), next.few)
+
+-- the bytes of a word that is no reference do not hang on its text, unless it is one
+pub few_are : (form : Form) (text : List ℕ) → (form ≡ Text → ⊥) → is_reference form ≡ false → encoded form [] 0 0 ≡ encoded form text 0 0
+few_are Text text other e = absurd (other refl)
+few_are (Refer rune) text other e = cc
+few_are form text other e = refl
+
+-- all but memory stays
+pub record IsPut (old new : Patch) : Type 0 where
+  pub waiting : new.waiting ≡ old.waiting
+  pub names : new.names ≡ old.names
+  pub openers : new.openers.items ≡ old.openers.items
+
+-- a word that is no reference
+pub put_more : (labels : List Label) (form : Form) (text : List ℕ) (address : ℕ) (full : List ℕ) (old new : Patch) → is_reference form ≡ false
+    → new.memory.items ≡ overlaid old.memory.items address (encoded form text 0 0) → new.fits ≡ old.fits → IsPut old new
+    → IsMore labels (new_entry form text address full) old new
+put_more labels (Refer rune) text address full old new bare memory fits put = cc
+put_more labels form text address full old new bare memory fits put = record {
+  memory = memory;
+  waiting = omega (arith, put.waiting);
+  fits = fits ∙ sym (and-true old.fits);
+  known = λ name. rw put.names refl;
+  wanted = λ name. rw (put.names, append-nil) refl;
+  openers = rw (put.openers, append-nil) refl;
+}
+
+-- a reference
+module _ (labels : List Label) (hole : Hole) (text full : List ℕ) (old new : Patch) where
+  abbrev entry : Entry
+  entry = new_entry (Refer hole.rune) text hole.address full
+
+  pub open_more : opens text ≡ true → new.memory.items ≡ old.memory.items → new.fits ≡ old.fits → new.waiting ≡ old.waiting + 1
+      → new.names ≡ old.names → new.openers.items ≡ old.openers.items ++ hole ∷ [] → IsMore labels entry old new
+  open_more e memory fits waiting names openers = record {
+    memory = rw e memory;
+    waiting = rw e waiting;
+    fits = rw e (fits ∙ sym (and-true old.fits));
+    known = λ name. rw names refl;
+    wanted = λ name. rw (e, names, append-nil) refl;
+    openers = rw e openers;
+  }
+
+  module _ (closed : opens text ≡ false) where
+    pub known_target : (target : ℕ) → address_named labels full ≡ Some target → new.memory.items ≡ filled_hole target old.memory.items hole
+        → new.fits ≡ (old.fits && reaches hole.rune hole.address target) → IsPut old new → IsMore labels entry old new
+    known_target target e memory fits put = record {
+      memory = rw (closed, e) (memory ∙ hole_filled target hole.rune text hole.address old.memory.items);
+      waiting = rw (closed, e) (omega (arith, put.waiting));
+      fits = rw (closed, e) (fits ∙ grind arith);
+      known = λ name. rw put.names refl;
+      wanted = λ name. rw (closed, e, put.names, and-false (bytes_eq name full), append-nil) refl;
+      openers = rw (closed, put.openers, append-nil) refl;
+    }
+
+    pub wants_more : address_named labels full ≡ None → new.memory.items ≡ old.memory.items → new.fits ≡ old.fits → new.waiting ≡ old.waiting + 1
+        → new.openers.items ≡ old.openers.items → ((name : List ℕ) → known_in new.names name ≡ known_in old.names name)
+        → ((name : List ℕ) → wanted_in new.names name ≡ wanted_in old.names name ++ cond (bytes_eq name full) (hole ∷ []) [])
+        → IsMore labels entry old new
+    wants_more e memory fits waiting openers known wanted = record {
+      memory = rw (closed, e) memory;
+      waiting = rw (closed, e) waiting;
+      fits = rw (closed, e) (fits ∙ sym (and-true old.fits));
+      known = known;
+      wanted = λ name. rw (wanted name, closed, e) (grind arith);
+      openers = rw (closed, openers, append-nil) refl;
     }
 
 -- words of which some get their target
@@ -104,11 +181,11 @@ pub no_hole : (form : Form) (address : ℕ) → holes_by form address false ≡ 
 no_hole (Refer rune) address = refl
 no_hole form address = refl
 
-pub hole_if : (form : Form) (address : ℕ) (a b : Bool) → cond a [] (holes_by form address b) ≡ holes_by form address (not a && b)
+hole_if : (form : Form) (address : ℕ) (a b : Bool) → cond a [] (holes_by form address b) ≡ holes_by form address (not a && b)
 hole_if form address true b = sym (no_hole form address)
 hole_if form address false b = refl
 
--- a label more
+-- texts that are the same
 pub same_text : (a b : List ℕ) → bytes_eq a b ≡ true → a ≡ b
 same_text a b e = (bytes_eq-Decides a b).0 e
 
@@ -118,23 +195,28 @@ text_same a b e = (bytes_eq-Decides a b).1 e
 bytes_eq-swap : (a b : List ℕ) → bytes_eq a b ≡ bytes_eq b a
 bytes_eq-swap a b = grind (arith, same_text a b, same_text b a)
 
+-- a label more
 module _ (labels : List Label) (label : Label) where
   abbrev more : List Label
   more = labels ++ label ∷ []
 
-  address_by : (o : Option Label) (b : Bool) → option_map (λ label. label.address) (option_or o (cond b (Some label) None)) ≡ option_or (option_map (λ label. label.address) o) (cond b (Some label.address) None)
+  abbrev address_if : Bool → Option ℕ
+  address_if named = cond named (Some label.address) None
+
+  address_by : (o : Option Label) (b : Bool) → option_map (λ label. label.address) (option_or o (cond b (Some label) None))
+      ≡ option_or (option_map (λ label. label.address) o) (address_if b)
   address_by o b = grind arith
 
-  address_more : (name : List ℕ) → address_named more name ≡ option_or (address_named labels name) (cond (bytes_eq name label.name) (Some label.address) None)
-  address_more name = rw (find-append (λ label. bytes_eq name label.name) labels (label ∷ [])) (address_by (find (λ label. bytes_eq name label.name) labels) (bytes_eq name label.name))
+  address_more : (name : List ℕ) → address_named more name ≡ option_or (address_named labels name) (address_if (bytes_eq name label.name))
+  address_more name = rw (find-append (λ label. bytes_eq name label.name) labels (label ∷ [])) (address_by _ (bytes_eq name label.name))
 
   module _ (fresh : address_named labels label.name ≡ None) where
     -- what is known of names with the label
-    known_by : (b : Bool) (o : Option ℕ) → (b ≡ true → o ≡ None) → cond b (Some label.address) o ≡ option_or o (cond b (Some label.address) None)
+    known_by : (b : Bool) (o : Option ℕ) → (b ≡ true → o ≡ None) → cond b (Some label.address) o ≡ option_or o (address_if b)
     known_by b o none = grind arith
 
     pub known_more : (name : List ℕ) → cond (bytes_eq name label.name) (Some label.address) (address_named labels name) ≡ address_named more name
-    known_more name = rw (address_more name) (known_by (bytes_eq name label.name) (address_named labels name) (λ same. rw (same_text name label.name same) fresh))
+    known_more name = rw (address_more name) (known_by (bytes_eq name label.name) _ (λ same. rw (same_text name label.name same) fresh))
 
     -- an entry by the labels and by one more
     pub record SettlesOne (entry : Entry) : Type 0 where
@@ -149,9 +231,9 @@ module _ (labels : List Label) (label : Label) where
     abbrev entry_of : Form → List ℕ → ℕ → List ℕ → Option ℕ → Entry
     entry_of form text address full lambda = record { form = form; text = text; address = address; full = full; lambda = lambda }
 
-    refer_one : (rune : Rune) (text : List ℕ) (address : ℕ) (full : List ℕ) (lambda : Option ℕ) (opening names : Bool) → opens text ≡ opening → bytes_eq label.name full ≡ names
-        → SettlesOne (entry_of (Refer rune) text address full lambda)
-    refer_one rune text address full lambda true names e f = still (entry_of (Refer rune) text address full lambda) (rw e refl) (rw e refl)
+    refer_one : (rune : Rune) (text : List ℕ) (address : ℕ) (full : List ℕ) (lambda : Option ℕ) (opening named : Bool)
+        → opens text ≡ opening → bytes_eq label.name full ≡ named → SettlesOne (entry_of (Refer rune) text address full lambda)
+    refer_one rune text address full lambda true named e f = still (entry_of (Refer rune) text address full lambda) (rw e refl) (rw e refl)
     refer_one rune text address full lambda false false e f =
         still (entry_of (Refer rune) text address full lambda) (rw (e, ← known_more full, bytes_eq-swap full label.name, f) refl) (rw (e, f) refl)
     refer_one rune text address full lambda false true e f =
@@ -168,7 +250,8 @@ module _ (labels : List Label) (label : Label) where
     settle_one (Refer rune) text address full lambda = refer_one rune text address full lambda _ _ refl refl
     settle_one form text address full lambda = still (entry_of form text address full lambda) refl refl
 
-    pub settle_label : (entries : List Entry) → Settles label.address (map (added_by labels) entries) (map (added_by more) entries) (flat_map (name_hole labels label.name) entries)
+    pub settle_label : (entries : List Entry)
+        → Settles label.address (map (added_by labels) entries) (map (added_by more) entries) (flat_map (name_hole labels label.name) entries)
     settle_label [] = record { moves = []; before = refl; after = refl; filled = refl }
     settle_label (entry ∷ entries) =
         let rest = settle_label entries in
@@ -181,24 +264,25 @@ module _ (labels : List Label) (label : Label) where
         }
 
     -- which holes wait for a name with the label
-    waits_by_label : (opening names named : Bool) (o : Option ℕ) (p : Bool) → (names ≡ true → p ≡ named)
-        → (not named && (not opening && names && not (is_some o))) ≡ (not opening && names && not (is_some (option_or o (cond p (Some label.address) None))))
-    waits_by_label opening names named o p same = grind arith
+    waits_by_label : (opening here named same : Bool) (o : Option ℕ) → (here ≡ true → same ≡ named)
+        → (not named && (not opening && here && not (is_some o))) ≡ (not opening && here && not (is_some (option_or o (address_if same))))
+    waits_by_label opening here named same o e = grind arith
 
     wanted_one : (name : List ℕ) (entry : Entry) → cond (bytes_eq name label.name) [] (name_hole labels name entry) ≡ name_hole more name entry
     wanted_one name entry =
         hole_if entry.form entry.address (bytes_eq name label.name) _
         ∙ ap (holes_by entry.form entry.address) (rw (address_more entry.full)
-        (waits_by_label (opens entry.text) (bytes_eq name entry.full) (bytes_eq name label.name) (address_named labels entry.full) (bytes_eq entry.full label.name)
-        (λ same. rw (same_text name entry.full same) refl)))
+        (waits_by_label (opens entry.text) (bytes_eq name entry.full) _ _ _ (λ same. rw (same_text name entry.full same) refl)))
 
-    wanted_all : (b : Bool) (old new : Entry → List Hole) → ((entry : Entry) → cond b [] (old entry) ≡ new entry) → (entries : List Entry) → cond b [] (flat_map old entries) ≡ flat_map new entries
+    wanted_all : (b : Bool) (old new : Entry → List Hole) → ((entry : Entry) → cond b [] (old entry) ≡ new entry)
+        → (entries : List Entry) → cond b [] (flat_map old entries) ≡ flat_map new entries
     wanted_all true old new one [] = refl
     wanted_all true old new one (entry ∷ entries) = rw (← one entry) (wanted_all true old new one entries)
     wanted_all false old new one [] = refl
     wanted_all false old new one (entry ∷ entries) = rw (one entry, wanted_all false old new one entries) refl
 
-    pub wanted_more : (name : List ℕ) (entries : List Entry) → cond (bytes_eq name label.name) [] (flat_map (name_hole labels name) entries) ≡ flat_map (name_hole more name) entries
+    pub wanted_more : (name : List ℕ) (entries : List Entry)
+        → cond (bytes_eq name label.name) [] (flat_map (name_hole labels name) entries) ≡ flat_map (name_hole more name) entries
     wanted_more name entries = wanted_all (bytes_eq name label.name) _ _ (wanted_one name) entries
 
 -- entries of which the last open lambda gets its end
@@ -252,11 +336,14 @@ module _ (labels : List Label) (address : ℕ) where
   opens_alone : (opening : Bool) (lambda : Option ℕ) → (opening && not (is_some lambda)) ≡ true → (opening ≡ true) × (lambda ≡ None)
   opens_alone opening lambda e = grind arith
 
-  one_closing : (form : Form) (text : List ℕ) (at : ℕ) (full : List ℕ) (lambda : Option ℕ) (opened : Bool) (entries : List Entry) (front : List Hole) (hole : Hole)
-      → (opens text && not (is_some lambda)) ≡ opened → flat_map brace_hole entries ≡ [] → holes_by form at opened ≡ front ++ hole ∷ []
-      → Closes labels address (record { form = form; text = text; address = at; full = full; lambda = lambda } ∷ entries)
-      (record { form = form; text = text; address = at; full = full; lambda = Some address } ∷ entries) front hole
-  one_closing (Refer rune) text at full lambda true entries [] hole e none own =
+  abbrev entry_by : Form → List ℕ → ℕ → List ℕ → Option ℕ → Entry
+  entry_by form text at full lambda = record { form = form; text = text; address = at; full = full; lambda = lambda }
+
+  one_closing : (form : Form) (text : List ℕ) (at : ℕ) (full : List ℕ) (lambda : Option ℕ) (opened : Bool) (front : List Hole)
+      → (opens text && not (is_some lambda)) ≡ opened → (entries : List Entry) → flat_map brace_hole entries ≡ []
+      → (hole : Hole) → holes_by form at opened ≡ front ++ hole ∷ []
+      → Closes labels address (entry_by form text at full lambda ∷ entries) (entry_by form text at full (Some address) ∷ entries) front hole
+  one_closing (Refer rune) text at full lambda true [] e entries none hole own =
       let stay = all_stay address (map (added_by labels) entries) in
       let parts = opens_alone (opens text) lambda e in
       record {
@@ -270,14 +357,17 @@ module _ (labels : List Label) (address : ℕ) where
         spans = refl;
         wanted = λ name. refl;
       }
-  one_closing form text at full lambda opened entries front hole e none own = absurd (omega (arith, ap length own, length-append front (hole ∷ [])))
+  one_closing form text at full lambda opened front e entries none hole own = absurd (omega (arith, ap length own, length-append front (hole ∷ [])))
 
-  pub closes_last : (entries : List Entry) (front : List Hole) (hole : Hole) → flat_map brace_hole entries ≡ front ++ hole ∷ [] → Closes labels address entries (closed_last address entries) front hole
+  abbrev ClosesLast : List Entry → Type 0
+  ClosesLast entries = (front : List Hole) (hole : Hole) → flat_map brace_hole entries ≡ front ++ hole ∷ []
+      → Closes labels address entries (closed_last address entries) front hole
+
+  pub closes_last : (entries : List Entry) → ClosesLast entries
   closes_last [] front hole e = absurd (omega (arith, ap length e, length-append front (hole ∷ [])))
   closes_last (entry ∷ entries) front hole e = by (flat_map brace_hole entries) (brace_hole entry) refl refl e (closes_last entries)
     where
-      by : (holes own : List Hole) → flat_map brace_hole entries ≡ holes → brace_hole entry ≡ own → own ++ holes ≡ front ++ hole ∷ []
-          → ((inner : List Hole) (hole : Hole) → flat_map brace_hole entries ≡ inner ++ hole ∷ [] → Closes labels address entries (closed_last address entries) inner hole)
+      by : (holes own : List Hole) → flat_map brace_hole entries ≡ holes → brace_hole entry ≡ own → own ++ holes ≡ front ++ hole ∷ [] → ClosesLast entries
           → Closes labels address (entry ∷ entries) (closed_or address entry entries (closed_last address entries) holes own) front hole
       by (first ∷ rest) own f g e later =
           let last = last_part own first rest front hole e in
@@ -285,4 +375,4 @@ module _ (labels : List Label) (address : ℕ) where
           rw (← whole) (stays_closing entry entries (closed_last address entries) last.0 hole (later last.0 hole (f ∙ last.1)))
       by [] [] f g e later = absurd (omega (arith, ap length e, length-append front (hole ∷ [])))
       by [] (first ∷ own) f g e later =
-          one_closing entry.form entry.text entry.address entry.full entry.lambda _ entries front hole refl f (g ∙ sym (append-nil (first ∷ own)) ∙ e)
+          one_closing entry.form entry.text entry.address entry.full entry.lambda _ front refl entries f hole (g ∙ sym (append-nil (first ∷ own)) ∙ e)

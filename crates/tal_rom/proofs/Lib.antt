@@ -5,7 +5,6 @@ pub mod AssemblyLemmas
 pub mod PlainLemmas
 pub mod Moving
 pub mod Holding
-pub mod WordLemmas
 pub mod NameLemmas
 pub mod AddedLemmas
 pub mod NextLemmas

@@ -37,8 +37,7 @@ use Rattle.tal_rom.specs.declared.patch.Patch.{Patch}
 use Rattle.tal_rom.specs.Filling.{is_definition, is_reference}
 use Rattle.tal_rom.specs.Patchers.{Entry, Holds, HoldsAll, ComesNext, WasGiven, new_entry, span_of_entry, IsBelow, closed_last, entry_in, entries_from, scope_from}
 use Rattle.tal_rom.proofs.Laying.{some_bytes}
-use Rattle.tal_rom.proofs.Holding.{holds_more, both_nil}
-use Rattle.tal_rom.proofs.WordLemmas.{put_more}
+use Rattle.tal_rom.proofs.Holding.{holds_more, put_more, both_nil}
 use Rattle.tal_rom.proofs.AddedLemmas.{entries_next, entries_closed}
 
 -- a word that defines a label has no bytes, and one that is no label defines none

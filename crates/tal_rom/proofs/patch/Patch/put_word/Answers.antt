@@ -3,8 +3,7 @@ use Rattle.std.specs.Prelude.{min}
 use Rattle.std.proofs.lemmas.List.{drop_min}
 use Rattle.tal_words.specs.Forms.{encoded}
 use Rattle.tal_rom.specs.Filling.{overlaid}
-use Rattle.tal_rom.proofs.Holding.{holds_more}
-use Rattle.tal_rom.proofs.WordLemmas.{put_more, few_are}
+use Rattle.tal_rom.proofs.Holding.{holds_more, put_more, few_are}
 use Rattle.tal_rom.proofs.patch.Patch.put_word.Goals as goal
 
 pub returns-in-Text : goal.returns-in-Text
