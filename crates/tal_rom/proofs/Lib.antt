@@ -7,6 +7,5 @@ pub mod Moving
 pub mod Holding
 pub mod NameLemmas
 pub mod AddedLemmas
-pub mod NextLemmas
 pub mod ImageLemmas
 pub mod PatchedLemmas
