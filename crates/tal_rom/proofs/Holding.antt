@@ -25,9 +25,10 @@ use Rattle.tal_rom.specs.Holes.{known_in, wanted_in}
 use Rattle.tal_rom.specs.Rom.{byte_at}
 use Rattle.tal_rom.specs.Filling.{overlaid, filled_hole, is_reference}
 use Rattle.tal_rom.specs.Patching.{Added, waits, is_far, known_piece}
-use Rattle.tal_rom.specs.Patchers.{Entry, Holds, ComesNext, new_entry, added_by, holes_by, name_hole, brace_hole, span_of, span_of_entry, AreAscending, closed_or, closed_last}
-use Rattle.tal_rom.proofs.Moving.{length-overlaid, Move, Stays, Fills, reference, word_before, word_after, hole_in, holes_in, fewer_wait, fit_too, hole_filled, filled_read}
-use Rattle.tal_rom.proofs.Moving.{ascending_push, pushed_read}
+use Rattle.tal_rom.specs.Patchers.{Entry, Holds, ComesNext, new_entry, added_by, holes_by, name_hole, brace_hole, span_of, span_of_entry}
+use Rattle.tal_rom.specs.Patchers.{AreAscending, closed_or, closed_last}
+use Rattle.tal_rom.proofs.Moving.{length-overlaid, Move, Stays, Fills, reference, word_before, word_after, hole_in, holes_in}
+use Rattle.tal_rom.proofs.Moving.{fewer_wait, fit_too, hole_filled, filled_read, ascending_push, pushed_read}
 
 spans_of : (labels : List Label) (entries : List Entry) → map span_of (map (added_by labels) entries) ≡ map span_of_entry entries
 spans_of labels [] = refl
@@ -46,7 +47,8 @@ not_either : (a b : Bool) → (not a && not b) ≡ not (a || (b || false))
 not_either a b = grind arith
 
 module _ (labels : List Label) (entries : List Entry) (entry : Entry) where
-  pub holds_more : (old new : Patch) → ComesNext entries entry → IsMore labels entry old new → Holds labels entries old → Holds labels (entries ++ entry ∷ []) new
+  pub holds_more : (old new : Patch) → ComesNext entries entry → IsMore labels entry old new → Holds labels entries old
+      → Holds labels (entries ++ entry ∷ []) new
   unfolding byte_at
   holds_more old new next more so =
       let word : Added = added_by labels entry in
@@ -143,6 +145,15 @@ pub record Settles (target : ℕ) (old new : List Added) (holes : List Hole) : T
   pub before : map word_before moves ≡ old
   pub after : map (word_after target) moves ≡ new
   pub filled : holes_in moves ≡ holes
+
+settles_more : (target : ℕ) (move : Move) (old new : List Added) (holes : List Hole) → Settles target old new holes
+    → Settles target (word_before move ∷ old) (word_after target move ∷ new) (hole_in move ++ holes)
+settles_more target move old new holes so =
+    record { moves = move ∷ so.moves; before = rw so.before refl; after = rw so.after refl; filled = rw so.filled refl }
+
+all_stay : (target : ℕ) (words : List Added) → Settles target words words []
+all_stay target [] = record { moves = []; before = refl; after = refl; filled = refl }
+all_stay target (word ∷ words) = settles_more target (Stays word) words words [] (all_stay target words)
 
 pub record IsSettled (target : ℕ) (holes : List Hole) (old new : Patch) : Type 0 where
   pub memory : new.memory.items ≡ fold (filled_hole target) old.memory.items holes
@@ -254,14 +265,8 @@ module _ (labels : List Label) (label : Label) where
         → Settles label.address (map (added_by labels) entries) (map (added_by more) entries) (flat_map (name_hole labels label.name) entries)
     settle_label [] = record { moves = []; before = refl; after = refl; filled = refl }
     settle_label (entry ∷ entries) =
-        let rest = settle_label entries in
         let one : SettlesOne entry = settle_one entry.form entry.text entry.address entry.full entry.lambda in
-        record {
-          moves = one.move ∷ rest.moves;
-          before = rw (one.before, rest.before) refl;
-          after = rw (one.after, rest.after) refl;
-          filled = rw (one.filled, rest.filled) refl;
-        }
+        rw (← one.before, ← one.after, ← one.filled) (settles_more label.address one.move _ _ _ (settle_label entries))
 
     -- which holes wait for a name with the label
     waits_by_label : (opening here named same : Bool) (o : Option ℕ) → (here ≡ true → same ≡ named)
@@ -292,12 +297,6 @@ pub record Closes (labels : List Label) (address : ℕ) (entries closed : List E
   pub spans : map span_of_entry closed ≡ map span_of_entry entries
   pub wanted : (name : List ℕ) → flat_map (name_hole labels name) closed ≡ flat_map (name_hole labels name) entries
 
-all_stay : (target : ℕ) (words : List Added) → Settles target words words []
-all_stay target [] = record { moves = []; before = refl; after = refl; filled = refl }
-all_stay target (word ∷ words) =
-    let rest = all_stay target words in
-    record { moves = Stays word ∷ rest.moves; before = rw rest.before refl; after = rw rest.after refl; filled = rest.filled }
-
 pub both_nil : {X : Type 0} (a b : List X) → a ++ b ≡ [] → (a ≡ []) × (b ≡ [])
 both_nil [] b e = (refl, e)
 both_nil (x ∷ a) b e = cc
@@ -321,12 +320,7 @@ module _ (labels : List Label) (address : ℕ) where
   stays_closing : (entry : Entry) (entries closed : List Entry) (front : List Hole) (hole : Hole) → Closes labels address entries closed front hole
       → Closes labels address (entry ∷ entries) (entry ∷ closed) (brace_hole entry ++ front) hole
   stays_closing entry entries closed front hole so = record {
-    settles = record {
-      moves = Stays (added_by labels entry) ∷ so.settles.moves;
-      before = rw so.settles.before refl;
-      after = rw so.settles.after refl;
-      filled = so.settles.filled;
-    };
+    settles = settles_more address (Stays (added_by labels entry)) _ _ _ so.settles;
     openers = rw so.openers refl;
     spans = rw so.spans refl;
     wanted = λ name. rw (so.wanted name) refl;
@@ -344,20 +338,15 @@ module _ (labels : List Label) (address : ℕ) where
       → (hole : Hole) → holes_by form at opened ≡ front ++ hole ∷ []
       → Closes labels address (entry_by form text at full lambda ∷ entries) (entry_by form text at full (Some address) ∷ entries) front hole
   one_closing (Refer rune) text at full lambda true [] e entries none hole own =
-      let stay = all_stay address (map (added_by labels) entries) in
       let parts = opens_alone (opens text) lambda e in
       record {
-        settles = record {
-          moves = Fills rune text at ∷ stay.moves;
-          before = rw (parts.0, parts.1, stay.before) refl;
-          after = rw (parts.0, stay.after) refl;
-          filled = rw stay.filled own;
-        };
+        settles = rw (parts.0, parts.1, ← own) (settles_more address (Fills rune text at) _ _ [] (all_stay address (map (added_by labels) entries)));
         openers = rw (parts.0, none) refl;
         spans = refl;
         wanted = λ name. refl;
       }
-  one_closing form text at full lambda opened front e entries none hole own = absurd (omega (arith, ap length own, length-append front (hole ∷ [])))
+  one_closing form text at full lambda opened front e entries none hole own =
+      absurd (omega (arith, ap length own, length-append front (hole ∷ [])))
 
   abbrev ClosesLast : List Entry → Type 0
   ClosesLast entries = (front : List Hole) (hole : Hole) → flat_map brace_hole entries ≡ front ++ hole ∷ []

@@ -1,4 +1,3 @@
-pub mod Trimming
 pub mod Covering
 pub mod Laying
 pub mod AssemblyLemmas

@@ -16,56 +16,61 @@ Entries = List (Vec ℕ × Named)
 abbrev pub found : Entries → List ℕ → Option Named
 found entries name = lookup (λ key. bytes_eq name key.items) entries
 
--- the entry of a name, where it is the first, and else the others
-changed : (entries next : Entries) (key : Vec ℕ) (first value : Named) (name other : List ℕ)
-    → (bytes_eq name key.items ≡ false → found next other ≡ cond (bytes_eq other name) (Some value) (found entries other))
-    → found (cond (bytes_eq name key.items) ((key, value) ∷ entries) ((key, first) ∷ next)) other ≡ cond (bytes_eq other name) (Some value) (found ((key, first) ∷ entries) other)
-changed entries next key first value name other rest = grind (arith, same_text name key.items, same_text other name)
-
-found_set : (entries : Entries) (name : List ℕ) (old value : Named) (other : List ℕ) → found entries name ≡ Some old
-    → found (set_value (λ key. bytes_eq name key.items) entries value) other ≡ cond (bytes_eq other name) (Some value) (found entries other)
-found_set [] name old value other e = cc
-found_set (entry ∷ entries) name old value other e = changed entries _ entry.0 entry.1 value name other (λ later. found_set entries name old value other (rw later at e))
-
-found_insert : (entries : Entries) (name : Vec ℕ) (value : Named) (other : List ℕ) → found (insert_entry vec_eq entries name value) other ≡ cond (bytes_eq other name.items) (Some value) (found entries other)
-found_insert [] name value other = refl
-found_insert (entry ∷ entries) name value other = changed entries _ entry.0 entry.1 value name.items other (λ later. found_insert entries name value other)
+-- what is found where a name has this value
+abbrev put : (List ℕ → Option Named) → List ℕ → Named → List ℕ → Option Named
+put find name named other = cond (bytes_eq other name) (Some named) (find other)
 
 -- a name has another value, and the others have what they had
 pub record Changes (old new : Entries) (name : List ℕ) (named : Named) : Type 0 where
-  pub at : (other : List ℕ) → found new other ≡ cond (bytes_eq other name) (Some named) (found old other)
+  pub at : (other : List ℕ) → found new other ≡ put (found old) name named other
+
+-- the value stands in the first entry, or in one of the others
+changed : (entries next : Entries) (key : Vec ℕ) (first value : Named) (name other : List ℕ)
+    → (bytes_eq name key.items ≡ false → found next other ≡ put (found entries) name value other)
+    → found (cond (bytes_eq name key.items) ((key, value) ∷ entries) ((key, first) ∷ next)) other ≡ put (found ((key, first) ∷ entries)) name value other
+changed entries next key first value name other rest = grind (arith, same_text name key.items, same_text other name)
+
+found_set : (entries : Entries) (name : List ℕ) (old value : Named) (other : List ℕ) → found entries name ≡ Some old
+    → found (set_value (λ key. bytes_eq name key.items) entries value) other ≡ put (found entries) name value other
+found_set [] name old value other e = cc
+found_set (entry ∷ entries) name old value other e =
+    changed entries _ entry.0 entry.1 value name other (λ later. found_set entries name old value other (rw later at e))
+
+found_insert : (entries : Entries) (name : Vec ℕ) (value : Named) (other : List ℕ)
+    → found (insert_entry vec_eq entries name value) other ≡ put (found entries) name.items value other
+found_insert [] name value other = refl
+found_insert (entry ∷ entries) name value other = changed entries _ entry.0 entry.1 value name.items other (λ later. found_insert entries name value other)
 
 pub inserts : (old new : Entries) (name : Vec ℕ) (named : Named) → new ≡ insert_entry vec_eq old name named → Changes old new name.items named
 inserts old new name named e = record { at = λ other. rw e (found_insert old name named other) }
 
-pub sets : (old new : Entries) (name : List ℕ) (before named : Named) → new ≡ set_value (λ key. bytes_eq name key.items) old named → found old name ≡ Some before → Changes old new name named
+pub sets : (old new : Entries) (name : List ℕ) (before named : Named) → new ≡ set_value (λ key. bytes_eq name key.items) old named
+    → found old name ≡ Some before → Changes old new name named
 sets old new name before named e there = record { at = λ other. rw e (found_set old name before named other there) }
 
 -- what is then known of names: where the name is defined, and where one more reference or none waits for it
 module _ (old new : Entries) (name : List ℕ) (named : Named) (changes : Changes old new name named) (other : List ℕ) where
-  find : List ℕ → Option Named
-  find = found old
+  same_part : {X : Type 0} (view : Option Named → X) (find : List ℕ → Option Named) → view (Some named) ≡ view (find name)
+      → view (put find name named other) ≡ view (find other)
+  same_part view find e = grind (arith, same_text other name)
 
-  pub known_defined : (address : ℕ) → named.address ≡ Some address → known_of (found new other) ≡ cond (bytes_eq other name) (Some address) (known_of (found old other))
+  more_part : (more : List Hole) (find : List ℕ → Option Named) → named.holes.items ≡ wanted_of (find name) ++ more
+      → wanted_of (put find name named other) ≡ wanted_of (find other) ++ cond (bytes_eq other name) more []
+  more_part more find e = grind (arith, same_text other name, append-nil)
+
+  pub known_same : named.address ≡ known_of (found old name) → known_of (found new other) ≡ known_of (found old other)
+  known_same e = rw (changes.at other) (same_part known_of (found old) e)
+
+  pub wanted_same : named.holes.items ≡ wanted_of (found old name) → wanted_of (found new other) ≡ wanted_of (found old other)
+  wanted_same e = rw (changes.at other) (same_part wanted_of (found old) e)
+
+  pub wanted_more : (more : List Hole) → named.holes.items ≡ wanted_of (found old name) ++ more
+      → wanted_of (found new other) ≡ wanted_of (found old other) ++ cond (bytes_eq other name) more []
+  wanted_more more e = rw (changes.at other) (more_part more (found old) e)
+
+  pub known_defined : (address : ℕ) → named.address ≡ Some address
+      → known_of (found new other) ≡ cond (bytes_eq other name) (Some address) (known_of (found old other))
   known_defined address e = rw (changes.at other) (grind arith)
 
   pub wanted_defined : named.holes.items ≡ [] → wanted_of (found new other) ≡ cond (bytes_eq other name) [] (wanted_of (found old other))
   wanted_defined e = rw (changes.at other) (grind arith)
-
-  pub known_same : named.address ≡ known_of (found old name) → known_of (found new other) ≡ known_of (found old other)
-  known_same e = rw (changes.at other) (by (found old) e)
-    where
-      by : (find : List ℕ → Option Named) → named.address ≡ known_of (find name) → known_of (cond (bytes_eq other name) (Some named) (find other)) ≡ known_of (find other)
-      by find e = grind (arith, same_text other name)
-
-  pub wanted_same : named.holes.items ≡ wanted_of (found old name) → wanted_of (found new other) ≡ wanted_of (found old other)
-  wanted_same e = rw (changes.at other) (by (found old) e)
-    where
-      by : (find : List ℕ → Option Named) → named.holes.items ≡ wanted_of (find name) → wanted_of (cond (bytes_eq other name) (Some named) (find other)) ≡ wanted_of (find other)
-      by find e = grind (arith, same_text other name)
-
-  pub wanted_more : (more : List Hole) → named.holes.items ≡ wanted_of (found old name) ++ more → wanted_of (found new other) ≡ wanted_of (found old other) ++ cond (bytes_eq other name) more []
-  wanted_more more e = rw (changes.at other) (by (found old) e)
-    where
-      by : (find : List ℕ → Option Named) → named.holes.items ≡ wanted_of (find name) ++ more → wanted_of (cond (bytes_eq other name) (Some named) (find other)) ≡ wanted_of (find other) ++ cond (bytes_eq other name) more []
-      by find e = grind (arith, same_text other name, append-nil)

@@ -21,7 +21,7 @@ use Rattle.tal_rom.specs.Rom.{Piece, byte_at, piece_given, pieces_of, rom_image,
 use Rattle.tal_rom.specs.Answers.{filled}
 use Rattle.tal_rom.specs.Assembly.{layout, first_fault, rom_of}
 use Rattle.tal_rom.proofs.Covering.{IsLaid, next_laid, nothing_laid}
-use Rattle.tal_rom.proofs.Trimming.{trimmed-image}
+use Rattle.tal_rom.proofs.ImageLemmas.{trimmed-image}
 use Rattle.tal_words.specs.PlainTexts.{Item, AreItems, text_of_items, words_of_items}
 use Rattle.tal_words.proofs.PlainTexts.{words_are, no_word_fault, words_plain}
 use Rattle.tal_macros.proofs.PlainLemmas.{expanded_texts, no_expansion_fault}
