@@ -1,5 +1,6 @@
 -- The bytes of words that lie one behind the other.
-use Rattle.std.proofs.Common.{◌≡◌, ℕ, ◌+◌, ◌-◌, ◌<◌, ◌≤◌, Bool, true, false, ◌&&◌, nat_le, nat_lt, Option, None, Some, List, [], ◌∷◌, ◌++◌, length, get_or, replicate, cond, ◌⊎◌, inl, inr, refl, ◌∙◌, arith, length-append, find}
+use Rattle.std.proofs.Common.{◌≡◌, ℕ, ◌+◌, ◌-◌, ◌<◌, ◌≤◌, Bool, true, false, Option, None, Some, List, [], ◌∷◌, ◌++◌, length, get_or}
+use Rattle.std.proofs.Common.{replicate, cond, ◌⊎◌, inl, inr, refl, ◌∙◌, arith, length-append, find}
 use Rattle.std.specs.Option.{option_or}
 use Rattle.std.proofs.Math.Seq.{get_or-append_right}
 use Rattle.std.proofs.lemmas.Bool.Decides.{nat_tests}
@@ -14,26 +15,32 @@ pub record IsLaid (pieces : List Piece) (rom : List ℕ) : Type 0 where
   pub above : (address : ℕ) → 256 + length rom ≤ address → find (covers address) pieces ≡ None
   pub within : length rom ≤ 65280
 
--- a word covers the addresses of its bytes, and none past them
-pub covers-true : (address : ℕ) (piece : Piece) → covers address piece ≡ true → (piece.address ≤ address) × (address < piece.address + length piece.bytes)
+-- a word covers the addresses of its bytes, and none before or past them
+pub covers-true : (address : ℕ) (piece : Piece) → covers address piece ≡ true
+    → (piece.address ≤ address) × (address < piece.address + length piece.bytes)
 covers-true address piece e = grind (arith, nat_tests)
-
-pub covers-past : (address : ℕ) (piece : Piece) → (0 < length piece.bytes → piece.address + length piece.bytes ≤ address) → covers address piece ≡ false
-covers-past address piece past = grind (arith, nat_tests)
 
 pub covers-before : (address : ℕ) (piece : Piece) → address < piece.address → covers address piece ≡ false
 covers-before address piece before = grind (arith, nat_tests)
 
--- the byte at an address with one word more, which covers no address that one before it covers
-one_more : (address value : ℕ) (piece : Piece) (found : Option Piece) (covered : Bool) → value ≡ byte_of_piece address found → (covered ≡ true → found ≡ None)
-    → cond covered (byte_of_piece address (Some piece)) value ≡ byte_of_piece address (option_or found (cond covered (Some piece) None))
-one_more address value piece found covered e none = grind arith
+pub covers-past : (address : ℕ) (piece : Piece) → (0 < length piece.bytes → piece.address + length piece.bytes ≤ address) → covers address piece ≡ false
+covers-past address piece past = grind (arith, nat_tests)
 
-pub byte_more : (pieces : List Piece) (piece : Piece) (address value : ℕ) → value ≡ byte_of_piece address (find (covers address) pieces)
-    → (covers address piece ≡ true → find (covers address) pieces ≡ None)
-    → cond (covers address piece) (byte_of_piece address (Some piece)) value ≡ byte_of_piece address (find (covers address) (pieces ++ piece ∷ []))
-byte_more pieces piece address value e none =
-    rw (find-append (covers address) pieces (piece ∷ [])) (one_more address value piece (find (covers address) pieces) (covers address piece) e none)
+-- the byte at an address where a word lies over what stood there
+abbrev pub read_over : ℕ → Piece → ℕ → ℕ
+read_over address piece value = cond (covers address piece) (byte_of_piece address (Some piece)) value
+
+abbrev pub read_of : ℕ → List Piece → ℕ
+read_of address pieces = byte_of_piece address (find (covers address) pieces)
+
+-- with one word more, which covers no address that one before it covers
+one_over : (address value : ℕ) (piece : Piece) (found : Option Piece) (covered : Bool) → value ≡ byte_of_piece address found → (covered ≡ true → found ≡ None)
+    → cond covered (byte_of_piece address (Some piece)) value ≡ byte_of_piece address (option_or found (cond covered (Some piece) None))
+one_over address value piece found covered e none = grind arith
+
+pub more_over : (pieces : List Piece) (piece : Piece) (address value : ℕ) → value ≡ read_of address pieces
+    → (covers address piece ≡ true → find (covers address) pieces ≡ None) → read_over address piece value ≡ read_of address (pieces ++ piece ∷ [])
+more_over pieces piece address value e none = rw (find-append (covers address) pieces (piece ∷ [])) (one_over address value piece _ (covers address piece) e none)
 
 -- bytes behind others and a gap of zeros
 module _ (rom : List ℕ) (place : ℕ) where
@@ -42,17 +49,18 @@ module _ (rom : List ℕ) (place : ℕ) where
       ⊎ ((0 < length bytes) × (256 + length rom ≤ place) × (256 + length (filled rom place bytes) ≡ place + length bytes))
   length-filled [] behind = inl (refl, refl)
   length-filled (byte ∷ bytes) behind =
-      let gap = place - (256 + length rom) in
+      let zeros : List ℕ = replicate (place - (256 + length rom)) 0 in
       let after : 256 + length rom ≤ place = behind (omega arith) in
-      inr (omega arith, after, omega (arith, length-append rom (replicate gap 0 ++ (byte ∷ bytes)), length-append (replicate gap 0) (byte ∷ bytes), length-replicate {A = ℕ} gap 0))
+      let size = length-replicate {A = ℕ} (place - (256 + length rom)) 0 in
+      inr (omega arith, after, omega (arith, length-append rom (zeros ++ (byte ∷ bytes)), length-append zeros (byte ∷ bytes), size))
 
   gap_read : (gap i : ℕ) (bytes : List ℕ) → 256 + length rom ≤ place → gap ≡ place - (256 + length rom)
-      → get_or (rom ++ (replicate gap 0 ++ bytes)) i 0 ≡ cond (nat_le place (256 + i) && nat_lt (256 + i) (place + length bytes)) (get_or bytes (256 + i - place) 0) (get_or rom i 0)
+      → get_or (rom ++ (replicate gap 0 ++ bytes)) i 0 ≡ read_over (256 + i) (record { address = place; bytes = bytes }) (get_or rom i 0)
   gap_read gap i bytes behind e =
       grind (arith, nat_tests, get_or_append_left, get_or-append_right, get_or_past, get_or-replicate, length-replicate, length-append)
 
   filled_read : (bytes : List ℕ) (i : ℕ) → (0 < length bytes → 256 + length rom ≤ place)
-      → get_or (filled rom place bytes) i 0 ≡ cond (covers (256 + i) (record { address = place; bytes = bytes })) (get_or bytes (256 + i - place) 0) (get_or rom i 0)
+      → get_or (filled rom place bytes) i 0 ≡ read_over (256 + i) (record { address = place; bytes = bytes }) (get_or rom i 0)
   filled_read [] i behind = rw (covers-past (256 + i) (record { address = place; bytes = [] }) (λ some. omega arith)) refl
   filled_read (byte ∷ bytes) i behind = gap_read _ i (byte ∷ bytes) (behind (omega arith)) refl
 
@@ -65,7 +73,7 @@ next_laid pieces rom place bytes laid behind room =
     let piece : Piece = record { address = place; bytes = bytes } in
     let size = length-filled rom place bytes behind in
     record {
-      each = λ i. filled_read rom place bytes i behind ∙ byte_more pieces piece (256 + i) (get_or rom i 0) (laid.each i)
+      each = λ i. filled_read rom place bytes i behind ∙ more_over pieces piece (256 + i) (get_or rom i 0) (laid.each i)
           (λ e. (let bounds = covers-true (256 + i) piece e in laid.above (256 + i) (omega (arith, bounds, behind))));
       above = λ address past.
           let none = covers-past address piece (λ some. omega (arith, size)) in

@@ -45,7 +45,9 @@ pub record IsLaidSo (source : List ℕ) (labels : List Label) (words : List Plac
   pub sound : phase_fault (each (judged_reference source labels) (take k words) (drop k words)) ≡ reference_fault source labels words
   pub scoped : scope ≡ scope_behind source (take k words)
   pub laid : IsLaid (pieces_of source labels (take k words)) rom
-  pub above : (j : ℕ) → k ≤ j → j < length words → 0 < (get_or words j no_placed_word).size → 256 + length rom ≤ (get_or words j no_placed_word).address
+  pub apart : LieApart source words
+  pub above : (j : ℕ) → k ≤ j → j < length words → 0 < (get_or words j no_placed_word).size
+      → 256 + length rom ≤ (get_or words j no_placed_word).address
 
 pub nothing_laid_so : (source : List ℕ) (labels : List Label) (words : List PlacedWord) (rom scope : List ℕ)
     → LieApart source words → rom ≡ [] → scope ≡ first_scope → IsLaidSo source labels words 0 rom scope
@@ -54,19 +56,20 @@ nothing_laid_so source labels words rom scope apart e first = record {
   sound = refl;
   scoped = first;
   laid = nothing_laid rom e;
+  apart = apart;
   above = λ j from within some. omega (arith, ap length e, (apart.each j no_placed_word within).start some);
 }
 
 module _ (source : List ℕ) (labels : List Label) (words : List PlacedWord) (k : ℕ) (rom scope : List ℕ)
-    (apart : LieApart source words) (within : k < length words) (so : IsLaidSo source labels words k rom scope) where
+    (within : k < length words) (so : IsLaidSo source labels words k rom scope) where
   abbrev word : PlacedWord
   word = get_or words k no_placed_word
 
   lies : LiesInMemory source word
-  lies = apart.each k no_placed_word within
+  lies = so.apart.each k no_placed_word within
 
   pub word-size : (text : List ℕ) → text ≡ expanded_text source word.word → word.size ≡ size word.form text
-  word-size text read = lies.sized ∙ ap (size word.form) (sym read)
+  word-size text read = rw read lies.sized
 
   pub word-above : 0 < word.size → 256 + length rom ≤ word.address
   word-above some = so.above k (omega arith) within some
@@ -75,13 +78,15 @@ module _ (source : List ℕ) (labels : List Label) (words : List PlacedWord) (k 
   word-within some = lies.end some
 
   pub word-address : HasAddress word.form word.address
-  word-address = let same = lies.sized in address-of word.form (expanded_text source word.word) word.address (λ some. omega (arith, same, lies.end (omega (arith, same))))
+  word-address = address-of word.form (expanded_text source word.word) word.address (rw lies.sized at lies.end)
 
-  module _ (text : List ℕ) (target : Option ℕ) (read : text ≡ expanded_text source word.word) (named : target ≡ target_in labels scope text word) where
+  module _ (text : List ℕ) (target : Option ℕ) (read : text ≡ expanded_text source word.word)
+      (named : target ≡ target_in labels scope text word) where
     same : target ≡ target_of source labels (take k words) word
     same = rw (named, read, so.scoped) refl
 
-    pub faulty_next : (kind : FaultKind) → least (reference_kinds word.form word.address target) ≡ Some kind → reference_fault source labels words ≡ Some (fault_at word.word.origin kind)
+    pub faulty_next : (kind : FaultKind) → least (reference_kinds word.form word.address target) ≡ Some kind
+        → reference_fault source labels words ≡ Some (fault_at word.word.origin kind)
     faulty_next kind some = sym so.sound ∙ fault-here (judged_reference source labels) words k no_placed_word within kind (rw same at some)
 
     pub next_laid_so : (more next : List ℕ) → least (reference_kinds word.form word.address target) ≡ None
@@ -100,10 +105,11 @@ module _ (source : List ℕ) (labels : List Label) (words : List PlacedWord) (k 
           scoped = rw (after, read, so.scoped, take_more words k no_placed_word within, map-append (λ placed. placed.word) (take k words) (word ∷ []))
               (sym (scope_after-append source (map (λ placed. placed.word) (take k words)) word.word word.form lies.shape));
           laid = rw (all, take_more words k no_placed_word within, each-more (piece_given source labels) (λ b w a c. refl) [] (take k words) word)
-              (next_laid (pieces_of source labels (take k words)) rom word.address bytes so.laid behind (λ some. omega (arith, long, word-within (omega (arith, long)))));
+              (next_laid _ rom word.address bytes so.laid behind (λ some. omega (arith, long, word-within (omega (arith, long)))));
+          apart = so.apart;
           above = λ j from inside some.
               let before = so.above j (omega arith) inside some in
-              let between : 0 < word.size → word.address + word.size ≤ (get_or words j no_placed_word).address = λ here. apart.apart k j no_placed_word (omega arith) inside here some in
+              let between = λ (here : 0 < word.size). so.apart.apart k j no_placed_word (omega arith) inside here some in
               grind (arith, ap length all, long, size, before, between);
         }
 

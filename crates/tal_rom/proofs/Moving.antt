@@ -17,7 +17,7 @@ use Rattle.tal_rom.specs.Rom.{Piece, covers, byte_of_piece}
 use Rattle.tal_rom.specs.Filling.{overlaid, filled_hole}
 use Rattle.tal_rom.specs.Patching.{Added, waits, is_far, known_piece}
 use Rattle.tal_rom.specs.Patchers.{span_of, IsAbove, IsBelow, AreAscending}
-use Rattle.tal_rom.proofs.Covering.{covers-true, covers-past, covers-before, byte_more}
+use Rattle.tal_rom.proofs.Covering.{covers-true, covers-past, covers-before, read_over, read_of, more_over}
 use Rattle.tal_rom.proofs.Laying.{some_bytes}
 
 pub length-overlaid : (memory : List ℕ) (at : ℕ) (bytes : List ℕ) → length (overlaid memory at bytes) ≡ length memory
@@ -25,22 +25,19 @@ length-overlaid memory at [] = refl
 length-overlaid memory at (byte ∷ bytes) = length-overlaid (slice_set memory at byte) (at + 1) bytes ∙ length-set memory at byte
 
 -- what is read at an index is a byte that was laid there, or what stood there
-abbrev read_over : List ℕ → Piece → ℕ → ℕ
-read_over memory piece i = cond (covers i piece) (byte_of_piece i (Some piece)) (get_or memory i 0)
+none_laid : (at i value : ℕ) → value ≡ read_over i (record { address = at; bytes = [] }) value
+none_laid at i value = grind (arith, nat_tests)
 
-none_over : (memory : List ℕ) (at i : ℕ) → get_or memory i 0 ≡ read_over memory (record { address = at; bytes = [] }) i
-none_over memory at i = grind (arith, nat_tests)
+one_laid : (memory : List ℕ) (at byte : ℕ) (bytes : List ℕ) (i : ℕ) → i < length memory
+    → read_over i (record { address = at + 1; bytes = bytes }) (get_or (slice_set memory at byte) i 0)
+    ≡ read_over i (record { address = at; bytes = byte ∷ bytes }) (get_or memory i 0)
+one_laid memory at byte bytes i within = grind (arith, nat_tests, get_or-set_at, get_or-set_other, get_or_head, get_or_tail)
 
-more_over : (memory : List ℕ) (at byte : ℕ) (bytes : List ℕ) (i : ℕ) → i < length memory
-    → read_over (slice_set memory at byte) (record { address = at + 1; bytes = bytes }) i ≡ read_over memory (record { address = at; bytes = byte ∷ bytes }) i
-more_over memory at byte bytes i within = grind (arith, nat_tests, get_or-set_at, get_or-set_other, get_or_head, get_or_tail)
-
-overlaid-read : (memory : List ℕ) (piece : Piece) (i : ℕ) → i < length memory → get_or (overlaid memory piece.address piece.bytes) i 0 ≡ read_over memory piece i
-overlaid-read memory piece i within = by memory piece.address piece.bytes within
-  where
-    by : (memory : List ℕ) (at : ℕ) (bytes : List ℕ) → i < length memory → get_or (overlaid memory at bytes) i 0 ≡ read_over memory (record { address = at; bytes = bytes }) i
-    by memory at [] within = none_over memory at i
-    by memory at (byte ∷ bytes) within = by (slice_set memory at byte) (at + 1) bytes (omega (arith, length-set memory at byte)) ∙ more_over memory at byte bytes i within
+overlaid-read : (memory : List ℕ) (at : ℕ) (bytes : List ℕ) (i : ℕ) → i < length memory
+    → get_or (overlaid memory at bytes) i 0 ≡ read_over i (record { address = at; bytes = bytes }) (get_or memory i 0)
+overlaid-read memory at [] i within = none_laid at i _
+overlaid-read memory at (byte ∷ bytes) i within =
+    overlaid-read (slice_set memory at byte) (at + 1) bytes i (omega (arith, length-set memory at byte)) ∙ one_laid memory at byte bytes i within
 
 -- one byte more
 pub overlaid-push : (memory : List ℕ) (at : ℕ) (bytes : List ℕ) (byte : ℕ)
@@ -78,7 +75,7 @@ spans_in moves = map span_of (map word_before moves)
 
 -- memory at an address, by the bytes that are known
 abbrev pub read_at : List Added → ℕ → ℕ
-read_at words at = byte_of_piece at (find (covers at) (map known_piece words))
+read_at words at = read_of at (map known_piece words)
 
 short_piece : (word : Added) → length (known_piece word).bytes ≤ size word.form word.text
 short_piece word = by (waits word || is_far word) _ (length-encoded word.form word.text word.address _)
@@ -88,7 +85,8 @@ short_piece word = by (waits word || is_far word) _ (length-encoded word.form wo
 
 module _ (target : ℕ) where
   -- fewer words wait, and those that got their target have to fit
-  pub fewer_wait : (moves : List Move) → length (filter waits (map word_before moves)) ≡ length (filter waits (map (word_after target) moves)) + length (holes_in moves)
+  pub fewer_wait : (moves : List Move)
+      → length (filter waits (map word_before moves)) ≡ length (filter waits (map (word_after target) moves)) + length (holes_in moves)
   fewer_wait [] = refl
   fewer_wait (Stays word ∷ moves) = grind (arith, fewer_wait moves)
   fewer_wait (Fills rune text address ∷ moves) = omega (arith, fewer_wait moves)
@@ -111,7 +109,8 @@ module _ (target : ℕ) where
 
   module _ (at : ℕ) where
     -- words above it leave it
-    stays_filled : (low : ℕ) (moves : List Move) (memory : List ℕ) → at < low → at < length memory → AllByRecursion (IsAbove low) (spans_in moves) → filled moves memory at ≡ get_or memory at 0
+    stays_filled : (low : ℕ) (moves : List Move) (memory : List ℕ) → at < low → at < length memory → AllByRecursion (IsAbove low) (spans_in moves)
+        → filled moves memory at ≡ get_or memory at 0
     stays_filled low [] memory below within above = refl
     stays_filled low (Stays word ∷ moves) memory below within above = stays_filled low moves memory below within above.1
     stays_filled low (Fills rune text address ∷ moves) memory below within above =
@@ -119,58 +118,64 @@ module _ (target : ℕ) where
         let none = covers-before at piece (omega (arith, above.0 (some_bytes rune))) in
         rw (hole_filled rune text address memory)
         (stays_filled low moves (overlaid memory address piece.bytes) below (omega (arith, within, length-overlaid memory address piece.bytes)) above.1
-        ∙ overlaid-read memory piece at within ∙ rw none refl)
+        ∙ overlaid-read memory address piece.bytes at within ∙ rw none refl)
 
     -- it is read from the first word, which covers it, or from the others
+    first_or : (piece : Piece) (covered : Bool) (others : Option Piece)
+        → byte_of_piece at (cond covered (Some piece) others) ≡ cond covered (byte_of_piece at (Some piece)) (byte_of_piece at others)
+    first_or piece covered others = grind arith
+
     first_filled : (moves : List Move) (word : Added) (memory : List ℕ) (covered : Bool)
         → (0 < size word.form word.text → AllByRecursion (IsAbove (word.address + size word.form word.text)) (spans_in moves))
         → at < length memory → covers at (known_piece word) ≡ covered
         → (get_or memory at 0 ≡ read_at (map word_before moves) at → filled moves memory at ≡ read_at (map (word_after target) moves) at)
         → get_or memory at 0 ≡ cond covered (byte_of_piece at (Some (known_piece word))) (read_at (map word_before moves) at)
-        → filled moves memory at ≡ byte_of_piece at (cond covered (Some (known_piece word)) (find (covers at) (map known_piece (map (word_after target) moves))))
+        → filled moves memory at ≡ cond covered (byte_of_piece at (Some (known_piece word))) (read_at (map (word_after target) moves) at)
     first_filled moves word memory true above within c later e =
         let bounds = covers-true at (known_piece word) c in
         let short = short_piece word in
         stays_filled (word.address + size word.form word.text) moves memory (omega arith) within (above (omega arith)) ∙ e
     first_filled moves word memory false above within c later e = later e
 
-    first_or : (piece : Piece) (covered : Bool) (others : Option Piece)
-        → byte_of_piece at (cond covered (Some piece) others) ≡ cond covered (byte_of_piece at (Some piece)) (byte_of_piece at others)
-    first_or piece covered others = grind arith
-
     pub filled_read : (moves : List Move) (memory : List ℕ) → AreAscending (spans_in moves) → at < length memory
         → get_or memory at 0 ≡ read_at (map word_before moves) at → filled moves memory at ≡ read_at (map (word_after target) moves) at
     filled_read [] memory above within e = e
     filled_read (Stays word ∷ moves) memory above within e =
-        first_filled moves word memory _ above.0 within refl (filled_read moves memory above.1 within) (e ∙ first_or (known_piece word) (covers at (known_piece word)) _)
+        let first = rw (first_or (known_piece word) (covers at (known_piece word))) at e in
+        rw (first_or (known_piece word) (covers at (known_piece word)))
+        (first_filled moves word memory _ above.0 within refl (filled_read moves memory above.1 within) first)
     filled_read (Fills rune text address ∷ moves) memory above within e =
         let word : Added = reference rune text address (Some target) in
         let more : List ℕ = overlaid memory address (known_piece word).bytes in
         let long : at < length more = omega (arith, within, length-overlaid memory address (known_piece word).bytes) in
         let none = covers-past at (record { address = address; bytes = [] }) (λ some. omega arith) in
-        rw (hole_filled rune text address memory)
-        (first_filled moves word more _ above.0 long refl (filled_read moves more above.1 long) (rw (overlaid-read memory (known_piece word) at within, rw none at e) refl))
+        let first = rw (rw none at e) at (overlaid-read memory address (known_piece word).bytes at within) in
+        rw (hole_filled rune text address memory, first_or (known_piece word) (covers at (known_piece word)))
+        (first_filled moves word more _ above.0 long refl (filled_read moves more above.1 long) first)
 
 -- one word more behind the others
-pub ascending_push : (spans : List (ℕ × ℕ)) (span : ℕ × ℕ) → AreAscending spans → (0 < span.1 → AllByRecursion (IsBelow span.0) spans) → AreAscending (spans ++ span ∷ [])
+pub ascending_push : (spans : List (ℕ × ℕ)) (span : ℕ × ℕ) → AreAscending spans → (0 < span.1 → AllByRecursion (IsBelow span.0) spans)
+    → AreAscending (spans ++ span ∷ [])
 ascending_push [] span above below = (λ some. tt, tt)
 ascending_push (first ∷ spans) span above below = (
   λ some. all_joined (IsAbove (first.0 + first.1)) spans (span ∷ []) (above.0 some) (λ more. (below more).0 some, tt),
   ascending_push spans span above.1 (λ more. (below more).1),
 )
 
-none_below : (at place : ℕ) (words : List Added) → place ≤ at → AllByRecursion (IsBelow place) (map span_of words) → find (covers at) (map known_piece words) ≡ None
+none_below : (at place : ℕ) (words : List Added) → place ≤ at → AllByRecursion (IsBelow place) (map span_of words)
+    → find (covers at) (map known_piece words) ≡ None
 none_below at place [] h below = refl
 none_below at place (word ∷ words) h below =
     let short = short_piece word in
     let none = covers-past at (known_piece word) (λ some. (let end = below.0 (omega arith) in omega arith)) in
     rw none (none_below at place words h below.1)
 
-pub pushed_read : (at : ℕ) (words : List Added) (word : Added) (memory : List ℕ) → (0 < size word.form word.text → AllByRecursion (IsBelow word.address) (map span_of words))
-    → at < length memory → get_or memory at 0 ≡ read_at words at → get_or (overlaid memory word.address (known_piece word).bytes) at 0 ≡ read_at (words ++ word ∷ []) at
+pub pushed_read : (at : ℕ) (words : List Added) (word : Added) (memory : List ℕ)
+    → (0 < size word.form word.text → AllByRecursion (IsBelow word.address) (map span_of words)) → at < length memory → get_or memory at 0 ≡ read_at words at
+    → get_or (overlaid memory word.address (known_piece word).bytes) at 0 ≡ read_at (words ++ word ∷ []) at
 pushed_read at words word memory below within e =
     let short = short_piece word in
     let none : covers at (known_piece word) ≡ true → find (covers at) (map known_piece words) ≡ None =
     λ c. (let bounds = covers-true at (known_piece word) c in none_below at word.address words bounds.0 (below (omega arith))) in
     rw (map-append known_piece words (word ∷ []))
-    (overlaid-read memory (known_piece word) at within ∙ byte_more (map known_piece words) (known_piece word) at (get_or memory at 0) e none)
+    (overlaid-read memory word.address (known_piece word).bytes at within ∙ more_over (map known_piece words) (known_piece word) at (get_or memory at 0) e none)
