@@ -1,6 +1,6 @@
 -- The words of a source as entries, the word that a placer gives next, and what a patch holds with it.
-use Rattle.std.proofs.Common.{◌≡◌, ℕ, zero, suc, ◌+◌, ◌<◌, ◌≤◌, ◌⊎◌, inl, inr, Bool, true, false, not, ◌&&◌, List, [], ◌∷◌, ◌++◌, length, get_or, map, take}
-use Rattle.std.proofs.Common.{Option, Some, None, Ok, Err, Result, cond, refl, sym, ◌∙◌, ap, arith, append_assoc, append-nil, length-append}
+use Rattle.std.proofs.Common.{◌≡◌, ℕ, zero, suc, ◌+◌, ◌<◌, ◌≤◌, ◌⊎◌, inl, inr, Bool, true, false, not, ◌&&◌, List, [], ◌∷◌, ◌++◌, length}
+use Rattle.std.proofs.Common.{get_or, map, take, Option, Some, None, Ok, Err, Result, cond, refl, sym, ◌∙◌, ap, arith, append_assoc, append-nil, length-append}
 use Rattle.std.specs.Prelude.{is_some, ◌==◌, OnOk}
 use Rattle.std.specs.Option.{option_map}
 use Rattle.std.specs.List.{AllByRecursion, flat_map, list_any}
@@ -33,7 +33,8 @@ use Rattle.tal_labels.specs.Places.{address_after}
 use Rattle.tal_labels.specs.Answers.{next_scope, label_of}
 use Rattle.tal_labels.specs.Labels.{defined_name, labels_of, scope_after}
 use Rattle.tal_labels.specs.Shapes.{closing_distance}
-use Rattle.tal_labels.specs.Placing.{is_mark_form, formed_size, is_defined, ends_given, ends_of, ends_above, judged_place, placed_with, placed_given, placed_of}
+use Rattle.tal_labels.specs.Placing.{is_mark_form, formed_size, is_defined, ends_given, ends_of, ends_above, judged_place}
+use Rattle.tal_labels.specs.Placing.{placed_with, placed_given, placed_of}
 use Rattle.tal_labels.specs.Adding.{shape_added, adding_kinds, judged_added, added_fault, open_word, given_word, word_added, open_given, open_ones}
 use Rattle.tal_labels.specs.Placers.{closed_at, closed_by, closed_opener}
 use Rattle.tal_labels.proofs.AddingLemmas.{formed-added, added-front}
@@ -48,10 +49,10 @@ use Rattle.tal_rom.specs.declared.patch.Patch.{Patch}
 use Rattle.tal_rom.specs.Filling.{is_definition, is_reference}
 use Rattle.tal_rom.specs.References.{scope_behind}
 use Rattle.tal_rom.specs.Patching.{added_given, added_of}
-use Rattle.tal_rom.specs.Patchers.{Entry, Holds, HoldsAll, ComesNext, WasGiven, new_entry, added_by, brace_hole, span_of_entry, IsBelow, closed_or, closed_last}
-use Rattle.tal_rom.specs.Patchers.{entry_in, entries_from, scope_from}
+use Rattle.tal_rom.specs.Patchers.{Entry, Holds, HoldsAll, ComesNext, WasGiven, new_entry, added_by, brace_hole, span_of_entry, IsBelow}
+use Rattle.tal_rom.specs.Patchers.{closed_or, closed_last, entry_in, entries_from, scope_from}
 use Rattle.tal_rom.proofs.Laying.{some_bytes}
-use Rattle.tal_rom.proofs.Holding.{holds_more, put_more, no_hole, nothing_left, both_nil}
+use Rattle.tal_rom.proofs.Holding.{holds_more, IsPut, put_more, no_hole, nothing_left, both_nil}
 
 -- an opener is a reference
 braced : (first : ℕ) (rune : Rune) → rune_of first ≡ Some rune → form (first ∷ 123 ∷ []) ≡ Ok (Refer rune)
@@ -140,9 +141,11 @@ module _ (source : List ℕ) where
   all_formed words = formed_from [] words
 
   -- the words with their targets, by their entries
-  behind_more : (before : List PlacedWord) (placed : PlacedWord) → HasForm placed → scope_behind source (before ++ placed ∷ []) ≡ scoped (scope_behind source before) placed
+  behind_more : (before : List PlacedWord) (placed : PlacedWord) → HasForm placed
+      → scope_behind source (before ++ placed ∷ []) ≡ scoped (scope_behind source before) placed
   unfolding scope_behind
-  behind_more before placed e = rw (map-append (λ p. p.word) before (placed ∷ [])) (scope_after-append source (map (λ p. p.word) before) placed.word placed.form e)
+  behind_more before placed e =
+      rw (map-append (λ p. p.word) before (placed ∷ [])) (scope_after-append source (map (λ p. p.word) before) placed.word placed.form e)
 
   each_added : (labels : List Label) (before words : List PlacedWord) (scope : List ℕ) → scope ≡ scope_behind source before
       → AllByRecursion HasForm words → each (added_given source labels) before words ≡ map (added_by labels) (entries_from source scope words)
@@ -151,13 +154,15 @@ module _ (source : List ℕ) where
       let next : scoped scope placed ≡ scope_behind source (before ++ placed ∷ []) = rw (e, behind_more before placed all.0) refl in
       rw (each_added labels (before ++ placed ∷ []) words (scoped scope placed) next all.1, e) refl
 
-  pub added_are : (words : List Expanded) → added_of source words ≡ map (added_by (labels_of source words)) (entries_from source first_scope (placed_of source words))
+  pub added_are : (words : List Expanded)
+      → added_of source words ≡ map (added_by (labels_of source words)) (entries_from source first_scope (placed_of source words))
   unfolding added_of scope_behind scope_after
   added_are words = each_added (labels_of source words) [] (placed_of source words) first_scope refl (all_formed words)
 
   -- one word more
   entries_more : (scope : List ℕ) (words : List PlacedWord) (placed : PlacedWord)
-      → entries_from source scope (words ++ placed ∷ []) ≡ entries_from source scope words ++ entry_in source (scope_from source scope words) placed ∷ []
+      → entries_from source scope (words ++ placed ∷ [])
+      ≡ entries_from source scope words ++ entry_in source (scope_from source scope words) placed ∷ []
   entries_more scope [] placed = refl
   entries_more scope (first ∷ words) placed = rw (entries_more (scoped scope first) words placed) refl
 
@@ -166,7 +171,8 @@ module _ (source : List ℕ) where
   length-entries scope (word ∷ words) = rw (length-entries (scoped scope word) words) refl
 
   -- the end of a lambda changes no scope
-  scope_closed : (o : Option ℕ) (address : ℕ) (scope : List ℕ) (words : List PlacedWord) → scope_from source scope (closed_by o address words) ≡ scope_from source scope words
+  scope_closed : (o : Option ℕ) (address : ℕ) (scope : List ℕ) (words : List PlacedWord)
+      → scope_from source scope (closed_by o address words) ≡ scope_from source scope words
   scope_closed None address scope words = refl
   scope_closed (Some at) address scope [] = refl
   scope_closed (Some zero) address scope (word ∷ words) = refl
@@ -180,11 +186,13 @@ module _ (source : List ℕ) where
   spots first [] = []
   spots first (placed ∷ words) = cond (is_open placed) (first ∷ []) [] ++ spots (first + 1) words
 
-  spots_more : (first : ℕ) (words : List PlacedWord) (placed : PlacedWord) → is_open placed ≡ false → spots first (words ++ placed ∷ []) ≡ spots first words
+  spots_more : (first : ℕ) (words : List PlacedWord) (placed : PlacedWord) → is_open placed ≡ false
+      → spots first (words ++ placed ∷ []) ≡ spots first words
   spots_more first [] placed e = rw e refl
   spots_more first (word ∷ words) placed e = rw (spots_more (first + 1) words placed e) refl
 
-  spots_are : (before words : List Expanded) → ((k : ℕ) → k < length words → (shape : Form) × (form (expanded_text source (get_or words k no_word)) ≡ Ok shape))
+  spots_are : (before words : List Expanded)
+      → ((k : ℕ) → k < length words → (shape : Form) × (form (expanded_text source (get_or words k no_word)) ≡ Ok shape))
       → spots (length before) (collected (placed_given source) before words) ≡ collected (open_given source) before words
   spots_are before [] all = refl
   spots_are before (word ∷ words) all =
@@ -201,7 +209,8 @@ module _ (source : List ℕ) where
       × (0 < length (flat_map brace_hole (entries_from source scope words)))
       × (entries_from source scope (closed_at at address words) ≡ closed_last address (entries_from source scope words)))
 
-  open_hole : (scope : List ℕ) (placed : PlacedWord) → HasForm placed → is_open placed ≡ true → (hole : Hole) × (brace_hole (entry_in source scope placed) ≡ hole ∷ [])
+  open_hole : (scope : List ℕ) (placed : PlacedWord) → HasForm placed → is_open placed ≡ true
+      → (hole : Hole) × (brace_hole (entry_in source scope placed) ≡ hole ∷ [])
   open_hole scope placed formed e =
       let found = opener (text placed) (and_parts _ _ e).0 in
       let shape : placed.form ≡ Refer found.0 = (let both : Ok placed.form ≡ Ok (Refer found.0) = sym formed ∙ found.1 in cc) in
@@ -232,7 +241,8 @@ module _ (source : List ℕ) where
       by false e (inl none) = inl (rw (e, none.0) refl, rw (e, no_hole placed.form placed.address) none.1)
 
   closes_by : (address : ℕ) (words : List PlacedWord) → ClosesSo 0 address first_scope words
-      → entries_from source first_scope (closed_by (last_of (λ at. Some at) (spots 0 words)) address words) ≡ closed_last address (entries_from source first_scope words)
+      → entries_from source first_scope (closed_by (last_of (λ at. Some at) (spots 0 words)) address words)
+      ≡ closed_last address (entries_from source first_scope words)
   closes_by address words (inl none) = rw (none.0) (sym (nothing_left address _ none.1))
   closes_by address words (inr some) = (let start : 0 + some.1 ≡ some.1 = omega arith in rw (some.2, last_of-more, start) some.4)
 
@@ -256,35 +266,43 @@ module _ (source : List ℕ) where
 
     pub next_behind : scope_from source first_scope (placed_of source (words ++ word ∷ [])) ≡ scope_after source (words ++ word ∷ [])
     next_behind =
+        let closed = closed_opener (opens (expanded_text source word)) (closes (expanded_text source word)) (open_ones source words) in
         rw (← placed_next source words word shape shaped sound, scope_after-append source words word shape shaped, ← behind)
-        (scope_closed (closed_opener (opens (expanded_text source word)) (closes (expanded_text source word)) (open_ones source words)) _ first_scope all_placed
+        (scope_closed closed _ first_scope all_placed
         ∙ fold_push (λ s p. scoped s p) first_scope (placed_of source words) placed)
 
     entries_next : closes (expanded_text source word) ≡ false → next_entries ≡ more_entries
-    entries_next e = rw (← placed_next source words word shape shaped sound, e, opener_none (opens (expanded_text source word)) (open_ones source words)) all_entries
+    entries_next e =
+        let none = opener_none (opens (expanded_text source word)) (open_ones source words) in
+        rw (← placed_next source words word shape shaped sound, e, none) all_entries
 
     spots_all : spots 0 (placed_of source words) ≡ open_ones source words
     unfolding placed_of open_ones
     spots_all = spots_are [] words (formed-added source words sound)
 
-    entries_closed : closes (expanded_text source word) ≡ true → opens (expanded_text source word) ≡ false → next_entries ≡ closed_last (address_after source words) more_entries
+    entries_closed : closes (expanded_text source word) ≡ true → opens (expanded_text source word) ≡ false
+        → next_entries ≡ closed_last (address_after source words) more_entries
     entries_closed e f =
         let still : spots 0 all_placed ≡ open_ones source words = spots_more 0 (placed_of source words) placed (rw f refl) ∙ spots_all in
         let formed = all_joined HasForm (placed_of source words) (placed ∷ []) (all_formed words) (shaped, tt) in
-        rw (← placed_next source words word shape shaped sound, e, f, ← still, ← all_entries) (closes_by _ all_placed (closes_so _ all_placed 0 first_scope formed))
+        rw (← placed_next source words word shape shaped sound, e, f, ← still, ← all_entries)
+        (closes_by _ all_placed (closes_so _ all_placed 0 first_scope formed))
 
   -- the entries of words end at or below a place that none of their ends lies above
   abbrev AllBelow : ℕ → List ℕ → List PlacedWord → Type 0
   AllBelow place scope words = AllByRecursion (IsBelow place) (map span_of_entry (entries_from source scope words))
 
-  ends_below : (place : ℕ) (scope : List ℕ) (before rest : List Expanded) → list_any (λ end. ltb place end) (collected (ends_given source) before rest) ≡ false
+  ends_below : (place : ℕ) (scope : List ℕ) (before rest : List Expanded)
+      → list_any (λ end. ltb place end) (collected (ends_given source) before rest) ≡ false
       → AllBelow place scope (collected (placed_given source) before rest)
   ends_below place scope before [] e = tt
   ends_below place scope before (word ∷ rest) e =
       let parts = or_false _ _ (rw (list_any-append (λ end. ltb place end) (ends_given source before word rest)) at e) in
-      by (form (expanded_text source word)) (end_low place (address_after source before) _ parts.0) (λ next. ends_below place next (before ++ word ∷ []) rest parts.1)
+      by (form (expanded_text source word)) (end_low place (address_after source before) _ parts.0)
+      (λ next. ends_below place next (before ++ word ∷ []) rest parts.1)
     where
-      by : (f : Result Form FaultKind) → (0 < formed_size f (expanded_text source word) → address_after source before + formed_size f (expanded_text source word) ≤ place)
+      by : (f : Result Form FaultKind)
+          → (0 < formed_size f (expanded_text source word) → address_after source before + formed_size f (expanded_text source word) ≤ place)
           → ((next : List ℕ) → AllBelow place next (collected (placed_given source) (before ++ word ∷ []) rest))
           → AllBelow place scope (placed_with source before word rest f ++ collected (placed_given source) (before ++ word ∷ []) rest)
       by (Err kind) low later = later scope
@@ -297,7 +315,8 @@ pub record IsNextWord (source : List ℕ) (words : List Expanded) (placed : Plac
   pub formed : form (text source placed) ≡ Ok placed.form
   pub address : placed.address ≡ address_after source words
   pub well : IsWellPlaced (is_defined (labels_of source words) (defined_name (Ok placed.form) (scope_after source words) (text source placed)))
-      (address_after source words) (size placed.form (text source placed)) (is_mark_form placed.form) (ends_above source words (address_after source words))
+      (address_after source words) (size placed.form (text source placed)) (is_mark_form placed.form)
+      (ends_above source words (address_after source words))
 
 module _ (source : List ℕ) (words : List Expanded) where
   front_sound : (word : Expanded) → added_fault source (words ++ word ∷ []) ≡ None → added_fault source words ≡ None
@@ -307,7 +326,8 @@ module _ (source : List ℕ) (words : List Expanded) where
   unfolding added_fault
   next_kinds word e =
       let behind = fault-behind (each (judged_added source) [] words) (judged_added source words word [] ∷ []) (front_sound word e) in
-      let none = fault_or-none word.origin (least (adding_kinds source words word)) None (rw (each-more (judged_added source) (λ b w a c. refl) [] words word, behind) at e) in
+      let last = rw (each-more (judged_added source) (λ b w a c. refl) [] words word, behind) at e in
+      let none = fault_or-none word.origin (least (adding_kinds source words word)) None last in
       ap least (both_nil (shape_added source words word) _ (least-none _ none.0)).1
 
   given_parts : (b : Bool) (f : Result Form FaultKind) (placed : PlacedWord) → given_word source words placed.word b f ≡ Some placed
@@ -369,14 +389,16 @@ module _ (source : List ℕ) (words : List Expanded) (placed : PlacedWord) (give
   abbrev all : List Expanded
   all = words ++ placed.word ∷ []
 
-  labels_next : labels_of source all ≡ labels ++ label_of (defined_name (Ok placed.form) (scope_after source words) (text source placed)) placed.address
+  labels_next : labels_of source all
+      ≡ labels ++ label_of (defined_name (Ok placed.form) (scope_after source words) (text source placed)) placed.address
   labels_next = rw next.address (labels_of-append source words placed.word placed.form next.formed)
 
   same_labels : is_definition placed.form ≡ false → labels_of source all ≡ labels
   same_labels bare = rw (labels_next, no_label placed.form (scope_after source words) (text source placed) bare) (append-nil labels)
 
   module _ (behind : scope_from source first_scope (placed_of source words) ≡ scope_after source words) where
-    module _ (text' full : List ℕ) (read : text' ≡ text source placed) (named : full ≡ full_name (scope_after source words) (name_after_rune (text source placed))) where
+    module _ (text' full : List ℕ) (read : text' ≡ text source placed)
+        (named : full ≡ full_name (scope_after source words) (name_after_rune (text source placed))) where
       abbrev entry : Entry
       entry = new_entry placed.form text' placed.address full
 
@@ -384,7 +406,9 @@ module _ (source : List ℕ) (words : List Expanded) (placed : PlacedWord) (give
       unfolding placed_of ends_of
       comes_next = record {
         behind = λ some. rw next.address (ends_below source (address_after source words) first_scope [] words (next.well.above (rw read at some)));
-        few = omega (arith, length-entries source first_scope (placed_of source words), length-collected source [] words (formed-added source words next.sound), few);
+        few =
+            let count = length-collected source [] words (formed-added source words next.sound) in
+            omega (arith, length-entries source first_scope (placed_of source words), count, few);
       }
 
       same_entry : entry_in source (scope_after source words) (open_word source words placed.word placed.form) ≡ entry
@@ -393,31 +417,37 @@ module _ (source : List ℕ) (words : List Expanded) (placed : PlacedWord) (give
       pub put_all : (old new : Patch) → is_definition placed.form ≡ false → closes text' ≡ false
           → (ComesNext held entry → Holds labels held old → Holds labels (held ++ entry ∷ []) new) → Holds labels held old → HoldsAll source all new
       put_all old new bare e ok so =
-          rw (same_labels bare, entries_next source words placed.word placed.form next.formed next.sound behind (rw read at e), same_entry) (ok comes_next so)
+          rw (same_labels bare, entries_next source words placed.word placed.form next.formed next.sound behind (rw read at e), same_entry)
+          (ok comes_next so)
 
       pub close_all : (old put new : Patch) → is_definition placed.form ≡ false → closes text' ≡ true
           → (ComesNext held entry → Holds labels held old → Holds labels (held ++ entry ∷ []) put)
-          → ((entries : List Entry) → Holds labels entries put → Holds labels (closed_last placed.address entries) new) → Holds labels held old → HoldsAll source all new
+          → ((entries : List Entry) → Holds labels entries put → Holds labels (closed_last placed.address entries) new) → Holds labels held old
+          → HoldsAll source all new
       close_all old put new bare e ok close so =
           let closing = rw read at e in
           let still : opens (text source placed) ≡ false = grind (arith, opens-closes (text source placed), closing) in
-          rw (same_labels bare, entries_closed source words placed.word placed.form next.formed next.sound behind closing still, same_entry, ← next.address)
-          (close (held ++ entry ∷ []) (ok comes_next so))
+          let closed = entries_closed source words placed.word placed.form next.formed next.sound behind closing still in
+          rw (same_labels bare, closed, same_entry, ← next.address) (close (held ++ entry ∷ []) (ok comes_next so))
 
       pub refer_all : (rune : Rune) (old new : Patch) → placed.form ≡ Refer rune → (ComesNext held (new_entry (Refer rune) text' placed.address full)
-          → Holds labels held old → Holds labels (held ++ new_entry (Refer rune) text' placed.address full ∷ []) new) → Holds labels held old → HoldsAll source all new
+          → Holds labels held old
+          → Holds labels (held ++ new_entry (Refer rune) text' placed.address full ∷ []) new) → Holds labels held old → HoldsAll source all new
       refer_all rune old new same ok so =
           let still = not_closing source placed (words, given) (λ e. (let never : Refer rune ≡ LambdaEnd = sym same ∙ e in cc)) in
           put_all old new (rw same refl) (rw read still) (rw (← same) at ok) so
 
     pub define_all : (name : List ℕ) (old new : Patch) → is_definition placed.form ≡ true
         → Some name ≡ defined_name (Ok placed.form) (scope_after source words) (text source placed)
-        → (address_named labels name ≡ None → Holds labels held old → Holds (labels ++ record { name = name; address = placed.address } ∷ []) held new)
+        → (address_named labels name ≡ None → Holds labels held old
+        → Holds (labels ++ record { name = name; address = placed.address } ∷ []) held new)
         → Holds labels held old → HoldsAll source all new
     define_all name old new label named ok so =
         let marks = definition placed.form (text source placed) label in
         let fresh = none_named labels name (ap (is_defined labels) named ∙ next.well.new) in
         let still = not_closing source placed (words, given) (λ e. (let never : true ≡ false = sym label ∙ ap is_definition e in cc)) in
-        let put = put_more _ placed.form (text source placed) placed.address _ new new marks.1 (rw marks.0 refl) refl (record { waiting = refl; names = refl; openers = refl }) in
-        rw (labels_next, ← named, entries_next source words placed.word placed.form next.formed next.sound behind still, same_entry (text source placed) _ refl refl)
+        let stays : IsPut new new = record { waiting = refl; names = refl; openers = refl } in
+        let put = put_more _ placed.form (text source placed) placed.address _ new new marks.1 (rw marks.0 refl) refl stays in
+        let all_held = entries_next source words placed.word placed.form next.formed next.sound behind still in
+        rw (labels_next, ← named, all_held, same_entry (text source placed) _ refl refl)
         (holds_more _ held _ new new (comes_next (text source placed) _ refl refl) put (ok fresh so))

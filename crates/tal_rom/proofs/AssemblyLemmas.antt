@@ -50,12 +50,14 @@ module _ (source : List ℕ) where
       references_first places_sound answer e = rw (words_sound, expansion_sound, places_sound, e) refl
 
 -- the words are laid out as the source's
-pub laid_out : (source : List ℕ) (expanded : List Expanded) (placed : Layout) → expanded ≡ expanded_of source → placed ≡ layout_of source expanded → placed ≡ layout source
+pub laid_out : (source : List ℕ) (expanded : List Expanded) (placed : Layout) → expanded ≡ expanded_of source → placed ≡ layout_of source expanded
+    → placed ≡ layout source
 unfolding layout
 laid_out source expanded placed listed e = e ∙ ap (layout_of source) listed
 
 -- where no phase has a fault the bytes of the words are the source's
-pub assembled : (source : List ℕ) (expanded : List Expanded) (placed : Layout) (rom : List ℕ) → word_fault source ≡ None → expansion_fault source ≡ None
+pub assembled : (source : List ℕ) (expanded : List Expanded) (placed : Layout) (rom : List ℕ) → word_fault source ≡ None
+    → expansion_fault source ≡ None
     → expanded ≡ expanded_of source → place_fault source expanded ≡ None → placed ≡ layout_of source expanded
     → reference_fault source placed.labels placed.words ≡ None → rom ≡ rom_image (pieces_of source placed.labels placed.words)
     → (first_fault source ≡ None) × (rom ≡ rom_of source) × (placed.words ≡ (layout source).words) × (placed.labels ≡ (layout source).labels)
@@ -69,7 +71,8 @@ assembled source expanded placed rom words_sound expansion_sound listed places_s
     )
 
 -- the words of a source without a fault lie apart
-no_place_fault : (words expansion places references : Option Fault) → or_later words (or_later expansion (or_later places references)) ≡ None → places ≡ None
+no_place_fault : (words expansion places references : Option Fault) → or_later words (or_later expansion (or_later places references)) ≡ None
+    → places ≡ None
 no_place_fault words expansion places references e = grind arith
 
 sound_apart : (source : List ℕ) → first_fault source ≡ None → LieApart source (layout source).words
@@ -79,24 +82,23 @@ sound_apart source sound =
     lie_apart source (expanded_of source) parts.0 parts.1
 
 module _ (source : List ℕ) (labels : List Label) (words : List PlacedWord) (apart : LieApart source words) where
-  piece_at : (k : ℕ) (word : PlacedWord) (piece : Piece) → k < length words
-      → get_or (pieces_of source labels words) k piece ≡ piece_given source labels (take k words) (get_or words k word) (drop (k + 1) words)
+  -- the piece of a word lies at its place, and is as long as its size says
+  placed_piece : (k : ℕ) (word : PlacedWord) (piece : Piece) → k < length words
+      → ((get_or (pieces_of source labels words) k piece).address ≡ (get_or words k word).address)
+      × (length (get_or (pieces_of source labels words) k piece).bytes ≡ (get_or words k word).size)
   unfolding pieces_of
-  piece_at k word piece within = get_or-each (piece_given source labels) [] words k word piece within
-
-  piece_size : (k : ℕ) (word : PlacedWord) (piece : Piece) → k < length words
-      → length (get_or (pieces_of source labels words) k piece).bytes ≡ (get_or words k word).size
-  piece_size k word piece within =
-      rw (piece_at k word piece within)
-      (length-encoded (get_or words k word).form (expanded_text source (get_or words k word).word) (get_or words k word).address _ ∙ sym (apart.each k word within).sized)
+  placed_piece k word piece within =
+      let size = length-encoded (get_or words k word).form (expanded_text source (get_or words k word).word) _ _ in
+      rw (get_or-each (piece_given source labels) [] words k word piece within) (refl, size ∙ sym (apart.each k word within).sized)
 
   -- a word that covers an address has bytes on both sides of it
-  covered : (address k : ℕ) (word : PlacedWord) (piece : Piece) → k < length words → covers address (get_or (pieces_of source labels words) k piece) ≡ true
+  covered : (address k : ℕ) (word : PlacedWord) (piece : Piece) → k < length words
+      → covers address (get_or (pieces_of source labels words) k piece) ≡ true
       → ((get_or words k word).address ≤ address) × (address < (get_or words k word).address + (get_or words k word).size)
   covered address k word piece within e =
+      let placed = placed_piece k word piece within in
       let bounds = covers-true address (get_or (pieces_of source labels words) k piece) e in
-      let at = ap (λ p. p.address) (piece_at k word piece within) in
-      (omega (arith, at, bounds), omega (arith, at, piece_size k word piece within, bounds))
+      (omega (arith, placed, bounds), omega (arith, placed, bounds))
 
   cover_once : CoverOnce source labels words
   cover_once = record {
@@ -104,7 +106,7 @@ module _ (source : List ℕ) (labels : List Label) (words : List PlacedWord) (ap
         let lower = covered address i no_placed_word other (omega arith) first in
         let upper = covered address k no_placed_word other within second in
         omega (arith, lower, upper, apart.apart i k no_placed_word before within (omega (arith, lower)) (omega (arith, upper))));
-    sized = piece_size;
+    sized = λ k word piece within. (placed_piece k word piece within).1;
   }
 
 pub sound_once : (source : List ℕ) → first_fault source ≡ None → CoverOnce source (layout source).labels (layout source).words

@@ -193,8 +193,7 @@ no_hole (Refer rune) address = refl
 no_hole form address = refl
 
 hole_if : (form : Form) (address : ℕ) (a b : Bool) → cond a [] (holes_by form address b) ≡ holes_by form address (not a && b)
-hole_if form address true b = sym (no_hole form address)
-hole_if form address false b = refl
+hole_if form address a b = grind (arith, no_hole form address)
 
 -- texts that are the same
 pub same_text : (a b : List ℕ) → bytes_eq a b ≡ true → a ≡ b
@@ -281,10 +280,8 @@ module _ (labels : List Label) (label : Label) where
 
     wanted_all : (b : Bool) (old new : Entry → List Hole) → ((entry : Entry) → cond b [] (old entry) ≡ new entry)
         → (entries : List Entry) → cond b [] (flat_map old entries) ≡ flat_map new entries
-    wanted_all true old new one [] = refl
-    wanted_all true old new one (entry ∷ entries) = rw (← one entry) (wanted_all true old new one entries)
-    wanted_all false old new one [] = refl
-    wanted_all false old new one (entry ∷ entries) = rw (one entry, wanted_all false old new one entries) refl
+    wanted_all b old new one [] = grind arith
+    wanted_all b old new one (entry ∷ entries) = grind (arith, one entry, wanted_all b old new one entries)
 
     pub wanted_more : (name : List ℕ) (entries : List Entry)
         → cond (bytes_eq name label.name) [] (flat_map (name_hole labels name) entries) ≡ flat_map (name_hole more name) entries
@@ -356,7 +353,8 @@ module _ (labels : List Label) (address : ℕ) where
   closes_last [] front hole e = absurd (omega (arith, ap length e, length-append front (hole ∷ [])))
   closes_last (entry ∷ entries) front hole e = by (flat_map brace_hole entries) (brace_hole entry) refl refl e (closes_last entries)
     where
-      by : (holes own : List Hole) → flat_map brace_hole entries ≡ holes → brace_hole entry ≡ own → own ++ holes ≡ front ++ hole ∷ [] → ClosesLast entries
+      by : (holes own : List Hole) → flat_map brace_hole entries ≡ holes → brace_hole entry ≡ own → own ++ holes ≡ front ++ hole ∷ []
+          → ClosesLast entries
           → Closes labels address (entry ∷ entries) (closed_or address entry entries (closed_last address entries) holes own) front hole
       by (first ∷ rest) own f g e later =
           let last = last_part own first rest front hole e in

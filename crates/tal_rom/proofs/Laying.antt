@@ -24,7 +24,7 @@ use Rattle.tal_labels.proofs.LayingLemmas.{scope_after-append}
 use Rattle.tal_rom.specs.Answers.{filled, HasAddress, AreBytesOf}
 use Rattle.tal_rom.specs.References.{target_in, reference_kinds, scope_behind, target_of, judged_reference, reference_fault}
 use Rattle.tal_rom.specs.Rom.{Piece, byte_at, piece_given, pieces_of, rom_image, trimmed}
-use Rattle.tal_rom.proofs.ImageLemmas.{trimmed-image}
+use Rattle.tal_rom.proofs.Trimming.{trimmed-image}
 use Rattle.tal_rom.proofs.Covering.{IsLaid, length-filled, next_laid, nothing_laid}
 
 -- what a read past the end gives

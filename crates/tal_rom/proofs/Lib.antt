@@ -1,3 +1,4 @@
+pub mod Trimming
 pub mod Covering
 pub mod Laying
 pub mod AssemblyLemmas

@@ -116,8 +116,9 @@ module _ (target : ℕ) where
     stays_filled low (Fills rune text address ∷ moves) memory below within above =
         let piece : Piece = known_piece (reference rune text address (Some target)) in
         let none = covers-before at piece (omega (arith, above.0 (some_bytes rune))) in
+        let long = length-overlaid memory address piece.bytes in
         rw (hole_filled rune text address memory)
-        (stays_filled low moves (overlaid memory address piece.bytes) below (omega (arith, within, length-overlaid memory address piece.bytes)) above.1
+        (stays_filled low moves (overlaid memory address piece.bytes) below (omega (arith, within, long)) above.1
         ∙ overlaid-read memory address piece.bytes at within ∙ rw none refl)
 
     -- it is read from the first word, which covers it, or from the others
@@ -171,11 +172,13 @@ none_below at place (word ∷ words) h below =
     rw none (none_below at place words h below.1)
 
 pub pushed_read : (at : ℕ) (words : List Added) (word : Added) (memory : List ℕ)
-    → (0 < size word.form word.text → AllByRecursion (IsBelow word.address) (map span_of words)) → at < length memory → get_or memory at 0 ≡ read_at words at
+    → (0 < size word.form word.text → AllByRecursion (IsBelow word.address) (map span_of words)) → at < length memory
+    → get_or memory at 0 ≡ read_at words at
     → get_or (overlaid memory word.address (known_piece word).bytes) at 0 ≡ read_at (words ++ word ∷ []) at
 pushed_read at words word memory below within e =
     let short = short_piece word in
     let none : covers at (known_piece word) ≡ true → find (covers at) (map known_piece words) ≡ None =
     λ c. (let bounds = covers-true at (known_piece word) c in none_below at word.address words bounds.0 (below (omega arith))) in
     rw (map-append known_piece words (word ∷ []))
-    (overlaid-read memory word.address (known_piece word).bytes at within ∙ more_over (map known_piece words) (known_piece word) at (get_or memory at 0) e none)
+    (overlaid-read memory word.address (known_piece word).bytes at within
+    ∙ more_over (map known_piece words) (known_piece word) at (get_or memory at 0) e none)

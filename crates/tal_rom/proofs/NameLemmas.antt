@@ -27,7 +27,8 @@ pub record Changes (old new : Entries) (name : List ℕ) (named : Named) : Type 
 -- the value stands in the first entry, or in one of the others
 changed : (entries next : Entries) (key : Vec ℕ) (first value : Named) (name other : List ℕ)
     → (bytes_eq name key.items ≡ false → found next other ≡ put (found entries) name value other)
-    → found (cond (bytes_eq name key.items) ((key, value) ∷ entries) ((key, first) ∷ next)) other ≡ put (found ((key, first) ∷ entries)) name value other
+    → found (cond (bytes_eq name key.items) ((key, value) ∷ entries) ((key, first) ∷ next)) other
+    ≡ put (found ((key, first) ∷ entries)) name value other
 changed entries next key first value name other rest = grind (arith, same_text name key.items, same_text other name)
 
 found_set : (entries : Entries) (name : List ℕ) (old value : Named) (other : List ℕ) → found entries name ≡ Some old
@@ -39,7 +40,8 @@ found_set (entry ∷ entries) name old value other e =
 found_insert : (entries : Entries) (name : Vec ℕ) (value : Named) (other : List ℕ)
     → found (insert_entry vec_eq entries name value) other ≡ put (found entries) name.items value other
 found_insert [] name value other = refl
-found_insert (entry ∷ entries) name value other = changed entries _ entry.0 entry.1 value name.items other (λ later. found_insert entries name value other)
+found_insert (entry ∷ entries) name value other =
+    changed entries _ entry.0 entry.1 value name.items other (λ later. found_insert entries name value other)
 
 pub inserts : (old new : Entries) (name : Vec ℕ) (named : Named) → new ≡ insert_entry vec_eq old name named → Changes old new name.items named
 inserts old new name named e = record { at = λ other. rw e (found_insert old name named other) }

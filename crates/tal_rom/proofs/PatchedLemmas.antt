@@ -1,6 +1,7 @@
 -- Where all words are added: what waits, what does not fit, and the ROM.
 use Rattle.std.proofs.Common.{◌≡◌, ℕ, ◌+◌, true, false, not, List, [], ◌∷◌, ◌++◌, length, map, Option, None, refl, ap, arith}
 use Rattle.std.specs.List.{filter, list_any, range_with_len}
+use Rattle.tal_words.specs.declared.fault.Fault.{Fault}
 use Rattle.tal_words.specs.declared.name.Label.{Label}
 use Rattle.tal_words.specs.declared.span.Expanded.{Expanded}
 use Rattle.tal_words.specs.declared.form.Form.{Form}
@@ -12,17 +13,17 @@ use Rattle.tal_labels.specs.declared.placed.PlacedWord.{PlacedWord}
 use Rattle.tal_labels.specs.Labels.{labels_of}
 use Rattle.tal_labels.specs.Placing.{placed_of}
 use Rattle.tal_rom.specs.References.{target_of, reference_kinds, judged_reference, reference_fault}
-use Rattle.tal_macros.specs.Expansion.{expanded_of}
-use Rattle.tal_rom.specs.Assembly.{layout, rom_of}
 use Rattle.tal_rom.specs.Rom.{byte_at, piece_given, pieces_of, rom_image, trimmed}
 use Rattle.tal_rom.specs.Patching.{Added, waits_by, waits, is_far_by, is_far, known_piece, added_given, added_of, waiting_count, all_fit, image_of}
 
 -- a word has no fault of its reference exactly where it neither waits nor is far
-one_none : (form : Form) (address : ℕ) (target : Option ℕ) → least (reference_kinds form address target) ≡ None → (waits_by form target ≡ false) × (is_far_by form address target ≡ false)
+one_none : (form : Form) (address : ℕ) (target : Option ℕ) → least (reference_kinds form address target) ≡ None
+    → (waits_by form target ≡ false) × (is_far_by form address target ≡ false)
 one_none (Refer rune) address target e = grind arith
 one_none form address target e = (refl, refl)
 
-none_one : (form : Form) (address : ℕ) (target : Option ℕ) → waits_by form target ≡ false → is_far_by form address target ≡ false → least (reference_kinds form address target) ≡ None
+none_one : (form : Form) (address : ℕ) (target : Option ℕ) → waits_by form target ≡ false → is_far_by form address target ≡ false
+    → least (reference_kinds form address target) ≡ None
 none_one (Refer rune) address target e f = grind arith
 none_one form address target e f = refl
 
@@ -30,20 +31,24 @@ module _ (source : List ℕ) (labels : List Label) where
   abbrev added : List PlacedWord → List PlacedWord → List Added
   added before words = each (added_given source labels) before words
 
+  abbrev first_of_all : List PlacedWord → List PlacedWord → Option Fault
+  first_of_all before words = phase_fault (each (judged_reference source labels) before words)
+
   -- no word waits, and all fit
   abbrev AllKnown : List Added → Type 0
   AllKnown words = (length (filter waits words) ≡ 0) × (not (list_any is_far words) ≡ true)
 
-  -- where a first word has no fault, it neither waits nor is far, and has its bytes; and so have the others
-  first_sound : (before : List PlacedWord) (placed : PlacedWord) (words : List PlacedWord) → phase_fault (each (judged_reference source labels) before (placed ∷ words)) ≡ None
+  -- where a first word has no fault, it neither waits nor is far, and those behind it have none
+  first_sound : (before : List PlacedWord) (placed : PlacedWord) (words : List PlacedWord) → first_of_all before (placed ∷ words) ≡ None
       → (waits (added_given source labels before placed words) ≡ false) × (is_far (added_given source labels before placed words) ≡ false)
-      × (phase_fault (each (judged_reference source labels) (before ++ placed ∷ []) words) ≡ None)
+      × (first_of_all (before ++ placed ∷ []) words ≡ None)
   first_sound before placed words e =
-      let parts = fault_or-none placed.word.origin (least (reference_kinds placed.form placed.address (target_of source labels before placed))) (phase_fault (each (judged_reference source labels) (before ++ placed ∷ []) words)) e in
-      let one = one_none placed.form placed.address (target_of source labels before placed) parts.0 in
+      let target = target_of source labels before placed in
+      let parts = fault_or-none placed.word.origin (least (reference_kinds placed.form placed.address target)) _ e in
+      let one = one_none placed.form placed.address target parts.0 in
       (one.0, one.1, parts.1)
 
-  all_known : (before words : List PlacedWord) → phase_fault (each (judged_reference source labels) before words) ≡ None → AllKnown (added before words)
+  all_known : (before words : List PlacedWord) → first_of_all before words ≡ None → AllKnown (added before words)
   all_known before [] e = (refl, refl)
   all_known before (placed ∷ words) e =
       let first = first_sound before placed words e in
@@ -53,42 +58,34 @@ module _ (source : List ℕ) (labels : List Label) where
   known_parts : (word : Added) (words : List Added) → AllKnown (word ∷ words) → (waits word ≡ false) × (is_far word ≡ false) × AllKnown words
   known_parts word words e = grind arith
 
-  no_fault : (before words : List PlacedWord) → AllKnown (added before words) → phase_fault (each (judged_reference source labels) before words) ≡ None
+  no_fault : (before words : List PlacedWord) → AllKnown (added before words) → first_of_all before words ≡ None
   no_fault before [] e = refl
   no_fault before (placed ∷ words) e =
       let parts = known_parts (added_given source labels before placed words) (added (before ++ placed ∷ []) words) e in
-      rw (none_one placed.form placed.address (target_of source labels before placed) parts.0 parts.1) (no_fault (before ++ placed ∷ []) words parts.2)
+      rw (none_one placed.form placed.address _ parts.0 parts.1) (no_fault (before ++ placed ∷ []) words parts.2)
 
   -- the bytes are then those of the words
-  pieces_known : (before words : List PlacedWord) → phase_fault (each (judged_reference source labels) before words) ≡ None → map known_piece (added before words) ≡ each (piece_given source labels) before words
+  pieces_known : (before words : List PlacedWord) → first_of_all before words ≡ None
+      → map known_piece (added before words) ≡ each (piece_given source labels) before words
   pieces_known before [] e = refl
   pieces_known before (placed ∷ words) e =
       let first = first_sound before placed words e in
       rw (first.0, first.1, pieces_known (before ++ placed ∷ []) words first.2) refl
 
 module _ (source : List ℕ) (words : List Expanded) where
-  pub known_without : reference_fault source (labels_of source words) (placed_of source words) ≡ None → (waiting_count source words ≡ 0) × (all_fit source words ≡ true)
+  pub known_without : reference_fault source (labels_of source words) (placed_of source words) ≡ None
+      → (waiting_count source words ≡ 0) × (all_fit source words ≡ true)
   unfolding reference_fault waiting_count all_fit added_of
   known_without e = all_known source (labels_of source words) [] (placed_of source words) e
 
-  pub without_known : waiting_count source words ≡ 0 → all_fit source words ≡ true → reference_fault source (labels_of source words) (placed_of source words) ≡ None
+  pub without_known : waiting_count source words ≡ 0 → all_fit source words ≡ true
+      → reference_fault source (labels_of source words) (placed_of source words) ≡ None
   unfolding reference_fault waiting_count all_fit added_of
   without_known e f = no_fault source (labels_of source words) [] (placed_of source words) (e, f)
 
-  pub image_known : reference_fault source (labels_of source words) (placed_of source words) ≡ None → trimmed (image_of source words) ≡ rom_image (pieces_of source (labels_of source words) (placed_of source words))
+  pub image_known : reference_fault source (labels_of source words) (placed_of source words) ≡ None
+      → trimmed (image_of source words) ≡ rom_image (pieces_of source (labels_of source words) (placed_of source words))
   unfolding reference_fault image_of added_of pieces_of rom_image
   image_known e =
       ap (λ pieces. trimmed (map (λ i. byte_at pieces (256 + i)) (range_with_len 0 65280)))
       (pieces_known source (labels_of source words) [] (placed_of source words) e)
-
-pub source_known : (source : List ℕ) → reference_fault source (layout source).labels (layout source).words ≡ None → (waiting_count source (expanded_of source) ≡ 0) × (all_fit source (expanded_of source) ≡ true)
-unfolding layout
-source_known source e = known_without source (expanded_of source) e
-
-pub known_source : (source : List ℕ) → waiting_count source (expanded_of source) ≡ 0 → all_fit source (expanded_of source) ≡ true → reference_fault source (layout source).labels (layout source).words ≡ None
-unfolding layout
-known_source source e f = without_known source (expanded_of source) e f
-
-pub rom_known : (source : List ℕ) → reference_fault source (layout source).labels (layout source).words ≡ None → trimmed (image_of source (expanded_of source)) ≡ rom_of source
-unfolding layout rom_of
-rom_known source e = image_known source (expanded_of source) e

@@ -1,7 +1,9 @@
 -- The ROM of words that are opcodes, bytes and shorts, one behind the other.
-use Rattle.std.proofs.Common.{◌≡◌, ℕ, ◌+◌, ◌-◌, ◌≤◌, true, List, [], ◌∷◌, ◌++◌, length, map, Option, None, refl, ap, sym, ◌∙◌, arith, append_assoc, append-nil, length-append}
+use Rattle.std.proofs.Common.{◌≡◌, ℕ, ◌+◌, ◌-◌, ◌≤◌, true, List, [], ◌∷◌, ◌++◌, length, get_or, map, Option, None, refl, ap, sym, ◌∙◌, inl, inr, arith}
 use Rattle.std.specs.List.{AllByRecursion}
-use Rattle.std.proofs.lemmas.List.{length-map}
+use Rattle.std.proofs.Math.Seq.{get_or-append_right}
+use Rattle.std.proofs.lemmas.Bool.{cases_lt}
+use Rattle.std.proofs.lemmas.List.{length-map, get_or_append_left}
 use Rattle.tal_words.specs.declared.span.Expanded.{Expanded}
 use Rattle.tal_words.specs.declared.form.Form.{Form}
 use Rattle.tal_words.specs.declared.form.Form.TheVariants.{Pad, Refer}
@@ -20,13 +22,14 @@ use Rattle.tal_rom.specs.References.{target_of, reference_kinds, judged_referenc
 use Rattle.tal_rom.specs.Rom.{Piece, byte_at, piece_given, pieces_of, rom_image, trimmed}
 use Rattle.tal_rom.specs.Answers.{filled}
 use Rattle.tal_rom.specs.Assembly.{layout, first_fault, rom_of}
-use Rattle.tal_rom.proofs.Covering.{IsLaid, next_laid, nothing_laid}
-use Rattle.tal_rom.proofs.ImageLemmas.{trimmed-image}
+use Rattle.tal_rom.proofs.Covering.{covers-past, covers-inside, read_of}
+use Rattle.tal_rom.proofs.Trimming.{trimmed-image}
 use Rattle.tal_words.specs.PlainTexts.{Item, AreItems, text_of_items, words_of_items}
 use Rattle.tal_words.proofs.PlainTexts.{words_are, no_word_fault, words_plain}
 use Rattle.tal_macros.proofs.PlainLemmas.{expanded_texts, no_expansion_fault}
 use Rattle.tal_labels.specs.PlainWords.{Coded, texts_of_coded, bytes_of_coded, pad_text, is_bare_form, StandsFor}
-use Rattle.tal_labels.proofs.PlainLemmas.{all_coded, no_more, Spells, spells_from, shaped, Reaches, reaches_more, reaches_pad, formed_pad, plain_faultless}
+use Rattle.tal_labels.proofs.PlainLemmas.{all_coded, no_more, Spells, spells_from, shaped, Reaches, reaches_more, reaches_pad}
+use Rattle.tal_labels.proofs.PlainLemmas.{formed_pad, plain_faultless}
 use Rattle.tal_rom.specs.PlainWords.{AssemblesTo}
 
 -- no opcode, byte or short is a reference
@@ -51,13 +54,15 @@ module _ (source : List ℕ) (labels : List Label) where
   }
 
   -- the pieces of the words
-  pieces_are : (words : List Expanded) (coded : List Coded) (before : List Expanded) (behind : List PlacedWord) (count : ℕ) → Spells source words coded → Reaches source before count
+  pieces_are : (words : List Expanded) (coded : List Coded) (before : List Expanded) (behind : List PlacedWord) (count : ℕ)
+      → Spells source words coded → Reaches source before count
       → each (piece_given source labels) behind (collected (placed_given source) before words) ≡ pieces_from count coded
   pieces_are [] [] before behind count spells reaches = refl
   pieces_are (word ∷ words) (coded ∷ codeds) before behind count spells reaches =
       let placed = placed_as before word words spells.1.shape in
       let bytes : (piece_given source labels behind placed []).bytes ≡ coded.bytes = rw spells.0 (spells.1.encodes _ _) in
-      let rest = pieces_are words codeds (before ++ word ∷ []) (behind ++ placed ∷ []) (count + length coded.bytes) spells.2 (reaches_more source before word coded count spells.0 spells.1 reaches) in
+      let reached = reaches_more source before word coded count spells.0 spells.1 reaches in
+      let rest = pieces_are words codeds (before ++ word ∷ []) (behind ++ placed ∷ []) (count + length coded.bytes) spells.2 reached in
       rw (shaped source word coded spells.0 spells.1, bytes, rest, reaches.address) refl
   pieces_are words coded before behind count spells reaches = absurd spells
 
@@ -67,59 +72,61 @@ module _ (source : List ℕ) (labels : List Label) where
   no_references [] [] before behind spells = refl
   no_references (word ∷ words) (coded ∷ codeds) before behind spells =
       let placed = placed_as before word words spells.1.shape in
-      rw (shaped source word coded spells.0 spells.1, bare-no_reference spells.1.shape (address_after source before) (target_of source labels behind placed) spells.1.bare)
+      rw (shaped source word coded spells.0 spells.1, bare-no_reference spells.1.shape _ (target_of source labels behind placed) spells.1.bare)
       (no_references words codeds (before ++ word ∷ []) (behind ++ placed ∷ []) spells.2)
   no_references words coded before behind spells = absurd spells
 
-  module _ (first : Expanded) (words : List Expanded) (coded : List Coded) (padded : expanded_text source first ≡ pad_text) (spells : Spells source words coded) where
+  module _ (first : Expanded) (words : List Expanded) (coded : List Coded) (padded : expanded_text source first ≡ pad_text)
+      (spells : Spells source words coded) where
     pieces_padded : pieces_of source labels (placed_of source (first ∷ words)) ≡ record { address = 256; bytes = [] } ∷ pieces_from 0 coded
     unfolding pieces_of placed_of address_after
     pieces_padded =
-        rw (
-          formed_pad source first words coded padded spells,
-          pieces_are words coded (first ∷ []) (placed_as [] first words (Pad 256) ∷ []) 0 spells (reaches_pad source first words coded padded spells),
-        ) refl
+        let reached = reaches_pad source first words coded padded spells in
+        let pieces = pieces_are words coded (first ∷ []) (placed_as [] first words (Pad 256) ∷ []) 0 spells reached in
+        rw (formed_pad source first words coded padded spells, pieces) refl
 
     no_reference_fault : reference_fault source labels (placed_of source (first ∷ words)) ≡ None
     unfolding reference_fault placed_of
-    no_reference_fault = rw (formed_pad source first words coded padded spells) (no_references words coded (first ∷ []) (placed_as [] first words (Pad 256) ∷ []) spells)
+    no_reference_fault =
+        rw (formed_pad source first words coded padded spells)
+        (no_references words coded (first ∷ []) (placed_as [] first words (Pad 256) ∷ []) spells)
 
--- bytes behind those so far leave no gap
-filled_next : (rom bytes : List ℕ) → filled rom (256 + length rom) bytes ≡ rom ++ bytes
-filled_next rom [] = sym (append-nil rom)
-filled_next rom (byte ∷ bytes) =
-    let none : 256 + length rom - (256 + length rom) ≡ 0 = omega arith in
-    rw none refl
+-- what is read of them
+pieces_read : (coded : List Coded) (count i : ℕ) → get_or (bytes_of_coded coded) i 0 ≡ read_of (256 + count + i) (pieces_from count coded)
+pieces_read [] count i = refl
+pieces_read (coded ∷ codeds) count i =
+    let piece : Piece = record { address = 256 + count; bytes = coded.bytes } in
+    elim (cases_lt i (length coded.bytes)) [
+      | inl here ↦ (
+          let off : 256 + count + i - (256 + count) ≡ i = omega arith in
+          let covered = covers-inside (256 + count + i) piece (omega arith) (omega arith) in
+          rw (covered, get_or_append_left coded.bytes (bytes_of_coded codeds) 0 i here, off) refl)
+      | inr past ↦ (
+          let at : 256 + (count + length coded.bytes) + (i - length coded.bytes) ≡ 256 + count + i = omega arith in
+          rw (covers-past (256 + count + i) piece (λ some. omega arith), get_or-append_right coded.bytes (bytes_of_coded codeds) i 0 past)
+          (pieces_read codeds (count + length coded.bytes) _ ∙ ap (λ n. read_of n (pieces_from (count + length coded.bytes) codeds)) at))
+    ]
 
--- the bytes of words that lie one behind the other
-laid_from : (coded : List Coded) (pieces : List Piece) (rom : List ℕ) → IsLaid pieces rom → length rom + length (bytes_of_coded coded) ≤ 65280
-    → IsLaid (pieces ++ pieces_from (length rom) coded) (rom ++ bytes_of_coded coded)
-laid_from [] pieces rom laid within = rw (append-nil pieces, append-nil rom) laid
-laid_from (coded ∷ codeds) pieces rom laid within =
-    let piece : Piece = record { address = 256 + length rom; bytes = coded.bytes } in
-    let total = length-append coded.bytes (bytes_of_coded codeds) in
-    let size : length (rom ++ coded.bytes) ≡ length rom + length coded.bytes = length-append rom coded.bytes in
-    let next = rw (filled_next rom coded.bytes) at (next_laid pieces rom (256 + length rom) coded.bytes laid (λ some. omega arith) (λ some. omega (arith, total))) in
-    rw (← append_assoc rom coded.bytes (bytes_of_coded codeds), ← size, ← append_assoc pieces (piece ∷ []) (pieces_from (length (rom ++ coded.bytes)) codeds))
-    (laid_from codeds (pieces ++ piece ∷ []) (rom ++ coded.bytes) next (omega (arith, size, total)))
-
-image_is : (coded : List Coded) → length (bytes_of_coded coded) ≤ 65280 → rom_image (record { address = 256; bytes = [] } ∷ pieces_from 0 coded) ≡ trimmed (bytes_of_coded coded)
-unfolding rom_image
+image_is : (coded : List Coded) → length (bytes_of_coded coded) ≤ 65280
+    → rom_image (record { address = 256; bytes = [] } ∷ pieces_from 0 coded) ≡ trimmed (bytes_of_coded coded)
+unfolding rom_image byte_at
 image_is coded within =
-    let pieces : List Piece = record { address = 256; bytes = [] } ∷ [] in
-    let start = next_laid [] [] 256 [] (nothing_laid [] refl) (λ some. omega arith) (λ some. omega arith) in
-    let all = laid_from coded pieces [] start (omega arith) in
-    let f : ℕ → ℕ = λ i. byte_at (pieces ++ pieces_from 0 coded) (256 + i) in
-    sym (trimmed-image f 65280 (bytes_of_coded coded) within all.each)
+    let pieces : List Piece = record { address = 256; bytes = [] } ∷ pieces_from 0 coded in
+    sym (trimmed-image (λ i. byte_at pieces (256 + i)) 65280 (bytes_of_coded coded) within (λ i.
+    let start : 256 + 0 + i ≡ 256 + i = omega arith in
+    rw (covers-past (256 + i) (record { address = 256; bytes = [] }) (λ some. omega arith))
+    (pieces_read coded 0 i ∙ ap (λ n. read_of n (pieces_from 0 coded)) start)))
 
 -- a text of `|0100` and of such words assembles to their bytes
 module _ (items : List Item) (coded : List Coded) (sound : AreItems items) (are : words_of_items items ≡ pad_text ∷ texts_of_coded coded)
-    (stand : AllByRecursion StandsFor coded) (short : length (text_of_items items) ≤ source_limit) (within : length (bytes_of_coded coded) ≤ 65280) where
+    (stand : AllByRecursion StandsFor coded) (short : length (text_of_items items) ≤ source_limit)
+    (within : length (bytes_of_coded coded) ≤ 65280) where
   abbrev source : List ℕ
   source = text_of_items items
 
   -- the expanded list by its first word
-  by_first : (expanded : List Expanded) → expanded_of source ≡ expanded → map (expanded_text source) expanded ≡ pad_text ∷ texts_of_coded coded → AssemblesTo source (bytes_of_coded coded)
+  by_first : (expanded : List Expanded) → expanded_of source ≡ expanded → map (expanded_text source) expanded ≡ pad_text ∷ texts_of_coded coded
+      → AssemblesTo source (bytes_of_coded coded)
   unfolding first_fault rom_of layout
   by_first [] e texts = cc
   by_first (first ∷ words) e texts =
@@ -142,4 +149,5 @@ module _ (items : List Item) (coded : List Coded) (sound : AreItems items) (are 
       }
 
   pub plain_assembles : AssemblesTo source (bytes_of_coded coded)
-  plain_assembles = by_first (expanded_of source) refl (expanded_texts source (words_of_items items) (words_are items sound) (words_plain items sound) ∙ are)
+  plain_assembles =
+      by_first (expanded_of source) refl (expanded_texts source (words_of_items items) (words_are items sound) (words_plain items sound) ∙ are)

@@ -1,4 +1,4 @@
-use Rattle.std.proofs.Common.{◌≡◌, ◌+◌, length, take, get_or, refl, sym, arith, length-take}
+use Rattle.std.proofs.Common.{◌≡◌, ◌≤◌, ◌+◌, length, take, get_or, refl, sym, arith, length-take}
 use Rattle.std.specs.Prelude.{slice_set}
 use Rattle.std.proofs.lemmas.List.{take_more, set_past}
 use Rattle.tal_rom.specs.Filling.{overlaid}
@@ -11,11 +11,13 @@ loop-offset-preserved c =
     let bytes = c.args.bytes.now in
     let i = c.loop-offset.offset in
     let size : length (take i bytes) ≡ i = omega (arith, length-take i bytes) in
-    let next : overlaid c.args.memory.now.items c.args.at (take (i + 1) bytes) ≡ slice_set c.loop-offset.memory.items (c.args.at + i) (get_or bytes i 0) =
+    let next : overlaid c.args.memory.now.items c.args.at (take (i + 1) bytes)
+    ≡ slice_set c.loop-offset.memory.items (c.args.at + i) (get_or bytes i 0) =
     rw (take_more bytes i 0 c.loop-offset-test.true, overlaid-push, size, c.loop-offset.invariant) refl in
     elim c.if-index-len.branch [
       | then-index-len w ↦ rw w.memory-is (sym next)
       | else-index-len w ↦ (
-          let past = set_past c.loop-offset.memory.items (c.args.at + i) (get_or bytes i 0) (omega (arith, w.if-index-len.false, c.len.ensures, c.loop-offset.memory.ok.0)) in
-          rw (w.memory-is, next) (sym past))
+          let past : length c.loop-offset.memory.items ≤ c.args.at + i =
+          omega (arith, w.if-index-len.false, c.len.ensures, c.loop-offset.memory.ok.0) in
+          rw (w.memory-is, next) (sym (set_past c.loop-offset.memory.items (c.args.at + i) (get_or bytes i 0) past)))
     ]

@@ -1,4 +1,4 @@
-use Rattle.std.proofs.Common.{◌≡◌, None, Some, arith, refl, rules, sym, ◌∙◌}
+use Rattle.std.proofs.Common.{◌≡◌, None, arith, refl, rules, sym, ◌∙◌}
 use Rattle.tal_rom.proofs.Laying.{nothing_laid_so, next_laid_so, faulty_next, all_laid, word-size, word-above, word-within, word-address}
 use Rattle.tal_rom.proofs.rom.lay_out.Goals as goal
 

@@ -1,5 +1,5 @@
 use Rattle.std.proofs.Common.{arith}
-use Rattle.tal_rom.proofs.ImageLemmas.{trimmed-take}
+use Rattle.tal_rom.proofs.Trimming.{trimmed-take}
 use Rattle.tal_rom.proofs.rom.written_len.Goals as goal
 
 pub returns-clause-value : goal.returns-clause-value

@@ -15,7 +15,8 @@ pub returns-clause-ok : goal.returns-clause-ok
 returns-clause-ok c other =
     let named : Named = record { address = c.in-Some.named.now.address; holes = c.push.new.self } in
     let there = sym c.in-Some.ensures.value in
-    wanted_more _ _ _ _ (sets _ _ c.args.name.now _ named (c.get_mut.follows.holds named).0 there) other (c.args.hole ∷ []) (rw there c.in_ok-push-in-Some.ensures.items)
+    wanted_more _ _ _ _ (sets _ _ c.args.name.now _ named (c.get_mut.follows.holds named).0 there) other (c.args.hole ∷ [])
+    (rw there c.in_ok-push-in-Some.ensures.items)
 
 pub returns-in_err-push-in-Some-clause-known : goal.returns-in_err-push-in-Some-clause-known
 returns-in_err-push-in-Some-clause-known c other =
@@ -28,4 +29,5 @@ returns-in_err-push-in-Some-clause-err c =
     let p = err_from_is_err_and c.from_residual.result c.from_residual.ensures.1 in
     let named : Named = record { address = c.in-Some.named.now.address; holes = c.push.new.self } in
     let there = sym c.in-Some.ensures.value in
-    rw p.1 (λ other. wanted_same _ _ _ _ (sets _ _ c.args.name.now _ named (c.get_mut.follows.holds named).0 there) other (rw there c.in_err-push-in-Some.ensures.items))
+    let changes = sets _ _ c.args.name.now _ named (c.get_mut.follows.holds named).0 there in
+    rw p.1 (λ other. wanted_same _ _ _ _ changes other (rw there c.in_err-push-in-Some.ensures.items))
