@@ -27,8 +27,8 @@ use Rattle.tal_rom.specs.Filling.{overlaid, filled_hole, is_reference}
 use Rattle.tal_rom.specs.Patching.{Added, waits, is_far, known_piece}
 use Rattle.tal_rom.specs.Patchers.{Entry, Holds, ComesNext, new_entry, added_by, holes_by, name_hole, brace_hole, span_of, span_of_entry}
 use Rattle.tal_rom.specs.Patchers.{AreAscending, closed_or, closed_last}
-use Rattle.tal_rom.proofs.Moving.{length-overlaid, Move, Stays, Fills, reference, word_before, word_after, hole_in, holes_in}
-use Rattle.tal_rom.proofs.Moving.{fewer_wait, fit_too, hole_filled, filled_read, ascending_push, pushed_read}
+use Rattle.tal_rom.proofs.Moving.{length-overlaid, reference, Settles, nothing, stays, fills, fewer_wait, fit_too, hole_filled, filled_read}
+use Rattle.tal_rom.proofs.Moving.{ascending_push, pushed_read}
 
 spans_of : (labels : List Label) (entries : List Entry) → map span_of (map (added_by labels) entries) ≡ map span_of_entry entries
 spans_of labels [] = refl
@@ -139,21 +139,10 @@ module _ (labels : List Label) (hole : Hole) (text full : List ℕ) (old new : P
       openers = rw (closed, openers, append-nil) refl;
     }
 
--- words of which some get their target
-pub record Settles (target : ℕ) (old new : List Added) (holes : List Hole) : Type 0 where
-  pub moves : List Move
-  pub before : map word_before moves ≡ old
-  pub after : map (word_after target) moves ≡ new
-  pub filled : holes_in moves ≡ holes
-
-settles_more : (target : ℕ) (move : Move) (old new : List Added) (holes : List Hole) → Settles target old new holes
-    → Settles target (word_before move ∷ old) (word_after target move ∷ new) (hole_in move ++ holes)
-settles_more target move old new holes so =
-    record { moves = move ∷ so.moves; before = rw so.before refl; after = rw so.after refl; filled = rw so.filled refl }
-
+-- the holes of some words get their target
 all_stay : (target : ℕ) (words : List Added) → Settles target words words []
-all_stay target [] = record { moves = []; before = refl; after = refl; filled = refl }
-all_stay target (word ∷ words) = settles_more target (Stays word) words words [] (all_stay target words)
+all_stay target [] = nothing
+all_stay target (word ∷ words) = stays word (all_stay target words)
 
 pub record IsSettled (target : ℕ) (holes : List Hole) (old new : Patch) : Type 0 where
   pub memory : new.memory.items ≡ fold (filled_hole target) old.memory.items holes
@@ -173,15 +162,13 @@ pub holds_settled : (target : ℕ) (labels labels' : List Label) (entries entrie
     → Holds labels' entries' new
 unfolding byte_at
 holds_settled target labels labels' entries entries' holes old new settles settled spans so known wanted openers =
-    let moves : List Move = settles.moves in
-    let above : AreAscending (map span_of (map word_before moves)) = rw (settles.before, spans_of labels entries) so.ascending in
+    let above : AreAscending (map span_of (map (added_by labels) entries)) = rw (spans_of labels entries) so.ascending in
     record {
       ascending = rw spans so.ascending;
       size = rw (settled.memory, length-filled) so.size;
-      each = λ at within. rw (settled.memory, ← settles.filled, ← settles.after)
-          (filled_read target at moves old.memory.items above (omega (arith, so.size)) (rw settles.before (so.each at within)));
-      waiting = rw (settled.waiting, so.waiting, ← settles.filled, ← settles.after, ← settles.before, fewer_wait target moves) (omega arith);
-      fits = rw (settled.fits, so.fits, ← settles.filled, ← settles.after, ← settles.before) (sym (fit_too target moves));
+      each = λ at within. rw settled.memory (filled_read target at settles old.memory.items above (omega (arith, so.size)) (so.each at within));
+      waiting = rw (settled.waiting, so.waiting, fewer_wait target settles) (omega arith);
+      fits = rw (settled.fits, so.fits) (sym (fit_too target settles));
       known = known;
       wanted = wanted;
       openers = openers;
@@ -228,44 +215,31 @@ module _ (labels : List Label) (label : Label) where
     pub known_more : (name : List ℕ) → cond (bytes_eq name label.name) (Some label.address) (address_named labels name) ≡ address_named more name
     known_more name = rw (address_more name) (known_by (bytes_eq name label.name) _ (λ same. rw (same_text name label.name same) fresh))
 
-    -- an entry by the labels and by one more
-    pub record SettlesOne (entry : Entry) : Type 0 where
-      pub move : Move
-      pub before : word_before move ≡ added_by labels entry
-      pub after : word_after label.address move ≡ added_by more entry
-      pub filled : hole_in move ≡ name_hole labels label.name entry
-
-    still : (entry : Entry) → added_by labels entry ≡ added_by more entry → [] ≡ name_hole labels label.name entry → SettlesOne entry
-    still entry e f = record { move = Stays (added_by labels entry); before = refl; after = e; filled = f }
-
-    abbrev entry_of : Form → List ℕ → ℕ → List ℕ → Option ℕ → Entry
-    entry_of form text address full lambda = record { form = form; text = text; address = address; full = full; lambda = lambda }
+    -- the entries by the labels and by one more
+    abbrev SettlesOne : Form → List ℕ → ℕ → List ℕ → Option ℕ → Type 0
+    SettlesOne form text address full lambda =
+        let entry : Entry = record { form = form; text = text; address = address; full = full; lambda = lambda } in
+        (old new : List Added) (holes : List Hole) → Settles label.address old new holes
+        → Settles label.address (added_by labels entry ∷ old) (added_by more entry ∷ new) (name_hole labels label.name entry ++ holes)
 
     refer_one : (rune : Rune) (text : List ℕ) (address : ℕ) (full : List ℕ) (lambda : Option ℕ) (opening named : Bool)
-        → opens text ≡ opening → bytes_eq label.name full ≡ named → SettlesOne (entry_of (Refer rune) text address full lambda)
-    refer_one rune text address full lambda true named e f = still (entry_of (Refer rune) text address full lambda) (rw e refl) (rw e refl)
-    refer_one rune text address full lambda false false e f =
-        still (entry_of (Refer rune) text address full lambda) (rw (e, ← known_more full, bytes_eq-swap full label.name, f) refl) (rw (e, f) refl)
-    refer_one rune text address full lambda false true e f =
+        → opens text ≡ opening → bytes_eq label.name full ≡ named → SettlesOne (Refer rune) text address full lambda
+    refer_one rune text address full lambda true named e f old new holes rest = rw e (stays _ rest)
+    refer_one rune text address full lambda false false e f old new holes rest =
+        rw (e, ← known_more full, bytes_eq-swap full label.name, f) (stays _ rest)
+    refer_one rune text address full lambda false true e f old new holes rest =
         let same : full ≡ label.name = sym (same_text label.name full f) in
         let none : address_named labels full ≡ None = rw same fresh in
-        record {
-          move = Fills rune text address;
-          before = rw (e, none) refl;
-          after = rw (e, ← known_more full, text_same full label.name same) refl;
-          filled = rw (e, f, none) refl;
-        }
+        rw (e, f, ← known_more full, text_same full label.name same, none) (fills rune text address rest)
 
-    settle_one : (form : Form) (text : List ℕ) (address : ℕ) (full : List ℕ) (lambda : Option ℕ) → SettlesOne (entry_of form text address full lambda)
+    settle_one : (form : Form) (text : List ℕ) (address : ℕ) (full : List ℕ) (lambda : Option ℕ) → SettlesOne form text address full lambda
     settle_one (Refer rune) text address full lambda = refer_one rune text address full lambda _ _ refl refl
-    settle_one form text address full lambda = still (entry_of form text address full lambda) refl refl
+    settle_one form text address full lambda = λ old new holes rest. stays _ rest
 
     pub settle_label : (entries : List Entry)
         → Settles label.address (map (added_by labels) entries) (map (added_by more) entries) (flat_map (name_hole labels label.name) entries)
-    settle_label [] = record { moves = []; before = refl; after = refl; filled = refl }
-    settle_label (entry ∷ entries) =
-        let one : SettlesOne entry = settle_one entry.form entry.text entry.address entry.full entry.lambda in
-        rw (← one.before, ← one.after, ← one.filled) (settles_more label.address one.move _ _ _ (settle_label entries))
+    settle_label [] = nothing
+    settle_label (entry ∷ entries) = settle_one entry.form entry.text entry.address entry.full entry.lambda _ _ _ (settle_label entries)
 
     -- which holes wait for a name with the label
     waits_by_label : (opening here named same : Bool) (o : Option ℕ) → (here ≡ true → same ≡ named)
@@ -317,7 +291,7 @@ module _ (labels : List Label) (address : ℕ) where
   stays_closing : (entry : Entry) (entries closed : List Entry) (front : List Hole) (hole : Hole) → Closes labels address entries closed front hole
       → Closes labels address (entry ∷ entries) (entry ∷ closed) (brace_hole entry ++ front) hole
   stays_closing entry entries closed front hole so = record {
-    settles = settles_more address (Stays (added_by labels entry)) _ _ _ so.settles;
+    settles = stays (added_by labels entry) so.settles;
     openers = rw so.openers refl;
     spans = rw so.spans refl;
     wanted = λ name. rw (so.wanted name) refl;
@@ -337,7 +311,7 @@ module _ (labels : List Label) (address : ℕ) where
   one_closing (Refer rune) text at full lambda true [] e entries none hole own =
       let parts = opens_alone (opens text) lambda e in
       record {
-        settles = rw (parts.0, parts.1, ← own) (settles_more address (Fills rune text at) _ _ [] (all_stay address (map (added_by labels) entries)));
+        settles = rw (parts.0, parts.1, ← own) (fills rune text at (all_stay address (map (added_by labels) entries)));
         openers = rw (parts.0, none) refl;
         spans = refl;
         wanted = λ name. refl;

@@ -47,31 +47,15 @@ overlaid-push memory at (first ∷ bytes) byte =
     let next : at + 1 + length bytes ≡ at + length (first ∷ bytes) = omega arith in
     rw (overlaid-push (slice_set memory at first) (at + 1) bytes byte, next) refl
 
--- a word that stays as it is, or a reference that gets its target
-pub data Move : Type 0 where
-  Stays : Added → Move
-  Fills : Rune → List ℕ → ℕ → Move
-
 abbrev pub reference : Rune → List ℕ → ℕ → Option ℕ → Added
 reference rune text address target = record { form = Refer rune; text = text; address = address; target = target }
 
-abbrev pub word_before : Move → Added
-word_before (Stays word) = word
-word_before (Fills rune text address) = reference rune text address None
-
-abbrev pub word_after : ℕ → Move → Added
-word_after target (Stays word) = word
-word_after target (Fills rune text address) = reference rune text address (Some target)
-
-abbrev pub hole_in : Move → List Hole
-hole_in (Stays word) = []
-hole_in (Fills rune text address) = record { rune = rune; address = address } ∷ []
-
-abbrev pub holes_in : List Move → List Hole
-holes_in moves = flat_map hole_in moves
-
-abbrev pub spans_in : List Move → List (ℕ × ℕ)
-spans_in moves = map span_of (map word_before moves)
+-- words that stay as they are, and references that get their target, with the holes of these
+pub data Settles (target : ℕ) : List Added → List Added → List Hole → Type 0 where
+  nothing : Settles target [] [] []
+  stays : {old new : List Added} {holes : List Hole} (word : Added) → Settles target old new holes → Settles target (word ∷ old) (word ∷ new) holes
+  fills : {old new : List Added} {holes : List Hole} (rune : Rune) (text : List ℕ) (address : ℕ) → Settles target old new holes → Settles target
+      (reference rune text address None ∷ old) (reference rune text address (Some target) ∷ new) (record { rune = rune; address = address } ∷ holes)
 
 -- memory at an address, by the bytes that are known
 abbrev pub read_at : List Added → ℕ → ℕ
@@ -85,17 +69,16 @@ short_piece word = by (waits word || is_far word) _ (length-encoded word.form wo
 
 module _ (target : ℕ) where
   -- fewer words wait, and those that got their target have to fit
-  pub fewer_wait : (moves : List Move)
-      → length (filter waits (map word_before moves)) ≡ length (filter waits (map (word_after target) moves)) + length (holes_in moves)
-  fewer_wait [] = refl
-  fewer_wait (Stays word ∷ moves) = grind (arith, fewer_wait moves)
-  fewer_wait (Fills rune text address ∷ moves) = omega (arith, fewer_wait moves)
+  pub fewer_wait : {old new : List Added} {holes : List Hole} → Settles target old new holes → length (filter waits old) ≡ length (filter waits new) + length holes
+  fewer_wait nothing = refl
+  fewer_wait (stays word rest) = grind (arith, fewer_wait rest)
+  fewer_wait (fills rune text address rest) = omega (arith, fewer_wait rest)
 
-  pub fit_too : (moves : List Move) → not (list_any is_far (map (word_after target) moves))
-      ≡ (not (list_any is_far (map word_before moves)) && list_all (λ hole. reaches hole.rune hole.address target) (holes_in moves))
-  fit_too [] = refl
-  fit_too (Stays word ∷ moves) = grind (arith, fit_too moves)
-  fit_too (Fills rune text address ∷ moves) = grind (arith, fit_too moves)
+  pub fit_too : {old new : List Added} {holes : List Hole} → Settles target old new holes
+      → not (list_any is_far new) ≡ (not (list_any is_far old) && list_all (λ hole. reaches hole.rune hole.address target) holes)
+  fit_too nothing = refl
+  fit_too (stays word rest) = grind (arith, fit_too rest)
+  fit_too (fills rune text address rest) = grind (arith, fit_too rest)
 
   -- the bytes that are put into a hole are those of the reference with its target
   pub hole_filled : (rune : Rune) (text : List ℕ) (address : ℕ) (memory : List ℕ)
@@ -103,56 +86,54 @@ module _ (target : ℕ) where
       ≡ overlaid memory address (known_piece (reference rune text address (Some target))).bytes
   hole_filled rune text address memory = grind arith
 
-  -- memory at an address once the holes are filled
-  abbrev filled : List Move → List ℕ → ℕ → ℕ
-  filled moves memory at = get_or (fold (filled_hole target) memory (holes_in moves)) at 0
+  -- memory at an address once holes are filled
+  abbrev filled : List Hole → List ℕ → ℕ → ℕ
+  filled holes memory at = get_or (fold (filled_hole target) memory holes) at 0
 
-  module _ (at : ℕ) where
-    -- words above it leave it
-    stays_filled : (low : ℕ) (moves : List Move) (memory : List ℕ) → at < low → at < length memory → AllByRecursion (IsAbove low) (spans_in moves)
-        → filled moves memory at ≡ get_or memory at 0
-    stays_filled low [] memory below within above = refl
-    stays_filled low (Stays word ∷ moves) memory below within above = stays_filled low moves memory below within above.1
-    stays_filled low (Fills rune text address ∷ moves) memory below within above =
-        let piece : Piece = known_piece (reference rune text address (Some target)) in
-        let none = covers-before at piece (omega (arith, above.0 (some_bytes rune))) in
-        let long = length-overlaid memory address piece.bytes in
-        rw (hole_filled rune text address memory)
-        (stays_filled low moves (overlaid memory address piece.bytes) below (omega (arith, within, long)) above.1
-        ∙ overlaid-read memory address piece.bytes at within ∙ rw none refl)
+  -- words above it leave it
+  stays_filled : (at low : ℕ) {old new : List Added} {holes : List Hole} → Settles target old new holes → (memory : List ℕ) → at < low → at < length memory
+      → AllByRecursion (IsAbove low) (map span_of old) → filled holes memory at ≡ get_or memory at 0
+  stays_filled at low nothing memory below within above = refl
+  stays_filled at low (stays word rest) memory below within above = stays_filled at low rest memory below within above.1
+  stays_filled at low (fills rune text address rest) memory below within above =
+      let piece : Piece = known_piece (reference rune text address (Some target)) in
+      let none = covers-before at piece (omega (arith, above.0 (some_bytes rune))) in
+      let long = length-overlaid memory address piece.bytes in
+      rw (hole_filled rune text address memory)
+      (stays_filled at low rest (overlaid memory address piece.bytes) below (omega (arith, within, long)) above.1
+      ∙ overlaid-read memory address piece.bytes at within ∙ rw none refl)
 
-    -- it is read from the first word, which covers it, or from the others
-    first_or : (piece : Piece) (covered : Bool) (others : Option Piece)
-        → byte_of_piece at (cond covered (Some piece) others) ≡ cond covered (byte_of_piece at (Some piece)) (byte_of_piece at others)
-    first_or piece covered others = grind arith
+  -- it is read from the first word, which covers it, or from the others
+  first_or : (at : ℕ) (piece : Piece) (covered : Bool) (others : Option Piece)
+      → byte_of_piece at (cond covered (Some piece) others) ≡ cond covered (byte_of_piece at (Some piece)) (byte_of_piece at others)
+  first_or at piece covered others = grind arith
 
-    first_filled : (moves : List Move) (word : Added) (memory : List ℕ) (covered : Bool)
-        → (0 < size word.form word.text → AllByRecursion (IsAbove (word.address + size word.form word.text)) (spans_in moves))
-        → at < length memory → covers at (known_piece word) ≡ covered
-        → (get_or memory at 0 ≡ read_at (map word_before moves) at → filled moves memory at ≡ read_at (map (word_after target) moves) at)
-        → get_or memory at 0 ≡ cond covered (byte_of_piece at (Some (known_piece word))) (read_at (map word_before moves) at)
-        → filled moves memory at ≡ cond covered (byte_of_piece at (Some (known_piece word))) (read_at (map (word_after target) moves) at)
-    first_filled moves word memory true above within c later e =
-        let bounds = covers-true at (known_piece word) c in
-        let short = short_piece word in
-        stays_filled (word.address + size word.form word.text) moves memory (omega arith) within (above (omega arith)) ∙ e
-    first_filled moves word memory false above within c later e = later e
+  first_filled : (at : ℕ) {old new : List Added} {holes : List Hole} → Settles target old new holes → (word : Added) (memory : List ℕ) (covered : Bool)
+      → (0 < size word.form word.text → AllByRecursion (IsAbove (word.address + size word.form word.text)) (map span_of old))
+      → at < length memory → covers at (known_piece word) ≡ covered → (get_or memory at 0 ≡ read_at old at → filled holes memory at ≡ read_at new at)
+      → get_or memory at 0 ≡ cond covered (byte_of_piece at (Some (known_piece word))) (read_at old at)
+      → filled holes memory at ≡ cond covered (byte_of_piece at (Some (known_piece word))) (read_at new at)
+  first_filled at rest word memory true above within c later e =
+      let bounds = covers-true at (known_piece word) c in
+      let short = short_piece word in
+      stays_filled at (word.address + size word.form word.text) rest memory (omega arith) within (above (omega arith)) ∙ e
+  first_filled at rest word memory false above within c later e = later e
 
-    pub filled_read : (moves : List Move) (memory : List ℕ) → AreAscending (spans_in moves) → at < length memory
-        → get_or memory at 0 ≡ read_at (map word_before moves) at → filled moves memory at ≡ read_at (map (word_after target) moves) at
-    filled_read [] memory above within e = e
-    filled_read (Stays word ∷ moves) memory above within e =
-        let first = rw (first_or (known_piece word) (covers at (known_piece word))) at e in
-        rw (first_or (known_piece word) (covers at (known_piece word)))
-        (first_filled moves word memory _ above.0 within refl (filled_read moves memory above.1 within) first)
-    filled_read (Fills rune text address ∷ moves) memory above within e =
-        let word : Added = reference rune text address (Some target) in
-        let more : List ℕ = overlaid memory address (known_piece word).bytes in
-        let long : at < length more = omega (arith, within, length-overlaid memory address (known_piece word).bytes) in
-        let none = covers-past at (record { address = address; bytes = [] }) (λ some. omega arith) in
-        let first = rw (rw none at e) at (overlaid-read memory address (known_piece word).bytes at within) in
-        rw (hole_filled rune text address memory, first_or (known_piece word) (covers at (known_piece word)))
-        (first_filled moves word more _ above.0 long refl (filled_read moves more above.1 long) first)
+  pub filled_read : (at : ℕ) {old new : List Added} {holes : List Hole} → Settles target old new holes → (memory : List ℕ) → AreAscending (map span_of old)
+      → at < length memory → get_or memory at 0 ≡ read_at old at → filled holes memory at ≡ read_at new at
+  filled_read at nothing memory above within e = e
+  filled_read at (stays word rest) memory above within e =
+      let first = rw (first_or at (known_piece word) (covers at (known_piece word))) at e in
+      rw (first_or at (known_piece word) (covers at (known_piece word)))
+      (first_filled at rest word memory _ above.0 within refl (filled_read at rest memory above.1 within) first)
+  filled_read at (fills rune text address rest) memory above within e =
+      let word : Added = reference rune text address (Some target) in
+      let more : List ℕ = overlaid memory address (known_piece word).bytes in
+      let long : at < length more = omega (arith, within, length-overlaid memory address (known_piece word).bytes) in
+      let none = covers-past at (record { address = address; bytes = [] }) (λ some. omega arith) in
+      let first = rw (rw none at e) at (overlaid-read memory address (known_piece word).bytes at within) in
+      rw (hole_filled rune text address memory, first_or at (known_piece word) (covers at (known_piece word)))
+      (first_filled at rest word more _ above.0 long refl (filled_read at rest more above.1 long) first)
 
 -- one word more behind the others
 pub ascending_push : (spans : List (ℕ × ℕ)) (span : ℕ × ℕ) → AreAscending spans → (0 < span.1 → AllByRecursion (IsBelow span.0) spans)
