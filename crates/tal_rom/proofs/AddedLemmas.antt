@@ -76,23 +76,16 @@ opener (first ∷ second ∷ rest) e = by (rune_of first) rest refl (and_parts (
 -- a word that defines a label has no bytes, and one that is no label defines none
 definition : (shape : Form) (text : List ℕ) → is_definition shape ≡ true
     → (encoded shape text 0 0 ≡ []) × (is_reference shape ≡ false) × (is_mark_form shape ≡ true)
-definition LabelDef text e = (refl, refl, refl)
-definition SubDef text e = (refl, refl, refl)
-definition shape text e = cc
+definition shape text e = grind arith
 
 no_label : (shape : Form) (scope text : List ℕ) → is_definition shape ≡ false → defined_name (Ok shape) scope text ≡ None
-no_label LabelDef scope text e = cc
-no_label SubDef scope text e = cc
-no_label shape scope text e = refl
+no_label shape scope text e = grind arith
 
 pub not_definition : (shape : Form) → (shape ≡ LabelDef → ⊥) → (shape ≡ SubDef → ⊥) → is_definition shape ≡ false
-not_definition LabelDef a b = absurd (a refl)
-not_definition SubDef a b = absurd (b refl)
-not_definition shape a b = refl
+not_definition shape a b = grind arith
 
 pub not_reference : (shape : Form) → ((rune : Rune) → shape ≡ Refer rune → ⊥) → is_reference shape ≡ false
-not_reference (Refer rune) a = absurd (a rune refl)
-not_reference shape a = refl
+not_reference shape a = grind arith
 
 none_named : (labels : List Label) (name : List ℕ) → list_any (λ label. bytes_eq name label.name) labels ≡ false → address_named labels name ≡ None
 none_named [] name e = refl
@@ -110,8 +103,7 @@ opener_none opening openers = grind arith
 
 closed_later : (address : ℕ) (entry : Entry) (entries closed : List Entry) (holes own : List Hole) → 0 < length holes
     → closed_or address entry entries closed holes own ≡ entry ∷ closed
-closed_later address entry entries closed [] own some = absurd (omega arith)
-closed_later address entry entries closed (hole ∷ holes) own some = refl
+closed_later address entry entries closed holes own some = grind arith
 
 pub on_ok : {T E P Q : Type 0} (r : Result T E) → (P → Q) → OnOk r P → OnOk r Q
 on_ok (Ok x) f h = f h

@@ -20,10 +20,6 @@ pub covers-true : (address : ℕ) (piece : Piece) → covers address piece ≡ t
     → (piece.address ≤ address) × (address < piece.address + length piece.bytes)
 covers-true address piece e = grind (arith, nat_tests)
 
-pub covers-inside : (address : ℕ) (piece : Piece) → piece.address ≤ address → address < piece.address + length piece.bytes
-    → covers address piece ≡ true
-covers-inside address piece from to = grind (arith, nat_tests)
-
 pub covers-before : (address : ℕ) (piece : Piece) → address < piece.address → covers address piece ≡ false
 covers-before address piece before = grind (arith, nat_tests)
 
@@ -38,16 +34,13 @@ read_over address piece value = cond (covers address piece) (byte_of_piece addre
 abbrev pub read_of : ℕ → List Piece → ℕ
 read_of address pieces = byte_of_piece address (find (covers address) pieces)
 
--- with one word more, which covers no address that one before it covers
-one_over : (address value : ℕ) (piece : Piece) (found : Option Piece) (covered : Bool) → value ≡ byte_of_piece address found
-    → (covered ≡ true → found ≡ None)
-    → cond covered (byte_of_piece address (Some piece)) value ≡ byte_of_piece address (option_or found (cond covered (Some piece) None))
-one_over address value piece found covered e none = grind arith
+pub read_first : (address : ℕ) (piece : Piece) (pieces : List Piece) → read_of address (piece ∷ pieces) ≡ read_over address piece (read_of address pieces)
+read_first address piece pieces = grind arith
 
+-- with one word more, which covers no address that one before it covers
 pub more_over : (pieces : List Piece) (piece : Piece) (address value : ℕ) → value ≡ read_of address pieces
     → (covers address piece ≡ true → find (covers address) pieces ≡ None) → read_over address piece value ≡ read_of address (pieces ++ piece ∷ [])
-more_over pieces piece address value e none =
-    rw (find-append (covers address) pieces (piece ∷ [])) (one_over address value piece _ (covers address piece) e none)
+more_over pieces piece address value e none = rw (find-append (covers address) pieces (piece ∷ [])) (grind arith)
 
 -- bytes behind others and a gap of zeros
 module _ (rom : List ℕ) (place : ℕ) where

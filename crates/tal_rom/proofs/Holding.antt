@@ -74,9 +74,7 @@ module _ (labels : List Label) (entries : List Entry) (entry : Entry) where
 
 -- the bytes of a word that is no reference do not hang on its text, unless it is one
 pub few_are : (form : Form) (text : List ℕ) → (form ≡ Text → ⊥) → is_reference form ≡ false → encoded form [] 0 0 ≡ encoded form text 0 0
-few_are Text text other e = absurd (other refl)
-few_are (Refer rune) text other e = cc
-few_are form text other e = refl
+few_are form text other e = grind arith
 
 -- all but memory stays
 pub record IsPut (old new : Patch) : Type 0 where
@@ -176,8 +174,7 @@ holds_settled target labels labels' entries entries' holes old new settles settl
 
 -- no hole
 pub no_hole : (form : Form) (address : ℕ) → holes_by form address false ≡ []
-no_hole (Refer rune) address = refl
-no_hole form address = refl
+no_hole form address = grind arith
 
 hole_if : (form : Form) (address : ℕ) (a b : Bool) → cond a [] (holes_by form address b) ≡ holes_by form address (not a && b)
 hole_if form address a b = grind (arith, no_hole form address)

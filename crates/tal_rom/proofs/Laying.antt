@@ -32,8 +32,7 @@ abbrev pub no_placed_word : PlacedWord
 no_placed_word = record { word = no_word; form = Pad 0; address = 0; size = 0; lambda = None }
 
 pub some_bytes : (rune : Rune) → 0 < reference_size rune
-some_bytes LitRel = omega arith
-some_bytes rune = omega arith
+some_bytes rune = grind arith
 
 -- a reference that ends within memory has an address there
 address-of : (shape : Form) (text : List ℕ) (address : ℕ) → (0 < size shape text → address + size shape text ≤ 65536) → HasAddress shape address

@@ -17,7 +17,7 @@ use Rattle.tal_rom.specs.Rom.{Piece, covers, byte_of_piece}
 use Rattle.tal_rom.specs.Filling.{overlaid, filled_hole}
 use Rattle.tal_rom.specs.Patching.{Added, waits, is_far, known_piece}
 use Rattle.tal_rom.specs.Patchers.{span_of, IsAbove, IsBelow, AreAscending}
-use Rattle.tal_rom.proofs.Covering.{covers-true, covers-past, covers-before, read_over, read_of, more_over}
+use Rattle.tal_rom.proofs.Covering.{covers-true, covers-past, covers-before, read_over, read_of, read_first, more_over}
 use Rattle.tal_rom.proofs.Laying.{some_bytes}
 
 pub length-overlaid : (memory : List ℕ) (at : ℕ) (bytes : List ℕ) → length (overlaid memory at bytes) ≡ length memory
@@ -104,10 +104,6 @@ module _ (target : ℕ) where
       ∙ overlaid-read memory address piece.bytes at within ∙ rw none refl)
 
   -- it is read from the first word, which covers it, or from the others
-  first_or : (at : ℕ) (piece : Piece) (covered : Bool) (others : Option Piece)
-      → byte_of_piece at (cond covered (Some piece) others) ≡ cond covered (byte_of_piece at (Some piece)) (byte_of_piece at others)
-  first_or at piece covered others = grind arith
-
   first_filled : (at : ℕ) {old new : List Added} {holes : List Hole} → Settles target old new holes → (word : Added) (memory : List ℕ) (covered : Bool)
       → (0 < size word.form word.text → AllByRecursion (IsAbove (word.address + size word.form word.text)) (map span_of old))
       → at < length memory → covers at (known_piece word) ≡ covered → (get_or memory at 0 ≡ read_at old at → filled holes memory at ≡ read_at new at)
@@ -123,16 +119,15 @@ module _ (target : ℕ) where
       → at < length memory → get_or memory at 0 ≡ read_at old at → filled holes memory at ≡ read_at new at
   filled_read at nothing memory above within e = e
   filled_read at (stays word rest) memory above within e =
-      let first = rw (first_or at (known_piece word) (covers at (known_piece word))) at e in
-      rw (first_or at (known_piece word) (covers at (known_piece word)))
-      (first_filled at rest word memory _ above.0 within refl (filled_read at rest memory above.1 within) first)
+      let first = rw (read_first at (known_piece word)) at e in
+      rw (read_first at (known_piece word)) (first_filled at rest word memory _ above.0 within refl (filled_read at rest memory above.1 within) first)
   filled_read at (fills rune text address rest) memory above within e =
       let word : Added = reference rune text address (Some target) in
       let more : List ℕ = overlaid memory address (known_piece word).bytes in
       let long : at < length more = omega (arith, within, length-overlaid memory address (known_piece word).bytes) in
       let none = covers-past at (record { address = address; bytes = [] }) (λ some. omega arith) in
       let first = rw (rw none at e) at (overlaid-read memory address (known_piece word).bytes at within) in
-      rw (hole_filled rune text address memory, first_or at (known_piece word) (covers at (known_piece word)))
+      rw (hole_filled rune text address memory, read_first at (known_piece word))
       (first_filled at rest word more _ above.0 long refl (filled_read at rest more above.1 long) first)
 
 -- one word more behind the others

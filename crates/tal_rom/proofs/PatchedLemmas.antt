@@ -19,13 +19,11 @@ use Rattle.tal_rom.specs.Patching.{Added, waits_by, waits, is_far_by, is_far, kn
 -- a word has no fault of its reference exactly where it neither waits nor is far
 one_none : (form : Form) (address : ℕ) (target : Option ℕ) → least (reference_kinds form address target) ≡ None
     → (waits_by form target ≡ false) × (is_far_by form address target ≡ false)
-one_none (Refer rune) address target e = grind arith
-one_none form address target e = (refl, refl)
+one_none form address target e = grind arith
 
 none_one : (form : Form) (address : ℕ) (target : Option ℕ) → waits_by form target ≡ false → is_far_by form address target ≡ false
     → least (reference_kinds form address target) ≡ None
-none_one (Refer rune) address target e f = grind arith
-none_one form address target e f = refl
+none_one form address target e f = grind arith
 
 module _ (source : List ℕ) (labels : List Label) where
   abbrev added : List PlacedWord → List PlacedWord → List Added

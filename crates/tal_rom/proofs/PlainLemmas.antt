@@ -2,7 +2,7 @@
 use Rattle.std.proofs.Common.{◌≡◌, ℕ, ◌+◌, ◌-◌, ◌≤◌, true, List, [], ◌∷◌, ◌++◌, length, get_or, map, Option, None, refl, ap, sym, ◌∙◌, inl, inr, arith}
 use Rattle.std.specs.List.{AllByRecursion}
 use Rattle.std.proofs.Math.Seq.{get_or-append_right}
-use Rattle.std.proofs.lemmas.Bool.{cases_lt}
+use Rattle.std.proofs.lemmas.Bool.Decides.{nat_tests}
 use Rattle.std.proofs.lemmas.List.{length-map, get_or_append_left}
 use Rattle.tal_words.specs.declared.span.Expanded.{Expanded}
 use Rattle.tal_words.specs.declared.form.Form.{Form}
@@ -22,7 +22,7 @@ use Rattle.tal_rom.specs.References.{target_of, reference_kinds, judged_referenc
 use Rattle.tal_rom.specs.Rom.{Piece, byte_at, piece_given, pieces_of, rom_image, trimmed}
 use Rattle.tal_rom.specs.Answers.{filled}
 use Rattle.tal_rom.specs.Assembly.{layout, first_fault, rom_of}
-use Rattle.tal_rom.proofs.Covering.{covers-past, covers-inside, read_of}
+use Rattle.tal_rom.proofs.Covering.{covers-past, read_over, read_of, read_first}
 use Rattle.tal_rom.proofs.Trimming.{trimmed-image}
 use Rattle.tal_words.specs.PlainTexts.{Item, AreItems, text_of_items, words_of_items}
 use Rattle.tal_words.proofs.PlainTexts.{words_are, no_word_fault, words_plain}
@@ -34,8 +34,7 @@ use Rattle.tal_rom.specs.PlainWords.{AssemblesTo}
 
 -- no opcode, byte or short is a reference
 bare-no_reference : (shape : Form) (place : ℕ) (target : Option ℕ) → is_bare_form shape ≡ true → reference_kinds shape place target ≡ []
-bare-no_reference (Refer rune) place target bare = cc
-bare-no_reference shape place target bare = refl
+bare-no_reference shape place target bare = grind arith
 
 -- the bytes of words, one behind the other, with so many before them
 abbrev pub pieces_from : ℕ → List Coded → List Piece
@@ -92,20 +91,18 @@ module _ (source : List ℕ) (labels : List Label) where
         (no_references words coded (first ∷ []) (placed_as [] first words (Pad 256) ∷ []) spells)
 
 -- what is read of them
+read_append : (bytes rest : List ℕ) (count i others : ℕ) → (length bytes ≤ i → get_or rest (i - length bytes) 0 ≡ others)
+    → get_or (bytes ++ rest) i 0 ≡ read_over (256 + count + i) (record { address = 256 + count; bytes = bytes }) others
+read_append bytes rest count i others e = grind (arith, nat_tests, get_or_append_left, get_or-append_right)
+
 pieces_read : (coded : List Coded) (count i : ℕ) → get_or (bytes_of_coded coded) i 0 ≡ read_of (256 + count + i) (pieces_from count coded)
 pieces_read [] count i = refl
 pieces_read (coded ∷ codeds) count i =
-    let piece : Piece = record { address = 256 + count; bytes = coded.bytes } in
-    elim (cases_lt i (length coded.bytes)) [
-      | inl here ↦ (
-          let off : 256 + count + i - (256 + count) ≡ i = omega arith in
-          let covered = covers-inside (256 + count + i) piece (omega arith) (omega arith) in
-          rw (covered, get_or_append_left coded.bytes (bytes_of_coded codeds) 0 i here, off) refl)
-      | inr past ↦ (
-          let at : 256 + (count + length coded.bytes) + (i - length coded.bytes) ≡ 256 + count + i = omega arith in
-          rw (covers-past (256 + count + i) piece (λ some. omega arith), get_or-append_right coded.bytes (bytes_of_coded codeds) i 0 past)
-          (pieces_read codeds (count + length coded.bytes) _ ∙ ap (λ n. read_of n (pieces_from (count + length coded.bytes) codeds)) at))
-    ]
+    let size = length coded.bytes in
+    let at : size ≤ i → 256 + (count + size) + (i - size) ≡ 256 + count + i = λ past. omega arith in
+    rw (read_first (256 + count + i) (record { address = 256 + count; bytes = coded.bytes }))
+    (read_append coded.bytes (bytes_of_coded codeds) count i _ (λ past.
+    pieces_read codeds (count + size) (i - size) ∙ ap (λ n. read_of n (pieces_from (count + size) codeds)) (at past)))
 
 image_is : (coded : List Coded) → length (bytes_of_coded coded) ≤ 65280
     → rom_image (record { address = 256; bytes = [] } ∷ pieces_from 0 coded) ≡ trimmed (bytes_of_coded coded)
