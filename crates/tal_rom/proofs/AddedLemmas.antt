@@ -1,14 +1,13 @@
 -- The words of a source as entries, the word that a placer gives next, and what a patch holds with it.
-use Rattle.std.proofs.Common.{◌≡◌, ℕ, zero, suc, ◌+◌, ◌<◌, ◌≤◌, ◌⊎◌, inl, inr, Bool, true, false, not, ◌&&◌, List, [], ◌∷◌, ◌++◌, length}
-use Rattle.std.proofs.Common.{get_or, map, take, Option, Some, None, Ok, Err, Result, cond, refl, sym, ◌∙◌, ap, arith, append_assoc, append-nil, length-append}
-use Rattle.std.specs.Prelude.{is_some, ◌==◌, OnOk}
+use Rattle.std.proofs.Common.{◌≡◌, ℕ, zero, suc, ◌+◌, ◌<◌, ◌≤◌, ◌⊎◌, inl, inr, Bool, true, false, not, ◌&&◌, List, [], ◌∷◌, ◌++◌, length, get_or}
+use Rattle.std.proofs.Common.{map, take, Option, Some, None, Ok, Err, Result, cond, refl, sym, ◌∙◌, ap, arith, append_assoc, append-nil, length-append}
+use Rattle.std.specs.Prelude.{is_some, OnOk}
 use Rattle.std.specs.Option.{option_map}
 use Rattle.std.specs.List.{AllByRecursion, flat_map, list_any}
 use Rattle.std.specs.Str.{bytes_eq}
 use Rattle.std.proofs.Math.Dec.{ltb}
 use Rattle.std.proofs.lemmas.Bool.{eqb-true, or_cases, and_parts}
 use Rattle.std.proofs.lemmas.Bool.Decides.{nat_tests}
-use Rattle.std.proofs.lemmas.List.{map-append}
 use Rattle.std.proofs.lemmas.List.Folds.{list_any-append}
 use Rattle.std.proofs.lemmas.List.Sums.{fold_push}
 use Rattle.tal_words.specs.declared.span.Expanded.{Expanded}
@@ -51,7 +50,7 @@ use Rattle.tal_rom.specs.References.{scope_behind}
 use Rattle.tal_rom.specs.Patching.{added_given, added_of}
 use Rattle.tal_rom.specs.Patchers.{Entry, Holds, HoldsAll, ComesNext, WasGiven, new_entry, added_by, brace_hole, span_of_entry, IsBelow}
 use Rattle.tal_rom.specs.Patchers.{closed_or, closed_last, entry_in, entries_from, scope_from}
-use Rattle.tal_rom.proofs.Laying.{some_bytes}
+use Rattle.tal_rom.proofs.Laying.{some_bytes, behind_more}
 use Rattle.tal_rom.proofs.Holding.{holds_more, IsPut, put_more, no_hole, nothing_left, both_nil}
 
 -- an opener is a reference
@@ -133,17 +132,11 @@ module _ (source : List ℕ) where
   all_formed words = formed_from [] words
 
   -- the words with their targets, by their entries
-  behind_more : (before : List PlacedWord) (placed : PlacedWord) → HasForm placed
-      → scope_behind source (before ++ placed ∷ []) ≡ scoped (scope_behind source before) placed
-  unfolding scope_behind
-  behind_more before placed e =
-      rw (map-append (λ p. p.word) before (placed ∷ [])) (scope_after-append source (map (λ p. p.word) before) placed.word placed.form e)
-
   each_added : (labels : List Label) (before words : List PlacedWord) (scope : List ℕ) → scope ≡ scope_behind source before
       → AllByRecursion HasForm words → each (added_given source labels) before words ≡ map (added_by labels) (entries_from source scope words)
   each_added labels before [] scope e all = refl
   each_added labels before (placed ∷ words) scope e all =
-      let next : scoped scope placed ≡ scope_behind source (before ++ placed ∷ []) = rw (e, behind_more before placed all.0) refl in
+      let next : scoped scope placed ≡ scope_behind source (before ++ placed ∷ []) = rw (e, behind_more source before placed all.0) refl in
       rw (each_added labels (before ++ placed ∷ []) words (scoped scope placed) next all.1, e) refl
 
   pub added_are : (words : List Expanded)

@@ -1,5 +1,5 @@
 -- The phases of a source.
-use Rattle.std.proofs.Common.{◌≡◌, ℕ, ◌+◌, ◌<◌, ◌≤◌, true, List, [], length, take, drop, get_or, Option, Some, None, Err, refl, sym, ◌∙◌, ap, arith}
+use Rattle.std.proofs.Common.{◌≡◌, ℕ, ◌+◌, ◌<◌, ◌≤◌, true, List, [], length, get_or, Option, Some, None, Err, refl, sym, ◌∙◌, ap, arith}
 use Rattle.std.proofs.lemmas.Bool.{false_from_ne_true}
 use Rattle.tal_words.specs.declared.fault.Fault.{Fault}
 use Rattle.tal_words.specs.declared.fault.AsmStop.{AsmStop}
@@ -70,16 +70,10 @@ assembled source expanded placed rom words_sound expansion_sound listed places_s
       ap (λ l. l.labels) laid,
     )
 
--- the words of a source without a fault lie apart
+-- a source without a fault has none of its places
 no_place_fault : (words expansion places references : Option Fault) → or_later words (or_later expansion (or_later places references)) ≡ None
     → places ≡ None
 no_place_fault words expansion places references e = grind arith
-
-sound_apart : (source : List ℕ) → first_fault source ≡ None → LieApart source (layout source).words
-unfolding first_fault layout
-sound_apart source sound =
-    let parts = place_fault-none source (expanded_of source) (no_place_fault _ _ _ _ sound) in
-    lie_apart source (expanded_of source) parts.0 parts.1
 
 module _ (source : List ℕ) (labels : List Label) (words : List PlacedWord) (apart : LieApart source words) where
   -- the piece of a word lies at its place, and is as long as its size says
@@ -110,4 +104,7 @@ module _ (source : List ℕ) (labels : List Label) (words : List PlacedWord) (ap
   }
 
 pub sound_once : (source : List ℕ) → first_fault source ≡ None → CoverOnce source (layout source).labels (layout source).words
-sound_once source sound = cover_once source (layout source).labels (layout source).words (sound_apart source sound)
+unfolding first_fault layout
+sound_once source sound =
+    let parts = place_fault-none source (expanded_of source) (no_place_fault _ _ _ _ sound) in
+    cover_once source _ _ (lie_apart source (expanded_of source) parts.0 parts.1)

@@ -1,7 +1,6 @@
 -- The bytes of words that lie one behind the other.
-use Rattle.std.proofs.Common.{◌≡◌, ℕ, ◌+◌, ◌-◌, ◌<◌, ◌≤◌, Bool, true, false, Option, None, Some, List, [], ◌∷◌, ◌++◌, length, get_or}
+use Rattle.std.proofs.Common.{◌≡◌, ℕ, ◌+◌, ◌-◌, ◌<◌, ◌≤◌, true, false, None, Some, List, [], ◌∷◌, ◌++◌, length, get_or}
 use Rattle.std.proofs.Common.{replicate, cond, ◌⊎◌, inl, inr, refl, ◌∙◌, arith, length-append, find}
-use Rattle.std.specs.Option.{option_or}
 use Rattle.std.proofs.Math.Seq.{get_or-append_right}
 use Rattle.std.proofs.lemmas.Bool.Decides.{nat_tests}
 use Rattle.std.proofs.lemmas.List.{get_or_append_left, get_or_past, get_or-replicate, length-replicate}
@@ -34,7 +33,8 @@ read_over address piece value = cond (covers address piece) (byte_of_piece addre
 abbrev pub read_of : ℕ → List Piece → ℕ
 read_of address pieces = byte_of_piece address (find (covers address) pieces)
 
-pub read_first : (address : ℕ) (piece : Piece) (pieces : List Piece) → read_of address (piece ∷ pieces) ≡ read_over address piece (read_of address pieces)
+pub read_first : (address : ℕ) (piece : Piece) (pieces : List Piece)
+    → read_of address (piece ∷ pieces) ≡ read_over address piece (read_of address pieces)
 read_first address piece pieces = grind arith
 
 -- with one word more, which covers no address that one before it covers

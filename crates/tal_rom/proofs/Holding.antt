@@ -1,6 +1,6 @@
 -- What a patch holds, with one word more and where targets become known.
-use Rattle.std.proofs.Common.{◌≡◌, ℕ, ◌+◌, ◌-◌, ◌<◌, ◌≤◌, Bool, true, false, not, ◌&&◌, ◌||◌, List, [], ◌∷◌, ◌++◌, length, get_or, map}
-use Rattle.std.proofs.Common.{Option, Some, None, cond, find, refl, sym, ◌∙◌, ap, arith, append-nil, length-append}
+use Rattle.std.proofs.Common.{◌≡◌, ℕ, ◌+◌, ◌-◌, ◌<◌, Bool, true, false, not, ◌&&◌, ◌||◌, List, [], ◌∷◌, ◌++◌, length, map}
+use Rattle.std.proofs.Common.{Option, Some, None, cond, refl, sym, ◌∙◌, ap, arith, append-nil, length-append}
 use Rattle.std.specs.Prelude.{fold, is_some}
 use Rattle.std.specs.Option.{option_or, option_map}
 use Rattle.std.specs.List.{filter, flat_map, list_any, list_all}
@@ -27,7 +27,7 @@ use Rattle.tal_rom.specs.Filling.{overlaid, filled_hole, is_reference}
 use Rattle.tal_rom.specs.Patching.{Added, waits, is_far, known_piece}
 use Rattle.tal_rom.specs.Patchers.{Entry, Holds, ComesNext, new_entry, added_by, holes_by, name_hole, brace_hole, span_of, span_of_entry}
 use Rattle.tal_rom.specs.Patchers.{AreAscending, closed_or, closed_last}
-use Rattle.tal_rom.proofs.Moving.{length-overlaid, reference, Settles, nothing, stays, fills, fewer_wait, fit_too, hole_filled, filled_read}
+use Rattle.tal_rom.proofs.Moving.{length-overlaid, Settles, nothing, stays, fills, fewer_wait, fit_too, hole_filled, filled_read}
 use Rattle.tal_rom.proofs.Moving.{ascending_push, pushed_read}
 
 spans_of : (labels : List Label) (entries : List Entry) → map span_of (map (added_by labels) entries) ≡ map span_of_entry entries

@@ -1,17 +1,17 @@
 -- The loop over the words with their addresses.
-use Rattle.std.proofs.Common.{◌≡◌, ℕ, ◌+◌, ◌<◌, ◌≤◌, List, [], ◌∷◌, length, take, drop, get_or, map, Option, Some, None, refl, sym, ◌∙◌, ap, arith}
+use Rattle.std.proofs.Common.{◌≡◌, ℕ, ◌+◌, ◌<◌, ◌≤◌, List, [], ◌∷◌, ◌++◌, Ok, length, take, drop, get_or, map}
+use Rattle.std.proofs.Common.{Option, Some, None, refl, sym, ◌∙◌, ap, arith}
 use Rattle.std.specs.Prelude.{unwrap_or}
 use Rattle.std.proofs.lemmas.List.{take_more, take_all, map-append}
 use Rattle.tal_words.specs.declared.form.Form.{Form}
 use Rattle.tal_words.specs.declared.form.Form.TheVariants.{Pad, Refer}
 use Rattle.tal_words.specs.declared.form.Rune.{Rune}
-use Rattle.tal_words.specs.declared.form.Rune.TheVariants.{LitRel}
 use Rattle.tal_words.specs.declared.fault.FaultKind.{FaultKind}
 use Rattle.tal_words.specs.declared.name.Label.{Label}
 use Rattle.tal_words.specs.Order.{each}
 use Rattle.tal_words.specs.Source.{expanded_text}
 use Rattle.tal_words.specs.Faults.{least, fault_at, phase_fault}
-use Rattle.tal_words.specs.Forms.{size, reference_size, encoded}
+use Rattle.tal_words.specs.Forms.{form, size, reference_size, encoded}
 use Rattle.tal_words.specs.Names.{first_scope}
 use Rattle.tal_words.proofs.FormLemmas.{length-encoded}
 use Rattle.tal_words.proofs.OrderLemmas.{each-end, each-more, no_word}
@@ -39,6 +39,13 @@ address-of : (shape : Form) (text : List ℕ) (address : ℕ) → (0 < size shap
 address-of (Refer rune) text address h = omega (arith, h (some_bytes rune), some_bytes rune)
 address-of shape text address h = tt
 
+-- the scope behind one word more
+pub behind_more : (source : List ℕ) (before : List PlacedWord) (placed : PlacedWord) → form (expanded_text source placed.word) ≡ Ok placed.form
+    → scope_behind source (before ++ placed ∷ []) ≡ next_scope placed.form (scope_behind source before) (expanded_text source placed.word)
+unfolding scope_behind
+behind_more source before placed e =
+    rw (map-append (λ p. p.word) before (placed ∷ [])) (scope_after-append source (map (λ p. p.word) before) placed.word placed.form e)
+
 -- what the loop over the words keeps
 pub record IsLaidSo (source : List ℕ) (labels : List Label) (words : List PlacedWord) (k : ℕ) (rom scope : List ℕ) : Type 0 where
   pub sound : phase_fault (each (judged_reference source labels) (take k words) (drop k words)) ≡ reference_fault source labels words
@@ -64,7 +71,7 @@ module _ (source : List ℕ) (labels : List Label) (words : List PlacedWord) (k 
   abbrev word : PlacedWord
   word = get_or words k no_placed_word
 
-  lies : LiesInMemory source word
+  pub lies : LiesInMemory source word
   lies = so.apart.each k no_placed_word within
 
   pub word-size : (text : List ℕ) → text ≡ expanded_text source word.word → word.size ≡ size word.form text
@@ -72,9 +79,6 @@ module _ (source : List ℕ) (labels : List Label) (words : List PlacedWord) (k 
 
   pub word-above : 0 < word.size → 256 + length rom ≤ word.address
   word-above some = so.above k (omega arith) within some
-
-  pub word-within : 0 < word.size → word.address + word.size ≤ 65536
-  word-within some = lies.end some
 
   pub word-address : HasAddress word.form word.address
   word-address = address-of word.form (expanded_text source word.word) word.address (rw lies.sized at lies.end)
@@ -91,7 +95,7 @@ module _ (source : List ℕ) (labels : List Label) (words : List PlacedWord) (k 
     pub next_laid_so : (more next : List ℕ) → least (reference_kinds word.form word.address target) ≡ None
         → more ≡ filled rom word.address (encoded word.form text word.address (unwrap_or target 0)) → next ≡ next_scope word.form scope text
         → IsLaidSo source labels words (k + 1) more next
-    unfolding pieces_of scope_behind
+    unfolding pieces_of
     next_laid_so more next none appended after =
         let piece = piece_given source labels (take k words) word [] in
         let bytes = piece.bytes in
@@ -101,10 +105,9 @@ module _ (source : List ℕ) (labels : List Label) (words : List PlacedWord) (k 
         let size = length-filled rom word.address bytes behind in
         record {
           sound = fault-later (judged_reference source labels) words k no_placed_word within (rw same at none) ∙ so.sound;
-          scoped = rw (after, read, so.scoped, take_more words k no_placed_word within, map-append (λ placed. placed.word) (take k words) (word ∷ []))
-              (sym (scope_after-append source (map (λ placed. placed.word) (take k words)) word.word word.form lies.shape));
+          scoped = rw (after, read, so.scoped, take_more words k no_placed_word within) (sym (behind_more source (take k words) word lies.shape));
           laid = rw (all, take_more words k no_placed_word within, each-more (piece_given source labels) (λ b w a c. refl) [] (take k words) word)
-              (next_laid _ rom word.address bytes so.laid behind (λ some. omega (arith, long, word-within (omega (arith, long)))));
+              (next_laid _ rom word.address bytes so.laid behind (λ some. omega (arith, long, lies.end (omega (arith, long)))));
           apart = so.apart;
           above = λ j from inside some.
               let before = so.above j (omega arith) inside some in
@@ -115,8 +118,7 @@ module _ (source : List ℕ) (labels : List Label) (words : List PlacedWord) (k 
 pub all_laid : (source : List ℕ) (labels : List Label) (words : List PlacedWord) (k : ℕ) (rom scope : List ℕ) → length words ≤ k
     → IsLaidSo source labels words k rom scope → (reference_fault source labels words ≡ None) × AreBytesOf (pieces_of source labels words) rom
 all_laid source labels words k rom scope past so =
-    let laid = so.laid in
-    let whole : IsLaid (pieces_of source labels words) rom = rw (take_all k words past) at laid in (
+    let whole = rw (take_all k words past) at so.laid in (
       sym so.sound ∙ ap phase_fault (each-end (judged_reference source labels) words k past),
       record { each = whole.each; within = whole.within },
     )

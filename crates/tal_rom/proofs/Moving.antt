@@ -1,12 +1,11 @@
 -- Bytes that are laid over others in memory, and references that get their target among words that stay as they are.
-use Rattle.std.proofs.Common.{◌≡◌, ◌≢◌, ℕ, suc, ◌+◌, ◌-◌, ◌<◌, ◌≤◌, Bool, true, false, not, ◌&&◌, ◌||◌, List, [], ◌∷◌, ◌++◌, length, get_or, map}
-use Rattle.std.proofs.Common.{Option, Some, None, cond, find, refl, ◌∙◌, ap, arith}
-use Rattle.std.specs.Prelude.{slice_set, fold}
-use Rattle.std.specs.List.{AllByRecursion, filter, flat_map, list_any, list_all}
+use Rattle.std.proofs.Common.{◌≡◌, ℕ, ◌+◌, ◌<◌, ◌≤◌, Bool, true, false, not, ◌&&◌, ◌||◌, List, [], ◌∷◌, ◌++◌, length, get_or, map}
+use Rattle.std.proofs.Common.{Option, Some, None, cond, find, refl, ◌∙◌, arith}
+use Rattle.std.specs.Prelude.{slice_set, fold, unwrap_or}
+use Rattle.std.specs.List.{AllByRecursion, filter, list_any, list_all}
 use Rattle.std.proofs.lemmas.Bool.Decides.{nat_tests}
 use Rattle.std.proofs.lemmas.List.{map-append, length-set, get_or-set_other}
 use Rattle.std.proofs.lemmas.Grind.{get_or-set_at, get_or_head, get_or_tail}
-use Rattle.tal_words.specs.declared.form.Form.{Form}
 use Rattle.tal_words.specs.declared.form.Form.TheVariants.{Refer}
 use Rattle.tal_words.specs.declared.form.Rune.{Rune}
 use Rattle.tal_words.specs.Forms.{size, reaches}
@@ -62,14 +61,12 @@ abbrev pub read_at : List Added → ℕ → ℕ
 read_at words at = read_of at (map known_piece words)
 
 short_piece : (word : Added) → length (known_piece word).bytes ≤ size word.form word.text
-short_piece word = by (waits word || is_far word) _ (length-encoded word.form word.text word.address _)
-  where
-    by : (b : Bool) (bytes : List ℕ) → length bytes ≡ size word.form word.text → length (cond b [] bytes) ≤ size word.form word.text
-    by b bytes e = grind arith
+short_piece word = grind (arith, length-encoded word.form word.text word.address (unwrap_or word.target 0))
 
 module _ (target : ℕ) where
   -- fewer words wait, and those that got their target have to fit
-  pub fewer_wait : {old new : List Added} {holes : List Hole} → Settles target old new holes → length (filter waits old) ≡ length (filter waits new) + length holes
+  pub fewer_wait : {old new : List Added} {holes : List Hole} → Settles target old new holes
+      → length (filter waits old) ≡ length (filter waits new) + length holes
   fewer_wait nothing = refl
   fewer_wait (stays word rest) = grind (arith, fewer_wait rest)
   fewer_wait (fills rune text address rest) = omega (arith, fewer_wait rest)
@@ -91,7 +88,8 @@ module _ (target : ℕ) where
   filled holes memory at = get_or (fold (filled_hole target) memory holes) at 0
 
   -- words above it leave it
-  stays_filled : (at low : ℕ) {old new : List Added} {holes : List Hole} → Settles target old new holes → (memory : List ℕ) → at < low → at < length memory
+  stays_filled : (at low : ℕ) {old new : List Added} {holes : List Hole} → Settles target old new holes → (memory : List ℕ) → at < low
+      → at < length memory
       → AllByRecursion (IsAbove low) (map span_of old) → filled holes memory at ≡ get_or memory at 0
   stays_filled at low nothing memory below within above = refl
   stays_filled at low (stays word rest) memory below within above = stays_filled at low rest memory below within above.1
@@ -104,7 +102,8 @@ module _ (target : ℕ) where
       ∙ overlaid-read memory address piece.bytes at within ∙ rw none refl)
 
   -- it is read from the first word, which covers it, or from the others
-  first_filled : (at : ℕ) {old new : List Added} {holes : List Hole} → Settles target old new holes → (word : Added) (memory : List ℕ) (covered : Bool)
+  first_filled : (at : ℕ) {old new : List Added} {holes : List Hole} → Settles target old new holes
+      → (word : Added) (memory : List ℕ) (covered : Bool)
       → (0 < size word.form word.text → AllByRecursion (IsAbove (word.address + size word.form word.text)) (map span_of old))
       → at < length memory → covers at (known_piece word) ≡ covered → (get_or memory at 0 ≡ read_at old at → filled holes memory at ≡ read_at new at)
       → get_or memory at 0 ≡ cond covered (byte_of_piece at (Some (known_piece word))) (read_at old at)
@@ -115,7 +114,8 @@ module _ (target : ℕ) where
       stays_filled at (word.address + size word.form word.text) rest memory (omega arith) within (above (omega arith)) ∙ e
   first_filled at rest word memory false above within c later e = later e
 
-  pub filled_read : (at : ℕ) {old new : List Added} {holes : List Hole} → Settles target old new holes → (memory : List ℕ) → AreAscending (map span_of old)
+  pub filled_read : (at : ℕ) {old new : List Added} {holes : List Hole} → Settles target old new holes → (memory : List ℕ)
+      → AreAscending (map span_of old)
       → at < length memory → get_or memory at 0 ≡ read_at old at → filled holes memory at ≡ read_at new at
   filled_read at nothing memory above within e = e
   filled_read at (stays word rest) memory above within e =

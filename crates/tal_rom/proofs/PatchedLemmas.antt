@@ -5,7 +5,6 @@ use Rattle.tal_words.specs.declared.fault.Fault.{Fault}
 use Rattle.tal_words.specs.declared.name.Label.{Label}
 use Rattle.tal_words.specs.declared.span.Expanded.{Expanded}
 use Rattle.tal_words.specs.declared.form.Form.{Form}
-use Rattle.tal_words.specs.declared.form.Form.TheVariants.{Refer}
 use Rattle.tal_words.specs.Faults.{least, phase_fault}
 use Rattle.tal_words.specs.Order.{each}
 use Rattle.tal_words.proofs.PassLemmas.{fault_or-none}
@@ -25,56 +24,43 @@ none_one : (form : Form) (address : ℕ) (target : Option ℕ) → waits_by form
     → least (reference_kinds form address target) ≡ None
 none_one form address target e f = grind arith
 
+-- no word waits, and all fit
+abbrev AllKnown : List Added → Type 0
+AllKnown words = (length (filter waits words) ≡ 0) × (not (list_any is_far words) ≡ true)
+
+known_parts : (word : Added) (words : List Added) → AllKnown (word ∷ words) → (waits word ≡ false) × (is_far word ≡ false) × AllKnown words
+known_parts word words e = grind arith
+
 module _ (source : List ℕ) (labels : List Label) where
   abbrev added : List PlacedWord → List PlacedWord → List Added
   added before words = each (added_given source labels) before words
 
-  abbrev first_of_all : List PlacedWord → List PlacedWord → Option Fault
-  first_of_all before words = phase_fault (each (judged_reference source labels) before words)
+  abbrev fault_among : List PlacedWord → List PlacedWord → Option Fault
+  fault_among before words = phase_fault (each (judged_reference source labels) before words)
 
-  -- no word waits, and all fit
-  abbrev AllKnown : List Added → Type 0
-  AllKnown words = (length (filter waits words) ≡ 0) × (not (list_any is_far words) ≡ true)
-
-  -- where a first word has no fault, it neither waits nor is far, and those behind it have none
-  first_sound : (before : List PlacedWord) (placed : PlacedWord) (words : List PlacedWord) → first_of_all before (placed ∷ words) ≡ None
-      → (waits (added_given source labels before placed words) ≡ false) × (is_far (added_given source labels before placed words) ≡ false)
-      × (first_of_all (before ++ placed ∷ []) words ≡ None)
-  first_sound before placed words e =
+  -- where no word has a fault of its reference, all are known, and their bytes are those of the words
+  all_known : (before words : List PlacedWord) → fault_among before words ≡ None
+      → (length (filter waits (added before words)) ≡ 0) × (not (list_any is_far (added before words)) ≡ true)
+      × (map known_piece (added before words) ≡ each (piece_given source labels) before words)
+  all_known before [] e = (refl, refl, refl)
+  all_known before (placed ∷ words) e =
       let target = target_of source labels before placed in
       let parts = fault_or-none placed.word.origin (least (reference_kinds placed.form placed.address target)) _ e in
       let one = one_none placed.form placed.address target parts.0 in
-      (one.0, one.1, parts.1)
+      let rest = all_known (before ++ placed ∷ []) words parts.1 in
+      (rw one.0 rest.0, rw one.1 rest.1, rw (one.0, one.1, rest.2) refl)
 
-  all_known : (before words : List PlacedWord) → first_of_all before words ≡ None → AllKnown (added before words)
-  all_known before [] e = (refl, refl)
-  all_known before (placed ∷ words) e =
-      let first = first_sound before placed words e in
-      let rest = all_known (before ++ placed ∷ []) words first.2 in
-      (rw first.0 rest.0, rw first.1 rest.1)
-
-  known_parts : (word : Added) (words : List Added) → AllKnown (word ∷ words) → (waits word ≡ false) × (is_far word ≡ false) × AllKnown words
-  known_parts word words e = grind arith
-
-  no_fault : (before words : List PlacedWord) → AllKnown (added before words) → first_of_all before words ≡ None
+  no_fault : (before words : List PlacedWord) → AllKnown (added before words) → fault_among before words ≡ None
   no_fault before [] e = refl
   no_fault before (placed ∷ words) e =
       let parts = known_parts (added_given source labels before placed words) (added (before ++ placed ∷ []) words) e in
       rw (none_one placed.form placed.address _ parts.0 parts.1) (no_fault (before ++ placed ∷ []) words parts.2)
 
-  -- the bytes are then those of the words
-  pieces_known : (before words : List PlacedWord) → first_of_all before words ≡ None
-      → map known_piece (added before words) ≡ each (piece_given source labels) before words
-  pieces_known before [] e = refl
-  pieces_known before (placed ∷ words) e =
-      let first = first_sound before placed words e in
-      rw (first.0, first.1, pieces_known (before ++ placed ∷ []) words first.2) refl
-
 module _ (source : List ℕ) (words : List Expanded) where
   pub known_without : reference_fault source (labels_of source words) (placed_of source words) ≡ None
       → (waiting_count source words ≡ 0) × (all_fit source words ≡ true)
   unfolding reference_fault waiting_count all_fit added_of
-  known_without e = all_known source (labels_of source words) [] (placed_of source words) e
+  known_without e = (let known = all_known source (labels_of source words) [] (placed_of source words) e in (known.0, known.1))
 
   pub without_known : waiting_count source words ≡ 0 → all_fit source words ≡ true
       → reference_fault source (labels_of source words) (placed_of source words) ≡ None
@@ -86,4 +72,4 @@ module _ (source : List ℕ) (words : List Expanded) where
   unfolding reference_fault image_of added_of pieces_of rom_image
   image_known e =
       ap (λ pieces. trimmed (map (λ i. byte_at pieces (256 + i)) (range_with_len 0 65280)))
-      (pieces_known source (labels_of source words) [] (placed_of source words) e)
+      (all_known source (labels_of source words) [] (placed_of source words) e).2

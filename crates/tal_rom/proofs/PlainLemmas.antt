@@ -1,12 +1,12 @@
 -- The ROM of words that are opcodes, bytes and shorts, one behind the other.
-use Rattle.std.proofs.Common.{◌≡◌, ℕ, ◌+◌, ◌-◌, ◌≤◌, true, List, [], ◌∷◌, ◌++◌, length, get_or, map, Option, None, refl, ap, sym, ◌∙◌, inl, inr, arith}
+use Rattle.std.proofs.Common.{◌≡◌, ℕ, ◌+◌, ◌-◌, ◌≤◌, true, List, [], ◌∷◌, ◌++◌, length, get_or, map, Option, None, refl, ap, sym, ◌∙◌, arith}
 use Rattle.std.specs.List.{AllByRecursion}
 use Rattle.std.proofs.Math.Seq.{get_or-append_right}
 use Rattle.std.proofs.lemmas.Bool.Decides.{nat_tests}
 use Rattle.std.proofs.lemmas.List.{length-map, get_or_append_left}
 use Rattle.tal_words.specs.declared.span.Expanded.{Expanded}
 use Rattle.tal_words.specs.declared.form.Form.{Form}
-use Rattle.tal_words.specs.declared.form.Form.TheVariants.{Pad, Refer}
+use Rattle.tal_words.specs.declared.form.Form.TheVariants.{Pad}
 use Rattle.tal_words.specs.declared.name.Label.{Label}
 use Rattle.tal_words.specs.Source.{expanded_text}
 use Rattle.tal_words.specs.Faults.{phase_fault}
@@ -20,7 +20,6 @@ use Rattle.tal_labels.specs.Labels.{labels_of}
 use Rattle.tal_labels.specs.Placing.{lambda_address, placed_given, placed_of}
 use Rattle.tal_rom.specs.References.{target_of, reference_kinds, judged_reference, reference_fault}
 use Rattle.tal_rom.specs.Rom.{Piece, byte_at, piece_given, pieces_of, rom_image, trimmed}
-use Rattle.tal_rom.specs.Answers.{filled}
 use Rattle.tal_rom.specs.Assembly.{layout, first_fault, rom_of}
 use Rattle.tal_rom.proofs.Covering.{covers-past, read_over, read_of, read_first}
 use Rattle.tal_rom.proofs.Trimming.{trimmed-image}
@@ -132,10 +131,9 @@ module _ (items : List Item) (coded : List Coded) (sound : AreItems items) (are 
       let all = all_coded coded stand in
       let spells = spells_from source words coded rest all in
       let count : length (pad_text ∷ texts_of_coded coded) ≡ 1 + length coded = omega (arith, length-map coded (λ (word : Coded). word.text)) in
-      let cut = words_are items sound in
-      let plain = words_plain items sound in
       let no_word = no_word_fault items sound short in
-      let no_macro = no_expansion_fault source (words_of_items items) cut plain (omega (arith, count, ap length are, no_more coded all)) in
+      let no_macro = no_expansion_fault source (words_of_items items) (words_are items sound) (words_plain items sound)
+      (omega (arith, count, ap length are, no_more coded all)) in
       let places = plain_faultless source (first ∷ words) coded texts stand within in
       let labels = labels_of source (first ∷ words) in
       let references = no_reference_fault source labels first words coded padded spells in

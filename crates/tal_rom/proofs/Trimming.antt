@@ -1,5 +1,5 @@
-use Rattle.std.proofs.Common.{◌≡◌, ◌≢◌, ℕ, suc, ◌-◌, ◌<◌, ◌≤◌, List, [], ◌∷◌, length, take, get_or, map, refl, inl, inr, sym, ◌∙◌, ap, arith, length-take}
-use Rattle.std.proofs.lemmas.Bool.{ne_eqb, cases_lt}
+use Rattle.std.proofs.Common.{◌≡◌, ◌≢◌, ℕ, suc, ◌-◌, ◌<◌, ◌≤◌, List, [], ◌∷◌, length, take, get_or, map, refl, sym, ◌∙◌, ap, arith, length-take}
+use Rattle.std.proofs.lemmas.Bool.{ne_eqb}
 use Rattle.std.proofs.lemmas.List.{get_or_past, get_or-take}
 use Rattle.std.proofs.lemmas.List.FromFn.{get_or-map-range_with_len, length-map-range_with_len}
 use Rattle.std.specs.List.{range_with_len}
@@ -36,7 +36,6 @@ trimmed-take xs n within zeros last =
 -- bytes that read as a function does are its list without the zeros at the end
 pub trimmed-image : (f : ℕ → ℕ) (n : ℕ) (xs : List ℕ) → length xs ≤ n → ((i : ℕ) → get_or xs i 0 ≡ f i)
     → trimmed xs ≡ trimmed (map f (range_with_len 0 n))
-trimmed-image f n xs short each = trimmed-same xs (map f (range_with_len 0 n)) (λ i. elim (cases_lt i n) [
-  | inl within ↦ each i ∙ sym (get_or-map-range_with_len f 0 n i i 0 within (omega arith))
-  | inr past ↦ get_or_past xs i 0 (omega arith) ∙ sym (get_or_past (map f (range_with_len 0 n)) i 0 (omega (arith, length-map-range_with_len f 0 n)))
-])
+trimmed-image f n xs short each =
+    trimmed-same xs (map f (range_with_len 0 n)) (λ i.
+    grind (arith, get_or-map-range_with_len f 0 n i i 0, get_or_past, length-map-range_with_len f 0 n, each i))

@@ -1,7 +1,5 @@
-use Rattle.std.proofs.Common.{cond, Some, [], refl, ap, ◌∙◌}
-use Rattle.std.specs.Str.{bytes_eq}
+use Rattle.std.proofs.Common.{refl, ◌∙◌}
 use Rattle.tal_words.specs.declared.name.Label.{Label}
-use Rattle.tal_rom.specs.Holes.{known_in, wanted_in}
 use Rattle.tal_rom.proofs.Holding.{IsSettled, holds_settled, settle_label, known_more, wanted_more}
 use Rattle.tal_rom.proofs.patch.Patch.define.Goals as goal
 
