@@ -1,311 +1,438 @@
--- The words of a source as entries, and with one word more.
-use Rattle.std.proofs.Common.{◌≡◌, ℕ, zero, suc, ◌+◌, ◌-◌, ◌<◌, ◌≤◌, ◌⊎◌, inl, inr, Bool, true, false, not, ◌&&◌, ◌||◌, List, [], ◌∷◌, ◌++◌, length, get_or, map, take, Option, Some, None, Ok, Err, Result, cond, refl, sym, ◌∙◌, ap, arith, append-nil, append_assoc, length-append}
-use Rattle.std.specs.Prelude.{is_some, fold, ◌==◌}
+-- The words of a source as entries, the word that a placer gives next, and what a patch holds with it.
+use Rattle.std.proofs.Common.{◌≡◌, ℕ, zero, suc, ◌+◌, ◌<◌, ◌≤◌, ◌⊎◌, inl, inr, Bool, true, false, not, ◌&&◌, List, [], ◌∷◌, ◌++◌, length, get_or}
+use Rattle.std.proofs.Common.{map, take, Option, Some, None, Ok, Err, Result, cond, refl, sym, ◌∙◌, ap, arith, append_assoc, append-nil, length-append}
+use Rattle.std.specs.Prelude.{is_some, OnOk}
 use Rattle.std.specs.Option.{option_map}
-use Rattle.std.specs.List.{AllByRecursion, flat_map}
+use Rattle.std.specs.List.{AllByRecursion, flat_map, list_any}
+use Rattle.std.specs.Str.{bytes_eq}
+use Rattle.std.proofs.Math.Dec.{ltb}
 use Rattle.std.proofs.lemmas.Bool.{eqb-true, or_cases, and_parts}
-use Rattle.std.proofs.lemmas.List.{map-append}
+use Rattle.std.proofs.lemmas.Bool.Decides.{nat_tests}
+use Rattle.std.proofs.lemmas.List.Folds.{list_any-append}
 use Rattle.std.proofs.lemmas.List.Sums.{fold_push}
 use Rattle.tal_words.specs.declared.span.Expanded.{Expanded}
 use Rattle.tal_words.specs.declared.name.Label.{Label}
 use Rattle.tal_words.specs.declared.fault.FaultKind.{FaultKind}
 use Rattle.tal_words.specs.declared.form.Form.{Form}
-use Rattle.tal_words.specs.declared.form.Form.TheVariants.{Refer, LambdaEnd}
+use Rattle.tal_words.specs.declared.form.Form.TheVariants.{LabelDef, SubDef, Refer, LambdaEnd}
 use Rattle.tal_words.specs.declared.form.Rune.{Rune}
-use Rattle.tal_words.specs.declared.form.Rune.TheVariants.{Jmi, Jci, Jsi, LitRel, RawRel, LitZero, RawZero, LitAbs, RawAbs}
+use Rattle.tal_words.specs.declared.form.Rune.TheVariants.{Jsi}
 use Rattle.tal_words.specs.Braces.{opens, closes}
-use Rattle.tal_words.specs.Forms.{form, size}
+use Rattle.tal_words.specs.Faults.{least}
+use Rattle.tal_words.specs.Forms.{form, size, encoded}
 use Rattle.tal_words.specs.Labels.{address_named}
 use Rattle.tal_words.specs.Names.{first_scope, full_name, name_after_rune, rune_of}
-use Rattle.tal_words.specs.Order.{each, collected, last_of, or_earlier}
+use Rattle.tal_words.specs.Order.{each, collected, last_of}
 use Rattle.tal_words.specs.Source.{expanded_text, is_only}
-use Rattle.tal_words.proofs.OrderLemmas.{no_word}
+use Rattle.tal_words.proofs.BlankFree.{all_joined}
+use Rattle.tal_words.proofs.OrderLemmas.{no_word, last_of-more, each-more}
+use Rattle.tal_words.proofs.PassLemmas.{fault-behind, fault_or-none}
 use Rattle.tal_labels.specs.declared.placed.PlacedWord.{PlacedWord}
 use Rattle.tal_labels.specs.Places.{address_after}
-use Rattle.tal_labels.specs.Answers.{next_scope}
-use Rattle.tal_labels.specs.Labels.{labels_of, scope_after}
+use Rattle.tal_labels.specs.Answers.{next_scope, label_of}
+use Rattle.tal_labels.specs.Labels.{defined_name, labels_of, scope_after}
 use Rattle.tal_labels.specs.Shapes.{closing_distance}
-use Rattle.tal_labels.specs.Placing.{lambda_address, placed_with, placed_given, placed_of}
-use Rattle.tal_labels.specs.Adding.{added_fault, open_word, open_given, open_ones}
+use Rattle.tal_labels.specs.Placing.{is_mark_form, formed_size, is_defined, ends_given, ends_of, ends_above, judged_place}
+use Rattle.tal_labels.specs.Placing.{placed_with, placed_given, placed_of}
+use Rattle.tal_labels.specs.Adding.{shape_added, adding_kinds, judged_added, added_fault, open_word, given_word, word_added, open_given, open_ones}
 use Rattle.tal_labels.specs.Placers.{closed_at, closed_by, closed_opener}
-use Rattle.tal_labels.proofs.LayingLemmas.{scope_after-append}
-use Rattle.tal_labels.proofs.AddingLemmas.{formed-added}
+use Rattle.tal_labels.proofs.AddingLemmas.{formed-added, added-front}
+use Rattle.tal_labels.proofs.CallerLemmas.{length-collected}
+use Rattle.tal_labels.proofs.ClosingLemmas.{opens-closes}
+use Rattle.tal_labels.proofs.IndexLemmas.{none_since}
 use Rattle.tal_labels.proofs.KeptLemmas.{placed_next}
+use Rattle.tal_labels.proofs.LayingLemmas.{IsWellPlaced, well_placed, scope_after-append, labels_of-append, least-none, or_false}
+use Rattle.tal_labels.proofs.PlacedLemmas.{form-closes}
 use Rattle.tal_rom.specs.declared.hole.Hole.{Hole}
-use Rattle.tal_rom.specs.References.{target_of, form_target, scope_behind}
-use Rattle.tal_rom.specs.Patching.{Added, added_given, added_of}
-use Rattle.tal_rom.proofs.Holding.{no_hole}
-use Rattle.tal_rom.specs.Patchers.{Entry, added_by, brace_hole, holes_by, closed_or, closed_last, entry_in, entries_from, scope_from}
+use Rattle.tal_rom.specs.declared.patch.Patch.{Patch}
+use Rattle.tal_rom.specs.Filling.{is_definition, is_reference}
+use Rattle.tal_rom.specs.References.{scope_behind}
+use Rattle.tal_rom.specs.Patching.{added_given, added_of}
+use Rattle.tal_rom.specs.Patchers.{Entry, Holds, HoldsAll, ComesNext, WasGiven, new_entry, added_by, brace_hole, span_of_entry, IsBelow}
+use Rattle.tal_rom.specs.Patchers.{closed_or, closed_last, entry_in, entries_from, scope_from}
+use Rattle.tal_rom.proofs.Laying.{some_bytes, behind_more}
+use Rattle.tal_rom.proofs.Holding.{holds_more, IsPut, put_more, no_hole, nothing_left, both_nil}
 
 -- an opener is a reference
-abbrev IsReferred : ℕ → Type 0
-IsReferred first = (rune : Rune) × (form (first ∷ 123 ∷ []) ≡ Ok (Refer rune))
-
-rune_step : (first byte : ℕ) (rune : Rune) (rest : Option Rune) → form (byte ∷ 123 ∷ []) ≡ Ok (Refer rune) → (is_some rest ≡ true → IsReferred first)
-    → (b : Bool) → (first == byte) ≡ b → is_some (cond b (Some rune) rest) ≡ true → IsReferred first
-rune_step first byte rune rest known later true e h = (rune, ap (λ n. form (n ∷ 123 ∷ [])) (eqb-true first byte e) ∙ known)
-rune_step first byte rune rest known later false e h = later h
-
-never_some : (first : ℕ) → is_some {T = Rune} None ≡ true → IsReferred first
-never_some first h = cc
-
-referred : (first : ℕ) → is_some (rune_of first) ≡ true → IsReferred first
+braced : (first : ℕ) (rune : Rune) → rune_of first ≡ Some rune → form (first ∷ 123 ∷ []) ≡ Ok (Refer rune)
 unfolding form
-referred first =
-    rune_step first 44 LitRel _ refl
-    (rune_step first 95 RawRel _ refl
-    (rune_step first 46 LitZero _ refl
-    (rune_step first 45 RawZero _ refl
-    (rune_step first 59 LitAbs _ refl
-    (rune_step first 61 RawAbs _ refl
-    (rune_step first 33 Jmi _ refl
-    (rune_step first 63 Jci _ refl (never_some first) (first == 63) refl)
-    (first == 33) refl)
-    (first == 61) refl)
-    (first == 59) refl)
-    (first == 45) refl)
-    (first == 46) refl)
-    (first == 95) refl)
-    (first == 44) refl
+braced first rune e = grind (arith, nat_tests)
 
 opener : (text : List ℕ) → opens text ≡ true → (rune : Rune) × (form text ≡ Ok (Refer rune))
 unfolding form
 opener [] e = cc
 opener (first ∷ []) e = elim (or_cases _ _ e) [
-  | inl brace ↦ (Jsi, (let same : first ≡ 123 = eqb-true first 123 brace in ap (λ n. form (n ∷ [])) same))
+  | inl brace ↦ (Jsi, (let same : first ≡ 123 = eqb-true first 123 brace in rw same refl))
   | inr never ↦ (let none : false ≡ true = (and_parts (is_some (rune_of first)) false never).1 in cc)
 ]
-opener (first ∷ second ∷ []) e =
-    let parts = and_parts (is_some (rune_of first)) (second == 123) e in
-    let same : second ≡ 123 = eqb-true second 123 parts.1 in
-    let found = referred first parts.0 in
-    (found.0, ap (λ n. form (first ∷ n ∷ [])) same ∙ found.1)
-opener (first ∷ second ∷ third ∷ rest) e = (let none : false ≡ true = (and_parts (is_some (rune_of first)) false e).1 in cc)
+opener (first ∷ second ∷ rest) e = by (rune_of first) rest refl (and_parts (is_some (rune_of first)) _ e)
+  where
+    by : (o : Option Rune) (rest : List ℕ) → rune_of first ≡ o → (is_some o ≡ true) × (is_only 123 (second ∷ rest) ≡ true)
+        → (rune : Rune) × (form (first ∷ second ∷ rest) ≡ Ok (Refer rune))
+    by (Some rune) [] f parts = (let same : second ≡ 123 = eqb-true second 123 parts.1 in (rune, rw same (braced first rune f)))
+    by o rest f parts = cc
+
+-- a word that defines a label has no bytes, and one that is no label defines none
+definition : (shape : Form) (text : List ℕ) → is_definition shape ≡ true
+    → (encoded shape text 0 0 ≡ []) × (is_reference shape ≡ false) × (is_mark_form shape ≡ true)
+definition shape text e = grind arith
+
+no_label : (shape : Form) (scope text : List ℕ) → is_definition shape ≡ false → defined_name (Ok shape) scope text ≡ None
+no_label shape scope text e = grind arith
+
+pub not_definition : (shape : Form) → (shape ≡ LabelDef → ⊥) → (shape ≡ SubDef → ⊥) → is_definition shape ≡ false
+not_definition shape a b = grind arith
+
+pub not_reference : (shape : Form) → ((rune : Rune) → shape ≡ Refer rune → ⊥) → is_reference shape ≡ false
+not_reference shape a = grind arith
+
+none_named : (labels : List Label) (name : List ℕ) → list_any (λ label. bytes_eq name label.name) labels ≡ false → address_named labels name ≡ None
+none_named [] name e = refl
+none_named (label ∷ labels) name e = grind (arith, none_named labels name)
+
+end_low : (place address size : ℕ) → list_any (λ end. ltb place end) (cond (ltb 0 size) ((address + size) ∷ []) []) ≡ false
+    → 0 < size → address + size ≤ place
+end_low place address size none some = grind (arith, nat_tests)
+
+lambda_open : (b : Bool) (o : Option ℕ) (end : ℕ → ℕ) → (b && not (is_some (cond b (option_map end o) None))) ≡ (b && not (is_some o))
+lambda_open b o end = grind arith
+
+opener_none : (opening : Bool) (openers : List ℕ) → closed_opener opening false openers ≡ None
+opener_none opening openers = grind arith
+
+closed_later : (address : ℕ) (entry : Entry) (entries closed : List Entry) (holes own : List Hole) → 0 < length holes
+    → closed_or address entry entries closed holes own ≡ entry ∷ closed
+closed_later address entry entries closed holes own some = grind arith
+
+pub on_ok : {T E P Q : Type 0} (r : Result T E) → (P → Q) → OnOk r P → OnOk r Q
+on_ok (Ok x) f h = f h
+on_ok (Err x) f h = tt
 
 module _ (source : List ℕ) where
+  abbrev text : PlacedWord → List ℕ
+  text placed = expanded_text source placed.word
+
+  abbrev scoped : List ℕ → PlacedWord → List ℕ
+  scoped scope placed = next_scope placed.form scope (text placed)
+
   -- each word with a place has the form of its text
   abbrev pub HasForm : PlacedWord → Type 0
-  HasForm placed = form (expanded_text source placed.word) ≡ Ok placed.form
+  HasForm placed = form (text placed) ≡ Ok placed.form
 
   formed_from : (before words : List Expanded) → AllByRecursion HasForm (collected (placed_given source) before words)
   formed_from before [] = tt
-  formed_from before (word ∷ words) = by (form (expanded_text source word)) refl (formed_from (before ++ word ∷ []) words)
+  formed_from before (word ∷ words) = all_joined HasForm _ _ (by (form (expanded_text source word)) refl) (formed_from (before ++ word ∷ []) words)
     where
-      by : (f : Result Form FaultKind) → form (expanded_text source word) ≡ f → AllByRecursion HasForm (collected (placed_given source) (before ++ word ∷ []) words)
-          → AllByRecursion HasForm (placed_with source before word words f ++ collected (placed_given source) (before ++ word ∷ []) words)
-      by (Ok shape) e rest = (e, rest)
-      by (Err kind) e rest = rest
+      by : (f : Result Form FaultKind) → form (expanded_text source word) ≡ f → AllByRecursion HasForm (placed_with source before word words f)
+      by (Ok shape) e = (e, tt)
+      by (Err kind) e = tt
 
-  pub all_formed : (words : List Expanded) → AllByRecursion HasForm (placed_of source words)
+  all_formed : (words : List Expanded) → AllByRecursion HasForm (placed_of source words)
   unfolding placed_of
   all_formed words = formed_from [] words
 
   -- the words with their targets, by their entries
-  behind_more : (before : List PlacedWord) (placed : PlacedWord) → HasForm placed → scope_behind source (before ++ placed ∷ []) ≡ next_scope placed.form (scope_behind source before) (expanded_text source placed.word)
-  unfolding scope_behind
-  behind_more before placed e =
-      ap (scope_after source) (map-append (λ p. p.word) before (placed ∷ []))
-      ∙ scope_after-append source (map (λ p. p.word) before) placed.word placed.form e
-
-  each_added : (labels : List Label) (before words : List PlacedWord) (scope : List ℕ) → scope ≡ scope_behind source before → AllByRecursion HasForm words
-      → each (added_given source labels) before words ≡ map (added_by labels) (entries_from source scope words)
+  each_added : (labels : List Label) (before words : List PlacedWord) (scope : List ℕ) → scope ≡ scope_behind source before
+      → AllByRecursion HasForm words → each (added_given source labels) before words ≡ map (added_by labels) (entries_from source scope words)
   each_added labels before [] scope e all = refl
   each_added labels before (placed ∷ words) scope e all =
-      let text = expanded_text source placed.word in
-      ap (λ s. record { form = placed.form; text = text; address = placed.address; target = form_target placed.form (cond (opens text) placed.lambda (address_named labels (full_name s (name_after_rune text)))) } ∷ each (added_given source labels) (before ++ placed ∷ []) words) (sym e)
-      ∙ ap (λ ws. added_by labels (entry_in source scope placed) ∷ ws)
-      (each_added labels (before ++ placed ∷ []) words (next_scope placed.form scope text) (ap (λ s. next_scope placed.form s text) e ∙ sym (behind_more before placed all.0)) all.1)
+      let next : scoped scope placed ≡ scope_behind source (before ++ placed ∷ []) = rw (e, behind_more source before placed all.0) refl in
+      rw (each_added labels (before ++ placed ∷ []) words (scoped scope placed) next all.1, e) refl
 
-  pub added_are : (words : List Expanded) → added_of source words ≡ map (added_by (labels_of source words)) (entries_from source first_scope (placed_of source words))
+  pub added_are : (words : List Expanded)
+      → added_of source words ≡ map (added_by (labels_of source words)) (entries_from source first_scope (placed_of source words))
   unfolding added_of scope_behind scope_after
   added_are words = each_added (labels_of source words) [] (placed_of source words) first_scope refl (all_formed words)
 
   -- one word more
-  pub entries_more : (scope : List ℕ) (words : List PlacedWord) (placed : PlacedWord) → entries_from source scope (words ++ placed ∷ []) ≡ entries_from source scope words ++ entry_in source (scope_from source scope words) placed ∷ []
+  entries_more : (scope : List ℕ) (words : List PlacedWord) (placed : PlacedWord)
+      → entries_from source scope (words ++ placed ∷ [])
+      ≡ entries_from source scope words ++ entry_in source (scope_from source scope words) placed ∷ []
   entries_more scope [] placed = refl
-  entries_more scope (first ∷ words) placed = ap (λ es. entry_in source scope first ∷ es) (entries_more (next_scope first.form scope (expanded_text source first.word)) words placed)
+  entries_more scope (first ∷ words) placed = rw (entries_more (scoped scope first) words placed) refl
 
-  pub scope_more : (scope : List ℕ) (words : List PlacedWord) (placed : PlacedWord) → scope_from source scope (words ++ placed ∷ []) ≡ next_scope placed.form (scope_from source scope words) (expanded_text source placed.word)
-  scope_more scope words placed = fold_push (λ s p. next_scope p.form s (expanded_text source p.word)) scope words placed
+  length-entries : (scope : List ℕ) (words : List PlacedWord) → length (entries_from source scope words) ≡ length words
+  length-entries scope [] = refl
+  length-entries scope (word ∷ words) = rw (length-entries (scoped scope word) words) refl
 
   -- the end of a lambda changes no scope
-  scope_closed : (at address : ℕ) (scope : List ℕ) (words : List PlacedWord) → scope_from source scope (closed_at at address words) ≡ scope_from source scope words
-  scope_closed at address scope [] = refl
-  scope_closed zero address scope (word ∷ words) = refl
-  scope_closed (suc at) address scope (word ∷ words) = scope_closed at address (next_scope word.form scope (expanded_text source word.word)) words
-
-  pub scope_closed_by : (o : Option ℕ) (address : ℕ) (scope : List ℕ) (words : List PlacedWord) → scope_from source scope (closed_by o address words) ≡ scope_from source scope words
-  scope_closed_by None address scope words = refl
-  scope_closed_by (Some at) address scope words = scope_closed at address scope words
+  scope_closed : (o : Option ℕ) (address : ℕ) (scope : List ℕ) (words : List PlacedWord)
+      → scope_from source scope (closed_by o address words) ≡ scope_from source scope words
+  scope_closed None address scope words = refl
+  scope_closed (Some at) address scope [] = refl
+  scope_closed (Some zero) address scope (word ∷ words) = refl
+  scope_closed (Some (suc at)) address scope (word ∷ words) = scope_closed (Some at) address (scoped scope word) words
 
   -- which words have lambdas that are open
   abbrev is_open : PlacedWord → Bool
-  is_open placed = opens (expanded_text source placed.word) && not (is_some placed.lambda)
+  is_open placed = opens (text placed) && not (is_some placed.lambda)
 
   abbrev spots : ℕ → List PlacedWord → List ℕ
   spots first [] = []
   spots first (placed ∷ words) = cond (is_open placed) (first ∷ []) [] ++ spots (first + 1) words
 
-  spots_more : (first : ℕ) (words : List PlacedWord) (placed : PlacedWord) → is_open placed ≡ false → spots first (words ++ placed ∷ []) ≡ spots first words
-  spots_more first [] placed e = ap (λ b. cond b (first ∷ []) [] ++ []) e
-  spots_more first (word ∷ words) placed e = ap (λ ns. cond (is_open word) (first ∷ []) [] ++ ns) (spots_more (first + 1) words placed e)
+  spots_more : (first : ℕ) (words : List PlacedWord) (placed : PlacedWord) → is_open placed ≡ false
+      → spots first (words ++ placed ∷ []) ≡ spots first words
+  spots_more first [] placed e = rw e refl
+  spots_more first (word ∷ words) placed e = rw (spots_more (first + 1) words placed e) refl
 
-  spots_are : (before words : List Expanded) → ((k : ℕ) → k < length words → (shape : Form) × (form (expanded_text source (get_or words k no_word)) ≡ Ok shape))
+  spots_are : (before words : List Expanded)
+      → ((k : ℕ) → k < length words → (shape : Form) × (form (expanded_text source (get_or words k no_word)) ≡ Ok shape))
       → spots (length before) (collected (placed_given source) before words) ≡ collected (open_given source) before words
   spots_are before [] all = refl
   spots_are before (word ∷ words) all =
-      let here = all 0 (omega arith) in
       let next : length before + 1 ≡ length (before ++ word ∷ []) = omega (arith, length-append before (word ∷ [])) in
-      ap (λ f. spots (length before) (placed_with source before word words f ++ collected (placed_given source) (before ++ word ∷ []) words)) here.1
-      ∙ ap (λ b. cond b (length before ∷ []) [] ++ spots (length before + 1) (collected (placed_given source) (before ++ word ∷ []) words)) (same (opens (expanded_text source word)) (closing_distance source words))
-      ∙ ap (λ n. cond (opens (expanded_text source word) && not (is_some (closing_distance source words))) (length before ∷ []) [] ++ spots n (collected (placed_given source) (before ++ word ∷ []) words)) next
-      ∙ ap (λ ns. open_given source before word words ++ ns) (spots_are (before ++ word ∷ []) words (λ k within. all (suc k) (omega arith)))
-    where
-      same : (b : Bool) (o : Option ℕ) → (b && not (is_some (cond b (option_map (λ between. address_after source (before ++ word ∷ take between words)) o) None))) ≡ (b && not (is_some o))
-      same true None = refl
-      same true (Some n) = refl
-      same false o = refl
+      let end : ℕ → ℕ = λ between. address_after source (before ++ word ∷ take between words) in
+      rw ((all 0 (omega arith)).1, next, spots_are (before ++ word ∷ []) words (λ k within. all (suc k) (omega arith)))
+      (rw (lambda_open (opens (expanded_text source word)) (closing_distance source words) end) refl)
 
-  -- the last word whose lambda is open gets its end
-  abbrev closed_from : ℕ → Option ℕ → ℕ → List PlacedWord → List PlacedWord
-  closed_from first None address words = words
-  closed_from first (Some at) address words = closed_at (at - first) address words
+  -- the last word whose lambda is open gets its end, and so does the last such entry
+  abbrev ClosesSo : ℕ → ℕ → List ℕ → List PlacedWord → Type 0
+  ClosesSo first address scope words =
+      ((spots first words ≡ []) × (flat_map brace_hole (entries_from source scope words) ≡ []))
+      ⊎ ((front : List ℕ) × (at : ℕ) × (spots first words ≡ front ++ (first + at) ∷ [])
+      × (0 < length (flat_map brace_hole (entries_from source scope words)))
+      × (entries_from source scope (closed_at at address words) ≡ closed_last address (entries_from source scope words)))
 
-  abbrev last_spot : List ℕ → Option ℕ
-  last_spot = last_of (λ at. Some at)
-
-  -- entries that are closed as the words are: which hole is last, and where
-  pub record IsClosedSo (first address : ℕ) (scope : List ℕ) (words : List PlacedWord) (holes : List Hole) (o : Option ℕ) : Type 0 where
-    pub entries : entries_from source scope (closed_from first o address words) ≡ closed_last address (entries_from source scope words)
-    pub none : o ≡ None → holes ≡ []
-    pub some : (at : ℕ) → o ≡ Some at → (first ≤ at) × ((hole : Hole) × (rest : List Hole) × (holes ≡ hole ∷ rest))
-
-  open_hole : (scope : List ℕ) (placed : PlacedWord) → HasForm placed → is_open placed ≡ true → (hole : Hole) × (brace_hole (entry_in source scope placed) ≡ hole ∷ [])
+  open_hole : (scope : List ℕ) (placed : PlacedWord) → HasForm placed → is_open placed ≡ true
+      → (hole : Hole) × (brace_hole (entry_in source scope placed) ≡ hole ∷ [])
   open_hole scope placed formed e =
-      let parts = and_parts (opens (expanded_text source placed.word)) (not (is_some placed.lambda)) e in
-      let found = opener (expanded_text source placed.word) parts.0 in
-      let shape : placed.form ≡ Refer found.0 = (let both : Ok placed.form ≡ Ok (Refer found.0) = sym formed ∙ found.1 in cc) in (
-        record { rune = found.0; address = placed.address },
-        ap (λ f. holes_by f placed.address (is_open placed)) shape ∙ ap (holes_by (Refer found.0) placed.address) e,
-      )
+      let found = opener (text placed) (and_parts _ _ e).0 in
+      let shape : placed.form ≡ Refer found.0 = (let both : Ok placed.form ≡ Ok (Refer found.0) = sym formed ∙ found.1 in cc) in
+      (record { rune = found.0; address = placed.address }, rw (e, shape) refl)
 
-  some_hole : (own : List Hole) (hole : Hole) (holes : List Hole) → (first : Hole) × (rest : List Hole) × (own ++ hole ∷ holes ≡ first ∷ rest)
-  some_hole [] hole holes = (hole, holes, refl)
-  some_hole (first ∷ own) hole holes = (first, own ++ hole ∷ holes, refl)
-
-  step_closed : (address first : ℕ) (scope : List ℕ) (placed : PlacedWord) (words : List PlacedWord) → HasForm placed → (b : Bool) → is_open placed ≡ b → (o : Option ℕ)
-      → IsClosedSo (first + 1) address (next_scope placed.form scope (expanded_text source placed.word)) words (flat_map brace_hole (entries_from source (next_scope placed.form scope (expanded_text source placed.word)) words)) o
-      → IsClosedSo first address scope (placed ∷ words) (flat_map brace_hole (entries_from source scope (placed ∷ words))) (or_earlier o (cond b (Some first) None))
-  step_closed address first scope placed words formed b e (Some at) so =
-      let next = next_scope placed.form scope (expanded_text source placed.word) in
-      let entry : Entry = entry_in source scope placed in
-      let es : List Entry = entries_from source next words in
-      let there = so.some at refl in
-      let index : at - first ≡ suc (at - (first + 1)) = omega (arith, there.0) in
-      let own = some_hole (brace_hole entry) there.1.0 there.1.1 in
-      record {
-        entries = ap (λ n. entries_from source scope (closed_at n address (placed ∷ words))) index
-            ∙ ap (λ rest. entry ∷ rest) so.entries
-            ∙ sym (ap (λ holes. closed_or address entry es (closed_last address es) holes (brace_hole entry)) there.1.2);
-        none = λ f. cc;
-        some = λ other f. (let same : at ≡ other = cc in omega (arith, same, there.0), (own.0, own.1, ap (λ holes. brace_hole entry ++ holes) there.1.2 ∙ own.2));
-      }
-  step_closed address first scope placed words formed true e None so =
-      let next = next_scope placed.form scope (expanded_text source placed.word) in
-      let entry : Entry = entry_in source scope placed in
-      let es : List Entry = entries_from source next words in
-      let own = open_hole scope placed formed e in
-      let index : first - first ≡ 0 = omega arith in
-      record {
-        entries = ap (λ n. entries_from source scope (closed_at n address (placed ∷ words))) index
-            ∙ sym (ap (λ holes. closed_or address entry es (closed_last address es) holes (brace_hole entry)) (so.none refl) ∙ ap (closed_or address entry es (closed_last address es) []) own.1);
-        none = λ f. cc;
-        some = λ other f. (let same : first ≡ other = cc in omega (arith, same), (own.0, flat_map brace_hole es, ap (λ holes. holes ++ flat_map brace_hole es) own.1));
-      }
-  step_closed address first scope placed words formed false e None so =
-      let next = next_scope placed.form scope (expanded_text source placed.word) in
-      let entry : Entry = entry_in source scope placed in
-      let es : List Entry = entries_from source next words in
-      let own : brace_hole entry ≡ [] = ap (holes_by placed.form placed.address) e ∙ no_hole placed.form placed.address in
-      record {
-        entries = sym (ap (λ holes. closed_or address entry es (closed_last address es) holes (brace_hole entry)) (so.none refl) ∙ ap (closed_or address entry es (closed_last address es) []) own);
-        none = λ f. ap (λ holes. holes ++ flat_map brace_hole es) own ∙ so.none refl;
-        some = λ other f. cc;
-      }
-
-  earlier_or : (b : Bool) (first : ℕ) (rest : List ℕ) → last_spot (cond b (first ∷ []) [] ++ rest) ≡ or_earlier (last_spot rest) (cond b (Some first) None)
-  earlier_or true first rest = refl
-  earlier_or false first rest = by (last_spot rest)
+  closes_so : (address : ℕ) (words : List PlacedWord) (first : ℕ) (scope : List ℕ) → AllByRecursion HasForm words → ClosesSo first address scope words
+  closes_so address [] first scope all = inl (refl, refl)
+  closes_so address (placed ∷ words) first scope all = by (is_open placed) refl (closes_so address words (first + 1) (scoped scope placed) all.1)
     where
-      by : (o : Option ℕ) → o ≡ or_earlier o None
-      by None = refl
-      by (Some n) = refl
+      entry : Entry
+      entry = entry_in source scope placed
 
-  closes_so : (address : ℕ) (words : List PlacedWord) (first : ℕ) (scope : List ℕ) → AllByRecursion HasForm words
-      → IsClosedSo first address scope words (flat_map brace_hole (entries_from source scope words)) (last_spot (spots first words))
-  closes_so address [] first scope all = record { entries = refl; none = λ e. refl; some = λ at e. cc }
-  closes_so address (placed ∷ words) first scope all =
-      let rest = closes_so address words (first + 1) (next_scope placed.form scope (expanded_text source placed.word)) all.1 in
-      rw (earlier_or (is_open placed) first (spots (first + 1) words)) (step_closed address first scope placed words all.0 (is_open placed) refl (last_spot (spots (first + 1) words)) rest)
+      by : (b : Bool) → is_open placed ≡ b → ClosesSo (first + 1) address (scoped scope placed) words → ClosesSo first address scope (placed ∷ words)
+      by b e (inr some) =
+          let at : first + 1 + some.1 ≡ first + suc some.1 = omega arith in
+          let entries = entries_from source (scoped scope placed) words in
+          inr (
+            cond (is_open placed) (first ∷ []) [] ++ some.0,
+            suc some.1,
+            rw (some.2, at, append_assoc (cond (is_open placed) (first ∷ []) []) some.0) refl,
+            omega (arith, some.3, length-append (brace_hole entry) (flat_map brace_hole entries)),
+            rw (closed_later address entry entries _ (flat_map brace_hole entries) (brace_hole entry) some.3, some.4) refl,
+          )
+      by true e (inl none) =
+          let own = open_hole scope placed all.0 e in
+          let at : first + 0 ≡ first = omega arith in
+          inr ([], 0, rw (e, none.0, at) refl, rw (own.1) (omega arith), rw (none.1, own.1) refl)
+      by false e (inl none) = inl (rw (e, none.0) refl, rw (e, no_hole placed.form placed.address) none.1)
 
-  closed_from-start : (o : Option ℕ) (address : ℕ) (words : List PlacedWord) → closed_from 0 o address words ≡ closed_by o address words
-  closed_from-start None address words = refl
-  closed_from-start (Some at) address words = (let same : at - 0 ≡ at = omega arith in ap (λ n. closed_at n address words) same)
-
-  -- all formed, with one word more
-  formed_push : (words : List PlacedWord) (placed : PlacedWord) → AllByRecursion HasForm words → HasForm placed → AllByRecursion HasForm (words ++ placed ∷ [])
-  formed_push [] placed all last = (last, tt)
-  formed_push (first ∷ words) placed all last = (all.0, formed_push words placed all.1 last)
+  closes_by : (address : ℕ) (words : List PlacedWord) → ClosesSo 0 address first_scope words
+      → entries_from source first_scope (closed_by (last_of (λ at. Some at) (spots 0 words)) address words)
+      ≡ closed_last address (entries_from source first_scope words)
+  closes_by address words (inl none) = rw (none.0) (sym (nothing_left address _ none.1))
+  closes_by address words (inr some) = (let start : 0 + some.1 ≡ some.1 = omega arith in rw (some.2, last_of-more, start) some.4)
 
   -- the entries of a source with one word more
-  module _ (words : List Expanded) (word : Expanded) (shape : Form) (shaped : form (expanded_text source word) ≡ Ok shape) (sound : added_fault source words ≡ None)
-      (behind : scope_from source first_scope (placed_of source words) ≡ scope_after source words) where
-    abbrev pub placed : PlacedWord
+  module _ (words : List Expanded) (word : Expanded) (shape : Form) (shaped : form (expanded_text source word) ≡ Ok shape)
+      (sound : added_fault source words ≡ None) (behind : scope_from source first_scope (placed_of source words) ≡ scope_after source words) where
+    abbrev placed : PlacedWord
     placed = open_word source words word shape
 
-    abbrev pub entries : List Entry
-    entries = entries_from source first_scope (placed_of source words)
+    abbrev all_placed : List PlacedWord
+    all_placed = placed_of source words ++ placed ∷ []
 
-    abbrev pub next_entries : List Entry
+    abbrev next_entries : List Entry
     next_entries = entries_from source first_scope (placed_of source (words ++ word ∷ []))
 
-    all_entries : entries_from source first_scope (placed_of source words ++ placed ∷ []) ≡ entries ++ entry_in source (scope_after source words) placed ∷ []
-    all_entries = entries_more first_scope (placed_of source words) placed ∙ ap (λ s. entries ++ entry_in source s placed ∷ []) behind
+    abbrev more_entries : List Entry
+    more_entries = entries_from source first_scope (placed_of source words) ++ entry_in source (scope_after source words) placed ∷ []
+
+    all_entries : entries_from source first_scope all_placed ≡ more_entries
+    all_entries = rw (← behind) (entries_more first_scope (placed_of source words) placed)
 
     pub next_behind : scope_from source first_scope (placed_of source (words ++ word ∷ [])) ≡ scope_after source (words ++ word ∷ [])
     next_behind =
-        ap (scope_from source first_scope) (sym (placed_next source words word shape shaped sound))
-        ∙ scope_closed_by (closed_opener (opens (expanded_text source word)) (closes (expanded_text source word)) (open_ones source words)) (address_after source words) first_scope (placed_of source words ++ placed ∷ [])
-        ∙ scope_more first_scope (placed_of source words) placed
-        ∙ ap (λ s. next_scope shape s (expanded_text source word)) behind
-        ∙ sym (scope_after-append source words word shape shaped)
+        let closed = closed_opener (opens (expanded_text source word)) (closes (expanded_text source word)) (open_ones source words) in
+        rw (← placed_next source words word shape shaped sound, scope_after-append source words word shape shaped, ← behind)
+        (scope_closed closed _ first_scope all_placed
+        ∙ fold_push (λ s p. scoped s p) first_scope (placed_of source words) placed)
 
-    opener_none : (opening : Bool) (openers : List ℕ) → closed_opener opening false openers ≡ None
-    opener_none true openers = refl
-    opener_none false openers = refl
-
-    pub entries_next : closes (expanded_text source word) ≡ false → next_entries ≡ entries ++ entry_in source (scope_after source words) placed ∷ []
+    entries_next : closes (expanded_text source word) ≡ false → next_entries ≡ more_entries
     entries_next e =
-        ap (entries_from source first_scope)
-        (sym (placed_next source words word shape shaped sound)
-        ∙ ap (λ b. closed_by (closed_opener (opens (expanded_text source word)) b (open_ones source words)) (address_after source words) (placed_of source words ++ placed ∷ [])) e
-        ∙ ap (λ o. closed_by o (address_after source words) (placed_of source words ++ placed ∷ [])) (opener_none (opens (expanded_text source word)) (open_ones source words)))
-        ∙ all_entries
+        let none = opener_none (opens (expanded_text source word)) (open_ones source words) in
+        rw (← placed_next source words word shape shaped sound, e, none) all_entries
 
     spots_all : spots 0 (placed_of source words) ≡ open_ones source words
     unfolding placed_of open_ones
     spots_all = spots_are [] words (formed-added source words sound)
 
-    pub entries_closed : closes (expanded_text source word) ≡ true → opens (expanded_text source word) ≡ false
-        → next_entries ≡ closed_last (address_after source words) (entries ++ entry_in source (scope_after source words) placed ∷ [])
+    entries_closed : closes (expanded_text source word) ≡ true → opens (expanded_text source word) ≡ false
+        → next_entries ≡ closed_last (address_after source words) more_entries
     entries_closed e f =
-        let all : List PlacedWord = placed_of source words ++ placed ∷ [] in
-        let still : spots 0 all ≡ open_ones source words = spots_more 0 (placed_of source words) placed (ap (λ b. b && true) f) ∙ spots_all in
-        let closed = closes_so (address_after source words) all 0 first_scope (formed_push (placed_of source words) placed (all_formed words) shaped) in
-        ap (entries_from source first_scope)
-        (sym (placed_next source words word shape shaped sound)
-        ∙ ap (λ b. closed_by (closed_opener b (closes (expanded_text source word)) (open_ones source words)) (address_after source words) all) f
-        ∙ ap (λ b. closed_by (closed_opener false b (open_ones source words)) (address_after source words) all) e
-        ∙ sym (ap (λ ns. closed_from 0 (last_spot ns) (address_after source words) all) still ∙ closed_from-start (last_spot (open_ones source words)) (address_after source words) all))
-        ∙ closed.entries
-        ∙ ap (closed_last (address_after source words)) all_entries
+        let still : spots 0 all_placed ≡ open_ones source words = spots_more 0 (placed_of source words) placed (rw f refl) ∙ spots_all in
+        let formed = all_joined HasForm (placed_of source words) (placed ∷ []) (all_formed words) (shaped, tt) in
+        rw (← placed_next source words word shape shaped sound, e, f, ← still, ← all_entries)
+        (closes_by _ all_placed (closes_so _ all_placed 0 first_scope formed))
+
+  -- the entries of words end at or below a place that none of their ends lies above
+  abbrev AllBelow : ℕ → List ℕ → List PlacedWord → Type 0
+  AllBelow place scope words = AllByRecursion (IsBelow place) (map span_of_entry (entries_from source scope words))
+
+  ends_below : (place : ℕ) (scope : List ℕ) (before rest : List Expanded)
+      → list_any (λ end. ltb place end) (collected (ends_given source) before rest) ≡ false
+      → AllBelow place scope (collected (placed_given source) before rest)
+  ends_below place scope before [] e = tt
+  ends_below place scope before (word ∷ rest) e =
+      let parts = or_false _ _ (rw (list_any-append (λ end. ltb place end) (ends_given source before word rest)) at e) in
+      by (form (expanded_text source word)) (end_low place (address_after source before) _ parts.0)
+      (λ next. ends_below place next (before ++ word ∷ []) rest parts.1)
+    where
+      by : (f : Result Form FaultKind)
+          → (0 < formed_size f (expanded_text source word) → address_after source before + formed_size f (expanded_text source word) ≤ place)
+          → ((next : List ℕ) → AllBelow place next (collected (placed_given source) (before ++ word ∷ []) rest))
+          → AllBelow place scope (placed_with source before word rest f ++ collected (placed_given source) (before ++ word ∷ []) rest)
+      by (Err kind) low later = later scope
+      by (Ok shape) low later = (low, later (next_scope shape scope (expanded_text source word)))
+
+-- what is known of a word that a placer gave behind others
+pub record IsNextWord (source : List ℕ) (words : List Expanded) (placed : PlacedWord) : Type 0 where
+  pub sound_all : added_fault source (words ++ placed.word ∷ []) ≡ None
+  pub sound : added_fault source words ≡ None
+  pub formed : form (text source placed) ≡ Ok placed.form
+  pub address : placed.address ≡ address_after source words
+  pub well : IsWellPlaced (is_defined (labels_of source words) (defined_name (Ok placed.form) (scope_after source words) (text source placed)))
+      (address_after source words) (size placed.form (text source placed)) (is_mark_form placed.form)
+      (ends_above source words (address_after source words))
+
+module _ (source : List ℕ) (words : List Expanded) where
+  front_sound : (word : Expanded) → added_fault source (words ++ word ∷ []) ≡ None → added_fault source words ≡ None
+  front_sound word e = grind (arith, added-front source words word)
+
+  next_kinds : (word : Expanded) → added_fault source (words ++ word ∷ []) ≡ None → least (judged_place source words word []).kinds ≡ None
+  unfolding added_fault
+  next_kinds word e =
+      let behind = fault-behind (each (judged_added source) [] words) (judged_added source words word [] ∷ []) (front_sound word e) in
+      let last = rw (each-more (judged_added source) (λ b w a c. refl) [] words word, behind) at e in
+      let none = fault_or-none word.origin (least (adding_kinds source words word)) None last in
+      ap least (both_nil (shape_added source words word) _ (least-none _ none.0)).1
+
+  given_parts : (b : Bool) (f : Result Form FaultKind) (placed : PlacedWord) → given_word source words placed.word b f ≡ Some placed
+      → (b ≡ false) × (f ≡ Ok placed.form) × (placed.address ≡ address_after source words)
+  given_parts b f placed e = grind arith
+
+  pub given_next : (placed : PlacedWord) → word_added source words placed.word ≡ Some placed → IsNextWord source words placed
+  given_next placed e =
+      let parts = given_parts (is_some (added_fault source (words ++ placed.word ∷ []))) (form (text source placed)) placed e in
+      let sound = none_since (added_fault source (words ++ placed.word ∷ [])) parts.0 in
+      record {
+        sound_all = sound;
+        sound = front_sound placed.word sound;
+        formed = parts.1;
+        address = parts.2;
+        well = well_placed _ _ _ _ _ (rw parts.1 at (next_kinds placed.word sound));
+      }
+
+-- the addresses that the code relies on
+module _ (source : List ℕ) (placed : PlacedWord) (given : WasGiven source placed) where
+  last : IsNextWord source given.0 placed
+  last = given_next source given.0 placed given.1
+
+  mark_within : is_mark_form placed.form ≡ true → placed.address < 65536
+  mark_within mark = omega (arith, last.address, last.well.mark mark)
+
+  pub bytes_address : 0 < size placed.form (text source placed) → placed.address ≤ 65536
+  bytes_address some = omega (arith, last.address, last.well.high some)
+
+  pub reference_address : (rune : Rune) → placed.form ≡ Refer rune → placed.address < 65536
+  reference_address rune shape =
+      let some : 0 < size placed.form (text source placed) = rw shape (some_bytes rune) in
+      omega (arith, some, last.address, last.well.high some)
+
+  pub definition_address : is_definition placed.form ≡ true → placed.address < 65536
+  definition_address label = mark_within (definition placed.form [] label).2
+
+  closing_form : closes (text source placed) ≡ true → placed.form ≡ LambdaEnd
+  closing_form e = (let both : Ok placed.form ≡ Ok LambdaEnd = sym last.formed ∙ form-closes (text source placed) e in cc)
+
+  pub closing_address : closes (text source placed) ≡ true → placed.address < 65536
+  closing_address e = mark_within (ap is_mark_form (closing_form e))
+
+  not_closing : (placed.form ≡ LambdaEnd → ⊥) → closes (text source placed) ≡ false
+  not_closing other = grind (arith, closing_form)
+
+-- what a patch holds with the next word, by its arm
+module _ (source : List ℕ) (words : List Expanded) (placed : PlacedWord) (given : word_added source words placed.word ≡ Some placed)
+    (few : length words < 2147483647) where
+  next : IsNextWord source words placed
+  next = given_next source words placed given
+
+  abbrev pub held : List Entry
+  held = entries_from source first_scope (placed_of source words)
+
+  abbrev labels : List Label
+  labels = labels_of source words
+
+  abbrev all : List Expanded
+  all = words ++ placed.word ∷ []
+
+  labels_next : labels_of source all
+      ≡ labels ++ label_of (defined_name (Ok placed.form) (scope_after source words) (text source placed)) placed.address
+  labels_next = rw next.address (labels_of-append source words placed.word placed.form next.formed)
+
+  same_labels : is_definition placed.form ≡ false → labels_of source all ≡ labels
+  same_labels bare = rw (labels_next, no_label placed.form (scope_after source words) (text source placed) bare) (append-nil labels)
+
+  module _ (behind : scope_from source first_scope (placed_of source words) ≡ scope_after source words) where
+    module _ (text' full : List ℕ) (read : text' ≡ text source placed)
+        (named : full ≡ full_name (scope_after source words) (name_after_rune (text source placed))) where
+      abbrev entry : Entry
+      entry = new_entry placed.form text' placed.address full
+
+      comes_next : ComesNext held entry
+      unfolding placed_of ends_of
+      comes_next = record {
+        behind = λ some. rw next.address (ends_below source (address_after source words) first_scope [] words (next.well.above (rw read at some)));
+        few =
+            let count = length-collected source [] words (formed-added source words next.sound) in
+            omega (arith, length-entries source first_scope (placed_of source words), count, few);
+      }
+
+      same_entry : entry_in source (scope_after source words) (open_word source words placed.word placed.form) ≡ entry
+      same_entry = rw (read, named, next.address) refl
+
+      pub put_all : (old new : Patch) → is_definition placed.form ≡ false → closes text' ≡ false
+          → (ComesNext held entry → Holds labels held old → Holds labels (held ++ entry ∷ []) new) → Holds labels held old → HoldsAll source all new
+      put_all old new bare e ok so =
+          rw (same_labels bare, entries_next source words placed.word placed.form next.formed next.sound behind (rw read at e), same_entry)
+          (ok comes_next so)
+
+      pub close_all : (old put new : Patch) → is_definition placed.form ≡ false → closes text' ≡ true
+          → (ComesNext held entry → Holds labels held old → Holds labels (held ++ entry ∷ []) put)
+          → ((entries : List Entry) → Holds labels entries put → Holds labels (closed_last placed.address entries) new) → Holds labels held old
+          → HoldsAll source all new
+      close_all old put new bare e ok close so =
+          let closing = rw read at e in
+          let still : opens (text source placed) ≡ false = grind (arith, opens-closes (text source placed), closing) in
+          let closed = entries_closed source words placed.word placed.form next.formed next.sound behind closing still in
+          rw (same_labels bare, closed, same_entry, ← next.address) (close (held ++ entry ∷ []) (ok comes_next so))
+
+      pub refer_all : (rune : Rune) (old new : Patch) → placed.form ≡ Refer rune → (ComesNext held (new_entry (Refer rune) text' placed.address full)
+          → Holds labels held old
+          → Holds labels (held ++ new_entry (Refer rune) text' placed.address full ∷ []) new) → Holds labels held old → HoldsAll source all new
+      refer_all rune old new same ok so =
+          let still = not_closing source placed (words, given) (λ e. (let never : Refer rune ≡ LambdaEnd = sym same ∙ e in cc)) in
+          put_all old new (rw same refl) (rw read still) (rw (← same) at ok) so
+
+    pub define_all : (name : List ℕ) (old new : Patch) → is_definition placed.form ≡ true
+        → Some name ≡ defined_name (Ok placed.form) (scope_after source words) (text source placed)
+        → (address_named labels name ≡ None → Holds labels held old
+        → Holds (labels ++ record { name = name; address = placed.address } ∷ []) held new)
+        → Holds labels held old → HoldsAll source all new
+    define_all name old new label named ok so =
+        let marks = definition placed.form (text source placed) label in
+        let fresh = none_named labels name (ap (is_defined labels) named ∙ next.well.new) in
+        let still = not_closing source placed (words, given) (λ e. (let never : true ≡ false = sym label ∙ ap is_definition e in cc)) in
+        let stays : IsPut new new = record { waiting = refl; names = refl; openers = refl } in
+        let put = put_more _ placed.form (text source placed) placed.address _ new new marks.1 (rw marks.0 refl) refl stays in
+        let all_held = entries_next source words placed.word placed.form next.formed next.sound behind still in
+        rw (labels_next, ← named, all_held, same_entry (text source placed) _ refl refl)
+        (holds_more _ held _ new new (comes_next (text source placed) _ refl refl) put (ok fresh so))

@@ -1,7 +1,6 @@
 -- The phases of a source.
-use Rattle.std.proofs.Common.{◌≡◌, ℕ, ◌+◌, ◌<◌, ◌≤◌, Bool, true, false, List, [], length, take, drop, get_or, Option, Some, None, Err, refl, sym, ◌∙◌, ap, arith}
-use Rattle.std.specs.Prelude.{nat_le, nat_lt}
-use Rattle.std.proofs.lemmas.Bool.{leb-true, ltb-true, and_parts}
+use Rattle.std.proofs.Common.{◌≡◌, ℕ, ◌+◌, ◌<◌, ◌≤◌, true, List, [], length, get_or, Option, Some, None, Err, refl, sym, ◌∙◌, ap, arith}
+use Rattle.std.proofs.lemmas.Bool.{false_from_ne_true}
 use Rattle.tal_words.specs.declared.fault.Fault.{Fault}
 use Rattle.tal_words.specs.declared.fault.AsmStop.{AsmStop}
 use Rattle.tal_words.specs.declared.fault.AsmStop.TheVariants.{Refused, NoMemory}
@@ -20,6 +19,7 @@ use Rattle.tal_rom.specs.References.{reference_fault}
 use Rattle.tal_rom.specs.Rom.{Piece, covers, piece_given, pieces_of, rom_image}
 use Rattle.tal_rom.specs.Answers.{CoverOnce}
 use Rattle.tal_rom.specs.Assembly.{first_fault, layout, rom_of, IsAssembled}
+use Rattle.tal_rom.proofs.Covering.{covers-true}
 use Rattle.tal_rom.proofs.Laying.{no_placed_word}
 
 -- a pass that stops with a fault stops with that of the source, where that is the source's
@@ -50,12 +50,14 @@ module _ (source : List ℕ) where
       references_first places_sound answer e = rw (words_sound, expansion_sound, places_sound, e) refl
 
 -- the words are laid out as the source's
-pub laid_out : (source : List ℕ) (expanded : List Expanded) (placed : Layout) → expanded ≡ expanded_of source → placed ≡ layout_of source expanded → placed ≡ layout source
+pub laid_out : (source : List ℕ) (expanded : List Expanded) (placed : Layout) → expanded ≡ expanded_of source → placed ≡ layout_of source expanded
+    → placed ≡ layout source
 unfolding layout
 laid_out source expanded placed listed e = e ∙ ap (layout_of source) listed
 
 -- where no phase has a fault the bytes of the words are the source's
-pub assembled : (source : List ℕ) (expanded : List Expanded) (placed : Layout) (rom : List ℕ) → word_fault source ≡ None → expansion_fault source ≡ None
+pub assembled : (source : List ℕ) (expanded : List Expanded) (placed : Layout) (rom : List ℕ) → word_fault source ≡ None
+    → expansion_fault source ≡ None
     → expanded ≡ expanded_of source → place_fault source expanded ≡ None → placed ≡ layout_of source expanded
     → reference_fault source placed.labels placed.words ≡ None → rom ≡ rom_image (pieces_of source placed.labels placed.words)
     → (first_fault source ≡ None) × (rom ≡ rom_of source) × (placed.words ≡ (layout source).words) × (placed.labels ≡ (layout source).labels)
@@ -68,56 +70,41 @@ assembled source expanded placed rom words_sound expansion_sound listed places_s
       ap (λ l. l.labels) laid,
     )
 
--- no fault in a phase and none in the later ones
-or_later-none : (fault later : Option Fault) → or_later fault later ≡ None → (fault ≡ None) × (later ≡ None)
-or_later-none None later e = (refl, e)
-or_later-none (Some fault) later e = cc
-
--- the words of a source without a fault lie apart
-sound_apart : (source : List ℕ) → first_fault source ≡ None → LieApart source (layout source).words
-unfolding first_fault layout
-sound_apart source sound =
-    let places = or_later-none _ _ (or_later-none _ _ (or_later-none _ _ sound).1).1 in
-    let parts = place_fault-none source (expanded_of source) places.0 in
-    lie_apart source (expanded_of source) parts.0 parts.1
+-- a source without a fault has none of its places
+no_place_fault : (words expansion places references : Option Fault) → or_later words (or_later expansion (or_later places references)) ≡ None
+    → places ≡ None
+no_place_fault words expansion places references e = grind arith
 
 module _ (source : List ℕ) (labels : List Label) (words : List PlacedWord) (apart : LieApart source words) where
-  piece_at : (k : ℕ) (word : PlacedWord) (piece : Piece) → k < length words
-      → get_or (pieces_of source labels words) k piece ≡ piece_given source labels (take k words) (get_or words k word) (drop (k + 1) words)
+  -- the piece of a word lies at its place, and is as long as its size says
+  placed_piece : (k : ℕ) (word : PlacedWord) (piece : Piece) → k < length words
+      → ((get_or (pieces_of source labels words) k piece).address ≡ (get_or words k word).address)
+      × (length (get_or (pieces_of source labels words) k piece).bytes ≡ (get_or words k word).size)
   unfolding pieces_of
-  piece_at k word piece within = get_or-each (piece_given source labels) [] words k word piece within
-
-  piece_size : (k : ℕ) (word : PlacedWord) (piece : Piece) → k < length words
-      → length (get_or (pieces_of source labels words) k piece).bytes ≡ (get_or words k word).size
-  piece_size k word piece within =
-      let lies = apart.each k word within in
-      ap (λ p. length p.bytes) (piece_at k word piece within)
-      ∙ length-encoded (get_or words k word).form (expanded_text source (get_or words k word).word) (get_or words k word).address _ ∙ sym lies.sized
+  placed_piece k word piece within =
+      let size = length-encoded (get_or words k word).form (expanded_text source (get_or words k word).word) _ _ in
+      rw (get_or-each (piece_given source labels) [] words k word piece within) (refl, size ∙ sym (apart.each k word within).sized)
 
   -- a word that covers an address has bytes on both sides of it
-  covered : (address k : ℕ) (word : PlacedWord) (piece : Piece) → k < length words → covers address (get_or (pieces_of source labels words) k piece) ≡ true
+  covered : (address k : ℕ) (word : PlacedWord) (piece : Piece) → k < length words
+      → covers address (get_or (pieces_of source labels words) k piece) ≡ true
       → ((get_or words k word).address ≤ address) × (address < (get_or words k word).address + (get_or words k word).size)
   covered address k word piece within e =
-      let p = get_or (pieces_of source labels words) k piece in
-      let parts = and_parts (nat_le p.address address) (nat_lt address (p.address + length p.bytes)) e in
-      let at = ap (λ p. p.address) (piece_at k word piece within) in
-      let size = piece_size k word piece within in
-      (omega (arith, at, leb-true _ _ parts.0), omega (arith, at, size, ltb-true _ _ parts.1))
+      let placed = placed_piece k word piece within in
+      let bounds = covers-true address (get_or (pieces_of source labels words) k piece) e in
+      (omega (arith, placed, bounds), omega (arith, placed, bounds))
 
   cover_once : CoverOnce source labels words
   cover_once = record {
-    once = λ address i k other before within first.
-        by address i k other before within (covered address i no_placed_word other (omega arith) first) (covers address (get_or (pieces_of source labels words) k other)) refl;
-    sized = piece_size;
+    once = λ address i k other before within first. false_from_ne_true _ (λ second.
+        let lower = covered address i no_placed_word other (omega arith) first in
+        let upper = covered address k no_placed_word other within second in
+        omega (arith, lower, upper, apart.apart i k no_placed_word before within (omega (arith, lower)) (omega (arith, upper))));
+    sized = λ k word piece within. (placed_piece k word piece within).1;
   }
-    where
-      by : (address i k : ℕ) (other : Piece) → i < k → k < length words
-          → ((get_or words i no_placed_word).address ≤ address) × (address < (get_or words i no_placed_word).address + (get_or words i no_placed_word).size)
-          → (b : Bool) → covers address (get_or (pieces_of source labels words) k other) ≡ b → covers address (get_or (pieces_of source labels words) k other) ≡ false
-      by address i k other before within first false e = e
-      by address i k other before within first true e =
-          let second = covered address k no_placed_word other within e in
-          absurd (omega (arith, first.0, first.1, second.0, second.1, apart.apart i k no_placed_word before within (omega (arith, first.0, first.1)) (omega (arith, second.0, second.1))))
 
 pub sound_once : (source : List ℕ) → first_fault source ≡ None → CoverOnce source (layout source).labels (layout source).words
-sound_once source sound = cover_once source (layout source).labels (layout source).words (sound_apart source sound)
+unfolding first_fault layout
+sound_once source sound =
+    let parts = place_fault-none source (expanded_of source) (no_place_fault _ _ _ _ sound) in
+    cover_once source _ _ (lie_apart source (expanded_of source) parts.0 parts.1)

@@ -1,8 +1,9 @@
 -- The bytes of words that lie one behind the other.
-use Rattle.std.proofs.Common.{◌≡◌, ℕ, ◌+◌, ◌-◌, ◌<◌, ◌≤◌, Bool, true, false, Option, None, Some, List, [], ◌∷◌, ◌++◌, length, get_or, replicate, cond, ◌⊎◌, inl, inr, refl, sym, ◌∙◌, ap, arith, length-append, find}
-use Rattle.std.specs.Option.{option_or}
-use Rattle.std.proofs.lemmas.Bool.{ltb-true, ltb-false, leb-true, leb-false, and_parts, and_cases, cases_lt}
-use Rattle.std.proofs.lemmas.List.{get_or_append_left, get_or-append_right, get_or_past, get_or-replicate, length-replicate}
+use Rattle.std.proofs.Common.{◌≡◌, ℕ, ◌+◌, ◌-◌, ◌<◌, ◌≤◌, true, false, None, Some, List, [], ◌∷◌, ◌++◌, length, get_or}
+use Rattle.std.proofs.Common.{replicate, cond, ◌⊎◌, inl, inr, refl, ◌∙◌, arith, length-append, find}
+use Rattle.std.proofs.Math.Seq.{get_or-append_right}
+use Rattle.std.proofs.lemmas.Bool.Decides.{nat_tests}
+use Rattle.std.proofs.lemmas.List.{get_or_append_left, get_or_past, get_or-replicate, length-replicate}
 use Rattle.std.proofs.lemmas.List.Folds.{find-append}
 use Rattle.tal_rom.specs.Rom.{Piece, covers, byte_of_piece, byte_at}
 use Rattle.tal_rom.specs.Answers.{filled}
@@ -13,119 +14,71 @@ pub record IsLaid (pieces : List Piece) (rom : List ℕ) : Type 0 where
   pub above : (address : ℕ) → 256 + length rom ≤ address → find (covers address) pieces ≡ None
   pub within : length rom ≤ 65280
 
--- one more word
-pub found_more : (pieces : List Piece) (piece : Piece) (address : ℕ) → find (covers address) (pieces ++ piece ∷ []) ≡ option_or (find (covers address) pieces) (cond (covers address piece) (Some piece) None)
-found_more pieces piece address = find-append (covers address) pieces (piece ∷ [])
+-- a word covers the addresses of its bytes, and none before or past them
+pub covers-true : (address : ℕ) (piece : Piece) → covers address piece ≡ true
+    → (piece.address ≤ address) × (address < piece.address + length piece.bytes)
+covers-true address piece e = grind (arith, nat_tests)
 
-pub covers-true : (address : ℕ) (piece : Piece) → covers address piece ≡ true → (piece.address ≤ address) × (address < piece.address + length piece.bytes)
-covers-true address piece e =
-    let parts = and_parts _ _ e in
-    (leb-true _ _ parts.0, ltb-true _ _ parts.1)
+pub covers-before : (address : ℕ) (piece : Piece) → address < piece.address → covers address piece ≡ false
+covers-before address piece before = grind (arith, nat_tests)
 
-pub covers-false : (address : ℕ) (piece : Piece) → covers address piece ≡ false → (address < piece.address) ⊎ (piece.address + length piece.bytes ≤ address)
-covers-false address piece e = elim (and_cases _ _ e) [
-  | inl before ↦ inl (leb-false _ _ before)
-  | inr after ↦ inr (ltb-false _ _ after)
-]
+pub covers-past : (address : ℕ) (piece : Piece) → (0 < length piece.bytes → piece.address + length piece.bytes ≤ address)
+    → covers address piece ≡ false
+covers-past address piece past = grind (arith, nat_tests)
 
-pub covers-not : (address : ℕ) (piece : Piece) (b : Bool) → covers address piece ≡ b → ((piece.address ≤ address) → (address < piece.address + length piece.bytes) → ⊥) → covers address piece ≡ false
-covers-not address piece true e never = (let bounds = covers-true address piece e in absurd (never bounds.0 bounds.1))
-covers-not address piece false e never = e
+-- the byte at an address where a word lies over what stood there
+abbrev pub read_over : ℕ → Piece → ℕ → ℕ
+read_over address piece value = cond (covers address piece) (byte_of_piece address (Some piece)) value
 
--- a word without bytes changes nothing
-bare_found : (pieces : List Piece) (place address : ℕ) → find (covers address) (pieces ++ record { address = place; bytes = [] } ∷ []) ≡ find (covers address) pieces
-bare_found pieces place address =
-    let piece : Piece = record { address = place; bytes = [] } in
-    let none : covers address piece ≡ false = covers-not address piece (covers address piece) refl (λ from to. omega arith) in
-    found_more pieces piece address ∙ ap (λ b. option_or (find (covers address) pieces) (cond b (Some piece) None)) none ∙ same (find (covers address) pieces)
-  where
-    same : (o : Option Piece) → option_or o None ≡ o
-    same None = refl
-    same (Some x) = refl
+abbrev pub read_of : ℕ → List Piece → ℕ
+read_of address pieces = byte_of_piece address (find (covers address) pieces)
 
-bare_laid : (pieces : List Piece) (rom : List ℕ) (place : ℕ) → IsLaid pieces rom → IsLaid (pieces ++ record { address = place; bytes = [] } ∷ []) rom
-unfolding byte_at
-bare_laid pieces rom place laid = record {
-  each = λ i. laid.each i ∙ ap (byte_of_piece (256 + i)) (sym (bare_found pieces place (256 + i)));
-  above = λ address behind. bare_found pieces place address ∙ laid.above address behind;
-  within = laid.within;
-}
+pub read_first : (address : ℕ) (piece : Piece) (pieces : List Piece)
+    → read_of address (piece ∷ pieces) ≡ read_over address piece (read_of address pieces)
+read_first address piece pieces = grind arith
 
--- the bytes of the next word behind a gap of zeros
-module _ (rom bytes : List ℕ) (place : ℕ) (behind : 256 + length rom ≤ place) where
-  abbrev more : List ℕ
-  more = rom ++ (replicate (place - (256 + length rom)) 0 ++ bytes)
+-- with one word more, which covers no address that one before it covers
+pub more_over : (pieces : List Piece) (piece : Piece) (address value : ℕ) → value ≡ read_of address pieces
+    → (covers address piece ≡ true → find (covers address) pieces ≡ None) → read_over address piece value ≡ read_of address (pieces ++ piece ∷ [])
+more_over pieces piece address value e none = rw (find-append (covers address) pieces (piece ∷ [])) (grind arith)
 
-  length-more : 256 + length more ≡ place + length bytes
-  length-more =
-      omega (arith, length-append rom (replicate (place - (256 + length rom)) 0 ++ bytes), length-append (replicate (place - (256 + length rom)) 0) bytes, length-replicate {A = ℕ} (place - (256 + length rom)) 0)
+-- bytes behind others and a gap of zeros
+module _ (rom : List ℕ) (place : ℕ) where
+  pub length-filled : (bytes : List ℕ) → (0 < length bytes → 256 + length rom ≤ place)
+      → ((length bytes ≡ 0) × (length (filled rom place bytes) ≡ length rom))
+      ⊎ ((0 < length bytes) × (256 + length rom ≤ place) × (256 + length (filled rom place bytes) ≡ place + length bytes))
+  length-filled [] behind = inl (refl, refl)
+  length-filled (byte ∷ bytes) behind =
+      let zeros : List ℕ = replicate (place - (256 + length rom)) 0 in
+      let after : 256 + length rom ≤ place = behind (omega arith) in
+      let size = length-replicate {A = ℕ} (place - (256 + length rom)) 0 in
+      inr (omega arith, after, omega (arith, length-append rom (zeros ++ (byte ∷ bytes)), length-append zeros (byte ∷ bytes), size))
 
-  read_rom : (i : ℕ) → i < length rom → get_or more i 0 ≡ get_or rom i 0
-  read_rom i h = get_or_append_left rom (replicate (place - (256 + length rom)) 0 ++ bytes) 0 i h
+  gap_read : (gap i : ℕ) (bytes : List ℕ) → 256 + length rom ≤ place → gap ≡ place - (256 + length rom)
+      → get_or (rom ++ (replicate gap 0 ++ bytes)) i 0 ≡ read_over (256 + i) (record { address = place; bytes = bytes }) (get_or rom i 0)
+  gap_read gap i bytes behind e =
+      grind (arith, nat_tests, get_or_append_left, get_or-append_right, get_or_past, get_or-replicate, length-replicate, length-append)
 
-  read_gap : (i : ℕ) → length rom ≤ i → 256 + i < place → get_or more i 0 ≡ 0
-  read_gap i h below =
-      let gap = place - (256 + length rom) in
-      let size : length (replicate {A = ℕ} gap 0) ≡ gap = length-replicate {A = ℕ} gap 0 in
-      get_or-append_right rom (replicate gap 0 ++ bytes) (length rom) i 0 refl h
-      ∙ get_or_append_left (replicate gap 0) bytes 0 (i - length rom) (omega (arith, size))
-      ∙ get_or-replicate gap (i - length rom) 0 0 (omega arith)
-
-  read_word : (i : ℕ) → place ≤ 256 + i → get_or more i 0 ≡ get_or bytes (256 + i - place) 0
-  read_word i h =
-      let gap = place - (256 + length rom) in
-      let size : length (replicate {A = ℕ} gap 0) ≡ gap = length-replicate {A = ℕ} gap 0 in
-      let at : i - length rom - gap ≡ 256 + i - place = omega arith in
-      get_or-append_right rom (replicate gap 0 ++ bytes) (length rom) i 0 refl (omega arith)
-      ∙ get_or-append_right (replicate gap 0) bytes gap (i - length rom) 0 size (omega arith)
-      ∙ ap (λ n. get_or bytes n 0) at
-
-  module _ (pieces : List Piece) (laid : IsLaid pieces rom) where
-    byte_known : (i : ℕ) (o : Option Piece) → find (covers (256 + i)) pieces ≡ o → get_or rom i 0 ≡ byte_of_piece (256 + i) o
-    unfolding byte_at
-    byte_known i o e = laid.each i ∙ ap (byte_of_piece (256 + i)) e
-
-    byte_next : (i : ℕ) (b : Bool) → covers (256 + i) (record { address = place; bytes = bytes }) ≡ b → get_or rom i 0 ≡ 0
-        → get_or more i 0 ≡ byte_of_piece (256 + i) (cond b (Some record { address = place; bytes = bytes }) None)
-    byte_next i true e none =
-        let bounds = covers-true (256 + i) (record { address = place; bytes = bytes }) e in
-        read_word i bounds.0
-    byte_next i false e none = elim (covers-false (256 + i) (record { address = place; bytes = bytes }) e) [
-      | inl before ↦ elim (cases_lt i (length rom)) [
-        | inl inside ↦ read_rom i inside ∙ none
-        | inr past ↦ read_gap i past before
-      ]
-      | inr after ↦ get_or_past more i 0 (omega (arith, length-more))
-    ]
-
-    byte_more : (i : ℕ) (o : Option Piece) → find (covers (256 + i)) pieces ≡ o
-        → get_or more i 0 ≡ byte_of_piece (256 + i) (option_or o (cond (covers (256 + i) (record { address = place; bytes = bytes })) (Some record { address = place; bytes = bytes }) None))
-    byte_more i None e = byte_next i (covers (256 + i) (record { address = place; bytes = bytes })) refl (byte_known i None e)
-    byte_more i (Some piece) e = elim (cases_lt i (length rom)) [
-      | inl inside ↦ read_rom i inside ∙ byte_known i (Some piece) e
-      | inr past ↦ (let never : None ≡ Some piece = sym (laid.above (256 + i) (omega arith)) ∙ e in cc)
-    ]
+  filled_read : (bytes : List ℕ) (i : ℕ) → (0 < length bytes → 256 + length rom ≤ place)
+      → get_or (filled rom place bytes) i 0 ≡ read_over (256 + i) (record { address = place; bytes = bytes }) (get_or rom i 0)
+  filled_read [] i behind = rw (covers-past (256 + i) (record { address = place; bytes = [] }) (λ some. omega arith)) refl
+  filled_read (byte ∷ bytes) i behind = gap_read _ i (byte ∷ bytes) (behind (omega arith)) refl
 
 -- one more word lies behind those before it
 pub next_laid : (pieces : List Piece) (rom : List ℕ) (place : ℕ) (bytes : List ℕ) → IsLaid pieces rom
     → (0 < length bytes → 256 + length rom ≤ place) → (0 < length bytes → place + length bytes ≤ 65536)
     → IsLaid (pieces ++ record { address = place; bytes = bytes } ∷ []) (filled rom place bytes)
 unfolding byte_at
-next_laid pieces rom place [] laid behind room = bare_laid pieces rom place laid
-next_laid pieces rom place (byte ∷ bytes) laid behind room =
-    let piece : Piece = record { address = place; bytes = byte ∷ bytes } in
-    let after : 256 + length rom ≤ place = behind (omega arith) in
-    let end : place + length (byte ∷ bytes) ≤ 65536 = room (omega arith) in
-    let size = length-more rom (byte ∷ bytes) place after in
+next_laid pieces rom place bytes laid behind room =
+    let piece : Piece = record { address = place; bytes = bytes } in
+    let size = length-filled rom place bytes behind in
     record {
-      each = λ i. byte_more rom (byte ∷ bytes) place after pieces laid i (find (covers (256 + i)) pieces) refl
-          ∙ ap (byte_of_piece (256 + i)) (sym (found_more pieces piece (256 + i)));
+      each = λ i. filled_read rom place bytes i behind ∙ more_over pieces piece (256 + i) (get_or rom i 0) (laid.each i)
+          (λ e. (let bounds = covers-true (256 + i) piece e in laid.above (256 + i) (omega (arith, bounds, behind))));
       above = λ address past.
-          let none : covers address piece ≡ false = covers-not address piece (covers address piece) refl (λ from to. omega (arith, size)) in
-          found_more pieces piece address
-          ∙ ap (λ o. option_or o (cond (covers address piece) (Some piece) None)) (laid.above address (omega (arith, size)))
-          ∙ ap (λ b. cond b (Some piece) None) none;
-      within = omega (arith, size);
+          let none = covers-past address piece (λ some. omega (arith, size)) in
+          rw (find-append (covers address) pieces (piece ∷ []), laid.above address (omega (arith, size)), none) refl;
+      within = grind (arith, size, laid.within, room);
     }
 
 pub nothing_laid : (rom : List ℕ) → rom ≡ [] → IsLaid [] rom

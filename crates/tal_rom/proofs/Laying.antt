@@ -1,18 +1,17 @@
 -- The loop over the words with their addresses.
-use Rattle.std.proofs.Common.{◌≡◌, ℕ, ◌+◌, ◌-◌, ◌<◌, ◌≤◌, ◌⊎◌, inl, inr, List, [], ◌∷◌, ◌++◌, length, take, drop, get_or, map, replicate, Option, Some, None, refl, sym, ◌∙◌, ap, arith, length-append}
+use Rattle.std.proofs.Common.{◌≡◌, ℕ, ◌+◌, ◌<◌, ◌≤◌, List, [], ◌∷◌, ◌++◌, Ok, length, take, drop, get_or, map}
+use Rattle.std.proofs.Common.{Option, Some, None, refl, sym, ◌∙◌, ap, arith}
 use Rattle.std.specs.Prelude.{unwrap_or}
-use Rattle.std.proofs.lemmas.Bool.{cases_lt}
-use Rattle.std.proofs.lemmas.List.{take_more, take_all, map-append, length-replicate}
+use Rattle.std.proofs.lemmas.List.{take_more, take_all, map-append}
 use Rattle.tal_words.specs.declared.form.Form.{Form}
-use Rattle.tal_words.specs.declared.form.Form.TheVariants.{Pad, Skip, Lit1, Lit2, Raw1, Raw2, Op, Text, LabelDef, SubDef, Refer, LambdaEnd, Ignored}
+use Rattle.tal_words.specs.declared.form.Form.TheVariants.{Pad, Refer}
 use Rattle.tal_words.specs.declared.form.Rune.{Rune}
-use Rattle.tal_words.specs.declared.form.Rune.TheVariants.{LitRel, RawRel, LitZero, RawZero, LitAbs, RawAbs, Jmi, Jci, Jsi}
 use Rattle.tal_words.specs.declared.fault.FaultKind.{FaultKind}
 use Rattle.tal_words.specs.declared.name.Label.{Label}
 use Rattle.tal_words.specs.Order.{each}
 use Rattle.tal_words.specs.Source.{expanded_text}
 use Rattle.tal_words.specs.Faults.{least, fault_at, phase_fault}
-use Rattle.tal_words.specs.Forms.{size, reference_size, encoded}
+use Rattle.tal_words.specs.Forms.{form, size, reference_size, encoded}
 use Rattle.tal_words.specs.Names.{first_scope}
 use Rattle.tal_words.proofs.FormLemmas.{length-encoded}
 use Rattle.tal_words.proofs.OrderLemmas.{each-end, each-more, no_word}
@@ -26,143 +25,100 @@ use Rattle.tal_rom.specs.Answers.{filled, HasAddress, AreBytesOf}
 use Rattle.tal_rom.specs.References.{target_in, reference_kinds, scope_behind, target_of, judged_reference, reference_fault}
 use Rattle.tal_rom.specs.Rom.{Piece, byte_at, piece_given, pieces_of, rom_image, trimmed}
 use Rattle.tal_rom.proofs.Trimming.{trimmed-image}
-use Rattle.tal_rom.proofs.Covering.{IsLaid, next_laid, nothing_laid}
+use Rattle.tal_rom.proofs.Covering.{IsLaid, length-filled, next_laid, nothing_laid}
 
 -- what a read past the end gives
 abbrev pub no_placed_word : PlacedWord
 no_placed_word = record { word = no_word; form = Pad 0; address = 0; size = 0; lambda = None }
 
 pub some_bytes : (rune : Rune) → 0 < reference_size rune
-some_bytes LitRel = omega arith
-some_bytes RawRel = omega arith
-some_bytes LitZero = omega arith
-some_bytes RawZero = omega arith
-some_bytes LitAbs = omega arith
-some_bytes RawAbs = omega arith
-some_bytes Jmi = omega arith
-some_bytes Jci = omega arith
-some_bytes Jsi = omega arith
+some_bytes rune = grind arith
 
 -- a reference that ends within memory has an address there
 address-of : (shape : Form) (text : List ℕ) (address : ℕ) → (0 < size shape text → address + size shape text ≤ 65536) → HasAddress shape address
-address-of (Pad n) text address h = tt
-address-of (Skip n) text address h = tt
-address-of (Lit1 n) text address h = tt
-address-of (Lit2 n) text address h = tt
-address-of (Raw1 n) text address h = tt
-address-of (Raw2 n) text address h = tt
-address-of (Op n) text address h = tt
-address-of Text text address h = tt
-address-of LabelDef text address h = tt
-address-of SubDef text address h = tt
-address-of (Refer rune) text address h = (let some = some_bytes rune in let within = h some in omega arith)
-address-of LambdaEnd text address h = tt
-address-of Ignored text address h = tt
+address-of (Refer rune) text address h = omega (arith, h (some_bytes rune), some_bytes rune)
+address-of shape text address h = tt
 
--- the bytes so far end where an earlier word ends
-pub record EndsAt (words : List PlacedWord) (k end : ℕ) : Type 0 where
-  pub index : ℕ
-  pub before : index < k
-  pub some : 0 < (get_or words index no_placed_word).size
-  pub at : end ≡ (get_or words index no_placed_word).address + (get_or words index no_placed_word).size
+-- the scope behind one word more
+pub behind_more : (source : List ℕ) (before : List PlacedWord) (placed : PlacedWord) → form (expanded_text source placed.word) ≡ Ok placed.form
+    → scope_behind source (before ++ placed ∷ []) ≡ next_scope placed.form (scope_behind source before) (expanded_text source placed.word)
+unfolding scope_behind
+behind_more source before placed e =
+    rw (map-append (λ p. p.word) before (placed ∷ [])) (scope_after-append source (map (λ p. p.word) before) placed.word placed.form e)
 
 -- what the loop over the words keeps
 pub record IsLaidSo (source : List ℕ) (labels : List Label) (words : List PlacedWord) (k : ℕ) (rom scope : List ℕ) : Type 0 where
   pub sound : phase_fault (each (judged_reference source labels) (take k words) (drop k words)) ≡ reference_fault source labels words
   pub scoped : scope ≡ scope_behind source (take k words)
   pub laid : IsLaid (pieces_of source labels (take k words)) rom
-  pub top : (length rom ≡ 0) ⊎ EndsAt words k (256 + length rom)
+  pub apart : LieApart source words
+  pub above : (j : ℕ) → k ≤ j → j < length words → 0 < (get_or words j no_placed_word).size
+      → 256 + length rom ≤ (get_or words j no_placed_word).address
 
 pub nothing_laid_so : (source : List ℕ) (labels : List Label) (words : List PlacedWord) (rom scope : List ℕ)
-    → rom ≡ [] → scope ≡ first_scope → IsLaidSo source labels words 0 rom scope
+    → LieApart source words → rom ≡ [] → scope ≡ first_scope → IsLaidSo source labels words 0 rom scope
 unfolding reference_fault scope_behind pieces_of scope_after
-nothing_laid_so source labels words rom scope e first = record { sound = refl; scoped = first; laid = nothing_laid rom e; top = inl (ap length e) }
-
--- where the bytes end with one more word
-filled_none : (rom : List ℕ) (at : ℕ) (bytes : List ℕ) → length bytes ≤ 0 → filled rom at bytes ≡ rom
-filled_none rom at [] none = refl
-filled_none rom at (byte ∷ bytes) none = absurd (omega arith)
-
-filled_end : (rom : List ℕ) (at : ℕ) (bytes : List ℕ) → 0 < length bytes → 256 + length rom ≤ at → 256 + length (filled rom at bytes) ≡ at + length bytes
-filled_end rom at [] some behind = absurd (omega arith)
-filled_end rom at (byte ∷ bytes) some behind =
-    let gap = at - (256 + length rom) in
-    omega (arith, length-append rom (replicate gap 0 ++ (byte ∷ bytes)), length-append (replicate gap 0) (byte ∷ bytes), length-replicate {A = ℕ} gap 0)
+nothing_laid_so source labels words rom scope apart e first = record {
+  sound = refl;
+  scoped = first;
+  laid = nothing_laid rom e;
+  apart = apart;
+  above = λ j from within some. omega (arith, ap length e, (apart.each j no_placed_word within).start some);
+}
 
 module _ (source : List ℕ) (labels : List Label) (words : List PlacedWord) (k : ℕ) (rom scope : List ℕ)
-    (apart : LieApart source words) (within : k < length words) (so : IsLaidSo source labels words k rom scope) where
+    (within : k < length words) (so : IsLaidSo source labels words k rom scope) where
   abbrev word : PlacedWord
   word = get_or words k no_placed_word
 
-  lies : LiesInMemory source word
-  lies = apart.each k no_placed_word within
+  pub lies : LiesInMemory source word
+  lies = so.apart.each k no_placed_word within
 
   pub word-size : (text : List ℕ) → text ≡ expanded_text source word.word → word.size ≡ size word.form text
-  word-size text read = lies.sized ∙ ap (size word.form) (sym read)
+  word-size text read = rw read lies.sized
 
   pub word-above : 0 < word.size → 256 + length rom ≤ word.address
-  word-above some = elim so.top [
-    | inl none ↦ omega (arith, none, lies.start some)
-    | inr end ↦ omega (arith, end.at, apart.apart end.index k no_placed_word end.before within end.some some)
-  ]
-
-  pub word-within : 0 < word.size → word.address + word.size ≤ 65536
-  word-within some = lies.end some
+  word-above some = so.above k (omega arith) within some
 
   pub word-address : HasAddress word.form word.address
-  word-address = let same = lies.sized in address-of word.form (expanded_text source word.word) word.address (λ some. omega (arith, same, lies.end (omega (arith, same))))
+  word-address = address-of word.form (expanded_text source word.word) word.address (rw lies.sized at lies.end)
 
-  module _ (text : List ℕ) (target : Option ℕ) (read : text ≡ expanded_text source word.word) (named : target ≡ target_in labels scope text word) where
+  module _ (text : List ℕ) (target : Option ℕ) (read : text ≡ expanded_text source word.word)
+      (named : target ≡ target_in labels scope text word) where
     same : target ≡ target_of source labels (take k words) word
-    same = named ∙ ap (λ t. target_in labels scope t word) read ∙ ap (λ s. target_in labels s (expanded_text source word.word) word) so.scoped
+    same = rw (named, read, so.scoped) refl
 
-    pub faulty_next : (kind : FaultKind) → least (reference_kinds word.form word.address target) ≡ Some kind → reference_fault source labels words ≡ Some (fault_at word.word.origin kind)
-    faulty_next kind some =
-        sym so.sound
-        ∙ fault-here (judged_reference source labels) words k no_placed_word within kind (ap (λ t. least (reference_kinds word.form word.address t)) (sym same) ∙ some)
+    pub faulty_next : (kind : FaultKind) → least (reference_kinds word.form word.address target) ≡ Some kind
+        → reference_fault source labels words ≡ Some (fault_at word.word.origin kind)
+    faulty_next kind some = sym so.sound ∙ fault-here (judged_reference source labels) words k no_placed_word within kind (rw same at some)
 
     pub next_laid_so : (more next : List ℕ) → least (reference_kinds word.form word.address target) ≡ None
         → more ≡ filled rom word.address (encoded word.form text word.address (unwrap_or target 0)) → next ≡ next_scope word.form scope text
         → IsLaidSo source labels words (k + 1) more next
-    unfolding pieces_of scope_behind
+    unfolding pieces_of
     next_laid_so more next none appended after =
         let piece = piece_given source labels (take k words) word [] in
         let bytes = piece.bytes in
-        let all : more ≡ filled rom word.address bytes =
-        appended
-        ∙ ap (λ t. filled rom word.address (encoded word.form t word.address (unwrap_or target 0))) read
-        ∙ ap (λ o. filled rom word.address (encoded word.form (expanded_text source word.word) word.address (unwrap_or o 0))) same in
-        let long : length bytes ≡ word.size = length-encoded word.form (expanded_text source word.word) word.address (unwrap_or (target_of source labels (take k words) word) 0) ∙ sym lies.sized in
-        let pieces : pieces_of source labels (take (k + 1) words) ≡ pieces_of source labels (take k words) ++ piece ∷ [] =
-        ap (pieces_of source labels) (take_more words k no_placed_word within) ∙ each-more (piece_given source labels) (λ b w a c. refl) [] (take k words) word in
+        let all : more ≡ filled rom word.address bytes = rw (appended, read, same) refl in
+        let long : length bytes ≡ word.size = length-encoded word.form (expanded_text source word.word) word.address _ ∙ sym lies.sized in
         let behind : 0 < length bytes → 256 + length rom ≤ word.address = λ some. word-above (omega (arith, long)) in
+        let size = length-filled rom word.address bytes behind in
         record {
-          sound = fault-later (judged_reference source labels) words k no_placed_word within
-              (ap (λ t. least (reference_kinds word.form word.address t)) (sym same) ∙ none) ∙ so.sound;
-          scoped = after
-              ∙ ap (λ t. next_scope word.form scope t) read
-              ∙ ap (λ s. next_scope word.form s (expanded_text source word.word)) so.scoped
-              ∙ sym (scope_after-append source (map (λ placed. placed.word) (take k words)) word.word word.form lies.shape)
-              ∙ ap (scope_after source) (sym (map-append (λ placed. placed.word) (take k words) (word ∷ [])))
-              ∙ ap (λ ws. scope_after source (map (λ placed. placed.word) ws)) (sym (take_more words k no_placed_word within));
-          laid = rw (pieces, all)
-              (next_laid (pieces_of source labels (take k words)) rom word.address bytes so.laid behind (λ some. omega (arith, long, word-within (omega (arith, long)))));
-          top = elim (cases_lt 0 word.size) [
-            | inl some ↦ inr record { index = k; before = omega arith; some = some; at = omega (arith, ap length all, long, filled_end rom word.address bytes (omega (arith, long)) (word-above some)) }
-            | inr empty ↦ (
-                let still : length more ≡ length rom = ap length all ∙ ap length (filled_none rom word.address bytes (omega (arith, long))) in
-                elim so.top [
-                  | inl nothing ↦ inl (still ∙ nothing)
-                  | inr end ↦ inr record { index = end.index; before = omega (arith, end.before); some = end.some; at = omega (arith, still, end.at) }
-                ])
-          ];
+          sound = fault-later (judged_reference source labels) words k no_placed_word within (rw same at none) ∙ so.sound;
+          scoped = rw (after, read, so.scoped, take_more words k no_placed_word within) (sym (behind_more source (take k words) word lies.shape));
+          laid = rw (all, take_more words k no_placed_word within, each-more (piece_given source labels) (λ b w a c. refl) [] (take k words) word)
+              (next_laid _ rom word.address bytes so.laid behind (λ some. omega (arith, long, lies.end (omega (arith, long)))));
+          apart = so.apart;
+          above = λ j from inside some.
+              let before = so.above j (omega arith) inside some in
+              let between = λ (here : 0 < word.size). so.apart.apart k j no_placed_word (omega arith) inside here some in
+              grind (arith, ap length all, long, size, before, between);
         }
 
 pub all_laid : (source : List ℕ) (labels : List Label) (words : List PlacedWord) (k : ℕ) (rom scope : List ℕ) → length words ≤ k
     → IsLaidSo source labels words k rom scope → (reference_fault source labels words ≡ None) × AreBytesOf (pieces_of source labels words) rom
 all_laid source labels words k rom scope past so =
-    let laid = so.laid in
-    let whole : IsLaid (pieces_of source labels words) rom = rw (take_all k words past) at laid in (
+    let whole = rw (take_all k words past) at so.laid in (
       sym so.sound ∙ ap phase_fault (each-end (judged_reference source labels) words k past),
       record { each = whole.each; within = whole.within },
     )

@@ -3,12 +3,9 @@ pub mod Covering
 pub mod Laying
 pub mod AssemblyLemmas
 pub mod PlainLemmas
-pub mod Overlay
 pub mod Moving
 pub mod Holding
-pub mod WordLemmas
 pub mod NameLemmas
 pub mod AddedLemmas
-pub mod NextLemmas
 pub mod ImageLemmas
 pub mod PatchedLemmas

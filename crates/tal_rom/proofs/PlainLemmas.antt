@@ -1,51 +1,39 @@
 -- The ROM of words that are opcodes, bytes and shorts, one behind the other.
-use Rattle.std.proofs.Common.{◌≡◌, ℕ, ◌+◌, ◌-◌, ◌<◌, ◌≤◌, true, List, [], ◌∷◌, ◌++◌, length, map, Option, None, refl, ap, sym, subst, ◌∙◌, arith, append_assoc, append-nil, length-append}
-use Rattle.std.specs.Prelude.{unwrap_or}
+use Rattle.std.proofs.Common.{◌≡◌, ℕ, ◌+◌, ◌-◌, ◌≤◌, true, List, [], ◌∷◌, ◌++◌, length, get_or, map, Option, None, refl, ap, sym, ◌∙◌, arith}
 use Rattle.std.specs.List.{AllByRecursion}
-use Rattle.std.proofs.lemmas.List.{length-map}
+use Rattle.std.proofs.Math.Seq.{get_or-append_right}
+use Rattle.std.proofs.lemmas.Bool.Decides.{nat_tests}
+use Rattle.std.proofs.lemmas.List.{length-map, get_or_append_left}
 use Rattle.tal_words.specs.declared.span.Expanded.{Expanded}
-use Rattle.tal_words.specs.declared.fault.FaultKind.{FaultKind}
 use Rattle.tal_words.specs.declared.form.Form.{Form}
-use Rattle.tal_words.specs.declared.form.Form.TheVariants.{Pad, Skip, Lit1, Lit2, Raw1, Raw2, Op, Text, LabelDef, SubDef, Refer, LambdaEnd, Ignored}
+use Rattle.tal_words.specs.declared.form.Form.TheVariants.{Pad}
 use Rattle.tal_words.specs.declared.name.Label.{Label}
-use Rattle.tal_words.specs.Source.{word_text, expanded_text}
-use Rattle.tal_words.specs.Faults.{least, phase_fault, fault_or}
-use Rattle.tal_words.specs.Forms.{size, encoded}
+use Rattle.tal_words.specs.Source.{expanded_text}
+use Rattle.tal_words.specs.Faults.{phase_fault}
+use Rattle.tal_words.specs.Forms.{size}
 use Rattle.tal_words.specs.Comments.{source_limit}
 use Rattle.tal_words.specs.Order.{each, collected}
-use Rattle.tal_macros.specs.Expansion.{expanded_of, visit_limit}
+use Rattle.tal_macros.specs.Expansion.{expanded_of}
 use Rattle.tal_labels.specs.declared.placed.PlacedWord.{PlacedWord}
 use Rattle.tal_labels.specs.Places.{address_after}
 use Rattle.tal_labels.specs.Labels.{labels_of}
-use Rattle.tal_labels.specs.Placing.{lambda_address, placed_with, placed_given, placed_of, place_fault}
+use Rattle.tal_labels.specs.Placing.{lambda_address, placed_given, placed_of}
 use Rattle.tal_rom.specs.References.{target_of, reference_kinds, judged_reference, reference_fault}
 use Rattle.tal_rom.specs.Rom.{Piece, byte_at, piece_given, pieces_of, rom_image, trimmed}
-use Rattle.tal_rom.specs.Answers.{filled}
 use Rattle.tal_rom.specs.Assembly.{layout, first_fault, rom_of}
-use Rattle.tal_rom.proofs.Covering.{IsLaid, next_laid, nothing_laid}
+use Rattle.tal_rom.proofs.Covering.{covers-past, read_over, read_of, read_first}
 use Rattle.tal_rom.proofs.Trimming.{trimmed-image}
-use Rattle.tal_words.specs.PlainTexts.{Item, AreItems, IsPlainWord, text_of_items, words_of_items}
+use Rattle.tal_words.specs.PlainTexts.{Item, AreItems, text_of_items, words_of_items}
 use Rattle.tal_words.proofs.PlainTexts.{words_are, no_word_fault, words_plain}
 use Rattle.tal_macros.proofs.PlainLemmas.{expanded_texts, no_expansion_fault}
 use Rattle.tal_labels.specs.PlainWords.{Coded, texts_of_coded, bytes_of_coded, pad_text, is_bare_form, StandsFor}
-use Rattle.tal_labels.proofs.PlainLemmas.{IsCoded, all_coded, no_more, Spells, spells_from, shaped, Reaches, reaches_more, reaches_pad, formed_pad, plain_faultless}
+use Rattle.tal_labels.proofs.PlainLemmas.{all_coded, no_more, Spells, spells_from, shaped, Reaches, reaches_more, reaches_pad}
+use Rattle.tal_labels.proofs.PlainLemmas.{formed_pad, plain_faultless}
 use Rattle.tal_rom.specs.PlainWords.{AssemblesTo}
 
 -- no opcode, byte or short is a reference
 bare-no_reference : (shape : Form) (place : ℕ) (target : Option ℕ) → is_bare_form shape ≡ true → reference_kinds shape place target ≡ []
-bare-no_reference (Op n) place target bare = refl
-bare-no_reference (Raw1 n) place target bare = refl
-bare-no_reference (Raw2 n) place target bare = refl
-bare-no_reference (Pad n) place target bare = cc
-bare-no_reference (Skip n) place target bare = cc
-bare-no_reference (Lit1 n) place target bare = cc
-bare-no_reference (Lit2 n) place target bare = cc
-bare-no_reference Text place target bare = cc
-bare-no_reference LabelDef place target bare = cc
-bare-no_reference SubDef place target bare = cc
-bare-no_reference (Refer rune) place target bare = cc
-bare-no_reference LambdaEnd place target bare = cc
-bare-no_reference Ignored place target bare = cc
+bare-no_reference shape place target bare = grind arith
 
 -- the bytes of words, one behind the other, with so many before them
 abbrev pub pieces_from : ℕ → List Coded → List Piece
@@ -64,99 +52,77 @@ module _ (source : List ℕ) (labels : List Label) where
   }
 
   -- the pieces of the words
-  pieces_are : (words : List Expanded) (coded : List Coded) (before : List Expanded) (behind : List PlacedWord) (count : ℕ) → Spells source words coded → Reaches source before count
+  pieces_are : (words : List Expanded) (coded : List Coded) (before : List Expanded) (behind : List PlacedWord) (count : ℕ)
+      → Spells source words coded → Reaches source before count
       → each (piece_given source labels) behind (collected (placed_given source) before words) ≡ pieces_from count coded
   pieces_are [] [] before behind count spells reaches = refl
-  pieces_are [] (coded ∷ codeds) before behind count spells reaches = absurd spells
-  pieces_are (word ∷ words) [] before behind count spells reaches = absurd spells
   pieces_are (word ∷ words) (coded ∷ codeds) before behind count spells reaches =
-      let shape = spells.1.shape in
-      let placed = placed_as before word words shape in
-      let rest = collected (placed_given source) (before ++ word ∷ []) words in
-      let target = unwrap_or (target_of source labels behind placed) 0 in
-      let bytes : encoded shape (expanded_text source word) (address_after source before) target ≡ coded.bytes =
-      ap (λ (text : List ℕ). encoded shape text (address_after source before) target) spells.0 ∙ spells.1.encodes (address_after source before) target in
-      ap (λ f. each (piece_given source labels) behind (placed_with source before word words f ++ rest)) (shaped source word coded spells.0 spells.1)
-      ∙ ap (λ (bs : List ℕ). record { address = address_after source before; bytes = bs } ∷ each (piece_given source labels) (behind ++ placed ∷ []) rest) bytes
-      ∙ ap (λ (a : ℕ). record { address = a; bytes = coded.bytes } ∷ each (piece_given source labels) (behind ++ placed ∷ []) rest) reaches.address
-      ∙ ap (λ (pieces : List Piece). record { address = 256 + count; bytes = coded.bytes } ∷ pieces)
-      (pieces_are words codeds (before ++ word ∷ []) (behind ++ placed ∷ []) (count + length coded.bytes) spells.2 (reaches_more source before word coded count spells.0 spells.1 reaches))
+      let placed = placed_as before word words spells.1.shape in
+      let bytes : (piece_given source labels behind placed []).bytes ≡ coded.bytes = rw spells.0 (spells.1.encodes _ _) in
+      let reached = reaches_more source before word coded count spells.0 spells.1 reaches in
+      let rest = pieces_are words codeds (before ++ word ∷ []) (behind ++ placed ∷ []) (count + length coded.bytes) spells.2 reached in
+      rw (shaped source word coded spells.0 spells.1, bytes, rest, reaches.address) refl
+  pieces_are words coded before behind count spells reaches = absurd spells
 
   -- none of them is a reference
   no_references : (words : List Expanded) (coded : List Coded) (before : List Expanded) (behind : List PlacedWord) → Spells source words coded
       → phase_fault (each (judged_reference source labels) behind (collected (placed_given source) before words)) ≡ None
   no_references [] [] before behind spells = refl
-  no_references [] (coded ∷ codeds) before behind spells = absurd spells
-  no_references (word ∷ words) [] before behind spells = absurd spells
   no_references (word ∷ words) (coded ∷ codeds) before behind spells =
-      let shape = spells.1.shape in
-      let placed = placed_as before word words shape in
-      let rest = collected (placed_given source) (before ++ word ∷ []) words in
-      ap (λ f. phase_fault (each (judged_reference source labels) behind (placed_with source before word words f ++ rest))) (shaped source word coded spells.0 spells.1)
-      ∙ ap (λ (kinds : List FaultKind). fault_or word.origin (least kinds) (phase_fault (each (judged_reference source labels) (behind ++ placed ∷ []) rest)))
-      (bare-no_reference shape (address_after source before) (target_of source labels behind placed) spells.1.bare)
-      ∙ no_references words codeds (before ++ word ∷ []) (behind ++ placed ∷ []) spells.2
+      let placed = placed_as before word words spells.1.shape in
+      rw (shaped source word coded spells.0 spells.1, bare-no_reference spells.1.shape _ (target_of source labels behind placed) spells.1.bare)
+      (no_references words codeds (before ++ word ∷ []) (behind ++ placed ∷ []) spells.2)
+  no_references words coded before behind spells = absurd spells
 
-  module _ (first : Expanded) (words : List Expanded) (coded : List Coded) (padded : expanded_text source first ≡ pad_text) (spells : Spells source words coded) where
+  module _ (first : Expanded) (words : List Expanded) (coded : List Coded) (padded : expanded_text source first ≡ pad_text)
+      (spells : Spells source words coded) where
     pieces_padded : pieces_of source labels (placed_of source (first ∷ words)) ≡ record { address = 256; bytes = [] } ∷ pieces_from 0 coded
     unfolding pieces_of placed_of address_after
     pieces_padded =
-        let placed = placed_as [] first words (Pad 256) in
-        let rest = collected (placed_given source) (first ∷ []) words in
-        ap (λ f. each (piece_given source labels) [] (placed_with source [] first words f ++ rest)) (formed_pad source first words coded padded spells)
-        ∙ ap (λ (pieces : List Piece). record { address = 256; bytes = [] } ∷ pieces)
-        (pieces_are words coded (first ∷ []) (placed ∷ []) 0 spells (reaches_pad source first words coded padded spells))
+        let reached = reaches_pad source first words coded padded spells in
+        let pieces = pieces_are words coded (first ∷ []) (placed_as [] first words (Pad 256) ∷ []) 0 spells reached in
+        rw (formed_pad source first words coded padded spells, pieces) refl
 
     no_reference_fault : reference_fault source labels (placed_of source (first ∷ words)) ≡ None
     unfolding reference_fault placed_of
     no_reference_fault =
-        let placed = placed_as [] first words (Pad 256) in
-        let rest = collected (placed_given source) (first ∷ []) words in
-        ap (λ f. phase_fault (each (judged_reference source labels) [] (placed_with source [] first words f ++ rest))) (formed_pad source first words coded padded spells)
-        ∙ no_references words coded (first ∷ []) (placed ∷ []) spells
+        rw (formed_pad source first words coded padded spells)
+        (no_references words coded (first ∷ []) (placed_as [] first words (Pad 256) ∷ []) spells)
 
--- bytes behind those so far leave no gap
-filled_next : (rom bytes : List ℕ) → filled rom (256 + length rom) bytes ≡ rom ++ bytes
-filled_next rom [] = sym (append-nil rom)
-filled_next rom (byte ∷ bytes) =
-    let none : 256 + length rom - (256 + length rom) ≡ 0 = omega arith in
-    rw none refl
+-- what is read of them
+read_append : (bytes rest : List ℕ) (count i others : ℕ) → (length bytes ≤ i → get_or rest (i - length bytes) 0 ≡ others)
+    → get_or (bytes ++ rest) i 0 ≡ read_over (256 + count + i) (record { address = 256 + count; bytes = bytes }) others
+read_append bytes rest count i others e = grind (arith, nat_tests, get_or_append_left, get_or-append_right)
 
--- the bytes of words that lie one behind the other
-laid_from : (coded : List Coded) (pieces : List Piece) (rom : List ℕ) → IsLaid pieces rom → length rom + length (bytes_of_coded coded) ≤ 65280
-    → IsLaid (pieces ++ pieces_from (length rom) coded) (rom ++ bytes_of_coded coded)
-laid_from [] pieces rom laid within = rw (append-nil pieces, append-nil rom) laid
-laid_from (coded ∷ codeds) pieces rom laid within =
-    let piece : Piece = record { address = 256 + length rom; bytes = coded.bytes } in
-    let total = length-append coded.bytes (bytes_of_coded codeds) in
-    let size : length (rom ++ coded.bytes) ≡ length rom + length coded.bytes = length-append rom coded.bytes in
-    let next = next_laid pieces rom (256 + length rom) coded.bytes laid (λ some. omega arith) (λ some. omega (arith, total)) in
-    let P : List ℕ → Type 0 = λ bytes. IsLaid (pieces ++ piece ∷ []) bytes in
-    let here : IsLaid (pieces ++ piece ∷ []) (rom ++ coded.bytes) = subst P (filled_next rom coded.bytes) next in
-    let all = laid_from codeds (pieces ++ piece ∷ []) (rom ++ coded.bytes) here (omega (arith, size, total)) in
-    let Q : ℕ → Type 0 = λ count. IsLaid ((pieces ++ piece ∷ []) ++ pieces_from count codeds) ((rom ++ coded.bytes) ++ bytes_of_coded codeds) in
-    let counted = subst Q size all in
-    let R : List Piece → Type 0 = λ ps. IsLaid ps ((rom ++ coded.bytes) ++ bytes_of_coded codeds) in
-    let S : List ℕ → Type 0 = λ bs. IsLaid (pieces ++ piece ∷ pieces_from (length rom + length coded.bytes) codeds) bs in
-    subst S (append_assoc rom coded.bytes (bytes_of_coded codeds)) (subst R (append_assoc pieces (piece ∷ []) (pieces_from (length rom + length coded.bytes) codeds)) counted)
+pieces_read : (coded : List Coded) (count i : ℕ) → get_or (bytes_of_coded coded) i 0 ≡ read_of (256 + count + i) (pieces_from count coded)
+pieces_read [] count i = refl
+pieces_read (coded ∷ codeds) count i =
+    let size = length coded.bytes in
+    let at : size ≤ i → 256 + (count + size) + (i - size) ≡ 256 + count + i = λ past. omega arith in
+    rw (read_first (256 + count + i) (record { address = 256 + count; bytes = coded.bytes }))
+    (read_append coded.bytes (bytes_of_coded codeds) count i _ (λ past.
+    pieces_read codeds (count + size) (i - size) ∙ ap (λ n. read_of n (pieces_from (count + size) codeds)) (at past)))
 
-image_is : (coded : List Coded) → length (bytes_of_coded coded) ≤ 65280 → rom_image (record { address = 256; bytes = [] } ∷ pieces_from 0 coded) ≡ trimmed (bytes_of_coded coded)
-unfolding rom_image
+image_is : (coded : List Coded) → length (bytes_of_coded coded) ≤ 65280
+    → rom_image (record { address = 256; bytes = [] } ∷ pieces_from 0 coded) ≡ trimmed (bytes_of_coded coded)
+unfolding rom_image byte_at
 image_is coded within =
-    let pieces : List Piece = record { address = 256; bytes = [] } ∷ [] in
-    let start = next_laid [] [] 256 [] (nothing_laid [] refl) (λ some. omega arith) (λ some. omega arith) in
-    let all = laid_from coded pieces [] start (omega arith) in
-    let f : ℕ → ℕ = λ i. byte_at (pieces ++ pieces_from 0 coded) (256 + i) in
-    sym (trimmed-image f 65280 (bytes_of_coded coded) within all.each)
+    let pieces : List Piece = record { address = 256; bytes = [] } ∷ pieces_from 0 coded in
+    sym (trimmed-image (λ i. byte_at pieces (256 + i)) 65280 (bytes_of_coded coded) within (λ i.
+    let start : 256 + 0 + i ≡ 256 + i = omega arith in
+    rw (covers-past (256 + i) (record { address = 256; bytes = [] }) (λ some. omega arith))
+    (pieces_read coded 0 i ∙ ap (λ n. read_of n (pieces_from 0 coded)) start)))
 
 -- a text of `|0100` and of such words assembles to their bytes
 module _ (items : List Item) (coded : List Coded) (sound : AreItems items) (are : words_of_items items ≡ pad_text ∷ texts_of_coded coded)
-    (stand : AllByRecursion StandsFor coded) (short : length (text_of_items items) ≤ source_limit) (within : length (bytes_of_coded coded) ≤ 65280) where
+    (stand : AllByRecursion StandsFor coded) (short : length (text_of_items items) ≤ source_limit)
+    (within : length (bytes_of_coded coded) ≤ 65280) where
   abbrev source : List ℕ
   source = text_of_items items
 
   -- the expanded list by its first word
-  by_first : (expanded : List Expanded) → expanded_of source ≡ expanded → map (expanded_text source) expanded ≡ pad_text ∷ texts_of_coded coded → AssemblesTo source (bytes_of_coded coded)
+  by_first : (expanded : List Expanded) → expanded_of source ≡ expanded → map (expanded_text source) expanded ≡ pad_text ∷ texts_of_coded coded
+      → AssemblesTo source (bytes_of_coded coded)
   unfolding first_fault rom_of layout
   by_first [] e texts = cc
   by_first (first ∷ words) e texts =
@@ -165,10 +131,9 @@ module _ (items : List Item) (coded : List Coded) (sound : AreItems items) (are 
       let all = all_coded coded stand in
       let spells = spells_from source words coded rest all in
       let count : length (pad_text ∷ texts_of_coded coded) ≡ 1 + length coded = omega (arith, length-map coded (λ (word : Coded). word.text)) in
-      let cut = words_are items sound in
-      let plain = words_plain items sound in
       let no_word = no_word_fault items sound short in
-      let no_macro = no_expansion_fault source (words_of_items items) cut plain (omega (arith, count, ap length are, no_more coded all)) in
+      let no_macro = no_expansion_fault source (words_of_items items) (words_are items sound) (words_plain items sound)
+      (omega (arith, count, ap length are, no_more coded all)) in
       let places = plain_faultless source (first ∷ words) coded texts stand within in
       let labels = labels_of source (first ∷ words) in
       let references = no_reference_fault source labels first words coded padded spells in
@@ -179,4 +144,5 @@ module _ (items : List Item) (coded : List Coded) (sound : AreItems items) (are 
       }
 
   pub plain_assembles : AssemblesTo source (bytes_of_coded coded)
-  plain_assembles = by_first (expanded_of source) refl (expanded_texts source (words_of_items items) (words_are items sound) (words_plain items sound) ∙ are)
+  plain_assembles =
+      by_first (expanded_of source) refl (expanded_texts source (words_of_items items) (words_are items sound) (words_plain items sound) ∙ are)

@@ -1,5 +1,5 @@
-use Rattle.std.proofs.Common.{◌≡◌, ◌≢◌, ℕ, suc, ◌-◌, ◌<◌, ◌≤◌, List, [], ◌∷◌, length, take, get_or, map, refl, inl, inr, sym, ◌∙◌, ap, arith, length-take}
-use Rattle.std.proofs.lemmas.Bool.{ne_eqb, cases_lt}
+use Rattle.std.proofs.Common.{◌≡◌, ◌≢◌, ℕ, suc, ◌-◌, ◌<◌, ◌≤◌, List, [], ◌∷◌, length, take, get_or, map, refl, sym, ◌∙◌, ap, arith, length-take}
+use Rattle.std.proofs.lemmas.Bool.{ne_eqb}
 use Rattle.std.proofs.lemmas.List.{get_or_past, get_or-take}
 use Rattle.std.proofs.lemmas.List.FromFn.{get_or-map-range_with_len, length-map-range_with_len}
 use Rattle.std.specs.List.{range_with_len}
@@ -9,21 +9,12 @@ use Rattle.tal_rom.specs.Rom.{trimmed, before_trimmed}
 pub trimmed-same : (xs ys : List ℕ) → ((i : ℕ) → get_or xs i 0 ≡ get_or ys i 0) → trimmed xs ≡ trimmed ys
 unfolding trimmed
 trimmed-same [] [] h = refl
-trimmed-same [] (y ∷ ys) h =
-    let zero_here : y ≡ 0 = sym (h 0) in
-    let rest : trimmed ys ≡ [] = sym (trimmed-same [] ys (λ i. h (suc i))) in
-    rw (zero_here, rest) refl
-trimmed-same (x ∷ xs) [] h =
-    let zero_here : x ≡ 0 = h 0 in
-    let rest : trimmed xs ≡ [] = trimmed-same xs [] (λ i. h (suc i)) in
-    rw (zero_here, rest) refl
-trimmed-same (x ∷ xs) (y ∷ ys) h =
-    let here : x ≡ y = h 0 in
-    let rest : trimmed xs ≡ trimmed ys = trimmed-same xs ys (λ i. h (suc i)) in
-    rw (here, rest) refl
+trimmed-same [] (y ∷ ys) h = rw (← h 0, ← trimmed-same [] ys (λ i. h (suc i))) refl
+trimmed-same (x ∷ xs) [] h = rw (h 0, trimmed-same xs [] (λ i. h (suc i))) refl
+trimmed-same (x ∷ xs) (y ∷ ys) h = rw (h 0, trimmed-same xs ys (λ i. h (suc i))) refl
 
 -- a list whose last byte is not 0 is as it was
-pub trimmed-full : (xs : List ℕ) → (0 < length xs → get_or xs (length xs - 1) 0 ≢ 0) → trimmed xs ≡ xs
+trimmed-full : (xs : List ℕ) → (0 < length xs → get_or xs (length xs - 1) 0 ≢ 0) → trimmed xs ≡ xs
 unfolding trimmed
 trimmed-full [] h = refl
 trimmed-full (x ∷ []) h = rw (ne_eqb x 0 (h (omega arith))) refl
@@ -32,24 +23,19 @@ trimmed-full (x ∷ y ∷ ys) h =
     ap (before_trimmed x) (trimmed-full (y ∷ ys) (λ _ zero_last. h (omega arith) (ap (λ k. get_or (x ∷ y ∷ ys) k 0) last ∙ zero_last)))
 
 read_past : (xs : List ℕ) (n i : ℕ) → ((k : ℕ) → n ≤ k → k < length xs → get_or xs k 0 ≡ 0) → get_or (take n xs) i 0 ≡ get_or xs i 0
-read_past xs n i zeros = elim (cases_lt i n) [
-  | inl within ↦ get_or-take n xs i 0 within
-  | inr past ↦ get_or_past (take n xs) i 0 (omega (arith, length-take n xs)) ∙ sym (elim (cases_lt i (length xs)) [
-    | inl inside ↦ zeros i past inside
-    | inr outside ↦ get_or_past xs i 0 outside
-  ])
-]
+read_past xs n i zeros = grind (arith, get_or-take, get_or_past, length-take, zeros i)
 
 -- up to the last byte that is not 0
-pub trimmed-take : (xs : List ℕ) (n : ℕ) → n ≤ length xs → ((k : ℕ) → n ≤ k → k < length xs → get_or xs k 0 ≡ 0) → (0 < n → get_or xs (n - 1) 0 ≢ 0) → take n xs ≡ trimmed xs
+pub trimmed-take : (xs : List ℕ) (n : ℕ) → n ≤ length xs → ((k : ℕ) → n ≤ k → k < length xs → get_or xs k 0 ≡ 0) → (0 < n → get_or xs (n - 1) 0 ≢ 0)
+    → take n xs ≡ trimmed xs
 trimmed-take xs n within zeros last =
     let size : length (take n xs) ≡ n = omega (arith, length-take n xs) in
-    sym (trimmed-full (take n xs) (λ some zero_last. last (omega arith) (sym (get_or-take n xs (n - 1) 0 (omega arith)) ∙ ap (λ m. get_or (take n xs) (m - 1) 0) (sym size) ∙ zero_last)))
-    ∙ trimmed-same (take n xs) xs (λ i. read_past xs n i zeros)
+    let full = trimmed-full (take n xs) (λ some zero_last. last (omega arith) (sym (read_past xs n (n - 1) zeros) ∙ rw size at zero_last)) in
+    sym full ∙ trimmed-same (take n xs) xs (λ i. read_past xs n i zeros)
 
 -- bytes that read as a function does are its list without the zeros at the end
-pub trimmed-image : (f : ℕ → ℕ) (n : ℕ) (xs : List ℕ) → length xs ≤ n → ((i : ℕ) → get_or xs i 0 ≡ f i) → trimmed xs ≡ trimmed (map f (range_with_len 0 n))
-trimmed-image f n xs short each = trimmed-same xs (map f (range_with_len 0 n)) (λ i. elim (cases_lt i n) [
-  | inl within ↦ each i ∙ sym (get_or-map-range_with_len f 0 n i i 0 within (omega arith))
-  | inr past ↦ get_or_past xs i 0 (omega arith) ∙ sym (get_or_past (map f (range_with_len 0 n)) i 0 (omega (arith, length-map-range_with_len f 0 n)))
-])
+pub trimmed-image : (f : ℕ → ℕ) (n : ℕ) (xs : List ℕ) → length xs ≤ n → ((i : ℕ) → get_or xs i 0 ≡ f i)
+    → trimmed xs ≡ trimmed (map f (range_with_len 0 n))
+trimmed-image f n xs short each =
+    trimmed-same xs (map f (range_with_len 0 n)) (λ i.
+    grind (arith, get_or-map-range_with_len f 0 n i i 0, get_or_past, length-map-range_with_len f 0 n, each i))

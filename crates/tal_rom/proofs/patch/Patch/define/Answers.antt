@@ -1,8 +1,5 @@
-use Rattle.std.proofs.Common.{◌≡◌, ℕ, ◌-◌, cond, Some, [], length, refl, ap, sym, ◌∙◌, arith}
-use Rattle.std.specs.Str.{bytes_eq}
-use Rattle.std.specs.Prelude.{fold}
+use Rattle.std.proofs.Common.{refl, ◌∙◌}
 use Rattle.tal_words.specs.declared.name.Label.{Label}
-use Rattle.tal_rom.specs.Holes.{known_in, wanted_in}
 use Rattle.tal_rom.proofs.Holding.{IsSettled, holds_settled, settle_label, known_more, wanted_more}
 use Rattle.tal_rom.proofs.patch.Patch.define.Goals as goal
 
@@ -13,9 +10,10 @@ returns-clause-ok c labels entries fresh so =
     let defined = c.in_ok-holes.ensures in
     let filled = c.fill_all.ensures in
     let holes = c.deref.ensures.value ∙ defined.holes ∙ so.wanted name in
+    let settled : IsSettled c.args.address c.deref.result.now c.args.self.now c.fill_all.new.self =
+    record { memory = filled.memory; waiting = filled.waiting; fits = filled.fits } in
     holds_settled c.args.address labels _ entries entries _ c.args.self.now c.fill_all.new.self (settle_label labels label fresh entries)
-    (rw holes at (let settled : IsSettled c.args.address c.deref.result.now c.args.self.now c.fill_all.new.self = record { memory = filled.memory; waiting = filled.waiting; fits = filled.fits } in settled))
-    refl so
-    (λ other. ap (λ names. known_in names other) filled.names ∙ defined.known other ∙ ap (cond (bytes_eq other name) (Some c.args.address)) (so.known other) ∙ known_more labels label fresh other)
-    (λ other. ap (λ names. wanted_in names other) filled.names ∙ defined.wanted other ∙ ap (cond (bytes_eq other name) []) (so.wanted other) ∙ wanted_more labels label fresh other entries)
-    (ap (λ v. v.items) filled.openers ∙ so.openers)
+    (rw holes at settled) refl so
+    (λ other. rw (filled.names, defined.known other, so.known other) (known_more labels label fresh other))
+    (λ other. rw (filled.names, defined.wanted other, so.wanted other) (wanted_more labels label fresh other entries))
+    (rw filled.openers so.openers)

@@ -1,6 +1,5 @@
-use Rattle.std.proofs.Common.{◌≡◌, ◌+◌, refl, ap, sym, ◌∙◌, arith}
-use Rattle.tal_rom.proofs.Holding.{holds_more}
-use Rattle.tal_rom.proofs.WordLemmas.{open_more, waiting_small}
+use Rattle.std.proofs.Common.{◌≡◌, ◌+◌, refl, arith}
+use Rattle.tal_rom.proofs.Holding.{holds_more, open_more, waiting_small}
 use Rattle.tal_rom.proofs.patch.Patch.open.Goals as goal
 
 pub returns-clause-ok : goal.returns-clause-ok

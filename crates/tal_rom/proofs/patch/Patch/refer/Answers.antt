@@ -1,7 +1,6 @@
 use Rattle.std.proofs.Common.{◌≡◌, ◌+◌, refl, ap, sym, ◌∙◌, arith}
 use Rattle.tal_rom.specs.Holes.{known_in}
-use Rattle.tal_rom.proofs.Holding.{holds_more}
-use Rattle.tal_rom.proofs.WordLemmas.{known_target, wants_more, waiting_small}
+use Rattle.tal_rom.proofs.Holding.{holds_more, known_target, wants_more, waiting_small}
 use Rattle.tal_rom.proofs.patch.Patch.refer.Goals as goal
 
 pub returns-in-Some-clause-ok : goal.returns-in-Some-clause-ok

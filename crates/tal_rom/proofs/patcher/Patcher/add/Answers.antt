@@ -3,8 +3,7 @@ use Rattle.tal_words.specs.Source.{expanded_text}
 use Rattle.tal_labels.specs.Answers.{next_scope}
 use Rattle.tal_labels.specs.Scopes.{scope_text}
 use Rattle.tal_labels.proofs.LayingLemmas.{scope_after-append}
-use Rattle.tal_rom.proofs.AddedLemmas.{next_behind}
-use Rattle.tal_rom.proofs.NextLemmas.{given_next}
+use Rattle.tal_rom.proofs.AddedLemmas.{next_behind, given_next}
 use Rattle.tal_rom.proofs.patcher.Patcher.add.Goals as goal
 
 pub after-self-requires : goal.after-self-requires

@@ -6,7 +6,7 @@ use Rattle.tal_words.specs.Names.{full_name, name_after_rune}
 use Rattle.tal_words.specs.Source.{expanded_text}
 use Rattle.tal_labels.specs.Labels.{labels_of, scope_after, defined_name}
 use Rattle.tal_rom.specs.Filling.{is_definition}
-use Rattle.tal_rom.proofs.NextLemmas.{held, bytes_address, reference_address, definition_address, closing_address, on_ok, not_definition, not_reference, refer_all, put_all, close_all, define_all}
+use Rattle.tal_rom.proofs.AddedLemmas.{held, bytes_address, reference_address, definition_address, closing_address, on_ok, not_definition, not_reference, refer_all, put_all, close_all, define_all}
 use Rattle.tal_rom.proofs.patcher.Patcher.take.Goals as goal
 
 pub overflow_cast-hole : goal.overflow_cast-hole

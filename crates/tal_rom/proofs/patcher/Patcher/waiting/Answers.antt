@@ -1,8 +1,7 @@
 use Rattle.std.proofs.Common.{length, ap, sym, ◌∙◌}
 use Rattle.std.specs.List.{filter}
 use Rattle.tal_rom.specs.Patching.{waits, waiting_count}
-use Rattle.tal_rom.proofs.AddedLemmas.{added_are, entries_closed}
-use Rattle.tal_rom.proofs.NextLemmas.{given_next}
+use Rattle.tal_rom.proofs.AddedLemmas.{added_are}
 use Rattle.tal_rom.proofs.patcher.Patcher.waiting.Goals as goal
 
 pub returns : goal.returns
