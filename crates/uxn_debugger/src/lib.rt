@@ -9,6 +9,7 @@ mod line;
 mod place;
 mod printing;
 mod reading;
+mod scene;
 #[cfg(test)]
 mod tests;
 

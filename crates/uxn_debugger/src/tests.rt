@@ -6,6 +6,7 @@ use std::alloc::{AllocError, Global};
 use tal_symbols::{Label, Name};
 use uxn_io::{MemSink, MemTree};
 use uxn_opcodes::Core;
+use uxn_undo::Undo;
 use varvara_bus::{Bus, Clock, Devices};
 use vector_loop::{Outputs, run_script};
 
@@ -158,7 +159,10 @@ fn agrees(alloc: Global, labels: &[Label], session: &Session) -> bool {
     let Ok(commands) = read_commands(alloc, text, labels) else {
         return false;
     };
-    let mut debugger = Debugger::new(alloc, commands, labels);
+    let Ok(undo) = Undo::new(alloc) else {
+        return false;
+    };
+    let mut debugger = Debugger::new(alloc, commands, labels, undo);
     program_puts(alloc, rom, script, put, &mut debugger) && debugger.log() == log
 }
 

@@ -9,3 +9,4 @@ pub mod Runs
 pub mod Makings
 pub mod Frames
 pub mod Rootless
+pub mod CountedRuns
