@@ -23,8 +23,8 @@ use Rattle.vector_loop.specs.Run.{console_byte, arguments_given, made_ready, run
 use Rattle.vector_loop.specs.Counted.{AreCounted, IsCounted}
 
 -- a part of a run, from whatever state on
-record Counts (part : State → Trail) : Type 0 where
-  on : (state : State) → IsCounted state.tally.instructions (part state)
+pub record Counts (part : State → Trail) : Type 0 where
+  pub on : (state : State) → IsCounted state.tally.instructions (part state)
 
 -- no instruction, and this state
 stays-counted : (count : ℕ) (state : State) → state.tally.instructions ≡ count → IsCounted count (stays state)
@@ -36,9 +36,12 @@ both count (state ∷ first) more one two =
     let next : count + suc (length first) ≡ count + 1 + length first = omega arith in
     (one.0, both (count + 1) first more one.1 (rw next at two))
 
+recounted : (count other : ℕ) (trail : Trail) → count ≡ other → IsCounted count trail → IsCounted other trail
+recounted count other trail same counted = rw (← same) counted
+
 followed : (count : ℕ) (first : Trail) (rest : State → Trail) → IsCounted count first → Counts rest → IsCounted count (followed_by first rest)
 followed count first rest one more =
-    let two = rw one.last at (more.on first.last) in
+    let two = recounted first.last.tally.instructions (count + length first.moments) (rest first.last) one.last (more.on first.last) in
     record {
       moments = both count first.moments (rest first.last).moments one.moments two.moments;
       last = two.last ∙ omega (arith, length-append first.moments (rest first.last).moments);

@@ -1,4 +1,4 @@
-use Rattle.std.proofs.Common.{◌≡◌, ℕ, List, [], ◌∷◌, ◌++◌, refl, ap, ◌∙◌, append_assoc}
+use Rattle.std.proofs.Common.{◌≡◌, List, [], ◌∷◌, ◌++◌, refl, ap, ◌∙◌, append_assoc}
 use Rattle.uxn_opcodes.specs.declared.Core.{Core}
 use Rattle.vector_loop.specs.declared.watch.Moment.{Moment}
 use Rattle.vector_loop.specs.State.{State}

@@ -1,5 +1,5 @@
 -- What a part of a run answers: it was done, or it stopped.
-use Rattle.std.specs.Prelude.{◌≡◌, ℕ, ◌+◌, ◌*◌, ◌^◌, ◌<◌, ◌≤◌, ◌⊎◌, List, Option, Result, Ok, Err}
+use Rattle.std.specs.Prelude.{◌≡◌, ℕ, ◌+◌, ◌*◌, ◌^◌, ◌<◌, ◌≤◌, ◌⊎◌, Option, Result, Ok, Err}
 use Rattle.uxn_io.specs.Files.{Nodes}
 use Rattle.uxn_io.specs.Faults.{Counts, Ledger}
 use Rattle.varvara_bus.specs.declared.bus.Bus.{Bus}
