@@ -98,12 +98,7 @@ impl<'a> Debugger<'a> {
 
     // Does commands where the moment is the one that was waited for.
     #[inline(always)]
-    fn follow<P: Ports>(
-        &mut self,
-        core: &Core,
-        ports: &P,
-        moment: Moment,
-    ) -> Result<(), AllocError>
+    fn follow<P: Ports>(&mut self, core: &Core, ports: &P, moment: Moment) -> Result<(), AllocError>
         ensures { OnOk result ((page : Page) → IsPage (P.rules.reads ports.now core.now) (P.stored ports.now) page
             → held_by self.new ≡ followed (held_by self.old) (shown_of core.now page moment)) }
     {
@@ -120,7 +115,7 @@ impl<'a> Debugger<'a> {
             → held_by self.new ≡ with_kept (shown_of core.now page moment) (held_by self.old) }
     {
         the_newest_moments_are_held();
-        let _stored = ports.stored_page();
+        has_all_ports(ports.stored_page());
         self.undo.keep(core, ports);
     }
 
@@ -208,6 +203,7 @@ impl<'a> Debugger<'a> {
     }
 
     // How far back the next moment at a break address lies behind the one so far back, if the run was shown it.
+    #[tactic(auto, unfolding(crate::specs::Watching::next_stop))]
     fn next_stop(&self, place: Place, back: u32) -> Option<u32>
         requires { back ≤ length (held_by self.now).undo }
         ensures stop { result ≡ next_stop (held_by self.now).breaks (held_by self.now).undo place back }
@@ -267,6 +263,11 @@ impl<'a> Debugger<'a> {
     }
 }
 
+// A page has a byte for each port.
+fn has_all_ports(page: &[u8; 256])
+    ensures { length page.now ≡ 256 }
+{}
+
 impl<'a> Watcher for Debugger<'a> {
     ghost use Rattle.uxn_debugger.specs.Watching.{
       Watching,
@@ -287,7 +288,6 @@ impl<'a> Watcher for Debugger<'a> {
     ghost may_refuse = { MayWantMemory };
 
     #[inline(always)]
-    #[tactic(auto, unfolding(crate::specs::Watching::shown))]
     fn before<P: Ports>(
         &mut self,
         core: &Core,

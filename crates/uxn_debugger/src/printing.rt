@@ -164,11 +164,7 @@ fn put_memory(
 
 // Prints the bytes of the 256 ports.
 #[tactic(auto, unfolding(crate::specs::Printing::table))]
-fn put_ports<P: Ports>(
-    log: &mut Vec<u8>,
-    scene: &Scene<'_>,
-    ports: &P,
-) -> Result<(), AllocError>
+fn put_ports<P: Ports>(log: &mut Vec<u8>, scene: &Scene<'_>, ports: &P) -> Result<(), AllocError>
     requires { scene.now.back ≤ length scene.now.undo.now }
     ensures { OnOk result ((page : Page) → IsPage (P.rules.reads ports.now scene.now.core.now) (P.stored ports.now) page
         → log.new.items ≡ log.old.items ++ port_table (view_in scene.now page.read).page) }
