@@ -16,7 +16,7 @@ ghost use Rattle.vector_loop.specs.Outputs.{IsOutput};
 ghost use Rattle.uxn_cli.specs.Prepared.{around, Accepts, PreparesDebug, AreNew, AtHome, FellShort, HasFinished, RunFiles, trail_for, debugging_for, labels_in_session, labels_in_program};
 
 use super::commands::{SYMBOLS_LIMIT, labels_at};
-use super::machine::{Machine, new_machine};
+use super::machine::{Machine, core_known, new_machine};
 use super::making::make_outputs;
 use super::program::{Program, load};
 use super::refusal::{Halt, Refusal};
@@ -29,8 +29,9 @@ use uxn_debugger::{
 };
 use uxn_io::{Failed, FileBytes, Path, Sink, Tree, read_file};
 use uxn_opcodes::Stop;
-use uxn_undo::Undo;
+use uxn_undo::{Undo, the_moments_of_a_run_are_in_a_row};
 use uxn_words::{Command, Task};
+use vector_loop::the_moments_of_a_run_are_counted;
 
 /// The greatest length of a file of commands in bytes.
 const COMMANDS_LIMIT: u32 = 4_194_304;
@@ -204,6 +205,9 @@ fn debug_made<T: Tree, O: Sink, E: Sink>(
         undo,
     } = session;
     the_log_is_that_of_the_run();
+    the_moments_of_a_run_are_counted();
+    the_moments_of_a_run_are_in_a_row();
+    core_known(&machine.core);
     let mut debugger = Debugger::new(alloc, commands, labels_of(&program, &given), undo);
     let status = run_made(task, machine, tree, out, err, &mut debugger)?;
     match write_text(&task.log, debugger.log(), tree) {
