@@ -2,6 +2,7 @@ pub mod ChangeLemmas
 pub mod VerdictLemmas
 pub mod ReadyLemmas
 pub mod RunLemmas
+pub mod RegularLemmas
 pub mod CauseLemmas
 pub mod OutputLemmas
 pub mod ApartLemmas

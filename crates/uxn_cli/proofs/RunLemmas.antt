@@ -27,6 +27,7 @@ use Rattle.vector_loop.specs.State.{State}
 use Rattle.vector_loop.specs.Trail.{Trail}
 use Rattle.vector_loop.specs.Watch.{shown_all}
 use Rattle.uxn_debugger.specs.declared.command.DebugCommand.{DebugCommand}
+use Rattle.uxn_debugger.specs.Log.{IsRegular}
 use Rattle.uxn_debugger.specs.Watching.{Watching, new_watching, shown as shown_to, ended as ended_by, after_moment, after_end, KeepsTheLog}
 use Rattle.uxn_cli.specs.declared.outputs.Output.{Output}
 use Rattle.uxn_cli.specs.declared.machine.Machine.{Machine}
@@ -112,12 +113,13 @@ shown-fold (state ∷ states) held = shown-fold states (shown_to held (shown_of 
 
 pub kept-log : KeepsTheLog → (commands : List DebugCommand) (labels : List Label) (file : Option (List ℕ)) (trail : Trail) (before now : Watching)
     → before ≡ new_watching commands labels → WasShown after_moment after_end before trail now
+    → IsRegular (map shown_of trail.moments) (shown_of trail.last)
     → now.log ≡ log_text (record { commands = commands; labels = labels; log = file }) trail
 unfolding log_text
-kept-log keeps commands labels file trail before now new was =
+kept-log keeps commands labels file trail before now new was regular =
     ap (λ w. w.log) was ∙ ap (λ held. (ended_by (shown_all after_moment held trail.moments) (shown_of trail.last)).log) new
     ∙ ap (λ held. (ended_by held (shown_of trail.last)).log) (shown-fold trail.moments (new_watching commands labels))
-    ∙ keeps commands labels (map shown_of trail.moments) (shown_of trail.last)
+    ∙ keeps commands labels (map shown_of trail.moments) (shown_of trail.last) regular
 
 -- a run, its report, and a text behind it
 pub texts-after : (before middle now : Around) (trail : Trail) (changes : List Change) (file : Option (List ℕ)) (text last : List ℕ) (status : ℕ) → text ≡ last

@@ -19,7 +19,7 @@ use Rattle.vector_loop.specs.State.{State, new_tally}
 use Rattle.vector_loop.specs.Trail.{Trail}
 use Rattle.vector_loop.specs.declared.output.Outputs.{Outputs}
 use Rattle.vector_loop.specs.Run.{run}
-use Rattle.vector_loop.specs.Watch.{ports_read, moment_of}
+use Rattle.vector_loop.specs.Watch.{page_in, moment_of}
 use Rattle.tal_words.specs.declared.name.Label.{Label}
 use Rattle.uxn_debugger.specs.declared.command.DebugCommand.{DebugCommand}
 use Rattle.uxn_debugger.specs.Log.{Shown, log_of}
@@ -126,7 +126,7 @@ report_of path version end = text_at path (report_text version (exit_in end) end
 
 -- what a debugger is shown of a state, and its log over a whole run
 abbrev pub shown_of : State → Shown
-shown_of state = record { core = state.core; page = ports_read 256 state; moment = moment_of state }
+shown_of state = record { core = state.core; page = page_in state; moment = moment_of state }
 
 unfoldable pub log_text : Debugging → Trail → List ℕ
 log_text debugging trail = log_of debugging.labels (map shown_of trail.moments) (shown_of trail.last) debugging.commands

@@ -21,7 +21,7 @@ use Rattle.varvara_bus.specs.declared.devices.Devices.{Devices}
 use Rattle.vector_loop.specs.declared.watch.Moment.{Moment}
 use Rattle.vector_loop.specs.declared.output.Outputs.{Outputs}
 use Rattle.vector_loop.specs.Outputs.{IsOutput}
-use Rattle.vector_loop.specs.Watch.{ports_read, moment_of, shown_all}
+use Rattle.vector_loop.specs.Watch.{Page, page_in, moment_of, shown_all}
 use Rattle.vector_loop.specs.Trail.{Trail}
 use Rattle.uxn_words.specs.declared.task.Task.{Task}
 use Rattle.uxn_cli.specs.declared.program.Program.{Program}
@@ -185,9 +185,9 @@ pub record HasRun (before now : Around) (trail : Trail) (ended : Ended) : Type 0
   pub tally : ended.tally ≡ trail.last.tally
 
 -- a watcher was shown all of a run, and its end
-abbrev pub WasShown : {H : Type 0} → (H → Core → List ℕ → Moment → H) → (H → Core → List ℕ → Moment → H) → H → Trail → H → Type 0
+abbrev pub WasShown : {H : Type 0} → (H → Core → Page → Moment → H) → (H → Core → Page → Moment → H) → H → Trail → H → Type 0
 WasShown shown ended before trail now =
-    now ≡ ended (shown_all shown before trail.moments) trail.last.core (ports_read 256 trail.last) (moment_of trail.last)
+    now ≡ ended (shown_all shown before trail.moments) trail.last.core (page_in trail.last) (moment_of trail.last)
 
 -- the outputs of a run are files outside its root
 pub record RunFiles (task : Task) (tree : Option Nodes) : Type 0 where

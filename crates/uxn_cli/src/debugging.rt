@@ -1,5 +1,5 @@
 //! What `debug` does.
-ghost use Rattle.std.specs.Prelude.{◌≡◌, ◌<◌, ◌≤◌, Option, Some, Ok, Err, OnOk, IfOk, IfErr, IfSome, length, option_map, unwrap_or};
+ghost use Rattle.std.specs.Prelude.{◌≡◌, ◌<◌, ◌≤◌, [], Option, Some, Ok, Err, OnOk, IfOk, IfErr, IfSome, length, option_map, unwrap_or};
 ghost use Rattle.uxn_io.specs.Faults.{Ledger, TheTree, ASink, counts};
 ghost use Rattle.uxn_io.specs.Room.{Leaves};
 ghost use Rattle.uxn_cli.specs.World.{world};
@@ -16,7 +16,7 @@ ghost use Rattle.vector_loop.specs.Outputs.{IsOutput};
 ghost use Rattle.uxn_cli.specs.Prepared.{around, Accepts, PreparesDebug, AreNew, AtHome, FellShort, HasFinished, RunFiles, trail_for, debugging_for, labels_in_session, labels_in_program};
 
 use super::commands::{SYMBOLS_LIMIT, labels_at};
-use super::machine::{Machine, new_machine};
+use super::machine::{Machine, core_known, new_machine};
 use super::making::make_outputs;
 use super::program::{Program, load};
 use super::refusal::{Halt, Refusal};
@@ -29,7 +29,9 @@ use uxn_debugger::{
 };
 use uxn_io::{Failed, FileBytes, Path, Sink, Tree, read_file};
 use uxn_opcodes::Stop;
+use uxn_undo::{Undo, the_moments_of_a_run_are_in_a_row};
 use uxn_words::{Command, Task};
+use vector_loop::the_moments_of_a_run_are_counted;
 
 /// The greatest length of a file of commands in bytes.
 const COMMANDS_LIMIT: u32 = 4_194_304;
@@ -45,6 +47,8 @@ pub struct Session {
     pub program: Program,
     /// The labels of a symbol file, where one is given.
     pub given: Option<Vec<Label>>,
+    /// What keeps the moments that commands go back to.
+    pub undo: Undo,
 }
 
 /// The commands of a text.
@@ -145,6 +149,7 @@ fn labels_of<'a>(program: &'a Program, given: &'a Option<Vec<Label>>) -> &'a [La
 fn prepare<T: Tree>(alloc: Global, task: &Task, tree: &mut T) -> Result<Session, Halt>
     requires { task.now.command ≡ Command.Debug }
     ensures prepares { PreparesDebug (T.told tree.old) task.now result }
+    ensures undo { IfOk result (λ session. session.undo ≡ []) }
     ensures same { T.told tree.new ≡ T.told tree.old }
     ensures ledger { Ledger (counts (T.faults tree.old) 0 0) (counts (T.faults tree.new) 0 0) (blame_in result) }
     ensures sure { 0 < (T.sure tree.old).files → blame_in result ≡ TheTree → ⊥ }
@@ -156,11 +161,13 @@ fn prepare<T: Tree>(alloc: Global, task: &Task, tree: &mut T) -> Result<Session,
     let labels = labels_of(&program, &given);
     let commands = accept_commands(alloc, &task.commands, labels, tree)?;
     let machine = new_machine(alloc, task.root, program.rom(), script)?;
+    let undo = Undo::new(alloc)?;
     Ok(Session {
         machine,
         commands,
         program,
         given,
+        undo,
     })
 }
 
@@ -174,6 +181,7 @@ fn debug_made<T: Tree, O: Sink, E: Sink>(
     err: &mut E,
 ) -> Result<u8, Stop>
     requires devices { AreNew session.machine.devices session.machine.script task.now.root }
+    requires undo { session.undo ≡ [] }
     requires budget { 1 ≤ task.now.budget }
     requires files { RunFiles task.now (T.told tree.old) }
     requires log { IfSome task.now.log (IsOutput task.now.root (T.told tree.old)) }
@@ -194,9 +202,13 @@ fn debug_made<T: Tree, O: Sink, E: Sink>(
         commands,
         program,
         given,
+        undo,
     } = session;
     the_log_is_that_of_the_run();
-    let mut debugger = Debugger::new(alloc, commands, labels_of(&program, &given));
+    the_moments_of_a_run_are_counted();
+    the_moments_of_a_run_are_in_a_row();
+    core_known(&machine.core);
+    let mut debugger = Debugger::new(alloc, commands, labels_of(&program, &given), undo);
     let status = run_made(task, machine, tree, out, err, &mut debugger)?;
     match write_text(&task.log, debugger.log(), tree) {
         Ok(()) => Ok(status),

@@ -2,6 +2,7 @@
 ghost use Rattle.std.specs.Prelude.{◌≡◌, ◌≤◌, length, IfOk};
 ghost use Rattle.uxn_memory.specs.Bytes.{largest_rom};
 ghost use Rattle.uxn_opcodes.specs.Rule.{new_core};
+ghost use Rattle.uxn_undo.specs.Row.{IsMachine};
 ghost use Rattle.uxn_cli.specs.Job.{clock_by};
 ghost use Rattle.uxn_cli.specs.Prepared.{AreNew};
 
@@ -20,6 +21,15 @@ pub struct Machine {
     pub devices: Devices,
     /// What it is given.
     pub script: Script,
+}
+
+/// Tells contracts what holds of every core.
+pub fn core_known(core: &Core)
+    ensures { IsMachine core.now }
+{
+    core.memory.known();
+    core.working.known();
+    core.returns.known();
 }
 
 /// The clock of a machine that is given a script.

@@ -1,5 +1,10 @@
+pub mod Places
+pub mod Earlier
+pub mod Turns
 pub mod LogLaw
 pub mod BitSets
 pub mod Tables
 pub mod Nearest
 pub mod Obeying
+pub mod Scenes
+pub mod Keeping

@@ -1,46 +1,25 @@
 -- A debugger that is shown a run moment by moment keeps the log of the whole run.
-use Rattle.std.proofs.Common.{◌≡◌, ℕ, zero, suc, ◌+◌, ◌<◌, ◌≤◌, Bool, true, false, cond, List, [], ◌∷◌, ◌++◌, length, drop, Some, None, inl, inr, refl, sym, ap, ◌∙◌, arith}
-use Rattle.std.specs.Prelude.{slice_get, fold, min, not}
+use Rattle.std.proofs.Common.{◌≡◌, ℕ, zero, suc, ◌+◌, ◌-◌, ◌<◌, ◌≤◌, Bool, true, false, cond, List, [], ◌∷◌, ◌++◌, length, take, drop, Option, Some, None, ◌⊎◌, inl, inr, refl, sym, ap, ◌∙◌, arith}
+use Rattle.std.specs.Prelude.{slice_get, fold, min, max, nat_le}
 use Rattle.std.specs.List.{position_or_len}
 use Rattle.std.proofs.lemmas.Bool.{cases_Bool, false≢true, eqb-true, eqb-false}
-use Rattle.std.proofs.lemmas.List.{length-drop, drop-drop}
+use Rattle.std.proofs.lemmas.Bool.Decides.{nat_tests}
+use Rattle.std.proofs.lemmas.List.{length-drop}
 use Rattle.tal_words.specs.declared.name.Label.{Label}
+use Rattle.uxn_undo.specs.Kept.{Kept, kept_at, number_held}
 use Rattle.uxn_debugger.specs.declared.command.DebugCommand.{DebugCommand}
-use Rattle.uxn_debugger.specs.declared.command.DebugCommand.TheVariants.{Break, Delete, Run, Step, Stacks, Mem, PortPage, Here}
+use Rattle.uxn_debugger.specs.declared.command.DebugCommand.TheVariants.{Break, Delete, Run, Step, Back, Stacks, Mem, PortPage, Here}
+use Rattle.uxn_debugger.specs.declared.place.Place.{Place}
+use Rattle.uxn_debugger.specs.declared.place.Place.TheVariants.{Before, End}
 use Rattle.uxn_debugger.specs.declared.place.Goal.{Goal}
 use Rattle.uxn_debugger.specs.declared.place.Goal.TheVariants.{FirstMoment, MomentAfter, BreakAddress, Nothing}
-use Rattle.uxn_debugger.specs.Printing.{View, printed}
-use Rattle.uxn_debugger.specs.Log.{Shown, before, at_end, AddressSet, no_breaks, breaks_after, Stand, seen, view_at, index_after, stand_at, after_command, log_of}
-use Rattle.uxn_debugger.specs.Watching.{Watching, goal_of, did, done, unless_it_goes, arrival, arrived, is_awaited, goal_later, shown, ended, KeepsTheLog}
-
--- what stands at an index
-get_at : {A : Type 0} (xs : List A) (i : ℕ) (x : A) (more : List A) → drop i xs ≡ x ∷ more → slice_get xs i ≡ Some x
-get_at [] zero x more is = absurd (omega (arith, ap length is))
-get_at [] (suc i) x more is = absurd (omega (arith, ap length is))
-get_at (y ∷ ys) zero x more is = cc
-get_at (y ∷ ys) (suc i) x more is = get_at ys i x more is
-
-get_past : {A : Type 0} (xs : List A) (i : ℕ) → length xs ≤ i → slice_get xs i ≡ None
-get_past [] i past = refl
-get_past (y ∷ ys) zero past = absurd (omega arith)
-get_past (y ∷ ys) (suc i) past = get_past ys i (omega arith)
-
-drop_next : {A : Type 0} (xs : List A) (i : ℕ) (x : A) (more : List A) → drop i xs ≡ x ∷ more → drop (i + 1) xs ≡ more
-drop_next xs i x more is = sym (drop-drop 1 i xs) ∙ ap (λ ys. drop 1 ys) is
-
-within : {A : Type 0} (xs : List A) (i : ℕ) (x : A) (more : List A) → drop i xs ≡ x ∷ more → i < length xs
-within xs i x more is = omega (arith, length-drop i xs, ap length is)
-
--- the first place that passes is the first, or one further on
-first_passes : {A : Type 0} (p : A → Bool) (x : A) (xs : List A) → p x ≡ true → position_or_len p (x ∷ xs) ≡ 0
-first_passes p x xs awaited = ap (λ b. cond (not b) (1 + position_or_len p xs) 0) awaited
-
-first_fails : {A : Type 0} (p : A → Bool) (x : A) (xs : List A) → p x ≡ false → position_or_len p (x ∷ xs) ≡ 1 + position_or_len p xs
-first_fails p x xs other = ap (λ b. cond (not b) (1 + position_or_len p xs) 0) other
-
--- what a debugger holds
-abbrev holding : List Label → List DebugCommand → Goal → AddressSet → List ℕ → Watching
-holding labels commands goal breaks log = record { commands = commands; labels = labels; goal = goal; breaks = breaks; log = log }
+use Rattle.uxn_debugger.specs.Printing.{View, view, place_seen, printed}
+use Rattle.uxn_debugger.specs.Log.{Shown, before, at_end, AddressSet, IsRegular, no_breaks, breaks_after, Stand, view_at, held_before, reach, index_after, stand_at, after_command, log_of}
+use Rattle.uxn_debugger.specs.Watching.{Watching, new_watching, seen_back, next_stop, back_after, unless_stopped, goal_of, obeyed, done, unless_it_goes, arrival, arrived, is_awaited, goal_later, keeping, with_kept, shown, ended, KeepsTheLog}
+use Rattle.uxn_debugger.proofs.Obeying.{done-none, done-more}
+use Rattle.uxn_debugger.proofs.Places.{within, drop_next, first_passes, first_fails}
+use Rattle.uxn_debugger.proofs.Earlier.{UndoLaws, undo_at, held_here, held_within, keeps, IsCome, sees_back, now_before, now_at_end, comes_before, comes_at_end}
+use Rattle.uxn_debugger.proofs.Turns.{met_behind, IsFound, Finds, finds_before, finds_at_end}
 
 -- something is waited for
 abbrev IsWaiting : Goal → Type 0
@@ -48,6 +27,17 @@ IsWaiting Nothing = ⊥
 IsWaiting _ = Unit {0}
 
 module _ (labels : List Label) (moments : List Shown) (end : Shown) where
+  -- what a debugger holds that was shown so many moments
+  abbrev holding : ℕ → List DebugCommand → Goal → AddressSet → List ℕ → Watching
+  holding i commands goal breaks log = record {
+    commands = commands;
+    labels = labels;
+    goal = goal;
+    breaks = breaks;
+    log = log;
+    undo = undo_at labels moments end i;
+  }
+
   -- the log at the end, of one that is shown these moments and the end
   abbrev log_at_end : Watching → List Shown → List ℕ
   log_at_end held left = (ended (fold shown held left) end).log
@@ -56,8 +46,12 @@ module _ (labels : List Label) (moments : List Shown) (end : Shown) where
   abbrev log_from : Stand → List DebugCommand → List ℕ
   log_from stand commands = (fold (after_command labels moments end) stand commands).log
 
-  abbrev standing : ℕ → AddressSet → List ℕ → Stand
-  standing index breaks log = record { index = index; breaks = breaks; log = log }
+  abbrev standing : ℕ → ℕ → AddressSet → List ℕ → Stand
+  standing index furthest breaks log = record { index = index; furthest = furthest; breaks = breaks; log = log }
+
+  -- so far back from the moment that is shown
+  abbrev standing_back : ℕ → ℕ → AddressSet → List ℕ → Stand
+  standing_back i back breaks log = standing (i - back) i breaks log
 
   -- the index at which that is met which is waited for from an index on, where these moments are left
   abbrev met_at : Goal → AddressSet → ℕ → List Shown → ℕ
@@ -67,219 +61,367 @@ module _ (labels : List Label) (moments : List Shown) (end : Shown) where
   met_at Nothing breaks i left = length moments
 
   abbrev met : Goal → AddressSet → List ℕ → ℕ → Stand
-  met goal breaks log index = standing index breaks (log ++ arrival goal labels (view_at labels moments end index))
+  met goal breaks log index = standing index index breaks (log ++ arrival goal labels (view_at labels moments end index index))
 
   -- what is to be shown: the log at the end is that of the commands from where the goal is met
   abbrev Comes : ℕ → List Shown → Type 0
   Comes i left = (commands : List DebugCommand) (goal : Goal) (breaks : AddressSet) (log : List ℕ) → IsWaiting goal
-      → log_at_end (holding labels commands goal breaks log) left ≡ log_from (met goal breaks log (met_at goal breaks i left)) commands
+      → log_at_end (holding i commands goal breaks log) left ≡ log_from (met goal breaks log (met_at goal breaks i left)) commands
 
-  -- a command that does not go on leaves the index
-  same_stand : (i index : ℕ) (view : View) (breaks : AddressSet) (log : List ℕ) (command : DebugCommand) → index ≡ i → view_at labels moments end i ≡ view
-      → stand_at labels moments end index (standing i breaks log) command ≡ standing i (breaks_after command breaks) (log ++ printed labels view command)
-  same_stand i index view breaks log command same is = rw (same, is) refl
-
-  after-is : (stand : Stand) (command : DebugCommand) → after_command labels moments end stand command ≡ stand_at labels moments end (index_after labels moments end command stand.breaks stand.index) stand command
+  after-is : (stand : Stand) (command : DebugCommand) → after_command labels moments end stand command
+      ≡ stand_at labels moments end (index_after labels moments end command stand) (max stand.furthest (index_after labels moments end command stand)) stand command
   unfolding after_command
   after-is stand command = refl
 
   -- nothing is done where no command is left
-  nothing-later : (labels : List Label) (commands : List DebugCommand) (breaks : AddressSet) (log : List ℕ) (left : List Shown) → log_at_end (holding labels commands Nothing breaks log) left ≡ log
+  nothing-later : (labels : List Label) (commands : List DebugCommand) (breaks : AddressSet) (log : List ℕ) (undo : List Kept) (left : List Shown)
+      → log_at_end (record { commands = commands; labels = labels; goal = Nothing; breaks = breaks; log = log; undo = undo }) left ≡ log
   unfolding shown ended
-  nothing-later labels commands breaks log [] = refl
-  nothing-later labels commands breaks log (s ∷ left) = nothing-later labels commands breaks log left
+  nothing-later labels commands breaks log undo [] = refl
+  nothing-later labels commands breaks log undo (s ∷ left) = nothing-later labels commands breaks log (keeping (kept_at s.core s.page.stored) undo) left
 
-  done-none : (view : View) (held : Watching) → done view [] held ≡ record held { commands = []; goal = Nothing }
-  unfolding done
-  done-none view held = refl
+  module _ (laws : UndoLaws) (regular : IsRegular moments end) where
+    -- so many moments can be gone back
+    reaches : (i back : ℕ) (breaks : AddressSet) (log : List ℕ) → i ≤ length moments → back ≤ length (undo_at labels moments end i)
+        → reach labels moments end (standing_back i back breaks log) ≡ length (undo_at labels moments end i) - back
+    reaches i back breaks log le under =
+        omega (arith, held_here labels moments end laws i, held_within labels moments end laws i le)
 
-  done-more : (view : View) (command : DebugCommand) (rest : List DebugCommand) (held : Watching) → done view (command ∷ rest) held ≡ unless_it_goes (goal_of view.place command) rest held (done view rest (did view command held))
-  unfolding done
-  done-more view command rest held = refl
+    -- a command that waits for nothing is done as the log says
+    record Stays (i : ℕ) (place : Place) (back : ℕ) (command : DebugCommand) (breaks : AddressSet) (log : List ℕ) (held : Watching) : Type 0 where
+      none : goal_of held place back command ≡ None
+      index : index_after labels moments end command (standing_back i back breaks log) ≡ i - back_after held place back command
+      under : back_after held place back command ≤ length (undo_at labels moments end i)
 
-  -- at the end each command is done there
-  at_length : (n : ℕ) → min (length moments + n) (length moments) ≡ length moments
-  at_length n = omega arith
+    -- one that goes on leaves the rest to what comes
+    record Goes (finish : Watching → List ℕ) (place : Place) (back : ℕ) (command : DebugCommand) (rest : List DebugCommand) (stand : Stand) (held : Watching)
+        : Type 0 where
+      goal : Goal
+      some : goal_of held place back command ≡ Some goal
+      later : finish (record held { commands = rest; goal = goal }) ≡ log_from (after_command labels moments end stand command) rest
 
-  index_at_end : (command : DebugCommand) (breaks : AddressSet) → index_after labels moments end command breaks (length moments) ≡ length moments
-  index_at_end (Break a) breaks = refl
-  index_at_end (Delete a) breaks = refl
-  index_at_end Run breaks = omega arith
-  index_at_end (Step n) breaks = at_length n
-  index_at_end Stacks breaks = refl
-  index_at_end (Mem a n) breaks = refl
-  index_at_end PortPage breaks = refl
-  index_at_end Here breaks = refl
+    abbrev Turn : (Watching → List ℕ) → ℕ → Place → Type 0
+    Turn finish i place = (command : DebugCommand) (rest waiting : List DebugCommand) (back : ℕ) (goal : Goal) (breaks : AddressSet) (log : List ℕ)
+        → back ≤ length (undo_at labels moments end i)
+        → Stays i place back command breaks log (holding i waiting goal breaks log)
+        ⊎ Goes finish place back command rest (standing_back i back breaks log) (holding i waiting goal breaks log)
 
-  done-end : (commands : List DebugCommand) (held : Watching) → held.labels ≡ labels
-      → (done (at_end end) commands held).log ≡ log_from (standing (length moments) held.breaks held.log) commands
-  done-end [] held same = rw (done-none (at_end end) held) refl
-  done-end (command ∷ rest) held same =
-      let view : view_at labels moments end (length moments) ≡ at_end end = ap (seen labels moments end) (get_past moments (length moments) (omega arith)) in
-      let stand = after-is (standing (length moments) held.breaks held.log) command
-      ∙ same_stand (length moments) (index_after labels moments end command held.breaks (length moments)) (at_end end) held.breaks held.log command (index_at_end command held.breaks) view in
-      ap (λ (h : Watching). h.log) (done-more (at_end end) command rest held)
-      ∙ done-end rest (did (at_end end) command held) same
-      ∙ ap (λ ls. log_from (standing (length moments) (breaks_after command held.breaks) (held.log ++ printed ls (at_end end) command)) rest) same
-      ∙ sym (ap (λ st. log_from st rest) stand)
+    -- what is seen so far back
+    abbrev Sees : ℕ → View → Type 0
+    Sees i now = (back : ℕ) → back ≤ length (undo_at labels moments end i)
+        → seen_back now (undo_at labels moments end i) back ≡ view_at labels moments end i (i - back)
 
-  -- at a moment each command is done that does not go on
-  done-here : (i : ℕ) (s : Shown) (left : List Shown) → drop i moments ≡ s ∷ left
-      → (command : DebugCommand) (rest waiting : List DebugCommand) (goal : Goal) (breaks : AddressSet) (log : List ℕ)
-      → goal_of (before s).place command ≡ None → index_after labels moments end command breaks i ≡ i
-      → log_at_end (done (before s) rest (holding labels waiting goal (breaks_after command breaks) (log ++ printed labels (before s) command))) left
-      ≡ log_from (standing i (breaks_after command breaks) (log ++ printed labels (before s) command)) rest
-      → log_at_end (done (before s) (command ∷ rest) (holding labels waiting goal breaks log)) left ≡ log_from (standing i breaks log) (command ∷ rest)
-  done-here i s left is command rest waiting goal breaks log stays same then =
-      let view : view_at labels moments end i ≡ before s = ap (seen labels moments end) (get_at moments i s left is) in
-      let stand = after-is (standing i breaks log) command
-      ∙ same_stand i (index_after labels moments end command breaks i) (before s) breaks log command same view in
-      let held = holding labels waiting goal breaks log in
-      ap (λ h. log_at_end h left) (done-more (before s) command rest held
-      ∙ ap (λ g. unless_it_goes g rest held (done (before s) rest (did (before s) command held))) stays)
-      ∙ then ∙ sym (ap (λ st. log_from st rest) stand)
+    stays_so : (i : ℕ) (now : View) (back : ℕ) (command : DebugCommand) (waiting : List DebugCommand) (goal : Goal) (breaks : AddressSet) (log : List ℕ)
+        → i ≤ length moments → Sees i now → back ≤ length (undo_at labels moments end i)
+        → Stays i now.place back command breaks log (holding i waiting goal breaks log)
+        → after_command labels moments end (standing_back i back breaks log) command
+        ≡ standing_back i (back_after (holding i waiting goal breaks log) now.place back command) (breaks_after command breaks)
+        (log ++ printed labels (length (undo_at labels moments end i) - back)
+        (seen_back now (undo_at labels moments end i) (back_after (holding i waiting goal breaks log) now.place back command)) command)
+    stays_so i now back command waiting goal breaks log le sees under stays =
+        let there = back_after (holding i waiting goal breaks log) now.place back command in
+        let stand = standing_back i back breaks log in
+        let furthest : max i (i - there) ≡ i = omega arith in
+        after-is stand command
+        ∙ ap (λ index. stand_at labels moments end index (max i index) stand command) stays.index
+        ∙ ap (λ furthest. stand_at labels moments end (i - there) furthest stand command) furthest
+        ∙ ap (λ n. standing_back i there (breaks_after command breaks) (log ++ printed labels n (view_at labels moments end i (i - there)) command))
+        (reaches i back breaks log le under)
+        ∙ ap (λ view. standing_back i there (breaks_after command breaks) (log ++ printed labels (length (undo_at labels moments end i) - back) view command))
+        (sym (sees there stays.under))
 
-  -- one that goes on leaves the rest to what comes
-  done-goes : (i : ℕ) (s : Shown) (left : List Shown) → Comes (i + 1) left
-      → (command : DebugCommand) (rest waiting : List DebugCommand) (goal next : Goal) (breaks : AddressSet) (log : List ℕ)
-      → goal_of (before s).place command ≡ Some next → IsWaiting next → breaks_after command breaks ≡ breaks
-      → met next breaks log (met_at next breaks (i + 1) left) ≡ stand_at labels moments end (index_after labels moments end command breaks i) (standing i breaks log) command
-      → log_at_end (done (before s) (command ∷ rest) (holding labels waiting goal breaks log)) left ≡ log_from (standing i breaks log) (command ∷ rest)
-  done-goes i s left comes command rest waiting goal next breaks log goes waits same arrives =
-      let held = holding labels waiting goal breaks log in
-      ap (λ h. log_at_end h left) (done-more (before s) command rest held
-      ∙ ap (λ g. unless_it_goes g rest held (done (before s) rest (did (before s) command held))) goes)
-      ∙ comes rest next breaks log waits
-      ∙ ap (λ st. log_from st rest) (arrives ∙ sym (after-is (standing i breaks log) command))
+    -- all commands at a moment, or at the end
+    done-all : (finish : Watching → List ℕ) (i : ℕ) (now : View) → i ≤ length moments → Sees i now → Turn finish i now.place
+        → ((held : Watching) → finish (record held { commands = []; goal = Nothing }) ≡ held.log)
+        → (commands waiting : List DebugCommand) (back : ℕ) (goal : Goal) (breaks : AddressSet) (log : List ℕ) → back ≤ length (undo_at labels moments end i)
+        → finish (done now back commands (holding i waiting goal breaks log)) ≡ log_from (standing_back i back breaks log) commands
+    done-all finish i now le sees turn ends [] waiting back goal breaks log under =
+        ap finish (done-none now back (holding i waiting goal breaks log)) ∙ ends (holding i waiting goal breaks log)
+    done-all finish i now le sees turn ends (command ∷ rest) waiting back goal breaks log under =
+        let held = holding i waiting goal breaks log in
+        let there = back_after held now.place back command in
+        let others = done now there rest (obeyed now back command held) in
+        ap finish (done-more now back command rest held)
+        ∙ elim (turn command rest waiting back goal breaks log under) [
+          | inl stays ↦
+              ap (λ g. finish (unless_it_goes g rest held others)) stays.none
+              ∙ done-all finish i now le sees turn ends rest waiting there goal (breaks_after command breaks)
+              (log ++ printed labels (length (undo_at labels moments end i) - back) (seen_back now (undo_at labels moments end i) there) command) stays.under
+              ∙ sym (ap (λ stand. log_from stand rest) (stays_so i now back command waiting goal breaks log le sees under stays))
+          | inr goes ↦ ap (λ g. finish (unless_it_goes g rest held others)) goes.some ∙ goes.later
+        ]
 
-  done-before : (i : ℕ) (s : Shown) (left : List Shown) → drop i moments ≡ s ∷ left → Comes (i + 1) left
-      → (commands waiting : List DebugCommand) (goal : Goal) (breaks : AddressSet) (log : List ℕ)
-      → log_at_end (done (before s) commands (holding labels waiting goal breaks log)) left ≡ log_from (standing i breaks log) commands
-  done-before i s left is comes [] waiting goal breaks log =
-      rw (done-none (before s) (holding labels waiting goal breaks log)) (nothing-later labels [] breaks log left)
-  done-before i s left is comes (Run ∷ rest) waiting goal breaks log =
-      let arrives : met BreakAddress breaks log (met_at BreakAddress breaks (i + 1) left)
-      ≡ stand_at labels moments end (index_after labels moments end Run breaks i) (standing i breaks log) Run = rw (drop_next moments i s left is) refl in
-      done-goes i s left comes Run rest waiting goal BreakAddress breaks log refl tt refl arrives
-  done-before i s left is comes (Step (suc n) ∷ rest) waiting goal breaks log =
-      let index : min (i + 1 + n) (length moments) ≡ min (i + suc n) (length moments) = omega arith in
-      let arrives : met (MomentAfter n) breaks log (met_at (MomentAfter n) breaks (i + 1) left)
-      ≡ stand_at labels moments end (index_after labels moments end (Step (suc n)) breaks i) (standing i breaks log) (Step (suc n)) = rw index refl in
-      done-goes i s left comes (Step (suc n)) rest waiting goal (MomentAfter n) breaks log refl tt refl arrives
-  done-before i s left is comes (Step zero ∷ rest) waiting goal breaks log =
-      let le = within moments i s left is in
-      let index : min (i + 0) (length moments) ≡ i = omega arith in
-      done-here i s left is (Step zero) rest waiting goal breaks log refl index
-      (done-before i s left is comes rest waiting goal breaks (log ++ printed labels (before s) (Step zero)))
-  done-before i s left is comes (Break a ∷ rest) waiting goal breaks log =
-      done-here i s left is (Break a) rest waiting goal breaks log refl refl
-      (done-before i s left is comes rest waiting goal (breaks_after (Break a) breaks) (log ++ printed labels (before s) (Break a)))
-  done-before i s left is comes (Delete a ∷ rest) waiting goal breaks log =
-      done-here i s left is (Delete a) rest waiting goal breaks log refl refl
-      (done-before i s left is comes rest waiting goal (breaks_after (Delete a) breaks) (log ++ printed labels (before s) (Delete a)))
-  done-before i s left is comes (Stacks ∷ rest) waiting goal breaks log =
-      done-here i s left is Stacks rest waiting goal breaks log refl refl
-      (done-before i s left is comes rest waiting goal breaks (log ++ printed labels (before s) Stacks))
-  done-before i s left is comes (Mem a n ∷ rest) waiting goal breaks log =
-      done-here i s left is (Mem a n) rest waiting goal breaks log refl refl
-      (done-before i s left is comes rest waiting goal breaks (log ++ printed labels (before s) (Mem a n)))
-  done-before i s left is comes (PortPage ∷ rest) waiting goal breaks log =
-      done-here i s left is PortPage rest waiting goal breaks log refl refl
-      (done-before i s left is comes rest waiting goal breaks (log ++ printed labels (before s) PortPage))
-  done-before i s left is comes (Here ∷ rest) waiting goal breaks log =
-      done-here i s left is Here rest waiting goal breaks log refl refl
-      (done-before i s left is comes rest waiting goal breaks (log ++ printed labels (before s) Here))
+    -- `run` at a moment that was found
+    run_found : (i : ℕ) (place : Place) (back stop : ℕ) (breaks : AddressSet) (log : List ℕ) → i ≤ length moments
+        → back ≤ length (undo_at labels moments end i)
+        → IsFound labels moments end laws regular i breaks place back stop
+        → index_after labels moments end Run (standing_back i back breaks log) ≡ i - stop
+    run_found i place back stop breaks log le under found =
+        let start : i - back + 1 ≡ i + 1 - back = omega (arith, held_within labels moments end laws i le) in
+        rw start found.index
 
-  -- a moment, by whether it is the one that is waited for
-  shows-awaited : (s : Shown) (commands : List DebugCommand) (goal : Goal) (breaks : AddressSet) (log : List ℕ) → is_awaited goal breaks s.moment.address ≡ true
-      → shown (holding labels commands goal breaks log) s ≡ done (before s) commands (holding labels commands goal breaks (log ++ arrival goal labels (before s)))
-  unfolding shown arrived
-  shows-awaited s commands goal breaks log awaited = rw awaited refl
+    -- `back`, as far as moments are held
+    back_index : (i back count : ℕ) (is : Bool) → cond is (i - back - count) (i - back) ≡ i - cond is (back + count) back
+    back_index i back count true = omega arith
+    back_index i back count false = refl
 
-  shows-later : (s : Shown) (commands : List DebugCommand) (goal : Goal) (breaks : AddressSet) (log : List ℕ) → is_awaited goal breaks s.moment.address ≡ false
-      → shown (holding labels commands goal breaks log) s ≡ holding labels commands (goal_later goal) breaks log
-  unfolding shown
-  shows-later s commands goal breaks log other = rw other refl
+    back_under : (back count held : ℕ) (is : Bool) → is ≡ nat_le count (held - back) → back ≤ held → cond is (back + count) back ≤ held
+    back_under back count held true is under = grind (arith, nat_tests)
+    back_under back count held false is under = under
 
-  index-awaited : (i : ℕ) (s : Shown) (left : List Shown) (goal : Goal) (breaks : AddressSet) → i < length moments → IsWaiting goal
-      → is_awaited goal breaks s.moment.address ≡ true → met_at goal breaks i (s ∷ left) ≡ i
-  index-awaited i s left FirstMoment breaks less waits awaited = refl
-  index-awaited i s left (MomentAfter n) breaks less waits awaited = let none : n ≡ 0 = eqb-true n 0 awaited in omega arith
-  index-awaited i s left BreakAddress breaks less waits awaited = rw (first_passes (λ (s : Shown). breaks s.moment.address) s left awaited) (omega arith)
-  index-awaited i s left Nothing breaks less waits awaited = absurd waits
+    stays_back : (i : ℕ) (place : Place) (back count : ℕ) (waiting : List DebugCommand) (goal : Goal) (breaks : AddressSet) (log : List ℕ)
+        → i ≤ length moments → back ≤ length (undo_at labels moments end i) → goal_of (holding i waiting goal breaks log) place back (Back count) ≡ None
+        → Stays i place back (Back count) breaks log (holding i waiting goal breaks log)
+    stays_back i place back count waiting goal breaks log le under none =
+        let held = length (undo_at labels moments end i) in
+        record {
+          none = none;
+          index = ap (λ n. cond (nat_le count n) (i - back - count) (i - back)) (reaches i back breaks log le under)
+              ∙ back_index i back count (nat_le count (held - back));
+          under = back_under back count held (nat_le count (held - back)) refl under;
+        }
 
-  index-later : (i : ℕ) (s : Shown) (left : List Shown) (goal : Goal) (breaks : AddressSet) → IsWaiting goal
-      → is_awaited goal breaks s.moment.address ≡ false → met_at goal breaks i (s ∷ left) ≡ met_at (goal_later goal) breaks (i + 1) left
-  index-later i s left FirstMoment breaks waits other = absurd (false≢true (sym other))
-  index-later i s left (MomentAfter n) breaks waits other = let some : n ≡ 0 → ⊥ = eqb-false n 0 other in omega arith
-  index-later i s left BreakAddress breaks waits other = rw (first_fails (λ (s : Shown). breaks s.moment.address) s left other) (omega arith)
-  index-later i s left Nothing breaks waits other = absurd waits
+    -- `step` among moments that were shown
+    step_index : (i back count : ℕ) → i ≤ length moments → back ≤ i → count ≤ back → min (i - back + count) (length moments) ≡ i - (back - count)
+    step_index i back count le under within = omega arith
 
-  still_waits : (goal : Goal) (breaks : AddressSet) (address : ℕ) → IsWaiting goal → is_awaited goal breaks address ≡ false → IsWaiting (goal_later goal)
-  still_waits FirstMoment breaks address waits other = tt
-  still_waits (MomentAfter n) breaks address waits other = tt
-  still_waits BreakAddress breaks address waits other = tt
-  still_waits Nothing breaks address waits other = waits
+    module _ (i : ℕ) (s : Shown) (left : List Shown) (is : drop i moments ≡ s ∷ left) (next : Comes (i + 1) left) where
+      -- what is done at a moment, which is then kept
+      abbrev finish : Watching → List ℕ
+      finish held = log_at_end (with_kept s held) left
 
-  met-later : (goal : Goal) (breaks : AddressSet) (log : List ℕ) (index : ℕ) → met (goal_later goal) breaks log index ≡ met goal breaks log index
-  met-later FirstMoment breaks log index = refl
-  met-later (MomentAfter n) breaks log index = refl
-  met-later BreakAddress breaks log index = refl
-  met-later Nothing breaks log index = refl
+      le : i ≤ length moments
+      le = omega (arith, within moments i s left is)
 
-  -- the end
-  index-ends : (i : ℕ) (goal : Goal) (breaks : AddressSet) → i ≡ length moments → met_at goal breaks i [] ≡ length moments
-  index-ends i FirstMoment breaks is = is
-  index-ends i (MomentAfter n) breaks is = omega arith
-  index-ends i BreakAddress breaks is = omega arith
-  index-ends i Nothing breaks is = refl
+      goes_on : (command : DebugCommand) (rest waiting : List DebugCommand) (back : ℕ) (goal then : Goal) (breaks : AddressSet) (log : List ℕ)
+          → goal_of (holding i waiting goal breaks log) (Before s.moment) back command ≡ Some then → IsWaiting then → breaks_after command breaks ≡ breaks
+          → index_after labels moments end command (standing_back i back breaks log) ≡ met_at then breaks (i + 1) left
+          → i ≤ met_at then breaks (i + 1) left
+          → ((n : ℕ) (view : View) → printed labels n view command ≡ arrival then labels view)
+          → Goes finish (Before s.moment) back command rest (standing_back i back breaks log) (holding i waiting goal breaks log)
+      goes_on command rest waiting back goal then breaks log some waits same index later prints =
+          let stand = standing_back i back breaks log in
+          let there = met_at then breaks (i + 1) left in
+          let furthest : max i there ≡ there = omega arith in
+          record {
+            goal = then;
+            some = some;
+            later = ap (λ undo. log_at_end (record (holding i rest then breaks log) { undo = undo }) left) (keeps labels moments end laws i s left is)
+                ∙ next rest then breaks log waits
+                ∙ sym (ap (λ stand. log_from stand rest)
+                (after-is stand command
+                ∙ ap (λ index. stand_at labels moments end index (max i index) stand command) index
+                ∙ ap (λ furthest. stand_at labels moments end there furthest stand command) furthest
+                ∙ ap (λ b. standing there there b (log ++ printed labels (reach labels moments end stand) (view_at labels moments end there there) command)) same
+                ∙ ap (λ text. standing there there breaks (log ++ text)) (prints (reach labels moments end stand) (view_at labels moments end there there))));
+          }
 
-  ends : (commands : List DebugCommand) (goal : Goal) (breaks : AddressSet) (log : List ℕ) → IsWaiting goal
-      → ended (holding labels commands goal breaks log) end ≡ done (at_end end) commands (holding labels commands goal breaks (log ++ arrival goal labels (at_end end)))
-  unfolding ended arrived
-  ends commands FirstMoment breaks log waits = refl
-  ends commands (MomentAfter n) breaks log waits = refl
-  ends commands BreakAddress breaks log waits = refl
-  ends commands Nothing breaks log waits = absurd waits
+      turn_run : (found : Option ℕ) (rest waiting : List DebugCommand) (back : ℕ) (goal : Goal) (breaks : AddressSet) (log : List ℕ)
+          → back ≤ length (undo_at labels moments end i) → next_stop breaks (undo_at labels moments end i) (Before s.moment) back ≡ found
+          → Finds labels moments end laws regular i breaks (Before s.moment) back found
+          → Stays i (Before s.moment) back Run breaks log (holding i waiting goal breaks log)
+          ⊎ Goes finish (Before s.moment) back Run rest (standing_back i back breaks log) (holding i waiting goal breaks log)
+      turn_run None rest waiting back goal breaks log under none finds =
+          let start : i - back + 1 ≡ i + 1 - back = omega (arith, held_within labels moments end laws i le) in
+          let inside = within moments i s left is in
+          let behind : met_behind labels moments end laws regular i breaks (Before s.moment) 0 ≡ met_at BreakAddress breaks (i + 1) left =
+          let first : i + 1 - 0 ≡ i + 1 = omega arith in rw (first, drop_next moments i s left is) refl in
+          let index : index_after labels moments end Run (standing_back i back breaks log) ≡ met_at BreakAddress breaks (i + 1) left =
+          rw start (finds ∙ behind) in
+          inr (goes_on Run rest waiting back goal BreakAddress breaks log (ap unless_stopped none) tt refl index (omega arith) (λ n view. refl))
+      turn_run (Some stop) rest waiting back goal breaks log under some finds =
+          inl (record {
+            none = ap unless_stopped some;
+            index = run_found i (Before s.moment) back stop breaks log le under finds ∙ rw some refl;
+            under = rw some (omega (arith, finds.later));
+          })
 
-  view_end : view_at labels moments end (length moments) ≡ at_end end
-  view_end = ap (seen labels moments end) (get_past moments (length moments) (omega arith))
+      turn_step : (count : ℕ) (rest waiting : List DebugCommand) (back : ℕ) (goal : Goal) (breaks : AddressSet) (log : List ℕ)
+          → back ≤ length (undo_at labels moments end i)
+          → Stays i (Before s.moment) back (Step count) breaks log (holding i waiting goal breaks log)
+          ⊎ Goes finish (Before s.moment) back (Step count) rest (standing_back i back breaks log) (holding i waiting goal breaks log)
+      turn_step count rest waiting back goal breaks log under =
+          let inside = within moments i s left is in
+          let held = held_within labels moments end laws i le in
+          elim (cases_Bool (nat_le count back)) [
+            | inl small ↦
+                let few : count ≤ back = grind (arith, nat_tests) in
+                inl (record {
+                  none = rw small refl;
+                  index = step_index i back count le (omega arith) few;
+                  under = omega arith;
+                })
+            | inr large ↦
+                let many : back < count = grind (arith, nat_tests) in
+                let index : min (i - back + count) (length moments) ≡ min (i + 1 + (count - back - 1)) (length moments) = omega arith in
+                inr (goes_on (Step count) rest waiting back goal (MomentAfter (count - back - 1)) breaks log (rw large refl) tt refl index (omega arith)
+                (λ n view. refl))
+          ]
 
-  comes-end : (i : ℕ) → i ≡ length moments → Comes i []
-  comes-end i all commands goal breaks log waits =
-      ap (λ (h : Watching). h.log) (ends commands goal breaks log waits)
-      ∙ done-end commands (holding labels commands goal breaks (log ++ arrival goal labels (at_end end))) refl
-      ∙ sym (ap (λ index. log_from (met goal breaks log index) commands) (index-ends i goal breaks all)
-      ∙ ap (λ view. log_from (standing (length moments) breaks (log ++ arrival goal labels view)) commands) view_end)
+      turn_before : Turn finish i (Before s.moment)
+      turn_before Run rest waiting back goal breaks log under =
+          turn_run (next_stop breaks (undo_at labels moments end i) (Before s.moment) back) rest waiting back goal breaks log under refl
+          (finds_before labels moments end laws regular i breaks s left is back under)
+      turn_before (Step count) rest waiting back goal breaks log under = turn_step count rest waiting back goal breaks log under
+      turn_before (Back count) rest waiting back goal breaks log under = inl (stays_back i (Before s.moment) back count waiting goal breaks log le under refl)
+      turn_before (Break a) rest waiting back goal breaks log under = inl (record { none = refl; index = refl; under = under })
+      turn_before (Delete a) rest waiting back goal breaks log under = inl (record { none = refl; index = refl; under = under })
+      turn_before Stacks rest waiting back goal breaks log under = inl (record { none = refl; index = refl; under = under })
+      turn_before (Mem a n) rest waiting back goal breaks log under = inl (record { none = refl; index = refl; under = under })
+      turn_before PortPage rest waiting back goal breaks log under = inl (record { none = refl; index = refl; under = under })
+      turn_before Here rest waiting back goal breaks log under = inl (record { none = refl; index = refl; under = under })
 
-  comes-awaited : (i : ℕ) (s : Shown) (left : List Shown) → drop i moments ≡ s ∷ left → Comes (i + 1) left
-      → (commands : List DebugCommand) (goal : Goal) (breaks : AddressSet) (log : List ℕ) → IsWaiting goal → is_awaited goal breaks s.moment.address ≡ true
-      → log_at_end (holding labels commands goal breaks log) (s ∷ left) ≡ log_from (met goal breaks log (met_at goal breaks i (s ∷ left))) commands
-  comes-awaited i s left is next commands goal breaks log waits awaited =
-      ap (λ h. log_at_end h left) (shows-awaited s commands goal breaks log awaited)
-      ∙ done-before i s left is next commands commands goal breaks (log ++ arrival goal labels (before s))
-      ∙ sym (ap (λ index. log_from (met goal breaks log index) commands) (index-awaited i s left goal breaks (within moments i s left is) waits awaited)
-      ∙ ap (λ view. log_from (standing i breaks (log ++ arrival goal labels view)) commands) (ap (seen labels moments end) (get_at moments i s left is)))
+      sees_before : Sees i (before s)
+      sees_before = sees_back labels moments end laws regular i s.core s.page.read (Before s.moment)
+          (comes_before labels moments end laws regular i s left is) (now_before labels moments end laws regular i s left is)
 
-  comes-later : (i : ℕ) (s : Shown) (left : List Shown) → Comes (i + 1) left
-      → (commands : List DebugCommand) (goal : Goal) (breaks : AddressSet) (log : List ℕ) → IsWaiting goal → is_awaited goal breaks s.moment.address ≡ false
-      → log_at_end (holding labels commands goal breaks log) (s ∷ left) ≡ log_from (met goal breaks log (met_at goal breaks i (s ∷ left))) commands
-  comes-later i s left next commands goal breaks log waits other =
-      ap (λ h. log_at_end h left) (shows-later s commands goal breaks log other)
-      ∙ next commands (goal_later goal) breaks log (still_waits goal breaks s.moment.address waits other)
-      ∙ ap (λ stand. log_from stand commands) (met-later goal breaks log (met_at (goal_later goal) breaks (i + 1) left))
-      ∙ sym (ap (λ index. log_from (met goal breaks log index) commands) (index-later i s left goal breaks waits other))
+      -- a moment, by whether it is the one that is waited for
+      shows-awaited : (commands : List DebugCommand) (goal : Goal) (breaks : AddressSet) (log : List ℕ) → is_awaited goal breaks s.moment.address ≡ true
+          → shown (holding i commands goal breaks log) s
+          ≡ with_kept s (done (before s) 0 commands (holding i commands goal breaks (log ++ arrival goal labels (before s))))
+      unfolding shown arrived
+      shows-awaited commands goal breaks log awaited = rw awaited refl
 
-  comes : (left : List Shown) (i : ℕ) → drop i moments ≡ left → i ≤ length moments → Comes i left
-  comes [] i is le commands goal breaks log waits = comes-end i (omega (arith, length-drop i moments, ap length is)) commands goal breaks log waits
-  comes (s ∷ left) i is le commands goal breaks log waits =
-      let less = within moments i s left is in
-      let next = comes left (i + 1) (drop_next moments i s left is) (omega arith) in
-      elim (cases_Bool (is_awaited goal breaks s.moment.address)) [
-        | inl awaited ↦ comes-awaited i s left is next commands goal breaks log waits awaited
-        | inr other ↦ comes-later i s left next commands goal breaks log waits other
+      shows-later : (commands : List DebugCommand) (goal : Goal) (breaks : AddressSet) (log : List ℕ) → is_awaited goal breaks s.moment.address ≡ false
+          → shown (holding i commands goal breaks log) s ≡ with_kept s (holding i commands (goal_later goal) breaks log)
+      unfolding shown
+      shows-later commands goal breaks log other = rw other refl
+
+      index-awaited : (goal : Goal) (breaks : AddressSet) → IsWaiting goal → is_awaited goal breaks s.moment.address ≡ true → met_at goal breaks i (s ∷ left) ≡ i
+      index-awaited FirstMoment breaks waits awaited = refl
+      index-awaited (MomentAfter n) breaks waits awaited =
+          let none : n ≡ 0 = eqb-true n 0 awaited in
+          let inside = within moments i s left is in
+          omega arith
+      index-awaited BreakAddress breaks waits awaited =
+          let inside = within moments i s left is in
+          rw (first_passes (λ (s : Shown). breaks s.moment.address) s left awaited) (omega arith)
+      index-awaited Nothing breaks waits awaited = absurd waits
+
+      index-later : (goal : Goal) (breaks : AddressSet) → IsWaiting goal
+          → is_awaited goal breaks s.moment.address ≡ false → met_at goal breaks i (s ∷ left) ≡ met_at (goal_later goal) breaks (i + 1) left
+      index-later FirstMoment breaks waits other = absurd (false≢true (sym other))
+      index-later (MomentAfter n) breaks waits other = let some : n ≡ 0 → ⊥ = eqb-false n 0 other in omega arith
+      index-later BreakAddress breaks waits other = rw (first_fails (λ (s : Shown). breaks s.moment.address) s left other) (omega arith)
+      index-later Nothing breaks waits other = absurd waits
+
+      still_waits : (goal : Goal) (breaks : AddressSet) (address : ℕ) → IsWaiting goal → is_awaited goal breaks address ≡ false → IsWaiting (goal_later goal)
+      still_waits FirstMoment breaks address waits other = tt
+      still_waits (MomentAfter n) breaks address waits other = tt
+      still_waits BreakAddress breaks address waits other = tt
+      still_waits Nothing breaks address waits other = waits
+
+      met-later : (goal : Goal) (breaks : AddressSet) (log : List ℕ) (index : ℕ) → met (goal_later goal) breaks log index ≡ met goal breaks log index
+      met-later FirstMoment breaks log index = refl
+      met-later (MomentAfter n) breaks log index = refl
+      met-later BreakAddress breaks log index = refl
+      met-later Nothing breaks log index = refl
+
+      comes-awaited : (commands : List DebugCommand) (goal : Goal) (breaks : AddressSet) (log : List ℕ) → IsWaiting goal → is_awaited goal breaks s.moment.address ≡ true
+          → log_at_end (holding i commands goal breaks log) (s ∷ left) ≡ log_from (met goal breaks log (met_at goal breaks i (s ∷ left))) commands
+      comes-awaited commands goal breaks log waits awaited =
+          let none : i - 0 ≡ i = omega arith in
+          let now = now_before labels moments end laws regular i s left is in
+          ap (λ h. log_at_end h left) (shows-awaited commands goal breaks log awaited)
+          ∙ done-all finish i (before s) le sees_before turn_before (λ held. nothing-later held.labels [] held.breaks held.log (keeping (kept_at s.core s.page.stored) held.undo) left) commands commands 0 goal breaks (log ++ arrival goal labels (before s))
+          (omega arith)
+          ∙ ap (λ index. log_from (standing index i breaks (log ++ arrival goal labels (before s))) commands) none
+          ∙ ap (λ view. log_from (standing i i breaks (log ++ arrival goal labels view)) commands) now
+          ∙ sym (ap (λ index. log_from (met goal breaks log index) commands) (index-awaited goal breaks waits awaited))
+
+      comes-later : (commands : List DebugCommand) (goal : Goal) (breaks : AddressSet) (log : List ℕ) → IsWaiting goal → is_awaited goal breaks s.moment.address ≡ false
+          → log_at_end (holding i commands goal breaks log) (s ∷ left) ≡ log_from (met goal breaks log (met_at goal breaks i (s ∷ left))) commands
+      comes-later commands goal breaks log waits other =
+          ap (λ h. log_at_end h left) (shows-later commands goal breaks log other)
+          ∙ ap (λ undo. log_at_end (record (holding i commands (goal_later goal) breaks log) { undo = undo }) left) (keeps labels moments end laws i s left is)
+          ∙ next commands (goal_later goal) breaks log (still_waits goal breaks s.moment.address waits other)
+          ∙ ap (λ stand. log_from stand commands) (met-later goal breaks log (met_at (goal_later goal) breaks (i + 1) left))
+          ∙ sym (ap (λ index. log_from (met goal breaks log index) commands) (index-later goal breaks waits other))
+
+      comes-moment : Comes i (s ∷ left)
+      comes-moment commands goal breaks log waits = elim (cases_Bool (is_awaited goal breaks s.moment.address)) [
+        | inl awaited ↦ comes-awaited commands goal breaks log waits awaited
+        | inr other ↦ comes-later commands goal breaks log waits other
       ]
 
-pub keeps_the_log : KeepsTheLog
+    module _ (i : ℕ) (is : i ≡ length moments) (none : drop i moments ≡ []) where
+      -- what is done at the end
+      abbrev log_there : Watching → List ℕ
+      log_there held = held.log
+
+      turn_run_at_end : (found : Option ℕ) (rest waiting : List DebugCommand) (back : ℕ) (goal : Goal) (breaks : AddressSet) (log : List ℕ)
+          → back ≤ length (undo_at labels moments end i) → next_stop breaks (undo_at labels moments end i) (End end.moment) back ≡ found
+          → Finds labels moments end laws regular i breaks (End end.moment) back found
+          → Stays i (End end.moment) back Run breaks log (holding i waiting goal breaks log)
+      turn_run_at_end None rest waiting back goal breaks log under none finds =
+          let start : i - back + 1 ≡ i + 1 - back = omega (arith, held_within labels moments end laws i (omega arith)) in
+          let index : index_after labels moments end Run (standing_back i back breaks log) ≡ i = rw start (finds ∙ omega arith) in
+          record { none = refl; index = rw none (index ∙ omega arith); under = rw none (omega arith) }
+      turn_run_at_end (Some stop) rest waiting back goal breaks log under some finds =
+          record {
+            none = refl;
+            index = run_found i (End end.moment) back stop breaks log (omega arith) under finds ∙ rw some refl;
+            under = rw some (omega (arith, finds.later));
+          }
+
+      step_at_end : (back count : ℕ) → back ≤ length (undo_at labels moments end i) → min (i - back + count) (length moments) ≡ i - (back - count)
+      step_at_end back count under = let held = held_within labels moments end laws i (omega arith) in omega arith
+
+      turn_at_end : Turn log_there i (End end.moment)
+      turn_at_end Run rest waiting back goal breaks log under =
+          inl (turn_run_at_end (next_stop breaks (undo_at labels moments end i) (End end.moment) back) rest waiting back goal breaks log under refl
+          (finds_at_end labels moments end laws regular i breaks is none back under))
+      turn_at_end (Step count) rest waiting back goal breaks log under =
+          inl (record { none = refl; index = step_at_end back count under; under = omega arith })
+      turn_at_end (Back count) rest waiting back goal breaks log under =
+          inl (stays_back i (End end.moment) back count waiting goal breaks log (omega arith) under refl)
+      turn_at_end (Break a) rest waiting back goal breaks log under = inl (record { none = refl; index = refl; under = under })
+      turn_at_end (Delete a) rest waiting back goal breaks log under = inl (record { none = refl; index = refl; under = under })
+      turn_at_end Stacks rest waiting back goal breaks log under = inl (record { none = refl; index = refl; under = under })
+      turn_at_end (Mem a n) rest waiting back goal breaks log under = inl (record { none = refl; index = refl; under = under })
+      turn_at_end PortPage rest waiting back goal breaks log under = inl (record { none = refl; index = refl; under = under })
+      turn_at_end Here rest waiting back goal breaks log under = inl (record { none = refl; index = refl; under = under })
+
+      sees_at_end : Sees i (at_end end)
+      sees_at_end = sees_back labels moments end laws regular i end.core end.page.read (End end.moment)
+          (comes_at_end labels moments end laws regular i is none) (now_at_end labels moments end laws regular i is)
+
+      index-ends : (goal : Goal) (breaks : AddressSet) → met_at goal breaks i [] ≡ i
+      index-ends FirstMoment breaks = refl
+      index-ends (MomentAfter n) breaks = omega arith
+      index-ends BreakAddress breaks = omega arith
+      index-ends Nothing breaks = sym is
+
+      ends : (commands : List DebugCommand) (goal : Goal) (breaks : AddressSet) (log : List ℕ) → IsWaiting goal
+          → ended (holding i commands goal breaks log) end
+          ≡ done (at_end end) 0 commands (holding i commands goal breaks (log ++ arrival goal labels (at_end end)))
+      unfolding ended arrived
+      ends commands FirstMoment breaks log waits = refl
+      ends commands (MomentAfter n) breaks log waits = refl
+      ends commands BreakAddress breaks log waits = refl
+      ends commands Nothing breaks log waits = absurd waits
+
+      comes-end : Comes i []
+      comes-end commands goal breaks log waits =
+          let first : i - 0 ≡ i = omega arith in
+          ap (λ (h : Watching). h.log) (ends commands goal breaks log waits)
+          ∙ done-all log_there i (at_end end) (omega arith) sees_at_end turn_at_end (λ held. refl) commands commands 0 goal breaks
+          (log ++ arrival goal labels (at_end end)) (omega arith)
+          ∙ ap (λ index. log_from (standing index i breaks (log ++ arrival goal labels (at_end end))) commands) first
+          ∙ ap (λ view. log_from (standing i i breaks (log ++ arrival goal labels view)) commands) (now_at_end labels moments end laws regular i is)
+          ∙ sym (ap (λ index. log_from (met goal breaks log index) commands) (index-ends goal breaks))
+
+    comes : (left : List Shown) (i : ℕ) → drop i moments ≡ left → i ≤ length moments → Comes i left
+    comes [] i is le = comes-end i (omega (arith, length-drop i moments, ap length is)) is
+    comes (s ∷ left) i is le =
+        comes-moment i s left is (comes left (i + 1) (drop_next moments i s left is) (omega (arith, within moments i s left is)))
+
+none_held : (n : ℕ) → [] ≡ take {A = Kept} n []
+none_held zero = refl
+none_held (suc n) = refl
+
+pub keeps_the_log : UndoLaws → KeepsTheLog
 unfolding log_of
-keeps_the_log commands labels moments end = comes labels moments end moments 0 refl (omega arith) commands FirstMoment no_breaks [] tt
+keeps_the_log laws commands labels moments end regular =
+    ap (λ undo. (ended (fold shown (record (new_watching commands labels) { undo = undo }) moments) end).log) (none_held (number_held []))
+    ∙ comes labels moments end laws regular moments 0 refl (omega arith) commands FirstMoment no_breaks [] tt

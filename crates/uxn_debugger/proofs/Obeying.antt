@@ -6,7 +6,7 @@ use Rattle.uxn_debugger.specs.declared.command.DebugCommand.{DebugCommand}
 use Rattle.uxn_debugger.specs.declared.place.Goal.{Goal}
 use Rattle.uxn_debugger.specs.declared.place.Goal.TheVariants.{Nothing}
 use Rattle.uxn_debugger.specs.Printing.{View}
-use Rattle.uxn_debugger.specs.Watching.{Watching, goal_of, did, done, unless_it_goes}
+use Rattle.uxn_debugger.specs.Watching.{Watching, goal_of, back_after, obeyed, done, unless_it_goes}
 
 -- what stands at a place comes next
 pub next_is : {A : Type 0} (read xs : List A) (i : ℕ) (x : A) → read ≡ xs → i < length read → x ≡ get_or read i x → drop i xs ≡ x ∷ drop (i + 1) xs
@@ -17,14 +17,15 @@ next_is read xs i x same within here =
 pub none_left : {A : Type 0} (read xs : List A) (i : ℕ) → read ≡ xs → length read ≤ i → drop i xs ≡ []
 none_left read xs i same past = rw (← same) (nil_from_length (drop i read) (omega (arith, length-drop i read)))
 
-done-none : (view : View) (held : Watching) → done view [] held ≡ record held { commands = []; goal = Nothing }
+pub done-none : (now : View) (back : ℕ) (held : Watching) → done now back [] held ≡ record held { commands = []; goal = Nothing }
 unfolding done
-done-none view held = refl
+done-none now back held = refl
 
-done-more : (view : View) (command : DebugCommand) (rest : List DebugCommand) (held : Watching)
-    → done view (command ∷ rest) held ≡ unless_it_goes (goal_of view.place command) rest held (done view rest (did view command held))
+pub done-more : (now : View) (back : ℕ) (command : DebugCommand) (rest : List DebugCommand) (held : Watching) → done now back (command ∷ rest) held
+    ≡ unless_it_goes (goal_of held now.place back command) rest held
+    (done now (back_after held now.place back command) rest (obeyed now back command held))
 unfolding done
-done-more view command rest held = refl
+done-more now back command rest held = refl
 
 -- what is done does not depend on the commands that are held beside it
 same_goes : (goal : Option Goal) (rest : List DebugCommand) (one two a b : Watching) → a ≡ b
@@ -33,34 +34,43 @@ same_goes : (goal : Option Goal) (rest : List DebugCommand) (one two a b : Watch
 same_goes None rest one two a b same goes = same
 same_goes (Some g) rest one two a b same goes = goes g
 
-done-any : (view : View) (commands other : List DebugCommand) (held : Watching) → done view commands (record held { commands = other }) ≡ done view commands held
-done-any view [] other held = done-none view (record held { commands = other }) ∙ sym (done-none view held)
-done-any view (command ∷ rest) other held =
-    done-more view command rest (record held { commands = other })
-    ∙ same_goes (goal_of view.place command) rest (record held { commands = other }) held _ _ (done-any view rest other (did view command held)) (λ g. refl)
-    ∙ sym (done-more view command rest held)
+done-any : (now : View) (back : ℕ) (commands other : List DebugCommand) (held : Watching)
+    → done now back commands (record held { commands = other }) ≡ done now back commands held
+done-any now back [] other held = done-none now back (record held { commands = other }) ∙ sym (done-none now back held)
+done-any now back (command ∷ rest) other held =
+    done-more now back command rest (record held { commands = other })
+    ∙ same_goes (goal_of held now.place back command) rest (record held { commands = other }) held _ _
+    (done-any now (back_after held now.place back command) rest other (obeyed now back command held)) (λ g. refl)
+    ∙ sym (done-more now back command rest held)
 
 -- a command was done that does not go on
-pub obeyed : (view : View) (command : DebugCommand) (rest : List DebugCommand) (held now all : Watching) → held.commands ≡ command ∷ rest
-    → goal_of view.place command ≡ None → now ≡ did view command (record held { commands = rest })
-    → done view held.commands held ≡ all → done view now.commands now ≡ all
-obeyed view command rest held now all cut stays is whole =
-    ap (λ (w : Watching). done view w.commands w) is
-    ∙ done-any view rest rest (did view command held)
-    ∙ sym (ap (λ commands. done view commands held) cut ∙ done-more view command rest held
-    ∙ ap (λ goal. unless_it_goes goal rest held (done view rest (did view command held))) stays)
+pub was_obeyed : (now : View) (back there : ℕ) (command : DebugCommand) (rest : List DebugCommand) (held new all : Watching) → held.commands ≡ command ∷ rest
+    → goal_of (record held { commands = rest }) now.place back command ≡ None
+    → there ≡ back_after (record held { commands = rest }) now.place back command
+    → new ≡ obeyed now back command (record held { commands = rest })
+    → done now back held.commands held ≡ all → done now there new.commands new ≡ all
+was_obeyed now back there command rest held new all cut stays is_there is whole =
+    let then = back_after held now.place back command in
+    ap (λ n. done now n new.commands new) is_there
+    ∙ ap (λ (w : Watching). done now then w.commands w) is
+    ∙ done-any now then rest rest (obeyed now back command held)
+    ∙ sym (ap (λ commands. done now back commands held) cut ∙ done-more now back command rest held
+    ∙ ap (λ goal. unless_it_goes goal rest held (done now then rest (obeyed now back command held))) stays)
     ∙ whole
 
 -- one went on
-pub went : (view : View) (command : DebugCommand) (rest : List DebugCommand) (goal : Goal) (held all : Watching) → held.commands ≡ command ∷ rest
-    → goal_of view.place command ≡ Some goal → done view held.commands held ≡ all → record held { commands = rest; goal = goal } ≡ all
-went view command rest goal held all cut goes whole =
-    sym (ap (λ commands. done view commands held) cut ∙ done-more view command rest held
-    ∙ ap (λ goal. unless_it_goes goal rest held (done view rest (did view command held))) goes)
+pub went : (now : View) (back : ℕ) (command : DebugCommand) (rest : List DebugCommand) (goal : Goal) (held all : Watching) → held.commands ≡ command ∷ rest
+    → goal_of (record held { commands = rest }) now.place back command ≡ Some goal → done now back held.commands held ≡ all
+    → record held { commands = rest; goal = goal } ≡ all
+went now back command rest goal held all cut goes whole =
+    sym (ap (λ commands. done now back commands held) cut ∙ done-more now back command rest held
+    ∙ ap (λ goal. unless_it_goes goal rest held (done now (back_after held now.place back command) rest (obeyed now back command held))) goes)
     ∙ whole
 
 -- none is left
-pub finished : (view : View) (held all : Watching) → held.commands ≡ [] → done view held.commands held ≡ all → record held { goal = Nothing } ≡ all
-finished view held all none whole =
+pub finished : (now : View) (back : ℕ) (held all : Watching) → held.commands ≡ [] → done now back held.commands held ≡ all
+    → record held { goal = Nothing } ≡ all
+finished now back held all none whole =
     ap (λ commands. record held { commands = commands; goal = Nothing }) none
-    ∙ sym (ap (λ commands. done view commands held) none ∙ done-none view held) ∙ whole
+    ∙ sym (ap (λ commands. done now back commands held) none ∙ done-none now back held)
+    ∙ whole

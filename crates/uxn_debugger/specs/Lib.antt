@@ -5,3 +5,4 @@ pub mod Log
 pub mod Watching
 pub mod Bits
 pub mod Kinds
+pub mod Scenes

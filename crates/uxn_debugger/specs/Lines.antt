@@ -12,7 +12,7 @@ use Rattle.tal_words.specs.declared.name.Label.{Label}
 use Rattle.tal_words.specs.Digits.{is_short_number, number_of}
 use Rattle.tal_words.specs.Labels.{address_named}
 use Rattle.uxn_debugger.specs.declared.command.DebugCommand.{DebugCommand}
-use Rattle.uxn_debugger.specs.declared.command.DebugCommand.TheVariants.{Break, Delete, Run, Step, Stacks, Mem, PortPage, Here}
+use Rattle.uxn_debugger.specs.declared.command.DebugCommand.TheVariants.{Break, Delete, Run, Step, Back, Stacks, Mem, PortPage, Here}
 use Rattle.uxn_debugger.specs.declared.command.CommandKind.{CommandKind}
 use Rattle.uxn_debugger.specs.declared.command.CommandKind.TheVariants.{Unknown, BadValue, NoSuchLabel, Missing, Extra}
 use Rattle.uxn_debugger.specs.declared.keyword.Keyword.{Keyword}
@@ -45,6 +45,7 @@ rows =
     ∷ (codes "delete", Exactly 1, word.Delete)
     ∷ (codes "run", Exactly 0, word.Run)
     ∷ (codes "step", Exactly 1, word.Step)
+    ∷ (codes "back", Exactly 1, word.Back)
     ∷ (codes "where", Exactly 0, word.Where)
     ∷ (codes "stacks", Exactly 0, word.Stacks)
     ∷ (codes "mem", Exactly 2, word.Mem)
@@ -57,6 +58,7 @@ made_of labels word.Break (a ∷ more) = made Break (address_in labels a)
 made_of labels word.Delete (a ∷ more) = made Delete (address_in labels a)
 made_of labels word.Run values = Ok Run
 made_of labels word.Step (n ∷ more) = ok_or (option_map Step (number_within 1 4294967295 n)) BadValue
+made_of labels word.Back (n ∷ more) = ok_or (option_map Back (number_within 1 65536 n)) BadValue
 made_of labels word.Where values = Ok Here
 made_of labels word.Stacks values = Ok Stacks
 made_of labels word.Mem (a ∷ n ∷ more) = bytes_from (address_in labels a) (number_within 1 256 n)

@@ -1,26 +1,47 @@
--- The log of a run under a list of commands (profile). It looks at the finished list of all moments of the run.
-use Rattle.std.specs.Prelude.{ℕ, ◌+◌, min, Bool, false, not, ◌&&◌, ◌||◌, ◌==◌, List, [], ◌++◌, drop, length}
-use Rattle.std.specs.Prelude.{Option, Some, None, slice_get, fold}
+-- The log of commands over a run (profile). The run is the finished list of its moments, and a command goes from index to index. The
+-- debugger decides moment by moment, and goes back by what it kept.
+use Rattle.std.specs.Prelude.{◌≡◌, ℕ, ◌+◌, ◌-◌, min, max, Bool, true, false, not, ◌&&◌, ◌||◌, ◌==◌, nat_lt, nat_le, if◌then◌else◌}
+use Rattle.std.specs.Prelude.{List, [], ◌++◌, take, drop, length, map, reverse, Option, Some, None, slice_get, fold}
 use Rattle.std.specs.List.{position_or_len}
 use Rattle.uxn_opcodes.specs.declared.Core.{Core}
 use Rattle.tal_words.specs.declared.name.Label.{Label}
 use Rattle.vector_loop.specs.declared.watch.Moment.{Moment}
+use Rattle.vector_loop.specs.Watch.{Page}
+use Rattle.uxn_undo.specs.Kept.{number_held}
+use Rattle.uxn_undo.specs.Laws.{Given, kept_of}
+use Rattle.uxn_undo.specs.Runs.{InRow}
 use Rattle.uxn_debugger.specs.declared.command.DebugCommand.{DebugCommand}
-use Rattle.uxn_debugger.specs.declared.command.DebugCommand.TheVariants.{Break, Delete, Run, Step}
+use Rattle.uxn_debugger.specs.declared.command.DebugCommand.TheVariants.{Break, Delete, Run, Step, Back}
 use Rattle.uxn_debugger.specs.declared.place.Place.TheVariants.{Before, End}
 use Rattle.uxn_debugger.specs.Printing.{View, view, printed}
 
--- what a watcher is shown: the machine, what the 256 ports read, and where the run is
+-- what a watcher is shown: the machine, the 256 ports, and where the run is
 pub record Shown : Type 0 where
   pub core : Core
-  pub page : List ℕ
+  pub page : Page
   pub moment : Moment
 
+-- a moment where the run stands, with what its ports read; one that the run has gone on from, with what was stored in them; and the end
 abbrev pub before : Shown → View
-before shown = view shown.core shown.page (Before shown.moment)
+before shown = view shown.core shown.page.read (Before shown.moment)
+
+abbrev pub gone : Shown → View
+gone shown = view shown.core shown.page.stored (Before shown.moment)
 
 abbrev pub at_end : Shown → View
-at_end shown = view shown.core shown.page (End shown.moment)
+at_end shown = view shown.core shown.page.read (End shown.moment)
+
+-- what is given to be kept of it
+abbrev pub given_of : Shown → Given
+given_of shown = record { core = shown.core; stored = shown.page.stored }
+
+-- moments of a run and its end: each is counted by its index, and stands at the address of its machine, and memory differs from that of
+-- the next one only within the bytes that are kept for it
+pub record IsRegular (moments : List Shown) (end : Shown) : Type 0 where
+  pub counts : (index : ℕ) (shown : Shown) → slice_get moments index ≡ Some shown → shown.moment.instructions ≡ index
+  pub addresses : (index : ℕ) (shown : Shown) → slice_get moments index ≡ Some shown → shown.moment.address ≡ shown.core.at
+  pub count : end.moment.instructions ≡ length moments
+  pub memory : InRow (map given_of moments) end.core.memory
 
 -- a set of addresses, and what commands make of it
 abbrev pub AddressSet : Type 0
@@ -40,45 +61,64 @@ breaks_after (Break address) breaks = with_break address breaks
 breaks_after (Delete address) breaks = without_break address breaks
 breaks_after _ breaks = breaks
 
--- the index of the present moment, the break addresses, and what was printed
+-- the index of the present moment, the greatest index gone to so far, the break addresses, and what was printed
 pub record Stand : Type 0 where
   pub index : ℕ
+  pub furthest : ℕ
   pub breaks : AddressSet
   pub log : List ℕ
 
 abbrev pub first_stand : Stand
-first_stand = record { index = 0; breaks = no_breaks; log = [] }
+first_stand = record { index = 0; furthest = 0; breaks = no_breaks; log = [] }
 
 module _ (labels : List Label) (moments : List Shown) (end : Shown) where
   -- what is seen at an index: a moment, or the end where there is none
-  abbrev pub seen : Option Shown → View
-  seen (Some shown) = before shown
-  seen None = at_end end
+  abbrev pub moment_seen : Bool → Shown → View
+  moment_seen true shown = gone shown
+  moment_seen false shown = before shown
 
-  abbrev pub view_at : ℕ → View
-  view_at index = seen (slice_get moments index)
+  abbrev pub seen : Bool → Option Shown → View
+  seen passed (Some shown) = moment_seen passed shown
+  seen passed None = at_end end
+
+  abbrev pub view_at : ℕ → ℕ → View
+  view_at furthest index = seen (nat_lt index furthest) (slice_get moments index)
+
+  -- the moments before an index, the newest first, and how many of them are held there
+  abbrev pub given_before : ℕ → List Given
+  given_before index = reverse (take index (map given_of moments))
+
+  abbrev pub held_before : ℕ → ℕ
+  held_before index = number_held (map kept_of (given_before index))
+
+  -- how many moments back one can go
+  abbrev pub reach : Stand → ℕ
+  reach stand = stand.index + held_before stand.furthest - stand.furthest
 
   -- the least greater index whose moment stands at a break address, or the end
   abbrev pub next_break : AddressSet → ℕ → ℕ
   next_break breaks index =
       min (index + 1 + position_or_len (λ shown. breaks shown.moment.address) (drop (index + 1) moments)) (length moments)
 
-  -- `run` and `step` go on, at most to the end; all other commands stay
-  abbrev pub index_after : DebugCommand → AddressSet → ℕ → ℕ
-  index_after Run breaks index = next_break breaks index
-  index_after (Step count) breaks index = min (index + count) (length moments)
-  index_after _ breaks index = index
+  -- `run` and `step` go on, at most to the end; `back` goes back, as far as moments are held, or not at all; all other commands stay
+  abbrev pub index_after : DebugCommand → Stand → ℕ
+  index_after Run stand = next_break stand.breaks stand.index
+  index_after (Step count) stand = min (stand.index + count) (length moments)
+  index_after (Back count) stand = if nat_le count (reach stand) then stand.index - count else stand.index
+  index_after _ stand = stand.index
 
   -- a command is done, and prints
-  abbrev pub stand_at : ℕ → Stand → DebugCommand → Stand
-  stand_at index stand command = record {
+  abbrev pub stand_at : ℕ → ℕ → Stand → DebugCommand → Stand
+  stand_at index furthest stand command = record {
     index = index;
+    furthest = furthest;
     breaks = breaks_after command stand.breaks;
-    log = stand.log ++ printed labels (view_at index) command;
+    log = stand.log ++ printed labels (reach stand) (view_at furthest index) command;
   }
 
   unfoldable pub after_command : Stand → DebugCommand → Stand
-  after_command stand command = stand_at (index_after command stand.breaks stand.index) stand command
+  after_command stand command =
+      stand_at (index_after command stand) (max stand.furthest (index_after command stand)) stand command
 
   -- the log of all commands
   unfoldable pub log_of : List DebugCommand → List ℕ

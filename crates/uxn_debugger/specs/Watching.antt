@@ -1,65 +1,119 @@
 -- What a debugger holds in the middle of a run, moment by moment. That it comes to the log of the whole run is a law.
-use Rattle.std.specs.Prelude.{ℕ, suc, ◌-◌, Bool, true, false, ◌==◌, if◌then◌else◌, List, [], ◌∷◌, ◌++◌}
-use Rattle.std.specs.Prelude.{Option, Some, None, ◌≡◌, drop, fold}
+use Rattle.std.specs.Prelude.{ℕ, zero, suc, ◌+◌, ◌-◌, ◌%◌, Bool, true, false, ◌==◌, nat_le, if◌then◌else◌, List, [], ◌∷◌, ◌++◌, length, take}
+use Rattle.std.specs.Prelude.{Option, Some, None, ◌≡◌, drop, fold, unwrap_or, slice_get}
 use Rattle.uxn_opcodes.specs.declared.Core.{Core}
 use Rattle.tal_words.specs.declared.name.Label.{Label}
 use Rattle.vector_loop.specs.declared.watch.Moment.{Moment}
+use Rattle.vector_loop.specs.Watch.{Page}
+use Rattle.uxn_undo.specs.Kept.{Kept, kept_at, number_held, byte_back}
 use Rattle.uxn_debugger.specs.declared.command.DebugCommand.{DebugCommand}
-use Rattle.uxn_debugger.specs.declared.command.DebugCommand.TheVariants.{Run, Step}
+use Rattle.uxn_debugger.specs.declared.command.DebugCommand.TheVariants.{Run, Step, Back}
 use Rattle.uxn_debugger.specs.declared.debugger.Debugger.{Debugger}
 use Rattle.uxn_debugger.specs.declared.place.Place.{Place}
-use Rattle.uxn_debugger.specs.declared.place.Place.TheVariants.{Before}
+use Rattle.uxn_debugger.specs.declared.place.Place.TheVariants.{Before, End}
 use Rattle.uxn_debugger.specs.declared.place.Goal.{Goal}
 use Rattle.uxn_debugger.specs.declared.place.Goal.TheVariants.{FirstMoment, MomentAfter, BreakAddress, Nothing}
-use Rattle.uxn_debugger.specs.Printing.{View, place_line, printed}
+use Rattle.uxn_debugger.specs.Printing.{View, moment_at, place_seen, printed}
 use Rattle.uxn_debugger.specs.Bits.{addresses_in}
-use Rattle.uxn_debugger.specs.Log.{AddressSet, no_breaks, breaks_after, Shown, before, at_end, log_of}
+use Rattle.uxn_debugger.specs.Log.{AddressSet, no_breaks, breaks_after, Shown, before, at_end, IsRegular, log_of}
 
--- the commands that are left, the labels, what it waits for, the break addresses, and the log so far
+-- the commands that are left, the labels, what it waits for, the break addresses, the log so far, and the moments that are held, the
+-- newest first
 pub record Watching : Type 0 where
   pub commands : List DebugCommand
   pub labels : List Label
   pub goal : Goal
   pub breaks : AddressSet
   pub log : List ℕ
+  pub undo : List Kept
 
 -- nothing was shown yet
 abbrev pub new_watching : List DebugCommand → List Label → Watching
-new_watching commands labels = record { commands = commands; labels = labels; goal = FirstMoment; breaks = no_breaks; log = [] }
+new_watching commands labels =
+    record { commands = commands; labels = labels; goal = FirstMoment; breaks = no_breaks; log = []; undo = [] }
 
--- what a command waits for that goes on; at the end none does
-abbrev pub goal_of : Place → DebugCommand → Option Goal
-goal_of (Before moment) Run = Some BreakAddress
-goal_of (Before moment) (Step (suc left)) = Some (MomentAfter left)
-goal_of _ _ = None
-
--- a command is done where the run stands
-abbrev pub did : View → DebugCommand → Watching → Watching
-did view command held = record held {
-  breaks = breaks_after command held.breaks;
-  log = held.log ++ printed held.labels view command;
+-- what is seen so many moments before the one that is shown, by what is kept of them
+abbrev pub seen_of : View → List Kept → ℕ → Option Kept → View
+seen_of now held back None = now
+seen_of now held back (Some kept) = record {
+  working = kept.working;
+  returns = kept.returns;
+  byte = λ at. byte_back (take back held) (at % 65536) (now.byte at);
+  page = kept.stored;
+  place = Before (record { instructions = (moment_at now.place).instructions - back; address = kept.at });
 }
+
+abbrev pub seen_back : View → List Kept → ℕ → View
+seen_back now held back = if back == 0 then now else seen_of now held back (slice_get held (back - 1))
+
+-- the moment so many before stands at a break address; 0 is the one that is shown, and the end is none
+abbrev pub stands_at_break : AddressSet → Place → Bool
+stands_at_break breaks (Before moment) = breaks moment.address
+stands_at_break breaks (End moment) = false
+
+abbrev pub was_at_break : AddressSet → Option Kept → Bool
+was_at_break breaks None = false
+was_at_break breaks (Some kept) = breaks kept.at
+
+abbrev pub is_stop : AddressSet → List Kept → Place → ℕ → Bool
+is_stop breaks held place back =
+    if back == 0 then stands_at_break breaks place else was_at_break breaks (slice_get held (back - 1))
+
+-- the next moment at a break address behind the one that lies so far back, as far as the run was shown
+unfoldable pub next_stop : AddressSet → List Kept → Place → ℕ → Option ℕ
+next_stop breaks held place zero = None
+next_stop breaks held place (suc less) = if is_stop breaks held place less then Some less else next_stop breaks held place less
+
+-- how far back a command leaves one, where it waits for nothing
+abbrev pub back_after : Watching → Place → ℕ → DebugCommand → ℕ
+back_after held place back Run = unwrap_or (next_stop held.breaks held.undo place back) 0
+back_after held place back (Step count) = back - count
+back_after held place back (Back count) = if nat_le count (length held.undo - back) then back + count else back
+back_after held place back _ = back
+
+-- what a command waits for that goes on past the moment that is shown; at the end none does
+abbrev pub unless_stopped : Option ℕ → Option Goal
+unless_stopped None = Some BreakAddress
+unless_stopped (Some stop) = None
+
+abbrev pub goal_of : Watching → Place → ℕ → DebugCommand → Option Goal
+goal_of held (Before moment) back Run = unless_stopped (next_stop held.breaks held.undo (Before moment) back)
+goal_of held (Before moment) back (Step count) = if nat_le count back then None else Some (MomentAfter (count - back - 1))
+goal_of _ _ _ _ = None
+
+-- a command is done where it leaves one
+abbrev pub did : View → ℕ → DebugCommand → Watching → Watching
+did view reach command held = record held {
+  breaks = breaks_after command held.breaks;
+  log = held.log ++ printed held.labels reach view command;
+}
+
+abbrev pub obeyed : View → ℕ → DebugCommand → Watching → Watching
+obeyed now back command held =
+    did (seen_back now held.undo (back_after held now.place back command)) (length held.undo - back) command held
 
 -- a command that goes on leaves the rest to be done later
 abbrev pub unless_it_goes : Option Goal → List DebugCommand → Watching → Watching → Watching
 unless_it_goes (Some goal) rest held others = record held { commands = rest; goal = goal }
 unless_it_goes None rest held others = others
 
--- commands are done until one goes on, or none is left
-unfoldable pub done : View → List DebugCommand → Watching → Watching
-done view [] held = record held { commands = []; goal = Nothing }
-done view (command ∷ rest) held = unless_it_goes (goal_of view.place command) rest held (done view rest (did view command held))
+-- commands are done from so many moments back on, until one goes on or none is left
+unfoldable pub done : View → ℕ → List DebugCommand → Watching → Watching
+done now back [] held = record held { commands = []; goal = Nothing }
+done now back (command ∷ rest) held =
+    unless_it_goes (goal_of held now.place back command) rest held
+    (done now (back_after held now.place back command) rest (obeyed now back command held))
 
 -- the place line is printed as `run` and `step` arrive, and the next commands are done
 abbrev pub arrival : Goal → List Label → View → List ℕ
 arrival FirstMoment labels view = []
-arrival _ labels view = place_line labels view.core view.place
+arrival _ labels view = place_seen labels view
 
 abbrev pub with_arrival : View → Watching → Watching
 with_arrival view held = record held { log = held.log ++ arrival held.goal held.labels view }
 
 unfoldable pub arrived : View → Watching → Watching
-arrived view held = done view held.commands (with_arrival view held)
+arrived view held = done view 0 held.commands (with_arrival view held)
 
 -- a moment at this address is the one that was waited for
 abbrev pub is_awaited : Goal → AddressSet → ℕ → Bool
@@ -73,11 +127,22 @@ abbrev pub goal_later : Goal → Goal
 goal_later (MomentAfter left) = MomentAfter (left - 1)
 goal_later goal = goal
 
--- a moment is shown
-unfoldable pub shown : Watching → Shown → Watching
-shown held moment =
+-- commands are done where the moment is the one that was waited for
+abbrev pub followed : Watching → Shown → Watching
+followed held moment =
     if is_awaited held.goal held.breaks moment.moment.address then arrived (before moment) held
     else record held { goal = goal_later held.goal }
+
+-- one more moment is kept
+abbrev pub keeping : Kept → List Kept → List Kept
+keeping kept held = take (number_held (kept ∷ held)) (kept ∷ held)
+
+abbrev pub with_kept : Shown → Watching → Watching
+with_kept moment held = record held { undo = keeping (kept_at moment.core moment.page.stored) held.undo }
+
+-- a moment is shown
+unfoldable pub shown : Watching → Shown → Watching
+shown held moment = with_kept moment (followed held moment)
 
 -- the end is shown
 abbrev pub is_nothing : Goal → Bool
@@ -95,21 +160,22 @@ held_by debugger = record {
   goal = debugger.goal;
   breaks = addresses_in debugger.breaks.bits;
   log = debugger.log.items;
+  undo = debugger.undo;
 }
 
-abbrev pub shown_of : Core → List ℕ → Moment → Shown
+abbrev pub shown_of : Core → Page → Moment → Shown
 shown_of core page moment = record { core = core; page = page; moment = moment }
 
-abbrev pub after_moment : Watching → Core → List ℕ → Moment → Watching
+abbrev pub after_moment : Watching → Core → Page → Moment → Watching
 after_moment held core page moment = shown held (shown_of core page moment)
 
-abbrev pub after_end : Watching → Core → List ℕ → Moment → Watching
+abbrev pub after_end : Watching → Core → Page → Moment → Watching
 after_end held core page moment = ended held (shown_of core page moment)
 
 abbrev pub MayWantMemory : Type 0
 MayWantMemory = Unit {0}
 
--- a new debugger that is shown all moments in order, and then the end, keeps the log of the run
+-- a new debugger that is shown the moments of a run in order, and then its end, keeps the log of the run
 abbrev pub KeepsTheLog : Type 0
-KeepsTheLog = (commands : List DebugCommand) (labels : List Label) (moments : List Shown) (end : Shown)
+KeepsTheLog = (commands : List DebugCommand) (labels : List Label) (moments : List Shown) (end : Shown) → IsRegular moments end
     → (ended (fold shown (new_watching commands labels) moments) end).log ≡ log_of labels moments end commands

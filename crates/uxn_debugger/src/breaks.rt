@@ -2,7 +2,9 @@
 
 ghost use Rattle.std.specs.Prelude.{◌≡◌};
 ghost use Rattle.uxn_debugger.specs.Bits.{addresses_in};
-ghost use Rattle.uxn_debugger.specs.Log.{no_breaks, with_break, without_break};
+ghost use Rattle.uxn_debugger.specs.Log.{breaks_after, no_breaks, with_break, without_break};
+
+use crate::command::DebugCommand;
 
 /// How many words have a bit for each address.
 const WORDS: usize = 1024;
@@ -41,5 +43,16 @@ impl Breaks {
         ensures { addresses_in self.new.bits ≡ without_break address (addresses_in self.old.bits) }
     {
         self.bits[usize::from(address / 64)] &= !(1 << (address % 64));
+    }
+
+    // Does what a command does to the set.
+    pub(crate) fn follow(&mut self, command: DebugCommand)
+        ensures { addresses_in self.new.bits ≡ breaks_after command (addresses_in self.old.bits) }
+    {
+        match command {
+            DebugCommand::Break(address) => self.insert(address),
+            DebugCommand::Delete(address) => self.remove(address),
+            _ => {}
+        }
     }
 }

@@ -17,11 +17,13 @@ pub enum DebugCommand {
     Run,
     /// Goes so many moments on, or to the end.
     Step(u32),
+    /// Goes so many moments back, where they are held, or stays.
+    Back(u32),
     /// Prints the bytes below the pointers of the two rings.
     Stacks,
     /// Prints so many bytes of memory from an address on.
     Mem(u16, u16),
-    /// Prints what the 256 ports read.
+    /// Prints what the 256 ports read, or what was stored in them where the run has gone on since.
     PortPage,
     /// Prints the place.
     Here,

@@ -1,29 +1,39 @@
 //! The debugger: a watcher that does commands and keeps a log.
 
-ghost use Rattle.std.specs.Prelude.{◌≡◌, ℕ, List, if◌then◌else◌, OnOk};
-ghost use Rattle.vector_loop.specs.Watch.{IsPage};
+ghost use Rattle.std.specs.Prelude.{◌≡◌, ◌≤◌, ℕ, List, [], length, if◌then◌else◌, IfOk, IfSome, OnOk};
+ghost use Rattle.vector_loop.specs.Watch.{Page, IsPage};
 ghost use Rattle.uxn_debugger.specs.Printing.{view};
 ghost use Rattle.uxn_debugger.specs.Watching.{
   KeepsTheLog,
   arrived,
-  did,
+  back_after,
   done,
+  followed,
   goal_later,
   goal_of,
   held_by,
   is_awaited,
+  is_stop,
   new_watching,
+  next_stop,
+  obeyed,
+  shown_of,
   with_arrival,
+  with_kept,
 };
 
 use crate::breaks::Breaks;
 use crate::command::DebugCommand;
 use crate::place::{Goal, Place};
-use crate::printing::{put_address_line, put_memory, put_place, put_ports};
+use crate::printing::{put_place, put_printed};
+use crate::scene::Scene;
 use std::alloc::{AllocError, Global};
-use system_port::debug_text;
 use tal_symbols::Label;
 use uxn_opcodes::{Core, Ports};
+use uxn_undo::{
+    Undo, going_back_gives_the_moment, the_moments_of_a_run_are_in_a_row,
+    the_newest_moments_are_held,
+};
 use vector_loop::{Moment, Watcher};
 
 /// Watches a run: it does commands, one after the other, and keeps what they print. It changes nothing of the run.
@@ -35,12 +45,19 @@ pub struct Debugger<'a> {
     goal: Goal,
     breaks: Breaks,
     log: Vec<u8>,
+    undo: Undo,
 }
 
 impl<'a> Debugger<'a> {
     /// A debugger that does these commands, with an empty log. It takes no memory. The labels are those that the log
-    /// names.
-    pub fn new(alloc: Global, commands: Vec<DebugCommand>, labels: &'a [Label]) -> Debugger<'a>
+    /// names, and `undo` keeps the moments that commands go back to.
+    pub fn new(
+        alloc: Global,
+        commands: Vec<DebugCommand>,
+        labels: &'a [Label],
+        undo: Undo,
+    ) -> Debugger<'a>
+        requires { undo ≡ [] }
         ensures { held_by result ≡ new_watching commands.items labels.now }
     {
         Debugger {
@@ -50,6 +67,7 @@ impl<'a> Debugger<'a> {
             goal: Goal::FirstMoment,
             breaks: Breaks::new(),
             log: Vec::new(alloc),
+            undo,
         }
     }
 
@@ -78,12 +96,35 @@ impl<'a> Debugger<'a> {
         }
     }
 
+    // Does commands where the moment is the one that was waited for.
+    #[inline(always)]
+    fn follow<P: Ports>(&mut self, core: &Core, ports: &P, moment: Moment) -> Result<(), AllocError>
+        ensures { OnOk result ((page : Page) → IsPage (P.rules.reads ports.now core.now) (P.stored ports.now) page
+            → held_by self.new ≡ followed (held_by self.old) (shown_of core.now page moment)) }
+    {
+        if !self.ends_wait(moment.address) {
+            return Ok(());
+        }
+        self.arrive(core, ports, Place::Before(moment))
+    }
+
+    // Keeps one more moment.
+    #[inline(always)]
+    fn keep<P: Ports>(&mut self, core: &Core, ports: &P)
+        ensures { (page : Page) (moment : Moment) → IsPage (P.rules.reads ports.now core.now) (P.stored ports.now) page
+            → held_by self.new ≡ with_kept (shown_of core.now page moment) (held_by self.old) }
+    {
+        the_newest_moments_are_held();
+        has_all_ports(ports.stored_page());
+        self.undo.keep(core, ports);
+    }
+
     // Prints the place, unless the run begins, and does the next commands.
     #[inline(never)]
     #[tactic(auto, unfolding(crate::specs::Watching::arrived))]
     fn arrive<P: Ports>(&mut self, core: &Core, ports: &P, place: Place) -> Result<(), AllocError>
-        ensures { OnOk result ((page : List ℕ) → IsPage (P.rules.reads ports.now core.now) page
-            → held_by self.new ≡ arrived (view core.now page place) (held_by self.old)) }
+        ensures { OnOk result ((page : Page) → IsPage (P.rules.reads ports.now core.now) (P.stored ports.now) page
+            → held_by self.new ≡ arrived (view core.now page.read place) (held_by self.old)) }
     {
         self.put_arrival(core, place)?;
         self.go_on(core, ports, place)
@@ -96,79 +137,136 @@ impl<'a> Debugger<'a> {
     {
         match self.goal {
             Goal::FirstMoment => Ok(()),
-            _ => put_place(&mut self.log, self.labels, core, place),
+            _ => {
+                let scene = Scene {
+                    core,
+                    place,
+                    undo: &self.undo,
+                    back: 0,
+                };
+                put_place(&mut self.log, self.labels, &scene)
+            }
         }
     }
 
     // Does commands until one goes on, or none is left.
     fn go_on<P: Ports>(&mut self, core: &Core, ports: &P, place: Place) -> Result<(), AllocError>
-        ensures { OnOk result ((page : List ℕ) → IsPage (P.rules.reads ports.now core.now) page
-            → held_by self.new ≡ done (view core.now page place) (held_by self.old).commands (held_by self.old)) }
+        ensures { OnOk result ((page : Page) → IsPage (P.rules.reads ports.now core.now) (P.stored ports.now) page
+            → held_by self.new ≡ done (view core.now page.read place) 0 (held_by self.old).commands (held_by self.old)) }
     {
+        let mut back = 0;
         while let Some(command) = self.commands.get(self.next) {
             let command = *command;
             self.next += 1;
-            match goal_of(place, command) {
+            match self.goal_of(place, back, command) {
                 Some(goal) => {
                     self.goal = goal;
                     return Ok(());
                 }
-                None => self.obey(core, ports, place, command)?,
+                None => back = self.obey(core, ports, place, back, command)?,
             }
         }
         self.goal = Goal::Nothing;
         Ok(())
     }
 
-    // Does a command where the run stands.
+    // What a command waits for that goes on past the moment that is shown, if it does.
+    fn goal_of(&self, place: Place, back: u32, command: DebugCommand) -> Option<Goal>
+        requires { back ≤ length (held_by self.now).undo }
+        ensures { result ≡ goal_of (held_by self.now) place back command }
+    {
+        match (place, command) {
+            (Place::Before(_), DebugCommand::Run) => match self.next_stop(place, back) {
+                Some(_) => None,
+                None => Some(Goal::BreakAddress),
+            },
+            (Place::Before(_), DebugCommand::Step(count)) => match count.checked_sub(back) {
+                None | Some(0) => None,
+                Some(more) => Some(Goal::MomentAfter(more - 1)),
+            },
+            _ => None,
+        }
+    }
+
+    // How far back a command leaves one, where it waits for nothing.
+    fn back_after(&self, place: Place, back: u32, command: DebugCommand) -> u32
+        requires { back ≤ length (held_by self.now).undo }
+        ensures back { result ≡ back_after (held_by self.now) place back command }
+        ensures held { result ≤ length (held_by self.now).undo }
+    {
+        match command {
+            DebugCommand::Run => self.next_stop(place, back).unwrap_or(0),
+            DebugCommand::Step(count) => back.saturating_sub(count),
+            DebugCommand::Back(count) if count <= self.undo.held() - back => back + count,
+            _ => back,
+        }
+    }
+
+    // How far back the next moment at a break address lies behind the one so far back, if the run was shown it.
+    #[tactic(auto, unfolding(crate::specs::Watching::next_stop))]
+    fn next_stop(&self, place: Place, back: u32) -> Option<u32>
+        requires { back ≤ length (held_by self.now).undo }
+        ensures stop { result ≡ next_stop (held_by self.now).breaks (held_by self.now).undo place back }
+        ensures later { IfSome result (λ stop. stop ≤ back) }
+    {
+        let mut left = back;
+        while let Some(less) = left.checked_sub(1) {
+            left = less;
+            if self.is_stop(place, less) {
+                return Some(less);
+            }
+        }
+        None
+    }
+
+    // Whether the moment so far back stands at a break address; 0 is the one that is shown.
+    fn is_stop(&self, place: Place, back: u32) -> bool
+        requires { back ≤ length (held_by self.now).undo }
+        ensures { result ≡ is_stop (held_by self.now).breaks (held_by self.now).undo place back }
+    {
+        if back > 0 {
+            return self.breaks.contains(self.undo.address(back));
+        }
+        match place {
+            Place::Before(moment) => self.breaks.contains(moment.address),
+            Place::End(_) => false,
+        }
+    }
+
+    // Does a command so far back, and says how far back it leaves one.
     fn obey<P: Ports>(
         &mut self,
         core: &Core,
         ports: &P,
         place: Place,
+        back: u32,
         command: DebugCommand,
-    ) -> Result<(), AllocError>
+    ) -> Result<u32, AllocError>
+        requires { back ≤ length (held_by self.old).undo }
         ensures left { (held_by self.new).commands ≡ (held_by self.old).commands }
-        ensures ok { OnOk result ((page : List ℕ) → IsPage (P.rules.reads ports.now core.now) page
-            → held_by self.new ≡ did (view core.now page place) command (held_by self.old)) }
+        ensures back { IfOk result (λ there. there ≡ back_after (held_by self.old) place back command) }
+        ensures held { IfOk result (λ there. there ≤ length (held_by self.new).undo) }
+        ensures ok { OnOk result ((page : Page) → IsPage (P.rules.reads ports.now core.now) (P.stored ports.now) page
+            → held_by self.new ≡ obeyed (view core.now page.read place) back command (held_by self.old)) }
     {
-        match command {
-            DebugCommand::Break(address) => {
-                self.breaks.insert(address);
-                put_address_line(&mut self.log, b"break", address)
-            }
-            DebugCommand::Delete(address) => {
-                self.breaks.remove(address);
-                put_address_line(&mut self.log, b"delete", address)
-            }
-            DebugCommand::Run | DebugCommand::Step(_) | DebugCommand::Here => {
-                put_place(&mut self.log, self.labels, core, place)
-            }
-            DebugCommand::Stacks => {
-                let text = debug_text(&core.working, &core.returns);
-                self.log.extend_from_slice(text.as_slice())
-            }
-            DebugCommand::Mem(address, count) => {
-                put_memory(&mut self.log, &core.memory, address, count)
-            }
-            DebugCommand::PortPage => put_ports(&mut self.log, core, ports),
-        }
+        let reach = self.undo.held() - back;
+        let there = self.back_after(place, back, command);
+        self.breaks.follow(command);
+        let scene = Scene {
+            core,
+            place,
+            undo: &self.undo,
+            back: there,
+        };
+        put_printed(&mut self.log, self.labels, &scene, ports, reach, command)?;
+        Ok(there)
     }
 }
 
-// What a command waits for that goes on; at the end none does.
-fn goal_of(place: Place, command: DebugCommand) -> Option<Goal>
-    ensures { result ≡ goal_of place command }
-{
-    match (place, command) {
-        (Place::Before(_), DebugCommand::Run) => Some(Goal::BreakAddress),
-        (Place::Before(_), DebugCommand::Step(count)) => match count.checked_sub(1) {
-            Some(left) => Some(Goal::MomentAfter(left)),
-            None => None,
-        },
-        _ => None,
-    }
-}
+// A page has a byte for each port.
+fn has_all_ports(page: &[u8; 256])
+    ensures { length page.now ≡ 256 }
+{}
 
 impl<'a> Watcher for Debugger<'a> {
     ghost use Rattle.uxn_debugger.specs.Watching.{
@@ -190,17 +288,15 @@ impl<'a> Watcher for Debugger<'a> {
     ghost may_refuse = { MayWantMemory };
 
     #[inline(always)]
-    #[tactic(auto, unfolding(crate::specs::Watching::shown))]
     fn before<P: Ports>(
         &mut self,
         core: &Core,
         ports: &P,
         moment: Moment,
     ) -> Result<(), AllocError> {
-        if !self.ends_wait(moment.address) {
-            return Ok(());
-        }
-        self.arrive(core, ports, Place::Before(moment))
+        self.follow(core, ports, moment)?;
+        self.keep(core, ports);
+        Ok(())
     }
 
     #[tactic(auto, unfolding(crate::specs::Watching::ended))]
@@ -220,4 +316,8 @@ impl<'a> Watcher for Debugger<'a> {
 /// A debugger that is shown the moments of a run in order, and then its end, keeps the log of its commands over the run.
 pub fn the_log_is_that_of_the_run()
     ensures { KeepsTheLog }
-{}
+{
+    the_newest_moments_are_held();
+    going_back_gives_the_moment();
+    the_moments_of_a_run_are_in_a_row();
+}

@@ -13,6 +13,7 @@ pub(crate) enum Keyword {
     Delete,
     Run,
     Step,
+    Back,
     Where,
     Stacks,
     Mem,
@@ -20,11 +21,12 @@ pub(crate) enum Keyword {
 }
 
 /// The lines of commands.
-static ROWS: [Row<Keyword>; 8] = [
+static ROWS: [Row<Keyword>; 9] = [
     Row("break", Counts::Exactly(1), Keyword::Break),
     Row("delete", Counts::Exactly(1), Keyword::Delete),
     Row("run", Counts::Exactly(0), Keyword::Run),
     Row("step", Counts::Exactly(1), Keyword::Step),
+    Row("back", Counts::Exactly(1), Keyword::Back),
     Row("where", Counts::Exactly(0), Keyword::Where),
     Row("stacks", Counts::Exactly(0), Keyword::Stacks),
     Row("mem", Counts::Exactly(2), Keyword::Mem),

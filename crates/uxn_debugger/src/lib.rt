@@ -9,6 +9,7 @@ mod line;
 mod place;
 mod printing;
 mod reading;
+mod scene;
 
 pub use command::{CommandKind, CommandStop, DebugCommand};
 pub use debugger::{Debugger, the_log_is_that_of_the_run};

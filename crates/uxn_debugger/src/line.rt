@@ -13,6 +13,9 @@ use tal_symbols::{Label, address_of};
 /// The most moments that one command goes on.
 const MOST_STEPS: u64 = 4_294_967_295;
 
+/// The most moments that one command goes back.
+const MOST_BACK: u64 = 65_536;
+
 /// The most bytes that one command prints.
 const MOST_BYTES: u64 = 256;
 
@@ -54,6 +57,10 @@ fn made_of(labels: &[Label], keyword: Keyword, values: &[u8]) -> Result<DebugCom
         Keyword::Delete => Ok(DebugCommand::Delete(address_in(labels, word)?)),
         Keyword::Step => match number_within(1, MOST_STEPS, word) {
             Some(count) => Ok(DebugCommand::Step(count as u32)),
+            None => Err(CommandKind::BadValue),
+        },
+        Keyword::Back => match number_within(1, MOST_BACK, word) {
+            Some(count) => Ok(DebugCommand::Back(count as u32)),
             None => Err(CommandKind::BadValue),
         },
         _ => {

@@ -1,5 +1,8 @@
 //! Where a run stands, and where it is to be watched next.
 
+ghost use Rattle.std.specs.Prelude.{◌≡◌};
+ghost use Rattle.uxn_debugger.specs.Printing.{moment_at};
+
 use vector_loop::Moment;
 
 // Where a run stands.
@@ -9,6 +12,17 @@ pub(crate) enum Place {
     Before(Moment),
     // At its end.
     End(Moment),
+}
+
+impl Place {
+    // How many instructions were run before, and the address.
+    pub(crate) fn moment(self) -> Moment
+        ensures { result ≡ moment_at self }
+    {
+        match self {
+            Place::Before(moment) | Place::End(moment) => moment,
+        }
+    }
 }
 
 // What the debugger waits for.

@@ -1,26 +1,31 @@
 //! What commands print.
 
-ghost use Rattle.std.specs.Prelude.{◌≡◌, ◌++◌, ℕ, List, if◌then◌else◌, ◌==◌, ◌||◌, ◌%◌, ◌+◌, [], OnOk};
-ghost use Rattle.vector_loop.specs.Watch.{IsPage};
+ghost use Rattle.std.specs.Prelude.{◌≡◌, ◌≤◌, ◌++◌, ℕ, List, length, if◌then◌else◌, ◌==◌, ◌||◌, ◌%◌, ◌+◌, [], OnOk};
+ghost use Rattle.vector_loop.specs.Watch.{Page, IsPage};
 ghost use Rattle.tal_symbols.specs.Lookups.{nearest_label};
 ghost use Rattle.system_port.specs.DebugText.{spaced};
 ghost use Rattle.uxn_debugger.specs.Printing.{
   address_line,
+  held_line,
   label_text,
   memory_table,
   newline,
   place_line,
+  place_seen,
   port_table,
+  printed,
 };
+ghost use Rattle.uxn_debugger.specs.Scenes.{view_in};
 
+use crate::command::DebugCommand;
 use crate::place::Place;
+use crate::scene::Scene;
 use std::alloc::AllocError;
+use system_port::debug_text;
 use tal_symbols::{Label, nearest};
 use tal_words::op_name;
 use uxn_io::{decimal, hex_byte, hex_short};
-use uxn_memory::Memory;
-use uxn_opcodes::{Core, Ports};
-use vector_loop::Moment;
+use uxn_opcodes::Ports;
 
 /// How many bytes a line shows.
 const ROW: u16 = 16;
@@ -28,12 +33,37 @@ const ROW: u16 = 16;
 /// How many ports there are.
 const PORTS: u16 = 256;
 
-// Prints a word and an address.
-pub(crate) fn put_address_line(
+// Prints what a command prints. Before it one could have gone so many moments back.
+pub(crate) fn put_printed<P: Ports>(
     log: &mut Vec<u8>,
-    word: &[u8],
-    address: u16,
+    labels: &[Label],
+    scene: &Scene<'_>,
+    ports: &P,
+    reach: u32,
+    command: DebugCommand,
 ) -> Result<(), AllocError>
+    requires { scene.now.back ≤ length scene.now.undo.now }
+    ensures { OnOk result ((page : Page) → IsPage (P.rules.reads ports.now scene.now.core.now) (P.stored ports.now) page
+        → log.new.items ≡ log.old.items ++ printed labels.now reach (view_in scene.now page.read) command) }
+{
+    match command {
+        DebugCommand::Break(address) => put_address_line(log, b"break", address),
+        DebugCommand::Delete(address) => put_address_line(log, b"delete", address),
+        DebugCommand::Back(count) if count > reach => put_held(log, reach),
+        DebugCommand::Run | DebugCommand::Step(_) | DebugCommand::Back(_) | DebugCommand::Here => {
+            put_place(log, labels, scene)
+        }
+        DebugCommand::Stacks => {
+            let text = debug_text(&scene.working(), &scene.returns());
+            log.extend_from_slice(text.as_slice())
+        }
+        DebugCommand::Mem(address, count) => put_memory(log, scene, address, count),
+        DebugCommand::PortPage => put_ports(log, scene, ports),
+    }
+}
+
+// Prints a word and an address.
+fn put_address_line(log: &mut Vec<u8>, word: &[u8], address: u16) -> Result<(), AllocError>
     ensures { OnOk result (log.new.items ≡ log.old.items ++ address_line word.now address) }
 {
     log.extend_from_slice(word)?;
@@ -43,15 +73,40 @@ pub(crate) fn put_address_line(
     Ok(())
 }
 
+// Prints how many moments back one could have gone.
+fn put_held(log: &mut Vec<u8>, reach: u32) -> Result<(), AllocError>
+    ensures { OnOk result (log.new.items ≡ log.old.items ++ held_line reach) }
+{
+    log.extend_from_slice(b"held ")?;
+    log.extend_from_slice(decimal(u64::from(reach)).as_slice())?;
+    log.push(b'\n')?;
+    Ok(())
+}
+
 // Prints the place line.
-#[tactic(auto, unfolding(crate::specs::Printing::place_line))]
 pub(crate) fn put_place(
     log: &mut Vec<u8>,
     labels: &[Label],
-    core: &Core,
+    scene: &Scene<'_>,
+) -> Result<(), AllocError>
+    requires { scene.now.back ≤ length scene.now.undo.now }
+    ensures { OnOk result ((page : List ℕ)
+        → log.new.items ≡ log.old.items ++ place_seen labels.now (view_in scene.now page)) }
+{
+    let place = scene.place();
+    let opcode = scene.byte(place.moment().address);
+    put_place_line(log, labels, opcode, place)
+}
+
+// Prints the place line of a place, with the opcode there.
+#[tactic(auto, unfolding(crate::specs::Printing::place_line))]
+fn put_place_line(
+    log: &mut Vec<u8>,
+    labels: &[Label],
+    opcode: u8,
     place: Place,
 ) -> Result<(), AllocError>
-    ensures { OnOk result (log.new.items ≡ log.old.items ++ place_line labels.now core.now place) }
+    ensures { OnOk result (log.new.items ≡ log.old.items ++ place_line labels.now opcode place) }
 {
     match place {
         Place::Before(moment) => {
@@ -60,7 +115,7 @@ pub(crate) fn put_place(
             log.push(b' ')?;
             log.extend_from_slice(decimal(moment.instructions).as_slice())?;
             log.push(b' ')?;
-            log.extend_from_slice(op_name(core.memory.get(moment.address)).as_slice())?;
+            log.extend_from_slice(op_name(opcode).as_slice())?;
             put_label(log, labels, moment.address)?;
         }
         Place::End(last) => {
@@ -88,37 +143,36 @@ fn put_label(log: &mut Vec<u8>, labels: &[Label], address: u16) -> Result<(), Al
 
 // Prints so many bytes of memory from an address on.
 #[tactic(auto, unfolding(crate::specs::Printing::table))]
-pub(crate) fn put_memory(
+fn put_memory(
     log: &mut Vec<u8>,
-    memory: &Memory,
+    scene: &Scene<'_>,
     address: u16,
     count: u16,
 ) -> Result<(), AllocError>
-    ensures { OnOk result (log.new.items ≡ log.old.items ++ memory_table memory.now address count) }
+    requires { scene.now.back ≤ length scene.now.undo.now }
+    ensures { OnOk result ((page : List ℕ)
+        → log.new.items ≡ log.old.items ++ memory_table (view_in scene.now page).byte address count) }
 {
     for at in 0..count {
         let here = address.wrapping_add(at);
         put_line_start(log, at, &hex_short(here))?;
-        put_byte(log, memory.get(here))?;
+        put_byte(log, scene.byte(here))?;
         put_line_end(log, at, count)?;
     }
     Ok(())
 }
 
-// Prints what the 256 ports read.
+// Prints the bytes of the 256 ports.
 #[tactic(auto, unfolding(crate::specs::Printing::table))]
-pub(crate) fn put_ports<P: Ports>(
-    log: &mut Vec<u8>,
-    core: &Core,
-    ports: &P,
-) -> Result<(), AllocError>
-    ensures { OnOk result ((page : List ℕ) → IsPage (P.rules.reads ports.now core.now) page
-        → log.new.items ≡ log.old.items ++ port_table page) }
+fn put_ports<P: Ports>(log: &mut Vec<u8>, scene: &Scene<'_>, ports: &P) -> Result<(), AllocError>
+    requires { scene.now.back ≤ length scene.now.undo.now }
+    ensures { OnOk result ((page : Page) → IsPage (P.rules.reads ports.now scene.now.core.now) (P.stored ports.now) page
+        → log.new.items ≡ log.old.items ++ port_table (view_in scene.now page.read).page) }
 {
     for at in 0..PORTS {
         let port = at as u8;
         put_line_start(log, at, &hex_byte(port))?;
-        put_byte(log, ports.dei(core, port))?;
+        put_byte(log, scene.port(ports, port))?;
         put_line_end(log, at, PORTS)?;
     }
     Ok(())

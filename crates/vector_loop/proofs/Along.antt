@@ -1,4 +1,4 @@
-use Rattle.std.proofs.Common.{◌≡◌, ◌≢◌, ℕ, List, [], ◌++◌, ◌⊎◌, inl, inr, refl, ap, sym, ◌∙◌, arith}
+use Rattle.std.proofs.Common.{◌≡◌, ◌≢◌, List, [], ◌++◌, ◌⊎◌, inl, inr, refl, ap, sym, ◌∙◌, arith}
 use Rattle.std.proofs.lemmas.List.FromFn.{get_or-map-range_with_len, length-map-range_with_len}
 use Rattle.std.specs.Prelude.{Option, Ok, Err}
 use Rattle.uxn_io.specs.Files.{Nodes}
@@ -11,9 +11,10 @@ use Rattle.uxn_opcodes.specs.declared.Turn.TheVariants.{Ran, Broke as Broken}
 use Rattle.uxn_opcodes.specs.Rule.{opcode_at}
 use Rattle.uxn_opcodes.specs.Instruction.{Instruction}
 use Rattle.varvara_bus.specs.declared.bus.Bus.{Bus}
+use Rattle.varvara_bus.specs.History.{stored}
 use Rattle.varvara_bus.specs.State.{DeviceState}
 use Rattle.varvara_bus.specs.Reads.{read_of}
-use Rattle.varvara_bus.specs.Bus.{BusStandsFor, Reads, Meaning, Makes, StopsShort, world_of, bus_rules}
+use Rattle.varvara_bus.specs.Bus.{BusStandsFor, Reads, Meaning, Makes, StopsShort, world_of, held_page, bus_rules}
 use Rattle.varvara_bus.specs.InstructionLaws.{makes-none, makes-both, stops-first, stops-later, instruction-done, instruction-cut}
 use Rattle.varvara_bus.specs.Folders.{instruction-names}
 use Rattle.vector_loop.specs.declared.tally.Tally.{Tally}
@@ -22,19 +23,23 @@ use Rattle.vector_loop.specs.State.{State, counting_instruction}
 use Rattle.vector_loop.specs.Trail.{Trail, stays, followed_by}
 use Rattle.vector_loop.specs.Folders.{takes-first, takes-later}
 use Rattle.vector_loop.specs.Vector.{instruction}
-use Rattle.vector_loop.specs.Watch.{IsPage, ports_read, shown_all}
+use Rattle.vector_loop.specs.Watch.{Page, IsPage, page_in, ports_read, ports_stored, shown_all}
 use Rattle.vector_loop.specs.Follows.{Running, running, state_of, Follows, FallsShort, FollowsFrom, FallsShortFrom}
 use Rattle.vector_loop.proofs.Trails.{shown_all-append}
 
--- what the ports of a bus read, as a list
+-- what the ports of a bus read, and what was last stored in them
 pub is_page : {T O E : Type 0} (told_tree : T → Option Nodes) (bus : Bus T O E) (state : State) → BusStandsFor told_tree bus state.devices
-    → IsPage (Reads told_tree bus state.core) (ports_read 256 state)
-unfolding ports_read
+    → IsPage (Reads told_tree bus state.core) (held_page bus) (page_in state)
+unfolding ports_read ports_stored
 is_page told_tree bus state stands = record {
   size = length-map-range_with_len (read_of state.devices state.core) 0 256;
-  bytes = λ port byte within reads.
+  shows = λ port byte within reads.
       reads state.devices stands
       ∙ sym (get_or-map-range_with_len (read_of state.devices state.core) 0 256 port port 0 within (omega arith));
+  stored_size = length-map-range_with_len (stored state.devices.history) 0 256;
+  holds = λ port within.
+      stands.devices.page port
+      ∙ sym (get_or-map-range_with_len (stored state.devices.history) 0 256 port port 0 within (omega arith));
 }
 
 -- the one, or what the other gives
@@ -77,7 +82,7 @@ module _ {T O E W : Type 0} (meaning : Meaning T O E) where
     };
   }
 
-module _ {T O E W H : Type 0} (meaning : Meaning T O E) (held : W → H) (shown : H → Core → List ℕ → Moment → H) where
+module _ {T O E W H : Type 0} (meaning : Meaning T O E) (held : W → H) (shown : H → Core → Page → Moment → H) where
   -- nothing is done yet
   pub follows-nothing : (now : Running T O E W) (devices : DeviceState) → BusStandsFor meaning.tree now.bus devices
       → Follows meaning held shown now now (stays (state_of now devices))
@@ -117,7 +122,7 @@ module _ {T O E W H : Type 0} (meaning : Meaning T O E) (held : W → H) (shown 
 
   -- one instruction, before which the watcher was shown the machine
   pub follows-instruction : (now : Running T O E W) (core_new : Core) (bus_new : Bus T O E) (watcher_new : W) (turn : Turn)
-      → ((page : List ℕ) → IsPage (Reads meaning.tree now.bus now.core) page
+      → ((page : Page) → IsPage (Reads meaning.tree now.bus now.core) (held_page now.bus) page
       → held watcher_new ≡ shown (held now.watcher) now.core page (record { instructions = now.tally.instructions; address = now.core.at }))
       → Instruction (bus_rules meaning) now.core now.bus (Ok turn) core_new bus_new
       → FollowsFrom meaning held shown now (running core_new bus_new (counting_instruction now.tally) watcher_new) instruction
@@ -129,7 +134,7 @@ module _ {T O E W H : Type 0} (meaning : Meaning T O E) (held : W → H) (shown 
           devices = done.devices;
           tally = refl;
           makes = done.makes;
-          watcher = watched (ports_read 256 (state_of now devices)) (is_page meaning.tree now.bus (state_of now devices) stands);
+          watcher = watched (page_in (state_of now devices)) (is_page meaning.tree now.bus (state_of now devices) stands);
         };
   }
 

@@ -8,3 +8,4 @@ pub mod Answering
 pub mod Runs
 pub mod Makings
 pub mod Frames
+pub mod CountedRuns

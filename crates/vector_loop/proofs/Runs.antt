@@ -1,13 +1,13 @@
 -- The run of a script, and its end.
-use Rattle.std.proofs.Common.{◌≡◌, ℕ, List, ap, ◌∙◌}
+use Rattle.std.proofs.Common.{◌≡◌, ap, ◌∙◌}
 use Rattle.std.specs.Prelude.{Ok}
 use Rattle.uxn_opcodes.specs.declared.Core.{Core}
 use Rattle.varvara_bus.specs.declared.bus.Bus.{Bus}
-use Rattle.varvara_bus.specs.Bus.{Reads}
+use Rattle.varvara_bus.specs.Bus.{Reads, held_page}
 use Rattle.vector_loop.specs.declared.watch.Moment.{Moment}
 use Rattle.vector_loop.specs.State.{State}
 use Rattle.vector_loop.specs.Trail.{Trail}
-use Rattle.vector_loop.specs.Watch.{IsPage, ports_read, moment_of, shown_all}
+use Rattle.vector_loop.specs.Watch.{Page, IsPage, page_in, moment_of, shown_all}
 use Rattle.vector_loop.specs.Follows.{Running, running, state_of, FollowsFrom, EndsFrom}
 use Rattle.vector_loop.specs.declared.runner.Runner.{Runner}
 use Rattle.vector_loop.specs.declared.tally.Tally.{Tally}
@@ -16,8 +16,8 @@ use Rattle.vector_loop.proofs.Along.{is_page, reached}
 
 module _ {T O E W H : Type 0} (telling : Telling T O E W H) where
   -- the end was shown, or not
-  ends-run : (ended : H → Core → List ℕ → Moment → H) (before now : Running T O E W) (part : State → Trail) (watcher_new : W) → FollowsFrom telling.meaning telling.held telling.shown before now part
-      → ((page : List ℕ) → IsPage (Reads telling.meaning.tree now.bus now.core) page → telling.held watcher_new ≡ ended (telling.held now.watcher) now.core page (record { instructions = now.tally.instructions; address = now.core.at }))
+  ends-run : (ended : H → Core → Page → Moment → H) (before now : Running T O E W) (part : State → Trail) (watcher_new : W) → FollowsFrom telling.meaning telling.held telling.shown before now part
+      → ((page : Page) → IsPage (Reads telling.meaning.tree now.bus now.core) (held_page now.bus) page → telling.held watcher_new ≡ ended (telling.held now.watcher) now.core page (record { instructions = now.tally.instructions; address = now.core.at }))
       → EndsFrom telling.meaning telling.held telling.shown ended before (running now.core now.bus now.tally watcher_new) part
   ends-run ended before now part watcher_new follows shown_end = record {
     from = λ devices stands.
@@ -28,17 +28,17 @@ module _ {T O E W H : Type 0} (telling : Telling T O E W H) where
           devices = f.devices;
           tally = f.tally;
           makes = f.makes;
-          watcher = shown_end (ports_read 256 (state_of now last.devices)) (is_page telling.meaning.tree now.bus (state_of now last.devices) f.devices)
-              ∙ ap (λ h. ended h now.core (ports_read 256 (state_of now last.devices)) (moment_of (state_of now last.devices))) f.watcher
-              ∙ ap (λ (s : State). ended (shown_all telling.shown (telling.held before.watcher) (part (state_of before devices)).moments) s.core (ports_read 256 s) (moment_of s))
+          watcher = shown_end (page_in (state_of now last.devices)) (is_page telling.meaning.tree now.bus (state_of now last.devices) f.devices)
+              ∙ ap (λ h. ended h now.core (page_in (state_of now last.devices)) (moment_of (state_of now last.devices))) f.watcher
+              ∙ ap (λ (s : State). ended (shown_all telling.shown (telling.held before.watcher) (part (state_of before devices)).moments) s.core (page_in s) (moment_of s))
               (reached telling.meaning telling.held telling.shown before now (part (state_of before devices)) f);
         };
   }
 
   -- the same of a runner that was asked to finish
-  pub ends-handed : {X : Type 0} (ended : H → Core → List ℕ → Moment → H) (a b c : Runner T O E W) (core : Core) (bus : Bus T O E) (tally : Tally) (watcher : W)
+  pub ends-handed : {X : Type 0} (ended : H → Core → Page → Moment → H) (a b c : Runner T O E W) (core : Core) (bus : Bus T O E) (tally : Tally) (watcher : W)
       (part : State → Trail) (m : Count) (x : X) → Answers telling a b part m (Ok x)
-      → ((page : List ℕ) → IsPage (Reads telling.meaning.tree b.bus.now b.core.now) page
+      → ((page : Page) → IsPage (Reads telling.meaning.tree b.bus.now b.core.now) (held_page b.bus.now) page
       → telling.held c.watcher.now ≡ ended (telling.held b.watcher.now) b.core.now page (moment_in b))
       → record b { watcher = c.watcher } ≡ c → core ≡ c.core.now → bus ≡ c.bus.now → tally ≡ c.tally → watcher ≡ c.watcher.now
       → EndsFrom telling.meaning telling.held telling.shown ended (running_of a) (running core bus tally watcher) part

@@ -1,9 +1,9 @@
-use Rattle.std.proofs.Common.{◌≡◌, ℕ, List, [], ◌∷◌, ◌++◌, refl, ap, ◌∙◌, append_assoc}
+use Rattle.std.proofs.Common.{◌≡◌, List, [], ◌∷◌, ◌++◌, refl, ap, ◌∙◌, append_assoc}
 use Rattle.uxn_opcodes.specs.declared.Core.{Core}
 use Rattle.vector_loop.specs.declared.watch.Moment.{Moment}
 use Rattle.vector_loop.specs.State.{State}
 use Rattle.vector_loop.specs.Trail.{Trail, followed_by}
-use Rattle.vector_loop.specs.Watch.{ports_read, moment_of, shown_all}
+use Rattle.vector_loop.specs.Watch.{Page, page_in, moment_of, shown_all}
 
 -- what comes after what comes after
 pub followed_by-again : (first : Trail) (middle rest : State → Trail) → followed_by (followed_by first middle) rest ≡ followed_by first (λ s. followed_by (middle s) rest)
@@ -14,9 +14,9 @@ followed_by-again first middle rest =
     ∙ ap (λ changes. record { moments = first.moments ++ (next.moments ++ then.moments); changes = changes; last = then.last }) (append_assoc first.changes next.changes then.changes)
 
 -- what a watcher holds after more was shown to it
-pub shown_all-append : {H : Type 0} (shown : H → Core → List ℕ → Moment → H) (held : H) (first more : List State) → shown_all shown held (first ++ more) ≡ shown_all shown (shown_all shown held first) more
+pub shown_all-append : {H : Type 0} (shown : H → Core → Page → Moment → H) (held : H) (first more : List State) → shown_all shown held (first ++ more) ≡ shown_all shown (shown_all shown held first) more
 shown_all-append shown held [] more = refl
-shown_all-append shown held (state ∷ first) more = shown_all-append shown (shown held state.core (ports_read 256 state) (moment_of state)) first more
+shown_all-append shown held (state ∷ first) more = shown_all-append shown (shown held state.core (page_in state) (moment_of state)) first more
 
 -- what comes after depends on the last state alone
 pub followed_by-at : (first : Trail) (a b : State → Trail) → a first.last ≡ b first.last → followed_by first a ≡ followed_by first b

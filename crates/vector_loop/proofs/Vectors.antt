@@ -1,4 +1,4 @@
-use Rattle.std.proofs.Common.{◌≡◌, ◌≢◌, ℕ, zero, suc, true, false, cond, List, inl, refl, ap, sym, ◌∙◌, arith}
+use Rattle.std.proofs.Common.{◌≡◌, ◌≢◌, ℕ, zero, suc, true, false, cond, inl, refl, ap, sym, ◌∙◌, arith}
 use Rattle.std.proofs.lemmas.Bool.Decides.{nat_tests}
 use Rattle.std.specs.Prelude.{Option, Ok, Err, ◌==◌, ◌||◌}
 use Rattle.uxn_io.specs.Files.{Nodes}
@@ -10,7 +10,7 @@ use Rattle.uxn_opcodes.specs.Rule.{opcode_at}
 use Rattle.uxn_opcodes.specs.Instruction.{Instruction}
 use Rattle.varvara_bus.specs.declared.bus.Bus.{Bus}
 use Rattle.varvara_bus.specs.State.{DeviceState}
-use Rattle.varvara_bus.specs.Bus.{BusStandsFor, Reads, Meaning, bus_rules}
+use Rattle.varvara_bus.specs.Bus.{BusStandsFor, Reads, Meaning, held_page, bus_rules}
 use Rattle.varvara_bus.specs.InstructionLaws.{makes-none}
 use Rattle.vector_loop.specs.declared.tally.Tally.{Tally}
 use Rattle.vector_loop.specs.declared.tally.VectorEnd.TheVariants.{Broke, Cut}
@@ -18,7 +18,7 @@ use Rattle.vector_loop.specs.declared.watch.Moment.{Moment}
 use Rattle.vector_loop.specs.State.{State, counting_instruction, counting_vector, counting_cut}
 use Rattle.vector_loop.specs.Trail.{Trail, stays, followed_by}
 use Rattle.vector_loop.specs.Vector.{instruction, at_break, instructions, breaks, vector, vector_end}
-use Rattle.vector_loop.specs.Watch.{IsPage}
+use Rattle.vector_loop.specs.Watch.{Page, IsPage}
 use Rattle.vector_loop.specs.Follows.{Running, running, state_of, Follows, FollowsFrom, FallsShortFrom}
 use Rattle.vector_loop.proofs.Trails.{followed_by-again, followed_by-at}
 use Rattle.vector_loop.proofs.Along.{follows-nothing, follows-both, short-later, short-first, stops-here, follows-instruction, short-instruction}
@@ -53,7 +53,7 @@ is_zero n h = grind (arith, nat_tests)
 is_not_zero : (n : ℕ) → n ≢ 0 → (n == 0) ≡ false
 is_not_zero n h = grind (arith, nat_tests)
 
-module _ {T O E W H : Type 0} (meaning : Meaning T O E) (held : W → H) (shown : H → Core → List ℕ → Moment → H) where
+module _ {T O E W H : Type 0} (meaning : Meaning T O E) (held : W → H) (shown : H → Core → Page → Moment → H) where
   -- what was done so far of a vector, with so many instructions left
   record SoFar (before now : Running T O E W) (budget left : ℕ) (devices : DeviceState) : Type 0 where
     done : Trail
@@ -75,7 +75,7 @@ module _ {T O E W H : Type 0} (meaning : Meaning T O E) (held : W → H) (shown 
 
   -- the watcher was shown the machine
   abbrev pub Watched : Running T O E W → W → Type 0
-  Watched now watcher_new = (page : List ℕ) → IsPage (Reads meaning.tree now.bus now.core) page
+  Watched now watcher_new = (page : Page) → IsPage (Reads meaning.tree now.bus now.core) (held_page now.bus) page
       → held watcher_new ≡ shown (held now.watcher) now.core page (record { instructions = now.tally.instructions; address = now.core.at })
 
   pub along-start : (now : Running T O E W) (budget : ℕ) → Along now now budget budget

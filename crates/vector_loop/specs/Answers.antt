@@ -1,5 +1,5 @@
 -- What a part of a run answers: it was done, or it stopped.
-use Rattle.std.specs.Prelude.{◌≡◌, ℕ, ◌+◌, ◌*◌, ◌^◌, ◌<◌, ◌≤◌, ◌⊎◌, List, Option, Result, Ok, Err}
+use Rattle.std.specs.Prelude.{◌≡◌, ℕ, ◌+◌, ◌*◌, ◌^◌, ◌<◌, ◌≤◌, ◌⊎◌, Option, Result, Ok, Err}
 use Rattle.uxn_io.specs.Files.{Nodes}
 use Rattle.uxn_io.specs.Faults.{Counts, Ledger}
 use Rattle.varvara_bus.specs.declared.bus.Bus.{Bus}
@@ -13,6 +13,7 @@ use Rattle.vector_loop.specs.declared.runner.Runner.{Runner}
 use Rattle.vector_loop.specs.declared.tally.Tally.{Tally}
 use Rattle.vector_loop.specs.declared.watch.Moment.{Moment}
 use Rattle.vector_loop.specs.State.{State}
+use Rattle.vector_loop.specs.Watch.{Page}
 use Rattle.vector_loop.specs.Trail.{Trail}
 use Rattle.vector_loop.specs.Outputs.{OutputsThere}
 use Rattle.vector_loop.specs.Follows.{Running, running, FollowsFrom, FallsShortFrom, HasGrown}
@@ -24,11 +25,11 @@ pub record Telling (T O E W H : Type 0) : Type 1 where
   pub out_faults : O → ℕ
   pub err_faults : E → ℕ
   pub held : W → H
-  pub shown : H → Core → List ℕ → Moment → H
+  pub shown : H → Core → Page → Moment → H
   pub may_refuse : Type 0
 
 abbrev pub telling_of : {T O E W H : Type 0} → Meaning T O E → (T → ℕ) → (O → ℕ) → (E → ℕ)
-    → (W → H) → (H → Core → List ℕ → Moment → H) → Type 0 → Telling T O E W H
+    → (W → H) → (H → Core → Page → Moment → H) → Type 0 → Telling T O E W H
 telling_of meaning tree_faults out_faults err_faults held shown may_refuse = record {
   meaning = meaning;
   tree_faults = tree_faults;

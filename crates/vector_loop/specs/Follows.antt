@@ -1,5 +1,5 @@
 -- What it is for a machine, its bus, a tally and a watcher to follow a trail.
-use Rattle.std.specs.Prelude.{◌≡◌, ℕ, ◌+◌, ◌*◌, ◌≤◌, ◌⊎◌, List}
+use Rattle.std.specs.Prelude.{◌≡◌, ℕ, ◌+◌, ◌*◌, ◌≤◌, ◌⊎◌}
 use Rattle.uxn_opcodes.specs.declared.Core.{Core}
 use Rattle.uxn_opcodes.specs.declared.Stop.{Stop}
 use Rattle.uxn_opcodes.specs.declared.Stop.TheVariants.{NoMemory}
@@ -11,7 +11,7 @@ use Rattle.vector_loop.specs.declared.watch.Moment.{Moment}
 use Rattle.vector_loop.specs.State.{State}
 use Rattle.vector_loop.specs.Trail.{Trail}
 use Rattle.vector_loop.specs.Folders.{TakesNames}
-use Rattle.vector_loop.specs.Watch.{ports_read, moment_of, shown_all}
+use Rattle.vector_loop.specs.Watch.{Page, page_in, moment_of, shown_all}
 
 -- what takes part in a run
 pub record Running (T O E W : Type 0) : Type 0 where
@@ -62,7 +62,7 @@ module _ {T O E W : Type 0} (meaning : Meaning T O E) (refuses : Type 0) where
     pub from : (devices : DeviceState) → BusStandsFor meaning.tree before.bus devices
         → FallsShort before now stop (part (state_of before devices))
 
-module _ {T O E W H : Type 0} (meaning : Meaning T O E) (held : W → H) (shown : H → Core → List ℕ → Moment → H) where
+module _ {T O E W H : Type 0} (meaning : Meaning T O E) (held : W → H) (shown : H → Core → Page → Moment → H) where
   -- all of a trail was done: the last state is reached, the changes are made, and the watcher was shown all moments
   pub record Follows (before now : Running T O E W) (trail : Trail) : Type 0 where
     pub core : now.core ≡ trail.last.core
@@ -76,14 +76,14 @@ module _ {T O E W H : Type 0} (meaning : Meaning T O E) (held : W → H) (shown 
     pub from : (devices : DeviceState) → BusStandsFor meaning.tree before.bus devices → Follows before now (part (state_of before devices))
 
   -- all of a run was done, and the watcher was shown its end
-  pub record Ends (ended : H → Core → List ℕ → Moment → H) (before now : Running T O E W) (trail : Trail) : Type 0 where
+  pub record Ends (ended : H → Core → Page → Moment → H) (before now : Running T O E W) (trail : Trail) : Type 0 where
     pub core : now.core ≡ trail.last.core
     pub devices : BusStandsFor meaning.tree now.bus trail.last.devices
     pub tally : now.tally ≡ trail.last.tally
     pub makes : Makes meaning before.bus now.bus trail.changes
     pub watcher : held now.watcher ≡ ended (shown_all shown (held before.watcher) trail.moments) trail.last.core
-        (ports_read 256 trail.last) (moment_of trail.last)
+        (page_in trail.last) (moment_of trail.last)
 
-  pub record EndsFrom (ended : H → Core → List ℕ → Moment → H) (before now : Running T O E W) (part : State → Trail) : Type 0 where
+  pub record EndsFrom (ended : H → Core → Page → Moment → H) (before now : Running T O E W) (part : State → Trail) : Type 0 where
     pub from : (devices : DeviceState) → BusStandsFor meaning.tree before.bus devices
         → Ends ended before now (part (state_of before devices))

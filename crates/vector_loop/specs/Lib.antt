@@ -10,3 +10,4 @@ pub mod Outputs
 pub mod Event
 pub mod Run
 pub mod Touching
+pub mod Counted

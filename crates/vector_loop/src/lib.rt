@@ -3,6 +3,7 @@
 
 mod event;
 mod frame;
+mod laws;
 mod output;
 mod run;
 mod runner;
@@ -11,6 +12,7 @@ mod vector;
 mod watch;
 
 pub use event::run_event;
+pub use laws::the_moments_of_a_run_are_counted;
 pub use output::Outputs;
 pub use run::run_script;
 pub use tally::{Tally, VectorEnd};

@@ -14,10 +14,11 @@ ghost use Rattle.varvara_bus.specs.Bus.{
   meaning_of,
   frames_begun,
   bus_faults,
+  held_page,
 };
 ghost use Rattle.vector_loop.specs.State.{new_tally};
 ghost use Rattle.vector_loop.specs.Outputs.{OutputsThere};
-ghost use Rattle.vector_loop.specs.Watch.{IsPage};
+ghost use Rattle.vector_loop.specs.Watch.{Page, IsPage};
 ghost use Rattle.vector_loop.specs.Event.{unless_over, give_each, console, give};
 ghost use Rattle.vector_loop.specs.Run.{
   console_byte,
@@ -135,7 +136,7 @@ impl<'r, 'a, T: Tree, O: Sink, E: Sink, W: Watcher> Runner<'r, 'a, T, O, E, W> {
 
     /// Shows the watcher the end of the run.
     fn finish(&mut self) -> Result<(), Stop>
-        ensures ok { OnOk result ((page : List ℕ) → IsPage (Reads T.told self.old.bus.now self.old.core.now) page
+        ensures ok { OnOk result ((page : Page) → IsPage (Reads T.told self.old.bus.now self.old.core.now) (held_page self.old.bus.now) page
             → W.held self.new.watcher.now ≡ W.ended (W.held self.old.watcher.now) self.old.core.now page (moment_in self.old)) }
         ensures err { IfErr result (λ stop. stop ≡ Stop.NoMemory) }
         ensures refused { IfErr result (λ stop. W.may_refuse) }

@@ -1,6 +1,6 @@
 //! Watching a run: something that is shown the machine before each instruction.
-ghost use Rattle.std.specs.Prelude.{◌≡◌, ℕ, List, OnOk, OnErr};
-ghost use Rattle.vector_loop.specs.Watch.{IsPage};
+ghost use Rattle.std.specs.Prelude.{◌≡◌, OnOk, OnErr};
+ghost use Rattle.vector_loop.specs.Watch.{Page, IsPage};
 
 use std::alloc::AllocError;
 use uxn_opcodes::{Core, Ports};
@@ -16,10 +16,10 @@ pub struct Moment {
 
 /// Is shown the machine and its ports before each instruction, and once at the end of the run.
 pub trait Watcher {
-    ghost use Rattle.std.specs.Prelude.{◌≡◌, ℕ, List, OnOk, OnErr};
+    ghost use Rattle.std.specs.Prelude.{◌≡◌, OnOk, OnErr};
     ghost use Rattle.uxn_opcodes.specs.declared.Core.{Core};
     ghost use Rattle.vector_loop.specs.declared.watch.Moment.{Moment};
-    ghost use Rattle.vector_loop.specs.Watch.{IsPage};
+    ghost use Rattle.vector_loop.specs.Watch.{Page, IsPage};
 
     /// What watchers of this kind hold.
     ghost Held: { Type 0 };
@@ -27,24 +27,24 @@ pub trait Watcher {
     /// What it holds.
     ghost held: { Self → Held };
 
-    /// What it holds after it was shown a core, what the 256 ports read, and a moment.
-    ghost shown: { Held → Core → List ℕ → Moment → Held };
+    /// What it holds after it was shown a core, the 256 ports, and a moment.
+    ghost shown: { Held → Core → Page → Moment → Held };
 
     /// What it holds after it was shown the end of the run.
-    ghost ended: { Held → Core → List ℕ → Moment → Held };
+    ghost ended: { Held → Core → Page → Moment → Held };
 
     /// Memory may be wanting to a watcher of this kind.
     ghost may_refuse: { Type 0 };
 
     /// Is shown the machine before an instruction. Errors with want of memory.
     fn before<P: Ports>(&mut self, core: &Core, ports: &P, moment: Moment) -> Result<(), AllocError>
-        ensures ok { OnOk result ((page : List ℕ) → IsPage (P.rules.reads ports.now core.now) page
+        ensures ok { OnOk result ((page : Page) → IsPage (P.rules.reads ports.now core.now) (P.stored ports.now) page
             → held self.new ≡ shown (held self.old) core.now page moment) }
         ensures err { OnErr result may_refuse };
 
     /// Is shown the machine at the end of the run. Errors with want of memory.
     fn finish<P: Ports>(&mut self, core: &Core, ports: &P, moment: Moment) -> Result<(), AllocError>
-        ensures ok { OnOk result ((page : List ℕ) → IsPage (P.rules.reads ports.now core.now) page
+        ensures ok { OnOk result ((page : Page) → IsPage (P.rules.reads ports.now core.now) (P.stored ports.now) page
             → held self.new ≡ ended (held self.old) core.now page moment) }
         ensures err { OnErr result may_refuse };
 }

@@ -1,8 +1,16 @@
-use Rattle.std.proofs.Common.{refl}
-use Rattle.uxn_debugger.proofs.Tables.{part_put}
+use Rattle.std.proofs.Common.{ap, ◌∙◌, ◌++◌, ◌+◌, ◌%◌, refl, arith}
+use Rattle.uxn_io.specs.NumberText.{hex_of_short}
+use Rattle.uxn_debugger.specs.Scenes.{view_in}
+use Rattle.uxn_debugger.proofs.Tables.{part_put, table_at}
 use Rattle.uxn_debugger.proofs.printing.put_memory.Goals as goal
 
 pub loop-at-preserved : goal.loop-at-preserved
-loop-at-preserved c =
-    part_put _ c.loop-at.at _ _ _ _ _ _ _ _ c.loop-at.invariant c.in_ok-put_line_start.ensures c.in_ok-put_byte.ensures c.in_ok-put_line_end.ensures
-    (rw (c.hex_short.ensures, c.get.ensures) refl)
+loop-at-preserved c page =
+    part_put _ c.loop-at.at _ _ _ _ _ _ _ _ (c.loop-at.invariant page) c.in_ok-put_line_start.ensures c.in_ok-put_byte.ensures c.in_ok-put_line_end.ensures
+    (rw (c.hex_short.ensures, c.byte.ensures page) refl)
+
+pub returns : goal.returns
+returns c page =
+    c.loop-at.invariant page
+    ∙ ap (λ more. c.args.log.now.items ++ more)
+    (table_at (λ at. hex_of_short ((c.args.address + at) % 65536)) (λ at. (view_in c.args.scene.now page).byte ((c.args.address + at) % 65536)) c.args.count c.loop-at.at (omega arith))
