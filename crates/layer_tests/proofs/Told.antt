@@ -1,12 +1,8 @@
 -- What a caller knows of a tree after `kind`, as `append` and `names` require it.
-use Rattle.std.proofs.Common.{◌≡◌, ℕ, Bool, true, List, [], Option, Some, None, IfSome, IsSome, is_some, refl, ap, sym, subst, ◌∙◌}
-use Rattle.std.specs.Prelude.{if◌then◌else◌}
-use Rattle.std.specs.Option.{option_map}
+use Rattle.std.proofs.Common.{◌≡◌, ℕ, true, List, Option, Some, None, IfSome, IsSome, refl}
 use Rattle.std.specs.FinMap as map
 use Rattle.uxn_io.specs.declared.trees.Kind.TheVariants.{File as FileOf, Folder as FolderThere}
 use Rattle.uxn_io.specs.Files.{Node, File, Folder, Nodes, kind_of, kind_at, file_at, bytes_of, is_folder}
-use Rattle.uxn_io.specs.Changes.{can_create, with_created}
-use Rattle.uxn_io.specs.Appending.{get_put}
 
 file_there : (node : Option Node) (n : ℕ) → FileOf n ≡ kind_of node → IsSome (bytes_of node)
 file_there None n is = cc
