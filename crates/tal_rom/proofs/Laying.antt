@@ -74,12 +74,6 @@ module _ (source : List ℕ) (labels : List Label) (words : List PlacedWord) (k 
   pub lies : LiesInMemory source word
   lies = so.apart.each k no_placed_word within
 
-  pub word-size : (text : List ℕ) → text ≡ expanded_text source word.word → word.size ≡ size word.form text
-  word-size text read = rw read lies.sized
-
-  pub word-above : 0 < word.size → 256 + length rom ≤ word.address
-  word-above some = so.above k (omega arith) within some
-
   pub word-address : HasAddress word.form word.address
   word-address = address-of word.form (expanded_text source word.word) word.address (rw lies.sized at lies.end)
 
@@ -101,7 +95,7 @@ module _ (source : List ℕ) (labels : List Label) (words : List PlacedWord) (k 
         let bytes = piece.bytes in
         let all : more ≡ filled rom word.address bytes = rw (appended, read, same) refl in
         let long : length bytes ≡ word.size = length-encoded word.form (expanded_text source word.word) word.address _ ∙ sym lies.sized in
-        let behind : 0 < length bytes → 256 + length rom ≤ word.address = λ some. word-above (omega (arith, long)) in
+        let behind : 0 < length bytes → 256 + length rom ≤ word.address = λ some. so.above k (omega arith) within (omega (arith, long)) in
         let size = length-filled rom word.address bytes behind in
         record {
           sound = fault-later (judged_reference source labels) words k no_placed_word within (rw same at none) ∙ so.sound;

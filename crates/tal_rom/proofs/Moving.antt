@@ -1,5 +1,5 @@
 -- Bytes that are laid over others in memory, and references that get their target among words that stay as they are.
-use Rattle.std.proofs.Common.{◌≡◌, ℕ, ◌+◌, ◌<◌, ◌≤◌, Bool, true, false, not, ◌&&◌, ◌||◌, List, [], ◌∷◌, ◌++◌, length, get_or, map}
+use Rattle.std.proofs.Common.{◌≡◌, ℕ, ◌+◌, ◌<◌, ◌≤◌, Bool, true, false, not, ◌&&◌, List, [], ◌∷◌, ◌++◌, length, get_or, map}
 use Rattle.std.proofs.Common.{Option, Some, None, cond, find, refl, ◌∙◌, arith}
 use Rattle.std.specs.Prelude.{slice_set, fold, unwrap_or}
 use Rattle.std.specs.List.{AllByRecursion, filter, list_any, list_all}

@@ -40,24 +40,24 @@ abbrev pub pieces_from : ℕ → List Coded → List Piece
 pieces_from count [] = []
 pieces_from count (coded ∷ codeds) = record { address = 256 + count; bytes = coded.bytes } ∷ pieces_from (count + length coded.bytes) codeds
 
-module _ (source : List ℕ) (labels : List Label) where
-  -- a word with its place
-  abbrev placed_as : List Expanded → Expanded → List Expanded → Form → PlacedWord
-  placed_as before word after shape = record {
-    word = word;
-    form = shape;
-    address = address_after source before;
-    size = size shape (expanded_text source word);
-    lambda = lambda_address source before word after;
-  }
+-- a word with its place
+abbrev placed_as : List ℕ → List Expanded → Expanded → List Expanded → Form → PlacedWord
+placed_as source before word after shape = record {
+  word = word;
+  form = shape;
+  address = address_after source before;
+  size = size shape (expanded_text source word);
+  lambda = lambda_address source before word after;
+}
 
+module _ (source : List ℕ) (labels : List Label) where
   -- the pieces of the words
   pieces_are : (words : List Expanded) (coded : List Coded) (before : List Expanded) (behind : List PlacedWord) (count : ℕ)
       → Spells source words coded → Reaches source before count
       → each (piece_given source labels) behind (collected (placed_given source) before words) ≡ pieces_from count coded
   pieces_are [] [] before behind count spells reaches = refl
   pieces_are (word ∷ words) (coded ∷ codeds) before behind count spells reaches =
-      let placed = placed_as before word words spells.1.shape in
+      let placed = placed_as source before word words spells.1.shape in
       let bytes : (piece_given source labels behind placed []).bytes ≡ coded.bytes = rw spells.0 (spells.1.encodes _ _) in
       let reached = reaches_more source before word coded count spells.0 spells.1 reaches in
       let rest = pieces_are words codeds (before ++ word ∷ []) (behind ++ placed ∷ []) (count + length coded.bytes) spells.2 reached in
@@ -69,25 +69,10 @@ module _ (source : List ℕ) (labels : List Label) where
       → phase_fault (each (judged_reference source labels) behind (collected (placed_given source) before words)) ≡ None
   no_references [] [] before behind spells = refl
   no_references (word ∷ words) (coded ∷ codeds) before behind spells =
-      let placed = placed_as before word words spells.1.shape in
+      let placed = placed_as source before word words spells.1.shape in
       rw (shaped source word coded spells.0 spells.1, bare-no_reference spells.1.shape _ (target_of source labels behind placed) spells.1.bare)
       (no_references words codeds (before ++ word ∷ []) (behind ++ placed ∷ []) spells.2)
   no_references words coded before behind spells = absurd spells
-
-  module _ (first : Expanded) (words : List Expanded) (coded : List Coded) (padded : expanded_text source first ≡ pad_text)
-      (spells : Spells source words coded) where
-    pieces_padded : pieces_of source labels (placed_of source (first ∷ words)) ≡ record { address = 256; bytes = [] } ∷ pieces_from 0 coded
-    unfolding pieces_of placed_of address_after
-    pieces_padded =
-        let reached = reaches_pad source first words coded padded spells in
-        let pieces = pieces_are words coded (first ∷ []) (placed_as [] first words (Pad 256) ∷ []) 0 spells reached in
-        rw (formed_pad source first words coded padded spells, pieces) refl
-
-    no_reference_fault : reference_fault source labels (placed_of source (first ∷ words)) ≡ None
-    unfolding reference_fault placed_of
-    no_reference_fault =
-        rw (formed_pad source first words coded padded spells)
-        (no_references words coded (first ∷ []) (placed_as [] first words (Pad 256) ∷ []) spells)
 
 -- what is read of them
 read_append : (bytes rest : List ℕ) (count i others : ℕ) → (length bytes ≤ i → get_or rest (i - length bytes) 0 ≡ others)
@@ -123,7 +108,7 @@ module _ (items : List Item) (coded : List Coded) (sound : AreItems items) (are 
   -- the expanded list by its first word
   by_first : (expanded : List Expanded) → expanded_of source ≡ expanded → map (expanded_text source) expanded ≡ pad_text ∷ texts_of_coded coded
       → AssemblesTo source (bytes_of_coded coded)
-  unfolding first_fault rom_of layout
+  unfolding first_fault rom_of layout reference_fault pieces_of placed_of address_after
   by_first [] e texts = cc
   by_first (first ∷ words) e texts =
       let padded : expanded_text source first ≡ pad_text = cc in
@@ -136,11 +121,13 @@ module _ (items : List Item) (coded : List Coded) (sound : AreItems items) (are 
       (omega (arith, count, ap length are, no_more coded all)) in
       let places = plain_faultless source (first ∷ words) coded texts stand within in
       let labels = labels_of source (first ∷ words) in
-      let references = no_reference_fault source labels first words coded padded spells in
-      let pieces = pieces_padded source labels first words coded padded spells in
+      let formed = formed_pad source first words coded padded spells in
+      let placed = placed_as source [] first words (Pad 256) ∷ [] in
+      let references = no_references source labels words coded (first ∷ []) placed spells in
+      let pieces = pieces_are source labels words coded (first ∷ []) placed 0 spells (reaches_pad source first words coded padded spells) in
       record {
-        faultless = rw (no_word, no_macro, e, places, references) refl;
-        rom = rw (e, pieces) (image_is coded within);
+        faultless = rw (no_word, no_macro, e, places, formed) references;
+        rom = rw (e, formed, pieces) (image_is coded within);
       }
 
   pub plain_assembles : AssemblesTo source (bytes_of_coded coded)

@@ -1,5 +1,5 @@
 use Rattle.std.proofs.Common.{◌≡◌, None, arith, refl, rules, sym, ◌∙◌}
-use Rattle.tal_rom.proofs.Laying.{nothing_laid_so, next_laid_so, faulty_next, all_laid, lies, word-size, word-above, word-address}
+use Rattle.tal_rom.proofs.Laying.{nothing_laid_so, next_laid_so, faulty_next, all_laid, lies, word-address}
 use Rattle.tal_rom.proofs.rom.lay_out.Goals as goal
 
 pub loop-word-init : goal.loop-word-init
@@ -10,8 +10,8 @@ reference_kind-requires c = word-address _ _ _ _ _ _ c.loop-word-test.true c.loo
 
 pub put_word-requires : goal.put_word-requires
 put_word-requires c = record {
-  size = word-size _ _ _ _ _ _ c.loop-word-test.true c.loop-word.invariant _ c.text-text.ensures;
-  above = word-above _ _ _ _ _ _ c.loop-word-test.true c.loop-word.invariant;
+  size = rw c.text-text.ensures (lies _ _ _ _ _ _ c.loop-word-test.true c.loop-word.invariant).sized;
+  above = c.loop-word.invariant.above _ (omega arith) c.loop-word-test.true;
   within = (lies _ _ _ _ _ _ c.loop-word-test.true c.loop-word.invariant).end;
   to = omega (arith, c.unwrap_or.type_inv);
 }
