@@ -12,3 +12,4 @@ pub mod AddedLemmas
 pub mod NextLemmas
 pub mod ImageLemmas
 pub mod PatchedLemmas
+pub mod OnePass

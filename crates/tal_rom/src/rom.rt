@@ -16,7 +16,7 @@ use tal_labels::{FIRST_ADDRESS, FIRST_SCOPE, Placed, PlacedWord, next_scope};
 use tal_words::{AsmStop, Fault};
 
 /// The number of bytes up to the last one that is not 0.
-fn written_len(bytes: &[u8]) -> usize
+pub fn written_len(bytes: &[u8]) -> usize
     ensures within { result ≤ length bytes.now }
     ensures value { take result bytes.now ≡ trimmed bytes.now }
 {
@@ -30,7 +30,7 @@ fn written_len(bytes: &[u8]) -> usize
 }
 
 /// Takes the zeros at the end away.
-pub fn trim(bytes: &mut Vec<u8>)
+fn trim(bytes: &mut Vec<u8>)
     ensures value { bytes.new.items ≡ trimmed bytes.old.items }
     ensures shorter { length bytes.new.items ≤ length bytes.old.items }
 {
