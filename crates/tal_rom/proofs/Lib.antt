@@ -13,3 +13,4 @@ pub mod NextLemmas
 pub mod ImageLemmas
 pub mod PatchedLemmas
 pub mod OnePass
+pub mod Zeros

@@ -18,7 +18,7 @@ ghost use Rattle.tal_rom.specs.Patching.{waiting_count, all_fit, image_of};
 use crate::hole::Hole;
 use crate::patch::Patch;
 use crate::references::name_after_rune;
-use crate::rom::written_len;
+use crate::rom::without_last_zeros;
 use std::alloc::{AllocError, Global};
 use tal_labels::{FIRST_ADDRESS, PlacedWord, Scope, full_name};
 use tal_words::{Form, closes, opens};
@@ -141,9 +141,7 @@ impl Patcher {
         ensures { IfOk result (λ rom. (source : List ℕ) (words : List ExpandedWord) → WerePatched source words self.now
             → (length rom.items ≤ rom_limit) × (rom.items ≡ trimmed (image_of source words))) }
     {
-        let image = self.image();
-        let (written, _) = image.split_at(written_len(image));
-        Vec::from_slice(self.alloc, written)
+        Vec::from_slice(self.alloc, without_last_zeros(self.image()))
     }
 }
 

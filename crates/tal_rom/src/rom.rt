@@ -15,8 +15,11 @@ use std::alloc::{AllocError, Global};
 use tal_labels::{FIRST_ADDRESS, FIRST_SCOPE, Placed, PlacedWord, next_scope};
 use tal_words::{AsmStop, Fault};
 
+/// Zeros that are put or passed over at once.
+pub static ZEROS: [u8; 256] = [0; 256];
+
 /// The number of bytes up to the last one that is not 0.
-pub fn written_len(bytes: &[u8]) -> usize
+fn written_len(bytes: &[u8]) -> usize
     ensures within { result ≤ length bytes.now }
     ensures value { take result bytes.now ≡ trimmed bytes.now }
 {
@@ -26,6 +29,19 @@ pub fn written_len(bytes: &[u8]) -> usize
             written = at + 1;
         }
     }
+    written
+}
+
+/// The bytes without the zeros at their end, which are passed over many at a time.
+pub fn without_last_zeros(bytes: &[u8]) -> &[u8]
+    ensures value { result.now ≡ trimmed bytes.now }
+    ensures shorter { length result.now ≤ length bytes.now }
+{
+    let mut rest = bytes;
+    while let Some(front) = rest.strip_suffix(&ZEROS) {
+        rest = front;
+    }
+    let (written, _) = rest.split_at(written_len(rest));
     written
 }
 

@@ -1,7 +1,7 @@
 //! Sources with their ROMs, labels and addresses. The faults of sources are cases of the command line.
 
 use crate::assembly::by_phases;
-use crate::rom::written_len;
+use crate::rom::without_last_zeros;
 use crate::{AsmStop, Fault, FaultKind, Patcher, assemble};
 use std::alloc::{AllocError, Global};
 use tal_labels::Placer;
@@ -240,9 +240,9 @@ static PATCHED: [(&[u8], [Told; 3]); 3] = [
 
 /// Says whether a patcher tells this now.
 fn tells(patcher: &Patcher, (waiting, fits, bytes): &Told) -> bool {
-    let image = patcher.image();
-    let (written, _) = image.split_at(written_len(image));
-    patcher.waiting() == *waiting && patcher.fits() == *fits && written == *bytes
+    patcher.waiting() == *waiting
+        && patcher.fits() == *fits
+        && without_last_zeros(patcher.image()) == *bytes
 }
 
 /// Says whether a patcher tells this after each of the first words of a source.

@@ -1,4 +1,4 @@
-use Rattle.std.proofs.Common.{◌≡◌, ◌+◌, ◌≤◌, ℕ, List, length, map, ap, ◌∙◌, arith, length-take}
+use Rattle.std.proofs.Common.{◌≡◌, ◌+◌, ◌≤◌, ℕ, List, length, map, ap, ◌∙◌, arith}
 use Rattle.std.proofs.lemmas.Result.{IfOk-weaker}
 use Rattle.std.proofs.lemmas.List.FromFn.{length-map-range_with_len}
 use Rattle.tal_words.specs.declared.span.Expanded.{Expanded}
@@ -13,7 +13,7 @@ length-image source words = length-map-range_with_len (λ i. byte_at (map known_
 pub returns : goal.returns
 returns c =
     IfOk-weaker c.from_slice.result _ _ (λ rom same source words so.
-    let image = c.image-image.ensures source words so in
-    let front = same ∙ c.split_at.ensures.front in
-    let short : c.written_len.result ≤ 65280 = omega (arith, c.written_len.ensures.within, ap length image, length-image source words) in
-    (omega (arith, short, ap length front, length-take c.written_len.result c.image-image.result.now), front ∙ c.written_len.ensures.value ∙ ap trimmed image)) c.from_slice.ensures.items
+    let image = c.image.ensures source words so in (
+      omega (arith, ap length same, c.without_last_zeros.ensures.shorter, ap length image, length-image source words),
+      same ∙ c.without_last_zeros.ensures.value ∙ ap trimmed image,
+    )) c.from_slice.ensures.items
