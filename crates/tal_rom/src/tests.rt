@@ -94,41 +94,55 @@ fn assemblies_tell_labels_and_places(rt: HostRuntime) {
     assert!(rt; tells_labels_and_places(rt.alloc()));
 }
 
-/// What sources are made of, each a few words.
+/// What sources are made of, each a few words: first those that have no fault between `@a` and `&e @b/c`.
 static PIECES: [&[u8]; 24] = [
-    b"@a ",
-    b"@b/c &d ",
-    b"&e ",
     b";a ",
     b",&e ",
     b".b/c ",
     b"=a ",
     b"_/e ",
     b"!a ",
-    b"{ ",
-    b"?{ ",
-    b"} ",
+    b"?{ 02 } ",
+    b"{ 03 } ",
     b"#1234 ",
     b"01 ",
     b"\"text ",
     b"$3 ",
-    b"|0180 ",
     b"INC2k ",
     b"( } ) ",
     b"[ ",
+    b"$0 ",
+    b"@a ",
+    b"@b/c &d ",
+    b"&e ",
+    b"{ ",
+    b"} ",
+    b"|0180 ",
     b"%m { 02 } ",
     b"m ",
-    b"{ 03 } ",
-    b"$0 ",
 ];
 
-/// A source of eight pieces, by a number.
+/// A piece by a number: one of all, or of those that have no fault.
+fn piece(number: u32, is_sound: bool) -> &'static [u8] {
+    let at = (number / 65_536) as usize;
+    if is_sound {
+        PIECES[at % 16]
+    } else {
+        PIECES[at % 24]
+    }
+}
+
+/// A source of eight pieces, by a number: those of even numbers have no fault, most others have one.
 fn made(alloc: Global, seed: u32) -> Result<Vec<u8>, AllocError> {
-    let mut source = Vec::new(alloc);
+    let is_sound = seed % 2 == 0;
+    let mut source = Vec::from_slice(alloc, b"@a ")?;
     let mut state = seed;
     for _ in 0..8 {
         state = state.wrapping_mul(1_103_515_245).wrapping_add(12_345);
-        source.extend_from_slice(PIECES[(state / 65_536) as usize % 24])?;
+        source.extend_from_slice(piece(state, is_sound))?;
+    }
+    if is_sound {
+        source.extend_from_slice(b"&e @b/c ")?;
     }
     Ok(source)
 }
