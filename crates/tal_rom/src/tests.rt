@@ -229,10 +229,10 @@ type Told = (u32, bool, &'static [u8]);
 
 /// Sources, each with what a patcher tells after each of its words: a reference that waits for its label, one that
 /// cannot reach it, and a lambda.
-static PATCHED: [(&[u8], [Told; 3]); 3] = [
+static PATCHED: [(&[u8], &[Told]); 3] = [
     (
         b";x @x INC",
-        [
+        &[
             (1, true, b""),
             (0, true, &[0xa0, 0x01, 0x03]),
             (0, true, &[0xa0, 0x01, 0x03, 0x01]),
@@ -240,11 +240,11 @@ static PATCHED: [(&[u8], [Told; 3]); 3] = [
     ),
     (
         b",x $81 @x",
-        [(1, true, b""), (1, true, b""), (0, false, b"")],
+        &[(1, true, b""), (1, true, b""), (0, false, b"")],
     ),
     (
         b"?{ 03 }",
-        [
+        &[
             (1, true, b""),
             (1, true, &[0, 0, 0, 0x03]),
             (0, true, &[0x20, 0x00, 0x01, 0x03]),
