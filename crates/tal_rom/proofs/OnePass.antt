@@ -12,7 +12,7 @@ use Rattle.tal_macros.specs.Steps.{Progress, given, words_left, next_word, advan
 use Rattle.tal_macros.proofs.GivenLemmas.{given-more, given-few}
 use Rattle.tal_labels.specs.declared.placed.PlacedWord.{PlacedWord}
 use Rattle.tal_labels.specs.declared.placer.Placer.{Placer}
-use Rattle.tal_labels.specs.Placing.{Layout, layout_of, place_fault}
+use Rattle.tal_labels.specs.Placing.{Layout, layout_of}
 use Rattle.tal_labels.specs.Adding.{added_fault, open_word, given_word, word_added}
 use Rattle.tal_labels.specs.Placers.{WereAdded}
 use Rattle.tal_rom.specs.declared.patcher.Patcher.{Patcher}

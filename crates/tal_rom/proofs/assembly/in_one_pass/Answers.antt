@@ -1,8 +1,7 @@
-use Rattle.std.proofs.Common.{◌≡◌, true, Some, refl, ap, sym, ◌∙◌, arith, rules}
+use Rattle.std.proofs.Common.{◌≡◌, true, ap, sym, ◌∙◌, arith, rules}
 use Rattle.tal_macros.specs.Expansion.{expanded_of}
 use Rattle.tal_macros.specs.Steps.{Progress, given, words_left, advanced}
 use Rattle.tal_macros.proofs.GivenLemmas.{given-whole, next-visited}
-use Rattle.tal_labels.specs.Adding.{word_added}
 use Rattle.tal_rom.specs.Patching.{waiting_count, all_fit}
 use Rattle.tal_rom.proofs.AssemblyLemmas.{assembled}
 use Rattle.tal_rom.proofs.OnePass.{was_given, further, told, patched}
