@@ -11,3 +11,4 @@ pub mod OpenLemmas
 pub mod AddingLemmas
 pub mod KeptLemmas
 pub mod PlainLemmas
+pub mod LabelNames

@@ -1,5 +1,5 @@
 -- Labels, their scopes and their full names (Uxntal syntax reference).
-use Rattle.std.specs.Prelude.{ℕ, List, [], ◌∷◌, drop, Option, Some, None, Result, Ok}
+use Rattle.std.specs.Prelude.{ℕ, ◌<◌, length, List, [], ◌∷◌, drop, Option, Some, None, Result, Ok}
 use Rattle.std.specs.Option.{option_map_or}
 use Rattle.tal_words.specs.declared.span.Expanded.{Expanded}
 use Rattle.tal_words.specs.declared.name.Label.{Label}
@@ -9,6 +9,7 @@ use Rattle.tal_words.specs.declared.form.Form.TheVariants.{LabelDef, SubDef}
 use Rattle.tal_words.specs.Forms.{form}
 use Rattle.tal_words.specs.Names.{first_scope, scope_of, full_name}
 use Rattle.tal_words.specs.Order.{collected, last_of}
+use Rattle.tal_words.specs.PlainTexts.{IsBlankFree}
 use Rattle.tal_words.specs.Source.{expanded_text}
 use Rattle.tal_labels.specs.Places.{address_after}
 
@@ -23,7 +24,16 @@ defined_name (Ok LabelDef) scope text = Some (drop 1 text)
 defined_name (Ok SubDef) scope text = Some (full_name scope text)
 defined_name _ scope text = None
 
+-- the name of a label is not empty and has no blank in it
+pub record IsNamed (label : Label) : Type 0 where
+  pub some : 0 < length label.name
+  pub blank_free : IsBlankFree label.name
+
 module _ (source : List ℕ) where
+  -- no blank stands in a word
+  abbrev pub HasNoBlank : Expanded → Type 0
+  HasNoBlank word = IsBlankFree (expanded_text source word)
+
   -- the name of the last `@` of some words
   abbrev pub last_label : List Expanded → Option (List ℕ)
   last_label words = last_of (λ word. label_name (form (expanded_text source word)) (expanded_text source word)) words

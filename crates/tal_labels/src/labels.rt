@@ -1,10 +1,12 @@
 //! Labels by their full names.
 
-ghost use Rattle.std.specs.Prelude.{◌≡◌, ◌<◌, ◌^◌, ◌++◌, false, Ok, OnOk, OnErr, IfOk, OnSome};
+ghost use Rattle.std.specs.Prelude.{◌≡◌, ◌<◌, ◌^◌, ◌++◌, ℕ, List, false, Ok, OnOk, OnErr, IfOk, OnSome};
 ghost use Rattle.std.specs.Option.{option_map};
 ghost use Rattle.tal_words.specs.Names.{scope_of as scope_of_name, full_name as full_name_in};
 ghost use Rattle.tal_labels.specs.Answers.{label_of, next_scope};
-ghost use Rattle.tal_labels.specs.Labels.{defined_name as name_defined};
+ghost use Rattle.std.specs.List.{AllByRecursion};
+ghost use Rattle.tal_words.specs.declared.span.Expanded.{Expanded};
+ghost use Rattle.tal_labels.specs.Labels.{defined_name as name_defined, labels_of, HasNoBlank, IsNamed};
 ghost use Rattle.tal_labels.specs.Placing.{is_defined as is_among};
 
 use crate::label_index::LabelIndex;
@@ -101,3 +103,9 @@ pub fn define(
         None => Ok(()),
     }
 }
+
+/// Where no word has a blank in it, the names of labels are not empty and have none either.
+pub fn names_of_labels_have_no_blank()
+    ensures { (source : List ℕ) (words : List Expanded) → AllByRecursion (HasNoBlank source) words
+        → AllByRecursion IsNamed (labels_of source words) }
+{}

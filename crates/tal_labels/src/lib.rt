@@ -11,9 +11,9 @@ mod plain;
 mod scope;
 mod shapes;
 
-pub use labels::{FIRST_SCOPE, full_name, next_scope};
+pub use labels::{FIRST_SCOPE, full_name, names_of_labels_have_no_blank, next_scope};
 pub use placed::{Placed, PlacedWord};
-pub use placer::Placer;
+pub use placer::{Placer, one_word_more_is_placed_behind};
 pub use placing::{FIRST_ADDRESS, MEMORY_END, place};
 pub use plain::plain_words_stand_one_behind_the_other;
 pub use scope::Scope;

@@ -1,6 +1,6 @@
 //! Words that are placed one by one.
 
-ghost use Rattle.std.specs.Prelude.{◌≡◌, ◌<◌, ◌^◌, ◌++◌, ◌∷◌, [], ℕ, List, None, Some, length, nat_lt, is_some, true, false};
+ghost use Rattle.std.specs.Prelude.{◌≡◌, ◌<◌, ◌^◌, ◌++◌, ◌∷◌, [], ℕ, List, None, Some, Ok, length, nat_lt, is_some, true, false};
 ghost use Rattle.std.specs.Prelude.{IfOk, IfSome, OnOk, OnErr, OnSome};
 ghost use Rattle.std.specs.Prelude.{◌+◌, ◌-◌, ◌≤◌, ◌&&◌, ◌==◌, not, if◌then◌else◌};
 ghost use Rattle.std.specs.Option.{option_map};
@@ -12,8 +12,10 @@ ghost use Rattle.tal_words.specs.Forms.{size as size_of, form as form_of_text};
 ghost use Rattle.tal_words.specs.Source.{expanded_text};
 ghost use Rattle.tal_words.specs.declared.span.Expanded.{Expanded as ExpandedWord};
 ghost use Rattle.tal_labels.specs.Answers.{label_of, next_address as address_behind, next_scope as scope_behind};
-ghost use Rattle.tal_labels.specs.Placing.{is_defined as is_among, place_kinds, is_mark_form as is_mark, place_fault, layout_of};
-ghost use Rattle.tal_labels.specs.Adding.{word_added};
+ghost use Rattle.tal_labels.specs.Placing.{is_defined as is_among, place_kinds, is_mark_form as is_mark, place_fault, layout_of, placed_of};
+ghost use Rattle.tal_words.specs.declared.form.Form.{Form as FormValue};
+ghost use Rattle.tal_labels.specs.Places.{address_after};
+ghost use Rattle.tal_labels.specs.Adding.{word_added, added_fault, open_ones, open_word};
 ghost use Rattle.tal_labels.specs.Scopes.{scope_text};
 ghost use Rattle.tal_labels.specs.Placers.{IsKept, WereAdded, PlacesNext, kept_by, closed_by, closed_opener, openers_step};
 
@@ -224,3 +226,13 @@ fn close(words: &mut Vec<PlacedWord>, opener: Option<usize>, address: u64)
         }
     }
 }
+
+/// The places of words with one word more: the word's own stands behind theirs, and where it ends a lambda, the last
+/// lambda that is open has its end at the word's address.
+pub fn one_word_more_is_placed_behind()
+    ensures { (source : List ℕ) (words : List ExpandedWord) (word : ExpandedWord) (form : FormValue)
+        → added_fault source words ≡ None → form_of_text (expanded_text source word) ≡ Ok form
+        → placed_of source (words ++ word ∷ [])
+        ≡ closed_by (closed_opener (opens_brace (expanded_text source word)) (closes_brace (expanded_text source word)) (open_ones source words))
+        (address_after source words) (placed_of source words ++ open_word source words word form ∷ []) }
+{}

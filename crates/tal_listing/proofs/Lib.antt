@@ -2,4 +2,3 @@ pub mod InstructionTexts
 pub mod DisassemblyLemmas
 pub mod ChainLemmas
 pub mod ListingLemmas
-pub mod LabelNames

@@ -9,3 +9,5 @@ pub mod NameLemmas
 pub mod AddedLemmas
 pub mod ImageLemmas
 pub mod PatchedLemmas
+pub mod OnePass
+pub mod Zeros

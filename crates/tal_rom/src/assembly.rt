@@ -6,6 +6,7 @@ ghost use Rattle.tal_rom.specs.Rom.{rom_limit};
 ghost use Rattle.tal_rom.specs.Assembly.{IsAssembled, first_fault, layout};
 ghost use Rattle.tal_rom.specs.Answers.{CoverOnce};
 
+use crate::patcher::Patcher;
 use crate::rom::rom_of;
 use std::alloc::{AllocError, Global};
 use std::marker::Model;
@@ -80,25 +81,27 @@ fn in_one_pass(alloc: Global, source: &[u8], words: &[Word]) -> Result<Option<As
 {
     let mut expander = Expander::new(alloc, source, words);
     let mut placer = Placer::new(alloc);
+    let mut patcher = Patcher::new(alloc)?;
     loop {
         match expander.next() {
-            Ok(Some(word)) => {
-                if placer.add(source, word)?.is_none() {
-                    return Ok(None);
-                }
-            }
+            Ok(Some(word)) => match placer.add(source, word)? {
+                Some(placed) => patcher.add(source, &placed)?,
+                None => return Ok(None),
+            },
             Ok(None) => break,
             Err(AsmStop::Refused(_)) => return Ok(None),
             Err(AsmStop::NoMemory) => return Err(AllocError),
         }
     }
-    let Some(placed) = placer.finish() else {
+    if patcher.waiting() > 0 || !patcher.fits() {
         return Ok(None);
-    };
-    match rom_of(alloc, source, &placed) {
-        Ok(rom) => Ok(Some(Assembly { rom, placed })),
-        Err(AsmStop::Refused(_)) => Ok(None),
-        Err(AsmStop::NoMemory) => Err(AllocError),
+    }
+    match placer.finish() {
+        Some(placed) => Ok(Some(Assembly {
+            rom: patcher.rom()?,
+            placed,
+        })),
+        None => Ok(None),
     }
 }
 

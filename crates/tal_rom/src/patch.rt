@@ -8,12 +8,13 @@ ghost use Rattle.tal_words.specs.Labels.{address_named};
 ghost use Rattle.tal_words.specs.declared.name.Label.{Label as LabelValue};
 ghost use Rattle.tal_words.specs.declared.form.Form.TheVariants.{Refer};
 ghost use Rattle.tal_rom.specs.Filling.{overlaid, filled_hole, is_reference};
-ghost use Rattle.tal_rom.specs.Patchers.{Entry, Holds, ComesNext, new_entry, closed_last};
+ghost use Rattle.tal_rom.specs.Patchers.{Entry, Holds, ComesNext, new_entry, closed_last, memory_size};
 
 use crate::encoding::{few_bytes, reference_bytes};
 use crate::hole::Hole;
 use crate::names::Names;
 use crate::references::reaches;
+use crate::rom::ZEROS;
 use std::alloc::{AllocError, Global};
 use tal_labels::MEMORY_END;
 use tal_words::Form;
@@ -41,12 +42,17 @@ fn put(memory: &mut Vec<u8>, at: u64, bytes: &[u8])
     }
 }
 
-/// So many zeros.
-fn zeros(alloc: Global, count: usize) -> Result<Vec<u8>, AllocError>
-    ensures size { IfOk result (λ bytes. length bytes.items ≡ count) }
+/// All of memory, as zeros. They are put some at a time, since the C library puts more of them by an instruction that is
+/// slow to begin.
+fn zeros(alloc: Global) -> Result<Vec<u8>, AllocError>
+    ensures size { IfOk result (λ bytes. length bytes.items ≡ memory_size) }
     ensures each { IfOk result (λ bytes. (at : ℕ) → slice_index bytes.items at ≡ 0) }
 {
-    vec![in alloc; 0; count]
+    let mut memory = Vec::with_capacity(alloc, MEMORY_END as usize)?;
+    for _ in 0..256_usize {
+        memory.extend_from_slice(&ZEROS)?;
+    }
+    Ok(memory)
 }
 
 impl Patch {
@@ -55,7 +61,7 @@ impl Patch {
         ensures { IfOk result (λ patch. Holds [] [] patch) }
     {
         Ok(Patch {
-            memory: zeros(alloc, MEMORY_END as usize)?,
+            memory: zeros(alloc)?,
             waiting: 0,
             fits: true,
             names: Names::new(alloc),

@@ -1,6 +1,6 @@
 //! Words whose bytes are put into memory as they are added.
 
-ghost use Rattle.std.specs.Prelude.{◌≡◌, ◌<◌, ◌^◌, ◌-◌, ◌∷◌, ◌++◌, [], ℕ, List, Some, None, OnOk, OnErr, IfOk, length, Ok, true};
+ghost use Rattle.std.specs.Prelude.{◌≡◌, ◌<◌, ◌≤◌, ◌^◌, ◌-◌, ◌∷◌, ◌++◌, [], ℕ, List, Some, None, OnOk, OnErr, IfOk, length, Ok, true};
 ghost use Rattle.std.specs.Option.{option_map};
 ghost use Rattle.tal_words.specs.declared.span.Expanded.{Expanded as ExpandedWord};
 ghost use Rattle.tal_words.specs.declared.name.Label.{Label as LabelValue};
@@ -10,7 +10,7 @@ ghost use Rattle.tal_labels.specs.Labels.{defined_name};
 ghost use Rattle.tal_macros.specs.Expansion.{expanded_of};
 ghost use Rattle.tal_rom.specs.Assembly.{layout, rom_of};
 ghost use Rattle.tal_rom.specs.References.{reference_fault};
-ghost use Rattle.tal_rom.specs.Rom.{trimmed};
+ghost use Rattle.tal_rom.specs.Rom.{trimmed, rom_limit};
 ghost use Rattle.tal_rom.specs.Filling.{is_definition};
 ghost use Rattle.tal_rom.specs.Patchers.{Entry, Holds, HoldsAll, WasGiven, WerePatched};
 ghost use Rattle.tal_rom.specs.Patching.{waiting_count, all_fit, image_of};
@@ -18,7 +18,7 @@ ghost use Rattle.tal_rom.specs.Patching.{waiting_count, all_fit, image_of};
 use crate::hole::Hole;
 use crate::patch::Patch;
 use crate::references::name_after_rune;
-use crate::rom::trim;
+use crate::rom::without_last_zeros;
 use std::alloc::{AllocError, Global};
 use tal_labels::{FIRST_ADDRESS, PlacedWord, Scope, full_name};
 use tal_words::{Form, closes, opens};
@@ -134,6 +134,14 @@ impl Patcher {
         let memory = self.patch.memory();
         let (_, image) = memory.split_at(memory.len().min(FIRST_ADDRESS as usize));
         image
+    }
+
+    /// The bytes of the image without the zeros at their end.
+    pub(crate) fn rom(&self) -> Result<Vec<u8>, AllocError>
+        ensures { IfOk result (λ rom. (source : List ℕ) (words : List ExpandedWord) → WerePatched source words self.now
+            → (length rom.items ≤ rom_limit) × (rom.items ≡ trimmed (image_of source words))) }
+    {
+        Vec::from_slice(self.alloc, without_last_zeros(self.image()))
     }
 }
 

@@ -1,8 +1,11 @@
 //! Sources with their ROMs, labels and addresses. The faults of sources are cases of the command line.
 
 use crate::assembly::by_phases;
-use crate::{AsmStop, Fault, FaultKind, assemble};
+use crate::rom::without_last_zeros;
+use crate::{AsmStop, Fault, FaultKind, Patcher, assemble};
 use std::alloc::{AllocError, Global};
+use tal_labels::Placer;
+use tal_macros::Expander;
 use tal_words::words;
 
 /// Sources, each with its ROM.
@@ -91,41 +94,55 @@ fn assemblies_tell_labels_and_places(rt: HostRuntime) {
     assert!(rt; tells_labels_and_places(rt.alloc()));
 }
 
-/// What sources are made of, each a few words.
+/// What sources are made of, each a few words: first those that have no fault between `@a` and `&e @b/c`.
 static PIECES: [&[u8]; 24] = [
-    b"@a ",
-    b"@b/c &d ",
-    b"&e ",
     b";a ",
     b",&e ",
     b".b/c ",
     b"=a ",
     b"_/e ",
     b"!a ",
-    b"{ ",
-    b"?{ ",
-    b"} ",
+    b"?{ 02 } ",
+    b"{ 03 } ",
     b"#1234 ",
     b"01 ",
     b"\"text ",
     b"$3 ",
-    b"|0180 ",
     b"INC2k ",
     b"( } ) ",
     b"[ ",
+    b"$0 ",
+    b"@a ",
+    b"@b/c &d ",
+    b"&e ",
+    b"{ ",
+    b"} ",
+    b"|0180 ",
     b"%m { 02 } ",
     b"m ",
-    b"{ 03 } ",
-    b"$0 ",
 ];
 
-/// A source of eight pieces, by a number.
+/// A piece by a number: one of all, or of those that have no fault.
+fn piece(number: u32, is_sound: bool) -> &'static [u8] {
+    let at = (number / 65_536) as usize;
+    if is_sound {
+        PIECES[at % 16]
+    } else {
+        PIECES[at % 24]
+    }
+}
+
+/// A source of eight pieces, by a number: those of even numbers have no fault, most others have one.
 fn made(alloc: Global, seed: u32) -> Result<Vec<u8>, AllocError> {
-    let mut source = Vec::new(alloc);
+    let is_sound = seed % 2 == 0;
+    let mut source = Vec::from_slice(alloc, b"@a ")?;
     let mut state = seed;
     for _ in 0..8 {
         state = state.wrapping_mul(1_103_515_245).wrapping_add(12_345);
-        source.extend_from_slice(PIECES[(state / 65_536) as usize % 24])?;
+        source.extend_from_slice(piece(state, is_sound))?;
+    }
+    if is_sound {
+        source.extend_from_slice(b"&e @b/c ")?;
     }
     Ok(source)
 }
@@ -203,6 +220,72 @@ fn memory_and_sources_have_an_end(rt: HostRuntime) {
         assert!(rt;
             has_end(rt.alloc(), *spaces, word, *zeros, *last) == Ok(true),
             "at {word:?}"
+        );
+    }
+}
+
+/// What a patcher tells: how many words wait, whether all fit, and its image without the zeros at the end.
+type Told = (u32, bool, &'static [u8]);
+
+/// Sources, each with what a patcher tells after each of its words: a reference that waits for its label, one that
+/// cannot reach it, and a lambda.
+static PATCHED: [(&[u8], &[Told]); 3] = [
+    (
+        b";x @x INC",
+        &[
+            (1, true, b""),
+            (0, true, &[0xa0, 0x01, 0x03]),
+            (0, true, &[0xa0, 0x01, 0x03, 0x01]),
+        ],
+    ),
+    (
+        b",x $81 @x",
+        &[(1, true, b""), (1, true, b""), (0, false, b"")],
+    ),
+    (
+        b"?{ 03 }",
+        &[
+            (1, true, b""),
+            (1, true, &[0, 0, 0, 0x03]),
+            (0, true, &[0x20, 0x00, 0x01, 0x03]),
+        ],
+    ),
+];
+
+/// Says whether a patcher tells this now.
+fn tells(patcher: &Patcher, (waiting, fits, bytes): &Told) -> bool {
+    patcher.waiting() == *waiting
+        && patcher.fits() == *fits
+        && without_last_zeros(patcher.image()) == *bytes
+}
+
+/// Says whether a patcher tells this after each of the first words of a source.
+fn is_patched(alloc: Global, source: &[u8], steps: &[Told]) -> Result<bool, AsmStop> {
+    let words = words(alloc, source)?;
+    let mut expander = Expander::new(alloc, source, &words);
+    let mut placer = Placer::new(alloc);
+    let mut patcher = Patcher::new(alloc)?;
+    for told in steps {
+        let Some(word) = expander.next()? else {
+            return Ok(false);
+        };
+        let Some(placed) = placer.add(source, word)? else {
+            return Ok(false);
+        };
+        patcher.add(source, &placed)?;
+        if !tells(&patcher, told) {
+            return Ok(false);
+        }
+    }
+    Ok(true)
+}
+
+#[test]
+fn patchers_fill_each_reference_as_its_target_comes(rt: HostRuntime) {
+    for (source, steps) in &PATCHED {
+        assert!(rt;
+            matches!(is_patched(rt.alloc(), source, steps), Ok(true)),
+            "at {source:?}"
         );
     }
 }

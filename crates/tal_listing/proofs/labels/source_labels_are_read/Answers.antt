@@ -1,7 +1,27 @@
+use Rattle.std.proofs.Common.{◌≡◌, ℕ, true, List, [], ◌∷◌, refl, arith}
+use Rattle.std.specs.List.{AllByRecursion}
+use Rattle.std.proofs.lemmas.Bool.{and_from}
+use Rattle.std.proofs.lemmas.Bool.Decides.{nat_tests}
+use Rattle.tal_words.specs.declared.name.Label.{Label}
+use Rattle.tal_macros.specs.Expansion.{expanded_of}
+use Rattle.tal_macros.proofs.BlankLemmas.{expanded_free}
+use Rattle.tal_labels.specs.Labels.{IsNamed}
+use Rattle.tal_labels.proofs.LabelNames.{all_named}
 use Rattle.tal_rom.specs.Assembly.{layout}
+use Rattle.tal_symbols.specs.SymbolFile.{is_readable, are_readable}
 use Rattle.tal_symbols.proofs.WritingLemmas.{read_back}
-use Rattle.tal_listing.proofs.LabelNames.{labels_readable}
 use Rattle.tal_listing.proofs.labels.source_labels_are_read.Goals as goal
+
+readable_name : (label : Label) → IsNamed label → is_readable label ≡ true
+readable_name label named = grind (arith, nat_tests, named.some, named.blank_free)
+
+named_readable : (labels : List Label) → AllByRecursion IsNamed labels → are_readable labels ≡ true
+named_readable [] all = refl
+named_readable (label ∷ labels) all = and_from (is_readable label) (are_readable labels) (readable_name label all.0) (named_readable labels all.1)
+
+labels_readable : (source : List ℕ) → are_readable (layout source).labels ≡ true
+unfolding layout
+labels_readable source = named_readable (layout source).labels (all_named source (expanded_of source) (expanded_free source))
 
 pub returns-clause-readable : goal.returns-clause-readable
 returns-clause-readable c = labels_readable

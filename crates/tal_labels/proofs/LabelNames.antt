@@ -1,11 +1,9 @@
--- The labels of a source can be read back from its symbol file.
-use Rattle.std.proofs.Common.{◌≡◌, ℕ, zero, suc, ◌<◌, true, not, List, [], ◌∷◌, ◌++◌, length, take, drop, Option, Some, None, Result, Ok, refl, ◌∙◌, arith, length-append}
-use Rattle.std.proofs.lemmas.Bool.Decides.{nat_tests}
+-- The names of labels are not empty and have no blank in them, where no word has one.
+use Rattle.std.proofs.Common.{◌≡◌, ℕ, zero, suc, ◌<◌, not, List, [], ◌∷◌, ◌++◌, length, take, drop, Option, Some, None, Result, Ok, refl, arith, length-append}
 use Rattle.std.specs.Prelude.{◌==◌}
 use Rattle.std.specs.Option.{option_map_or}
 use Rattle.std.specs.List.{prefix_len, AllByRecursion}
-use Rattle.std.proofs.lemmas.Bool.{and_from}
-use Rattle.std.proofs.lemmas.List.Folds.{list_any-append, list_all-append}
+use Rattle.std.proofs.lemmas.List.Folds.{list_any-append}
 use Rattle.tal_words.specs.declared.span.Expanded.{Expanded}
 use Rattle.tal_words.specs.declared.fault.FaultKind.{FaultKind}
 use Rattle.tal_words.specs.declared.form.Form.{Form}
@@ -16,16 +14,9 @@ use Rattle.tal_words.specs.Names.{first_scope, scope_of, full_name, slash, rune_
 use Rattle.tal_words.specs.Opcodes.{byte_of_op}
 use Rattle.tal_words.specs.Forms.{form, rune_or_bare}
 use Rattle.tal_words.specs.Order.{collected, or_earlier}
-use Rattle.tal_labels.specs.Labels.{label_name, defined_name, last_label, scope_after, label_at, labels_given, labels_of}
-use Rattle.tal_macros.specs.Expansion.{expanded_of}
-use Rattle.tal_rom.specs.Assembly.{layout}
-use Rattle.tal_symbols.specs.SymbolFile.{is_readable, are_readable}
+use Rattle.tal_labels.specs.Labels.{label_name, defined_name, last_label, scope_after, label_at, labels_given, labels_of, HasNoBlank, IsNamed}
 use Rattle.tal_words.specs.PlainTexts.{IsBlankFree}
 use Rattle.tal_words.proofs.BlankFree.{all_joined}
-use Rattle.tal_macros.proofs.BlankLemmas.{expanded_free}
-
-abbrev IsFree : List ℕ → Expanded → Type 0
-IsFree source word = IsBlankFree (expanded_text source word)
 
 drop_plain : (text : List ℕ) → IsBlankFree text → IsBlankFree (drop 1 text)
 drop_plain [] plain = refl
@@ -54,9 +45,6 @@ unfolding form
 not_empty [] e = cc
 not_empty (first ∷ rest) e = omega arith
 
-readable_name : (name : List ℕ) (address : ℕ) → 0 < length name → IsBlankFree name → is_readable (record { name = name; address = address }) ≡ true
-readable_name name address some plain = grind (arith, nat_tests)
-
 full_plain : (scope text : List ℕ) → IsBlankFree scope → IsBlankFree text → IsBlankFree (full_name scope text)
 full_plain scope text scope_plain plain = grind (arith, list_any-append, drop_plain text plain)
 
@@ -79,30 +67,28 @@ scoped_plain None plain = refl
 scoped_plain (Some name) plain = take_plain (prefix_len (λ byte. not (byte == slash)) name) name plain
 
 module _ (source : List ℕ) where
-  last_plain : (words : List Expanded) → AllByRecursion (IsFree source) words → IsPlainName (last_label source words)
+  last_plain : (words : List Expanded) → AllByRecursion (HasNoBlank source) words → IsPlainName (last_label source words)
   last_plain [] all = tt
   last_plain (word ∷ words) all = later_plain _ _ (last_plain words all.1) (label_plain (form (expanded_text source word)) (expanded_text source word) all.0)
 
-  scope_plain : (words : List Expanded) → AllByRecursion (IsFree source) words → IsBlankFree (scope_after source words)
+  scope_plain : (words : List Expanded) → AllByRecursion (HasNoBlank source) words → IsBlankFree (scope_after source words)
   unfolding scope_after
   scope_plain words all = scoped_plain (last_label source words) (last_plain words all)
 
-  given_readable : (before : List Expanded) (answer : Result Form FaultKind) (scope text : List ℕ) → form text ≡ answer → IsBlankFree text → IsBlankFree scope
-      → are_readable (label_at source before (defined_name answer scope text)) ≡ true
-  given_readable before (Ok LabelDef) scope text e plain scoped = rw (readable_name (drop 1 text) 0 (label_named text e) (drop_plain text plain)) refl
-  given_readable before (Ok SubDef) scope text e plain scoped = rw (readable_name (full_name scope text) 0 (full_some scope text (not_empty text e)) (full_plain scope text scoped plain)) refl
-  given_readable before _ scope text e plain scoped = refl
+  given_named : (before : List Expanded) (answer : Result Form FaultKind) (scope text : List ℕ) → form text ≡ answer → IsBlankFree text → IsBlankFree scope
+      → AllByRecursion IsNamed (label_at source before (defined_name answer scope text))
+  given_named before (Ok LabelDef) scope text e plain scoped = (record { some = label_named text e; blank_free = drop_plain text plain }, tt)
+  given_named before (Ok SubDef) scope text e plain scoped = (record { some = full_some scope text (not_empty text e); blank_free = full_plain scope text scoped plain }, tt)
+  given_named before _ scope text e plain scoped = tt
 
-  collected_readable : (before words : List Expanded) → AllByRecursion (IsFree source) before → AllByRecursion (IsFree source) words
-      → are_readable (collected (labels_given source) before words) ≡ true
-  collected_readable before [] earlier all = refl
-  collected_readable before (word ∷ words) earlier all =
-      let text = expanded_text source word in
-      list_all-append is_readable (labels_given source before word words) (collected (labels_given source) (before ++ word ∷ []) words)
-      ∙ and_from (are_readable (labels_given source before word words)) (are_readable (collected (labels_given source) (before ++ word ∷ []) words))
-      (given_readable before (form text) (scope_after source before) text refl all.0 (scope_plain before earlier))
-      (collected_readable (before ++ word ∷ []) words (all_joined (IsFree source) before (word ∷ []) earlier (all.0, tt)) all.1)
+  collected_named : (before words : List Expanded) → AllByRecursion (HasNoBlank source) before → AllByRecursion (HasNoBlank source) words
+      → AllByRecursion IsNamed (collected (labels_given source) before words)
+  collected_named before [] earlier all = tt
+  collected_named before (word ∷ words) earlier all =
+      all_joined IsNamed (labels_given source before word words) (collected (labels_given source) (before ++ word ∷ []) words)
+      (given_named before (form (expanded_text source word)) (scope_after source before) (expanded_text source word) refl all.0 (scope_plain before earlier))
+      (collected_named (before ++ word ∷ []) words (all_joined (HasNoBlank source) before (word ∷ []) earlier (all.0, tt)) all.1)
 
-  pub labels_readable : are_readable (layout source).labels ≡ true
-  unfolding layout labels_of
-  labels_readable = collected_readable [] (expanded_of source) tt (expanded_free source)
+  pub all_named : (words : List Expanded) → AllByRecursion (HasNoBlank source) words → AllByRecursion IsNamed (labels_of source words)
+  unfolding labels_of
+  all_named words all = collected_named [] words tt all

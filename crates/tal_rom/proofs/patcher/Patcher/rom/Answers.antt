@@ -1,0 +1,19 @@
+use Rattle.std.proofs.Common.{◌≡◌, ◌+◌, ℕ, List, length, map, ap, ◌∙◌, arith}
+use Rattle.std.proofs.lemmas.Result.{IfOk-weaker}
+use Rattle.std.proofs.lemmas.List.FromFn.{length-map-range_with_len}
+use Rattle.tal_words.specs.declared.span.Expanded.{Expanded}
+use Rattle.tal_rom.specs.Rom.{byte_at, trimmed}
+use Rattle.tal_rom.specs.Patching.{known_piece, added_of, image_of}
+use Rattle.tal_rom.proofs.patcher.Patcher.rom.Goals as goal
+
+length-image : (source : List ℕ) (words : List Expanded) → length (image_of source words) ≡ 65280
+unfolding image_of
+length-image source words = length-map-range_with_len (λ i. byte_at (map known_piece (added_of source words)) (256 + i)) 0 65280
+
+pub returns : goal.returns
+returns c =
+    IfOk-weaker c.from_slice.result _ _ (λ rom same source words so.
+    let image = c.image.ensures source words so in (
+      omega (arith, ap length same, c.without_last_zeros.ensures.shorter, ap length image, length-image source words),
+      same ∙ c.without_last_zeros.ensures.value ∙ ap trimmed image,
+    )) c.from_slice.ensures.items
