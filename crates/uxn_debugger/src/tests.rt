@@ -25,7 +25,7 @@ type Session = (
     &'static [u8],
 );
 
-static SESSIONS: [Session; 7] = [
+static SESSIONS: [Session; 8] = [
     (
         PUTS,
         b"",
@@ -62,6 +62,13 @@ static SESSIONS: [Session; 7] = [
         b"break 0107\nat 0107 4 INC v+0000\n0107 01 00\nat 0108 5 BRK v+0001\nWST 00 00 00 00 00 00 00 01\nRST 00 00 00 00 00 00 00 00\nat 0107 6 INC v+0000\ndelete 0107\nend 8\nend 8\n",
     ),
     (PUTS, b"", b"A", b"", b""),
+    (
+        PUTS,
+        b"",
+        b"A",
+        b"step 3\nback 2\nstacks\nstep 1\nback 9\n",
+        b"at 0105 3 BRK\nat 0102 1 LIT\nWST 00 00 00 00 00 00 00 41\nRST 00 00 00 00 00 00 00 00\nat 0104 2 DEO\nheld 2\n",
+    ),
     (
         COUNTS,
         b"frame",
