@@ -160,8 +160,8 @@ fn prepare<T: Tree>(alloc: Global, task: &Task, tree: &mut T) -> Result<Session,
     let script = accept_script(alloc, &task.script, tree)?;
     let labels = labels_of(&program, &given);
     let commands = accept_commands(alloc, &task.commands, labels, tree)?;
-    let machine = new_machine(alloc, task.root, program.rom(), script)?;
     let undo = Undo::new(alloc)?;
+    let machine = new_machine(alloc, task.root, program.rom(), script)?;
     Ok(Session {
         machine,
         commands,

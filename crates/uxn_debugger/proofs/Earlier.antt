@@ -1,22 +1,21 @@
 -- What is kept of the moments before one, and what is seen by it.
-use Rattle.std.proofs.Common.{◌≡◌, ℕ, zero, suc, ◌+◌, ◌-◌, ◌%◌, ◌<◌, ◌≤◌, Bool, true, false, cond, List, [], ◌∷◌, length, take, drop, Option, Some, None, refl, sym, ap, ◌∙◌, arith}
-use Rattle.std.specs.Prelude.{slice_get, slice_index, map, reverse, option_map, nat_lt, ◌==◌}
+use Rattle.std.proofs.Common.{◌≡◌, ℕ, zero, suc, ◌+◌, ◌-◌, ◌%◌, ◌<◌, ◌≤◌, true, false, cond, List, [], ◌∷◌, length, take, drop, Option, Some, None, refl, sym, ap, ◌∙◌, arith}
+use Rattle.std.specs.Prelude.{slice_get, map, option_map, nat_lt, ◌==◌}
 use Rattle.std.proofs.Math.Path.{fun_ext}
 use Rattle.std.proofs.lemmas.Bool.Decides.{nat_tests}
 use Rattle.std.proofs.lemmas.List.{drop-map, length-map, length-reverse, length-take-le}
 use Rattle.std.proofs.lemmas.Option.{slice_get-map}
 use Rattle.uxn_opcodes.specs.declared.Core.{Core}
 use Rattle.tal_words.specs.declared.name.Label.{Label}
-use Rattle.vector_loop.specs.declared.watch.Moment.{Moment}
-use Rattle.uxn_undo.specs.Kept.{Kept, Holds, kept_at, number_held, byte_back}
-use Rattle.uxn_undo.specs.Laws.{Given, kept_of, Follow, HoldingLaw, GoingBackLaw}
-use Rattle.uxn_undo.specs.Runs.{memory_next, InRow, RunLaw}
+use Rattle.uxn_undo.specs.Kept.{Kept, kept_at, number_held, byte_back}
+use Rattle.uxn_undo.specs.Laws.{kept_of, Follow, HoldingLaw, GoingBackLaw}
+use Rattle.uxn_undo.specs.Runs.{memory_next, RunLaw}
 use Rattle.uxn_debugger.specs.declared.place.Place.{Place}
 use Rattle.uxn_debugger.specs.declared.place.Place.TheVariants.{Before, End}
 use Rattle.uxn_debugger.specs.Printing.{View, view, byte_at, moment_at}
-use Rattle.uxn_debugger.specs.Log.{Shown, before, gone, at_end, given_of, IsRegular, moment_seen, seen, view_at, given_before, held_before}
+use Rattle.uxn_debugger.specs.Log.{Shown, before, gone, at_end, given_of, IsRegular, seen, view_at, given_before, held_before}
 use Rattle.uxn_debugger.specs.Watching.{seen_of, seen_back, keeping}
-use Rattle.uxn_debugger.proofs.Places.{get_at, get_past, within, From, from_place, taken_get, reverse_next, reverse_get}
+use Rattle.uxn_debugger.proofs.Places.{get_at, get_past, within, from_place, taken_get, reverse_next, reverse_get}
 
 -- the three laws of what keeps moments
 pub record UndoLaws : Type 0 where

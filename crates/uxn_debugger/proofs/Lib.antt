@@ -6,5 +6,4 @@ pub mod BitSets
 pub mod Tables
 pub mod Nearest
 pub mod Obeying
-pub mod Scenes
 pub mod Keeping

@@ -1,6 +1,6 @@
 -- A debugger that is shown a run moment by moment keeps the log of the whole run.
 use Rattle.std.proofs.Common.{◌≡◌, ℕ, zero, suc, ◌+◌, ◌-◌, ◌<◌, ◌≤◌, Bool, true, false, cond, List, [], ◌∷◌, ◌++◌, length, take, drop, Option, Some, None, ◌⊎◌, inl, inr, refl, sym, ap, ◌∙◌, arith}
-use Rattle.std.specs.Prelude.{slice_get, fold, min, max, nat_le}
+use Rattle.std.specs.Prelude.{fold, min, max, nat_le}
 use Rattle.std.specs.List.{position_or_len}
 use Rattle.std.proofs.lemmas.Bool.{cases_Bool, false≢true, eqb-true, eqb-false}
 use Rattle.std.proofs.lemmas.Bool.Decides.{nat_tests}
@@ -13,12 +13,12 @@ use Rattle.uxn_debugger.specs.declared.place.Place.{Place}
 use Rattle.uxn_debugger.specs.declared.place.Place.TheVariants.{Before, End}
 use Rattle.uxn_debugger.specs.declared.place.Goal.{Goal}
 use Rattle.uxn_debugger.specs.declared.place.Goal.TheVariants.{FirstMoment, MomentAfter, BreakAddress, Nothing}
-use Rattle.uxn_debugger.specs.Printing.{View, view, place_seen, printed}
-use Rattle.uxn_debugger.specs.Log.{Shown, before, at_end, AddressSet, IsRegular, no_breaks, breaks_after, Stand, view_at, held_before, reach, index_after, stand_at, after_command, log_of}
+use Rattle.uxn_debugger.specs.Printing.{View, printed}
+use Rattle.uxn_debugger.specs.Log.{Shown, before, at_end, AddressSet, IsRegular, no_breaks, breaks_after, Stand, view_at, reach, index_after, stand_at, after_command, log_of}
 use Rattle.uxn_debugger.specs.Watching.{Watching, new_watching, seen_back, next_stop, back_after, unless_stopped, goal_of, obeyed, done, unless_it_goes, arrival, arrived, is_awaited, goal_later, keeping, with_kept, shown, ended, KeepsTheLog}
 use Rattle.uxn_debugger.proofs.Obeying.{done-none, done-more}
 use Rattle.uxn_debugger.proofs.Places.{within, drop_next, first_passes, first_fails}
-use Rattle.uxn_debugger.proofs.Earlier.{UndoLaws, undo_at, held_here, held_within, keeps, IsCome, sees_back, now_before, now_at_end, comes_before, comes_at_end}
+use Rattle.uxn_debugger.proofs.Earlier.{UndoLaws, undo_at, held_here, held_within, keeps, sees_back, now_before, now_at_end, comes_before, comes_at_end}
 use Rattle.uxn_debugger.proofs.Turns.{met_behind, IsFound, Finds, finds_before, finds_at_end}
 
 -- something is waited for

@@ -1,18 +1,17 @@
 -- What a command does where a run stands, against the indices of the finished list.
-use Rattle.std.proofs.Common.{◌≡◌, ℕ, zero, suc, ◌+◌, ◌-◌, ◌<◌, ◌≤◌, Bool, true, false, cond, List, [], ◌∷◌, length, take, drop, Option, Some, None, inl, inr, refl, sym, ap, ◌∙◌, arith}
-use Rattle.std.specs.Prelude.{slice_get, min, nat_le, ◌==◌, unwrap_or}
+use Rattle.std.proofs.Common.{◌≡◌, ℕ, zero, suc, ◌+◌, ◌-◌, ◌<◌, ◌≤◌, Bool, true, false, cond, List, [], ◌∷◌, length, drop, Option, Some, None, inl, inr, refl, sym, ap, ◌∙◌, arith}
+use Rattle.std.specs.Prelude.{slice_get, min, ◌==◌}
 use Rattle.std.specs.List.{position_or_len}
-use Rattle.std.proofs.lemmas.Bool.{cases_Bool, leb-true, leb-false}
+use Rattle.std.proofs.lemmas.Bool.{cases_Bool}
 use Rattle.std.proofs.lemmas.Bool.Decides.{nat_tests}
 use Rattle.tal_words.specs.declared.name.Label.{Label}
-use Rattle.vector_loop.specs.declared.watch.Moment.{Moment}
 use Rattle.uxn_undo.specs.Kept.{Kept}
 use Rattle.uxn_debugger.specs.declared.place.Place.{Place}
 use Rattle.uxn_debugger.specs.declared.place.Place.TheVariants.{Before, End}
 use Rattle.uxn_debugger.specs.Log.{Shown, AddressSet, IsRegular}
 use Rattle.uxn_debugger.specs.Watching.{is_stop, was_at_break, stands_at_break, next_stop}
 use Rattle.uxn_debugger.proofs.Places.{get_at, within, first_passes, first_fails, drop_next}
-use Rattle.uxn_debugger.proofs.Earlier.{UndoLaws, undo_at, held_within, IsKept, is_kept}
+use Rattle.uxn_debugger.proofs.Earlier.{UndoLaws, undo_at, held_within, is_kept}
 
 pub next_stop-here : (breaks : AddressSet) (held : List Kept) (place : Place) (less : ℕ) → is_stop breaks held place less ≡ true → next_stop breaks held place (suc less) ≡ Some less
 unfolding next_stop

@@ -1,6 +1,8 @@
 use Rattle.std.proofs.Common.{◌≡◌, ◌∙◌, ap, rules}
 use Rattle.std.specs.Prelude.{Err, option_map}
+use Rattle.uxn_opcodes.specs.declared.Stop.TheVariants.{NoMemory}
 use Rattle.uxn_opcodes.specs.Rule.{new_core}
+use Rattle.uxn_cli.specs.declared.refusal.Halt.TheVariants.{Stopped}
 use Rattle.uxn_cli.specs.Prepared.{rom_in_program}
 use Rattle.uxn_cli.proofs.ReadyLemmas.{home, is-home, seen-here, debug-unloaded, debug-ungiven, debug-unscripted, debug-uncommanded, debug-ready}
 use Rattle.uxn_cli.proofs.RunLemmas.{debug-root}
@@ -58,3 +60,19 @@ returns-clause-prepares g c =
 pub returns-clause-left : goal.returns-clause-left
 returns-clause-left g c =
     leaves_same _ _ _ c.in_ok-program.ensures.left (leaves_same _ _ _ c.in_ok-given.ensures.left (leaves_same _ _ _ c.in_ok-script.ensures.left c.in_ok-commands.ensures.left))
+
+-- memory was wanting for what keeps moments
+pub returns-in_err-undo-clause-prepares : goal.returns-in_err-undo-clause-prepares
+returns-in_err-undo-clause-prepares g c =
+    let result : c.from_residual-in_err-undo.result ≡ Err (Stopped NoMemory) = search rules in
+    rw result (λ e. absurd (cc))
+
+pub returns-in_err-undo-clause-ledger : goal.returns-in_err-undo-clause-ledger
+returns-in_err-undo-clause-ledger g c =
+    let result : c.from_residual-in_err-undo.result ≡ Err (Stopped NoMemory) = search rules in
+    rw result (c.in_ok-commands.ensures.ledger ∙ c.in_ok-script.ensures.ledger ∙ c.in_ok-given.ensures.ledger ∙ c.in_ok-program.ensures.ledger)
+
+pub returns-in_err-undo-clause-sure : goal.returns-in_err-undo-clause-sure
+returns-in_err-undo-clause-sure g c some =
+    let result : c.from_residual-in_err-undo.result ≡ Err (Stopped NoMemory) = search rules in
+    rw result (λ e. absurd (cc))

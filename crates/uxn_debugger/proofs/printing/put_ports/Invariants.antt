@@ -1,4 +1,4 @@
-use Rattle.std.proofs.Common.{◌≡◌, ◌++◌, ℕ, List, get_or}
+use Rattle.std.proofs.Common.{◌≡◌, ◌++◌, get_or}
 use Rattle.std.specs.List.{flat_map, range_with_len}
 use Rattle.uxn_io.specs.NumberText.{hex_of_byte}
 use Rattle.vector_loop.specs.Watch.{Page, IsPage}

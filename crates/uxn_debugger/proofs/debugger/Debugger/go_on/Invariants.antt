@@ -1,4 +1,4 @@
-use Rattle.std.proofs.Common.{◌≡◌, ◌≤◌, ℕ, List, length}
+use Rattle.std.proofs.Common.{◌≡◌, ◌≤◌, length}
 use Rattle.vector_loop.specs.Watch.{Page, IsPage}
 use Rattle.uxn_debugger.specs.Printing.{view}
 use Rattle.uxn_debugger.specs.Watching.{done, held_by}

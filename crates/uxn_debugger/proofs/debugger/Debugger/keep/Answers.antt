@@ -1,4 +1,4 @@
-use Rattle.std.proofs.Common.{◌≡◌, length, sym, ap, ◌∙◌, arith}
+use Rattle.std.proofs.Common.{◌≡◌, length, sym, ap, ◌∙◌}
 use Rattle.uxn_debugger.specs.Watching.{held_by}
 use Rattle.uxn_debugger.proofs.Keeping.{same_stored, kept_so}
 use Rattle.uxn_debugger.proofs.debugger.Debugger.keep.Goals as goal

@@ -1,4 +1,4 @@
-use Rattle.std.proofs.Common.{◌≡◌, ◌++◌, List, refl, sym, ap, ◌∙◌}
+use Rattle.std.proofs.Common.{◌≡◌, ◌++◌, List, refl, ap, ◌∙◌}
 use Rattle.std.specs.Prelude.{Result, Ok, Err, OnOk}
 use Rattle.tal_words.specs.declared.name.Label.{Label}
 use Rattle.uxn_debugger.specs.declared.place.Goal.{Goal}
@@ -21,7 +21,7 @@ pub returns-in_default : goal.returns-in_default
 returns-in_default c =
     on_ok c.put_place.result
     (λ put page.
-        let seen = view c.args.core.now page c.args.place in
-        ap (λ log. record (held_by c.args.self.now) { log = log })
-        (put page ∙ ap (λ text. c.args.self.now.log.items ++ text) (arrives c.args.self.now.goal c.args.self.now.labels.now seen c.in_default.not-FirstMoment)))
+    let seen = view c.args.core.now page c.args.place in
+    ap (λ log. record (held_by c.args.self.now) { log = log })
+    (put page ∙ ap (λ text. c.args.self.now.log.items ++ text) (arrives c.args.self.now.goal c.args.self.now.labels.now seen c.in_default.not-FirstMoment)))
     c.put_place.ensures
