@@ -6,3 +6,5 @@ pub mod NewMachines
 pub mod Handing
 pub mod Writing
 pub mod Turned
+pub mod Working
+pub mod Rings

@@ -34,5 +34,4 @@ pub record IsOpen (line : Line) (machine : ℕ) : Type 0 where
   pub member : Member
   pub there : slice_get line.members.items machine ≡ Some member
   pub idle : member.machine.left ≡ 0
-  pub goes_on : member.stopped ≡ false
-  pub open_still : member.all_given ≡ false
+  pub goes_on : has_ended member ≡ false

@@ -102,7 +102,7 @@ impl Member {
 
     /// Gives an idle machine whose run is not over its next byte, with its kind, and says whether it is the last one.
     pub fn give(&mut self, byte: u8, kind: EventKind, last: bool, budget: u32)
-        requires idle { self.old.machine.left ≡ 0 }
+        requires { self.old.machine.left ≡ 0 }
         ensures stands { (now : Place) (gift : Gift) (gifts : List Gift) → MemberAt self.old now → now.gifts ≡ gift ∷ gifts
             → console_of gift ≡ (byte, kind) → (last ≡ true) ↔ (gifts ≡ []) → is_over now.state ≡ false
             → MemberAt self.new (turn budget now) }
@@ -120,7 +120,7 @@ impl Member {
     /// False where it waits for a byte.
     pub fn give_next(&mut self, none_comes: bool, budget: u32) -> bool
         requires idle { self.old.machine.left ≡ 0 }
-        requires open { self.old.all_given ≡ false }
+        requires goes_on { has_ended self.old ≡ false }
         ensures waits { (result ≡ false) ↔ ((none_comes ≡ false) × (self.old.ring.items ≡ [])) }
         ensures same { result ≡ false → self.new ≡ self.old }
         ensures stands { (now : Place) (gifts : List Gift) → MemberAt self.old now → now.gifts ≡ next_gift self.old.ring.items ∷ gifts
