@@ -8,3 +8,4 @@ pub mod Writing
 pub mod Turned
 pub mod Working
 pub mod Rings
+pub mod Giving
