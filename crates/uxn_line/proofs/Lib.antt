@@ -9,3 +9,5 @@ pub mod Turned
 pub mod Working
 pub mod Rings
 pub mod Giving
+pub mod Standings
+pub mod Running
