@@ -11,3 +11,4 @@ pub mod Rings
 pub mod Giving
 pub mod Standings
 pub mod Running
+pub mod Passing

@@ -131,9 +131,9 @@ put-behind job turned machine bytes next now handed put inline =
     record {
       stands = subst P (sym there) (handed.stands place inline.stands);
       ring = subst Q (sym here) (subst R (sym there)
-      (ring-grows job machine (turned machine) (suc (turned machine)) (turned (suc machine)) next.ring.items now.ring.items bytes
-      (λ ended. handed.over ((ended-is next place inline.stands).1 ended) ∙ between.dropped ended)
-      (λ goes. handed.kept (goes-on next place inline.stands goes)) put between));
+          (ring-grows job machine (turned machine) (suc (turned machine)) (turned (suc machine)) next.ring.items now.ring.items bytes
+          (λ ended. handed.over ((ended-is next place inline.stands).1 ended) ∙ between.dropped ended)
+          (λ goes. handed.kept (goes-on next place inline.stands goes)) put between));
       room = handed.room ∙ inline.room;
       within = handed.within;
     }

@@ -73,14 +73,14 @@ work-mono : (budget before before_now : ℕ) (member now : Member) → has_ended
 work-mono budget before before_now member now same left fewer =
     let product = mul-le-mul_right {m = still_given before_now now} {n = still_given before member} (budget + 1) fewer in
     let less : still_given before_now now * (budget + 1) + now.machine.left ≤ still_given before member * (budget + 1) + member.machine.left
-        = omega (arith, product, left) in
+    = omega (arith, product, left) in
     let P : Bool → Type 0 = λ b. cond (has_ended now) 0 (still_given before_now now * (budget + 1) + now.machine.left)
-        ≤ cond b 0 (still_given before member * (budget + 1) + member.machine.left) in
+    ≤ cond b 0 (still_given before member * (budget + 1) + member.machine.left) in
     subst P (sym same) (elim (has_ended now) as (λ b. cond b 0 (still_given before_now now * (budget + 1) + now.machine.left)
     ≤ cond b 0 (still_given before member * (budget + 1) + member.machine.left)) [ true ↦ omega arith | false ↦ less ])
 
 -- a byte that is handed on is paid for by the machine before
-pub handed-mono : (budget before before_now byte : ℕ) (member : Member) → before_now < before
+handed-mono : (budget before before_now byte : ℕ) (member : Member) → before_now < before
     → work budget before_now (record member { ring = buffer (member.ring.items ++ byte ∷ []) member.ring.capacity }) ≤ work budget before member
 handed-mono budget before before_now byte member less =
     let longer = length-append member.ring.items (byte ∷ []) in
@@ -112,23 +112,35 @@ set-less budget before (first ∷ members) (suc place) member now there less =
     let rest = set-less budget (work budget before first) members place member now there less in
     omega (arith, rest)
 
--- and where the next one was handed a byte meanwhile
-pub pair-less : (budget before : ℕ) (members : List Member) (place byte : ℕ) (member now next : Member) → slice_get members place ≡ Some member
-    → slice_get members (suc place) ≡ Some next → ((left : ℕ) → work budget left now < work budget left member)
-    → works budget before (slice_set (slice_set members (suc place) (record next { ring = buffer (next.ring.items ++ byte ∷ []) next.ring.capacity }))
-    place now) < works budget before members
-pair-less budget before [] place byte member now next there behind less = absurd (cc)
-pair-less budget before (first ∷ []) zero byte member now next there behind less = absurd (cc)
-pair-less budget before (first ∷ second ∷ members) zero byte member now next there behind less =
+-- and where the next one was handed what the machine wrote
+pub Pays : ℕ → Member → Member → Type 0
+Pays budget next next_now = (left left_now : ℕ) → left_now < left → work budget left_now next_now ≤ work budget left next
+
+pub pair-less : (budget before : ℕ) (members : List Member) (place : ℕ) (member now next next_now : Member) → slice_get members place ≡ Some member
+    → slice_get members (suc place) ≡ Some next → ((left : ℕ) → work budget left now < work budget left member) → Pays budget next next_now
+    → works budget before (slice_set (slice_set members (suc place) next_now) place now) < works budget before members
+unfolding Pays
+pair-less budget before [] place member now next next_now there behind less pays = absurd (cc)
+pair-less budget before (first ∷ []) zero member now next next_now there behind less pays = absurd (cc)
+pair-less budget before (first ∷ second ∷ members) zero member now next next_now there behind less pays =
     let same : first ≡ member = cc in
     let same_next : second ≡ next = cc in
-    let taken : Member = record next { ring = buffer (next.ring.items ++ byte ∷ []) next.ring.capacity } in
-    let own = handed-mono budget (work budget before member) (work budget before now) byte next (less before) in
-    let rest = works-mono budget (work budget (work budget before member) next) (work budget (work budget before now) taken) members own in
+    let own = pays (work budget before member) (work budget before now) (less before) in
+    let rest = works-mono budget (work budget (work budget before member) next) (work budget (work budget before now) next_now) members own in
     let here = less before in
-    let P : Member → Type 0 = λ m. works budget before (now ∷ taken ∷ members) < works budget before (m ∷ second ∷ members) in
-    let Q : Member → Type 0 = λ m. works budget before (now ∷ taken ∷ members) < works budget before (member ∷ m ∷ members) in
+    let P : Member → Type 0 = λ m. works budget before (now ∷ next_now ∷ members) < works budget before (m ∷ second ∷ members) in
+    let Q : Member → Type 0 = λ m. works budget before (now ∷ next_now ∷ members) < works budget before (member ∷ m ∷ members) in
     subst P (sym same) (subst Q (sym same_next) (omega (arith, own, rest, here)))
-pair-less budget before (first ∷ members) (suc place) byte member now next there behind less =
-    let rest = pair-less budget (work budget before first) members place byte member now next there behind less in
+pair-less budget before (first ∷ members) (suc place) member now next next_now there behind less pays =
+    let rest = pair-less budget (work budget before first) members place member now next next_now there behind less pays in
     omega (arith, rest)
+
+pub taken-pays : (budget byte : ℕ) (next now : Member) → (has_ended next ≡ true → now ≡ next)
+    → (has_ended next ≡ false → now ≡ record next { ring = buffer (next.ring.items ++ byte ∷ []) next.ring.capacity }) → Pays budget next now
+unfolding Pays
+taken-pays budget byte next now over kept left left_now less =
+    let P : Member → Type 0 = λ m. work budget left_now m ≤ work budget left next in
+    elim (bools (has_ended next)) [
+      | inl ended ↦ subst P (sym (over ended)) (work-mono budget left left_now next next refl refl (omega (arith, less)))
+      | inr goes ↦ subst P (sym (kept goes)) (handed-mono budget left left_now byte next less)
+    ]

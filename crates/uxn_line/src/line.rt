@@ -198,9 +198,10 @@ impl<'a> Line<'a> {
         ensures moves { MovesOn result self.old self.new }
         ensures machines { length self.new.members.items ≡ length self.old.members.items }
     {
-        if !self.members[index + 1].take(byte) {
+        if self.members[index + 1].is_full() {
             return Moved::Held;
         }
+        self.members[index + 1].take(byte);
         self.members[index].run();
         Moved::Ran
     }
@@ -245,12 +246,11 @@ impl<'a> Line<'a> {
         ensures moves { MovesOn result self.old self.new }
         ensures machines { length self.new.members.items ≡ length self.old.members.items }
     {
-        let none_comes = self.members[index - 1].is_over();
-        if self.members[index].give_next(none_comes, self.budget) {
-            Moved::Gave
-        } else {
-            Moved::Waits
+        if self.members[index].ring.is_empty() && !self.members[index - 1].is_over() {
+            return Moved::Waits;
         }
+        self.members[index].give_next(self.budget);
+        Moved::Gave
     }
 }
 

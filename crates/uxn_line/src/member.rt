@@ -116,35 +116,39 @@ impl Member {
         self.settle();
     }
 
-    /// Gives an idle machine whose run is not over the next byte of its ring, or the end of its input where none will come.
-    /// False where it waits for a byte.
-    pub fn give_next(&mut self, none_comes: bool, budget: u32) -> bool
+    /// Gives an idle machine whose run is not over the next byte of its ring, or the end of its input where the ring is empty.
+    pub fn give_next(&mut self, budget: u32)
         requires idle { self.old.machine.left ≡ 0 }
         requires goes_on { has_ended self.old ≡ false }
-        ensures waits { (result ≡ false) ↔ ((none_comes ≡ false) × (self.old.ring.items ≡ [])) }
-        ensures same { result ≡ false → self.new ≡ self.old }
         ensures stands { (now : Place) (gifts : List Gift) → MemberAt self.old now → now.gifts ≡ next_gift self.old.ring.items ∷ gifts
-            → (self.old.ring.items ≡ []) ↔ (gifts ≡ []) → is_over now.state ≡ false → result ≡ true → MemberAt self.new (turn budget now) }
+            → (self.old.ring.items ≡ []) ↔ (gifts ≡ []) → is_over now.state ≡ false → MemberAt self.new (turn budget now) }
         ensures kept { has_ended self.new ≡ false → self.new.ring ≡ buffer (drop 1 self.old.ring.items) self.old.ring.capacity }
         ensures dropped { has_ended self.new ≡ true → self.new.ring ≡ buffer [] self.old.ring.capacity }
-        ensures work { result ≡ true → (before : ℕ) → work budget before self.new < work budget before self.old }
+        ensures work { (before : ℕ) → work budget before self.new < work budget before self.old }
     {
         match self.ring.pop_front() {
             Some(byte) => self.give(byte, EventKind::Input, false, budget),
-            None if none_comes => self.give(0, EventKind::End, true, budget),
-            None => return false,
+            None => self.give(0, EventKind::End, true, budget),
         }
-        true
     }
 
-    /// Keeps a byte that is handed to it, unless its run is over. False where its ring is full.
-    pub fn take(&mut self, byte: u8) -> bool
-        ensures over { has_ended self.old ≡ true → (result ≡ true) × (self.new ≡ self.old) }
-        ensures full { result ≡ false → self.new ≡ self.old }
-        ensures room { has_ended self.old ≡ false → (result ≡ true) ↔ (length self.old.ring.items < self.old.ring.capacity) }
-        ensures kept { has_ended self.old ≡ false → result ≡ true
+    /// Whether its run is not over and its ring is full.
+    pub fn is_full(&self) -> bool
+        ensures over { has_ended self.now ≡ true → result ≡ false }
+        ensures full { has_ended self.now ≡ false → (result ≡ true) ↔ (self.now.ring.capacity ≤ length self.now.ring.items) }
+    {
+        !self.is_over() && self.ring.len() >= self.ring.capacity()
+    }
+
+    /// Keeps a byte that is handed to it, unless its run is over.
+    pub fn take(&mut self, byte: u8)
+        requires { has_ended self.old ≡ false → length self.old.ring.items < self.old.ring.capacity }
+        ensures over { has_ended self.old ≡ true → self.new ≡ self.old }
+        ensures kept { has_ended self.old ≡ false
             → self.new ≡ record self.old { ring = buffer (self.old.ring.items ++ byte ∷ []) self.old.ring.capacity } }
     {
-        self.is_over() || self.ring.try_push_back(byte).is_ok()
+        if !self.is_over() {
+            self.ring.push_back(byte);
+        }
     }
 }
