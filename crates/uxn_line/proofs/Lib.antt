@@ -12,3 +12,4 @@ pub mod Giving
 pub mod Standings
 pub mod Running
 pub mod Passing
+pub mod Putting
