@@ -13,3 +13,5 @@ pub mod Standings
 pub mod Running
 pub mod Passing
 pub mod Putting
+pub mod Coming
+pub mod Feeding

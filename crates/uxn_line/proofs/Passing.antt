@@ -71,7 +71,7 @@ pass-runs byte line machine member now next next_now found ran taken =
       apart = λ other apart further. set-apart middle machine other now apart ∙ set-apart items (suc machine) other next_now further;
       behind = λ last at_last.
           let is = sym (set-here items (suc machine) next_now (slice_get_within items (suc machine) next taken.there))
-              ∙ sym (set-apart middle machine (suc machine) now behind) ∙ at_last in
+          ∙ sym (set-apart middle machine (suc machine) now behind) ∙ at_last in
           let same : next_now ≡ last = cc in (
             next,
             taken.there,
@@ -96,9 +96,9 @@ pass-came job byte line turned machine member now next next_now out stands found
     let count = stands.machines in
     run-came job line (passed line machine next_now now) turned machine member now out out stands runs
     (λ held.
-        let room = taken.room (goes-on next (place_in job turned (suc machine)) inline.stands held.goes_on) in
-        let full : length next.ring.items ≡ 256 = ap (λ o. length (ring_of o)) (sym taken.there) ∙ held.full in
-        omega (arith, room, full, inline.room))
+    let room = taken.room (goes-on next (place_in job turned (suc machine)) inline.stands held.goes_on) in
+    let full : length next.ring.items ≡ 256 = ap (λ o. length (ring_of o)) (sym taken.there) ∙ held.full in
+    omega (arith, room, full, inline.room))
     (adds-apart job turned machine out (λ last. omega (arith, last, there, count)))
 
 pub pass-less : (byte : ℕ) (line : Line) (machine : ℕ) (member now next next_now : Member) → Found (byte ∷ []) line machine member

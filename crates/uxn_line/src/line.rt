@@ -246,7 +246,8 @@ impl<'a> Line<'a> {
         ensures moves { MovesOn result self.old self.new }
         ensures machines { length self.new.members.items ≡ length self.old.members.items }
     {
-        if self.members[index].ring.is_empty() && !self.members[index - 1].is_over() {
+        let none_comes = self.members[index - 1].is_over();
+        if self.members[index].must_wait(none_comes) {
             return Moved::Waits;
         }
         self.members[index].give_next(self.budget);

@@ -116,6 +116,13 @@ impl Member {
         self.settle();
     }
 
+    /// Whether its ring is empty and a byte may still be handed to it.
+    pub fn must_wait(&self, none_comes: bool) -> bool
+        ensures { (result ≡ true) ↔ ((self.now.ring.items ≡ []) × (none_comes ≡ false)) }
+    {
+        self.ring.is_empty() && !none_comes
+    }
+
     /// Gives an idle machine whose run is not over the next byte of its ring, or the end of its input where the ring is empty.
     pub fn give_next(&mut self, budget: u32)
         requires idle { self.old.machine.left ≡ 0 }

@@ -33,7 +33,7 @@ returns-clause-came c job turned out stands =
     let member = c.index_mut-2.result.now in
     let found = found-again c.args.byte line at c.take.new.self member c.requires.running c.index_mut-2.ensures.value in
     let taken = taken-of c.args.byte line at c.index.result.now c.index_mut.result.now c.take.new.self c.is_full.result c.requires.there c.index.ensures
-        c.index_mut.ensures.value c.is_full.ensures.full c.if-is_full.false c.take.ensures.over c.take.ensures.kept in
+    c.index_mut.ensures.value c.is_full.ensures.full c.if-is_full.false c.take.ensures.over c.take.ensures.kept in
     let ran : RanFrom member c.run.new.self = record {
       some = found.some;
       stands = c.run.ensures.stands;
@@ -52,7 +52,7 @@ returns-clause-moves c =
     let member = c.index_mut-2.result.now in
     let found = found-again c.args.byte line at c.take.new.self member c.requires.running c.index_mut-2.ensures.value in
     let taken = taken-of c.args.byte line at c.index.result.now c.index_mut.result.now c.take.new.self c.is_full.result c.requires.there c.index.ensures
-        c.index_mut.ensures.value c.is_full.ensures.full c.if-is_full.false c.take.ensures.over c.take.ensures.kept in
+    c.index_mut.ensures.value c.is_full.ensures.full c.if-is_full.false c.take.ensures.over c.take.ensures.kept in
     let P : ℕ → Type 0 = λ n. work_left (with_member (with_member line n c.take.new.self) at c.run.new.self) < work_left line in
     subst P (sym (add-one at))
     (pass-less c.args.byte line at member c.run.new.self c.index_mut.result.now c.take.new.self found (λ left. c.run.ensures.work line.budget left) taken)
