@@ -15,3 +15,4 @@ pub mod Passing
 pub mod Putting
 pub mod Coming
 pub mod Feeding
+pub mod Beginning

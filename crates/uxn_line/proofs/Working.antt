@@ -54,7 +54,7 @@ ring-within now items capacity other kept dropped =
       | inr goes ↦ subst P (sym (kept goes)) (omega arith)
     ]
 
-abbrev until_all : Bool → ℕ
+abbrev pub until_all : Bool → ℕ
 until_all given = cond given 0 1
 
 -- a machine was given the next thing
