@@ -16,3 +16,4 @@ pub mod Putting
 pub mod Coming
 pub mod Feeding
 pub mod Beginning
+pub mod Ending

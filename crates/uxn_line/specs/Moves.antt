@@ -1,5 +1,5 @@
 -- What the turns of a line come to, and what they put (profile).
-use Rattle.std.specs.Prelude.{◌≡◌, ◌≢◌, ℕ, zero, suc, ◌+◌, ◌-◌, ◌<◌, ◌≤◌, List, [], ◌∷◌, ◌++◌, length, slice_get}
+use Rattle.std.specs.Prelude.{◌≡◌, ◌≢◌, ℕ, zero, suc, ◌+◌, ◌-◌, ◌<◌, ◌≤◌, List, [], ◌∷◌, ◌++◌, ◌⊎◌, length, slice_get}
 use Rattle.std.specs.Prelude.{Option, Some, None, Result, Ok, Err}
 use Rattle.uxn_io.specs.Told.{extended}
 use Rattle.uxn_io.specs.declared.sinks.Failed.{Failed}
@@ -82,6 +82,11 @@ pub record Adds (job : Job) (before now : Turned) (out_before out_now : SinkView
   pub written : written_in job now ≡ written_in job before ++ more
   pub added : Takes out_before out_now more
 
+-- no turn of a machine moves anything
+abbrev pub IsStill : Job → Line → Turned → ℕ → Type 0
+IsStill job line turned machine =
+    IsWaiting job line turned machine ⊎ (IsHeld job line turned machine ⊎ HasEnded (place_in job turned machine))
+
 -- a machine runs that is in a vector and is not held
 pub record Runs (job : Job) (line : Line) (turned : Turned) (machine : ℕ) : Type 0 where
   pub vector : 1 ≤ (place_in job turned machine).left
@@ -128,6 +133,12 @@ pub record IsUnderWay (job : Job) (begun : SinkView) (line : Line) (now : SinkVi
   pub stands : Stands job line turned
   pub added : Takes begun now (written_in job turned)
 
+-- a line came to stand for other numbers, and what its last machine has written more was added
+pub record Reaches (job : Job) (turned : Turned) (line : Line) (out_before out_now : SinkView) : Type 0 where
+  pub last : Turned
+  pub stands : Stands job line last
+  pub adds : Adds job turned last out_before out_now
+
 -- every machine stands at the end of its run
 abbrev pub AllEnded : Job → Turned → Type 0
 AllEnded job turned = (machine : ℕ) → machine < length job.roms
@@ -150,3 +161,8 @@ pub record Stops (job : Job) (turned : Turned) (line : Line) (out_before : SinkV
   pub unsure : sure ≤ 1
   pub adds : Adds job turned last out_before (sink_view told_now sure)
   pub short : length (written_in job last) < length (stream job (last_of job))
+
+-- what came of giving machines turns as long as they move
+abbrev pub Went : {X : Type 0} → Job → Turned → Line → SinkView → SinkView → Result X Failed → Type 0
+Went job turned line out out_now (Ok moved) = Reaches job turned line out out_now
+Went job turned line out out_now (Err failed) = Stops job turned line out out_now.told

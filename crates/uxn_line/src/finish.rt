@@ -3,8 +3,9 @@ ghost use Rattle.std.specs.Prelude.{◌≡◌, ◌-◌, ◌+◌, ◌<◌, ◌≤
 ghost use Rattle.uxn_io.specs.Faults.{Counted};
 ghost use Rattle.uxn_io.specs.Told.{extended, HasTakenFront};
 ghost use Rattle.uxn_line.specs.Streams.{Job, exit_code_at, run_at, stream};
-ghost use Rattle.uxn_line.specs.Standing.{Turned, Stands};
-ghost use Rattle.uxn_line.specs.Moves.{Finishes, IsUnderWay, SinkView, Stops, last_of, sink_view};
+ghost use Rattle.uxn_line.specs.Standing.{Turned, Stands, place_in};
+ghost use Rattle.uxn_line.specs.Work.{work_left};
+ghost use Rattle.uxn_line.specs.Moves.{Finishes, IsStill, IsUnderWay, SinkView, Went, Stops, last_of, sink_view};
 
 use crate::line::{Line, Moved};
 use uxn_io::{Failed, Sink};
@@ -36,7 +37,14 @@ impl<'a> Line<'a> {
     }
 
     // Gives each machine turns as long as it moves, one machine after the other. Whether one moved.
-    fn round<O: Sink>(&mut self, out: &mut O) -> Result<bool, Failed> {
+    fn round<O: Sink>(&mut self, out: &mut O) -> Result<bool, Failed>
+        ensures went { (job : Job) (turned : Turned) → Stands job self.old turned
+            → Went job turned self.new (sink_view (O.told out.old) (O.sure out.old)) (sink_view (O.told out.new) (O.sure out.new)) result }
+        ensures less { result ≡ Ok true → work_left self.new < work_left self.old }
+        ensures still { result ≡ Ok false → (self.new ≡ self.old) × ((job : Job) (turned : Turned) → Stands job self.old turned
+            → (machine : ℕ) → machine < length self.old.members.items → IsStill job self.old turned machine) }
+        ensures ledger { Counted (O.faults out.old) (O.faults out.new) (is_err result) }
+    {
         let mut moved = false;
         for index in 0..self.members.len() {
             if self.go_on(index, out)? {
@@ -47,9 +55,18 @@ impl<'a> Line<'a> {
     }
 
     // Gives a machine turns as long as it moves. Whether it moved.
-    fn go_on<O: Sink>(&mut self, index: usize, out: &mut O) -> Result<bool, Failed> {
+    fn go_on<O: Sink>(&mut self, index: usize, out: &mut O) -> Result<bool, Failed>
+        requires { index < length self.old.members.items }
+        ensures went { (job : Job) (turned : Turned) → Stands job self.old turned
+            → Went job turned self.new (sink_view (O.told out.old) (O.sure out.old)) (sink_view (O.told out.new) (O.sure out.new)) result }
+        ensures less { result ≡ Ok true → work_left self.new < work_left self.old }
+        ensures still { result ≡ Ok false → (self.new ≡ self.old) × ((job : Job) (turned : Turned) → Stands job self.old turned
+            → IsStill job self.old turned index) }
+        ensures machines { length self.new.members.items ≡ length self.old.members.items }
+        ensures ledger { Counted (O.faults out.old) (O.faults out.new) (is_err result) }
+    {
         let mut moved = false;
-        loop {
+        'turns: loop {
             match self.turn_at(index, out)? {
                 Moved::Ran | Moved::Gave => moved = true,
                 Moved::Waits | Moved::Held | Moved::Ended => return Ok(moved),
@@ -58,8 +75,14 @@ impl<'a> Line<'a> {
     }
 
     // The exit code of the last machine.
-    fn exit_code(&mut self) -> u8 {
-        let last = self.members.len() - 1;
-        self.members[last].machine.exit_code()
+    fn exit_code(&mut self) -> u8
+        ensures same { self.new ≡ self.old }
+        ensures code { (job : Job) (turned : Turned) → Stands job self.old turned
+            → result ≡ exit_code_at (place_in job turned (last_of job)).state }
+    {
+        match self.members.last_mut() {
+            Some(last) => last.machine.exit_code(),
+            None => 0,
+        }
     }
 }
