@@ -1,5 +1,5 @@
 -- What a line has put is a front of the stream of its last machine.
-use Rattle.std.proofs.Common.{◌≡◌, ◌≢◌, ℕ, zero, suc, ◌+◌, ◌-◌, ◌<◌, ◌≤◌, ◌⊎◌, inl, inr, Bool, true, false, List, [], ◌∷◌, ◌++◌, take, length, refl, sym, ap, subst, ◌∙◌, arith, append_assoc, length-append}
+use Rattle.std.proofs.Common.{◌≡◌, ◌≢◌, ℕ, zero, suc, ◌+◌, ◌-◌, ◌<◌, ◌≤◌, ◌⊎◌, ◌||◌, inl, inr, Bool, true, false, List, [], ◌∷◌, ◌++◌, take, length, refl, sym, ap, subst, ◌∙◌, arith, append_assoc, length-append}
 use Rattle.std.specs.Prelude.{Some, None, Option, Result, Ok, Err, OnOk, OnErr, IsOk, slice_get}
 use Rattle.std.proofs.Math.Seq.{take-append_seam}
 use Rattle.uxn_io.specs.Told.{extended, HasTakenFront}
@@ -7,14 +7,17 @@ use Rattle.uxn_io.specs.Outside.{extended-extended, extended-nothing}
 use Rattle.uxn_io.specs.declared.sinks.Failed.{Failed}
 use Rattle.uxn_line.specs.declared.line.Line.{Line}
 use Rattle.uxn_line.specs.declared.line.Moved.{Moved}
+use Rattle.uxn_line.specs.declared.line.Moved.TheVariants.{Ran, Gave, Waits, Held, Ended}
 use Rattle.uxn_line.specs.declared.member.Member.{Member}
 use Rattle.uxn_line.specs.Places.{Place, turn}
 use Rattle.uxn_line.specs.Machines.{handed_on}
 use Rattle.uxn_line.specs.Streams.{Job, IsJob, stream, after}
 use Rattle.uxn_line.specs.Standing.{Turned, place_in, Stands}
-use Rattle.uxn_line.specs.Moves.{last_of, written_in, SinkView, sink_view, Takes, Adds, IsUnderWay, Fails, turned_by, Came, Reaches, Stops}
+use Rattle.uxn_line.specs.Moves.{last_of, written_in, SinkView, sink_view, Takes, Adds, IsUnderWay, Fails, turned_by, Cause, Came, is_move, IsStill, Reaches, Stops}
+use Rattle.uxn_line.specs.Work.{work_left, MovesOn}
 use Rattle.uxn_line.proofs.MachineTurns.{run-put}
 use Rattle.uxn_line.proofs.Turning.{follows}
+use Rattle.uxn_line.proofs.Running.{adds-nothing}
 
 -- a place within a list has an item
 pub some-there : {X : Type 0} (xs : List X) (place : ℕ) → place < length xs → (x : X) × (slice_get xs place ≡ Some x)
@@ -111,3 +114,100 @@ module _ (line line_now : Line) (machine : ℕ) (out out_now : SinkView) where
       let sure = way.added.sure in
       let unsure = fails.unsure in
       absurd (omega (arith, short, sure, unsure, enough))
+
+-- turns one after the other
+pub reach-more : (job : Job) (turned : Turned) (line line_now : Line) (machine : ℕ) (begun out out_now : SinkView) (moved : Moved) → Reaches job turned line begun out
+    → Turns line line_now machine out out_now (Ok moved) → Reaches job turned line_now begun out_now
+reach-more job turned line line_now machine begun out out_now moved reached came =
+    let now = came job reached.last reached.stands in
+    record {
+      last = turned_by moved machine reached.last;
+      stands = now.follows.0;
+      adds = adds-more job turned reached.last (turned_by moved machine reached.last) begun out out_now reached.adds now.follows.1;
+    }
+
+pub reach-none : (job : Job) (turned : Turned) (line : Line) (out : SinkView) → Stands job line turned → Reaches job turned line out out
+reach-none job turned line out stands = record { last = turned; stands = stands; adds = adds-nothing job turned turned out refl }
+
+pub stop-here : (job : Job) (turned : Turned) (line line_now : Line) (machine : ℕ) (begun out out_now : SinkView) (failed : Failed) → Reaches job turned line begun out
+    → Turns line line_now machine out out_now (Err failed) → line_now ≡ line → out_now.told ≡ out.told → Stops job turned line_now begun out_now.told
+stop-here job turned line line_now machine begun out out_now failed reached came same told =
+    let fails = (came job reached.last reached.stands).cause in
+    let P : Line → Type 0 = λ l. Stands job l reached.last in
+    let Q : Option (List ℕ) → Type 0 = λ t. Adds job turned reached.last begun (sink_view t out.sure) in
+    record {
+      last = reached.last;
+      stands = subst P (sym same) reached.stands;
+      sure = out.sure;
+      unsure = fails.unsure;
+      adds = subst Q (sym told) reached.adds;
+      short = fails-short job line reached.last machine out reached.stands fails;
+    }
+
+-- a move makes the work less, and where nothing moved the machine is still
+pub move-less : (moved : Moved) (line line_now : Line) → is_move moved ≡ true → MovesOn moved line line_now → work_left line_now < work_left line
+move-less Ran line line_now is on = on
+move-less Gave line line_now is on = on
+move-less Waits line line_now is on = absurd (cc)
+move-less Held line line_now is on = absurd (cc)
+move-less Ended line line_now is on = absurd (cc)
+
+pub move-same : (moved : Moved) (line line_now : Line) → is_move moved ≡ false → MovesOn moved line line_now → line_now ≡ line
+move-same Ran line line_now is on = absurd (cc)
+move-same Gave line line_now is on = absurd (cc)
+move-same Waits line line_now is on = on
+move-same Held line line_now is on = on
+move-same Ended line line_now is on = on
+
+pub move-still : (job : Job) (turned : Turned) (line : Line) (machine : ℕ) (out : SinkView) (moved : Moved) → is_move moved ≡ false
+    → Cause job line turned machine out (Ok moved) → IsStill job line turned machine
+move-still job turned line machine out Ran is cause = absurd (cc)
+move-still job turned line machine out Gave is cause = absurd (cc)
+move-still job turned line machine out Waits is cause = inl cause
+move-still job turned line machine out Held is cause = inr (inl cause)
+move-still job turned line machine out Ended is cause = inr (inr cause)
+
+pub reach-on : (job : Job) (turned : Turned) (line line_now : Line) (begun out out_now : SinkView) (first : Reaches job turned line begun out)
+    → Reaches job first.last line_now out out_now → Reaches job turned line_now begun out_now
+reach-on job turned line line_now begun out out_now first then = record {
+  last = then.last;
+  stands = then.stands;
+  adds = adds-more job turned first.last then.last begun out out_now first.adds then.adds;
+}
+
+pub stop-on : (job : Job) (turned : Turned) (line line_now : Line) (begun out : SinkView) (told : Option (List ℕ)) (first : Reaches job turned line begun out)
+    → Stops job first.last line_now out told → Stops job turned line_now begun told
+stop-on job turned line line_now begun out told first then = record {
+  last = then.last;
+  stands = then.stands;
+  sure = then.sure;
+  unsure = then.unsure;
+  adds = adds-more job turned first.last then.last begun out (sink_view told then.sure) first.adds then.adds;
+  short = then.short;
+}
+
+-- the work left since some turns, of which perhaps one moved something
+pub since : (moved : Bool) (line begun : Line) → (moved ≡ true → work_left line < work_left begun) → (moved ≡ false → line ≡ begun)
+    → work_left line ≤ work_left begun
+since true line begun less same = (let l = less refl in omega (arith, l))
+since false line begun less same = (let e = ap work_left (same refl) in omega (arith, e))
+
+pub either-less : (moved more : Bool) (line line_now begun : Line) → (moved ≡ true → work_left line < work_left begun) → (moved ≡ false → line ≡ begun)
+    → (more ≡ true → work_left line_now < work_left line) → (more ≡ false → line_now ≡ line) → (moved || more) ≡ true
+    → work_left line_now < work_left begun
+either-less moved true line line_now begun less same then_less then_same is =
+    let first = since moved line begun less same in let second = then_less refl in omega (arith, first, second)
+either-less true false line line_now begun less same then_less then_same is =
+    let first = less refl in let second = ap work_left (then_same refl) in omega (arith, first, second)
+either-less false false line line_now begun less same then_less then_same is = absurd (cc)
+
+pub neither : (moved more : Bool) → (moved || more) ≡ false → (moved ≡ false) × (more ≡ false)
+neither true more is = absurd (cc)
+neither false more is = (refl, is)
+
+pub still-here : (job : Job) (turned : Turned) (line line_now begun : Line) (machine : ℕ) (out out_now : SinkView) (step : Moved) → is_move step ≡ false
+    → line ≡ begun → Turns line line_now machine out out_now (Ok step) → Stands job begun turned → IsStill job begun turned machine
+still-here job turned line line_now begun machine out out_now step is same came stands =
+    let P : Line → Type 0 = λ l. Stands job l turned in
+    let Q : Line → Type 0 = λ l. IsStill job l turned machine in
+    subst Q same (move-still job turned line machine out step is (came job turned (subst P (sym same) stands)).cause)

@@ -17,3 +17,4 @@ pub mod Coming
 pub mod Feeding
 pub mod Beginning
 pub mod Ending
+pub mod Finished

@@ -1,5 +1,5 @@
 -- What the turns of a line come to, and what they put (profile).
-use Rattle.std.specs.Prelude.{◌≡◌, ◌≢◌, ℕ, zero, suc, ◌+◌, ◌-◌, ◌<◌, ◌≤◌, List, [], ◌∷◌, ◌++◌, ◌⊎◌, length, slice_get}
+use Rattle.std.specs.Prelude.{◌≡◌, ◌≢◌, ℕ, zero, suc, ◌+◌, ◌-◌, ◌<◌, ◌≤◌, Bool, true, false, List, [], ◌∷◌, ◌++◌, ◌⊎◌, length, slice_get}
 use Rattle.std.specs.Prelude.{Option, Some, None, Result, Ok, Err}
 use Rattle.uxn_io.specs.Told.{extended}
 use Rattle.uxn_io.specs.declared.sinks.Failed.{Failed}
@@ -48,13 +48,13 @@ turned_by Waits machine turned = turned
 turned_by Held machine turned = turned
 turned_by Ended machine turned = turned
 
--- it moved nothing
-abbrev pub IsStuck : Moved → Type 0
-IsStuck Ran = ⊥
-IsStuck Gave = ⊥
-IsStuck Waits = Unit {0}
-IsStuck Held = Unit {0}
-IsStuck Ended = Unit {0}
+-- the machine moved
+abbrev pub is_move : Moved → Bool
+is_move Ran = true
+is_move Gave = true
+is_move Waits = false
+is_move Held = false
+is_move Ended = false
 
 -- the last machine, and what it has written to port 18
 abbrev pub last_of : Job → ℕ

@@ -7,7 +7,7 @@ ghost use Rattle.uxn_line.specs.Standing.{Turned, Stands, place_in};
 ghost use Rattle.uxn_line.specs.Work.{work_left};
 ghost use Rattle.uxn_line.specs.Moves.{Finishes, IsStill, IsUnderWay, SinkView, Went, Stops, last_of, sink_view};
 
-use crate::line::{Line, Moved};
+use crate::line::Line;
 use uxn_io::{Failed, Sink};
 
 impl<'a> Line<'a> {
@@ -47,9 +47,7 @@ impl<'a> Line<'a> {
     {
         let mut moved = false;
         for index in 0..self.members.len() {
-            if self.go_on(index, out)? {
-                moved = true;
-            }
+            moved |= self.go_on(index, out)?;
         }
         Ok(moved)
     }
@@ -66,12 +64,10 @@ impl<'a> Line<'a> {
         ensures ledger { Counted (O.faults out.old) (O.faults out.new) (is_err result) }
     {
         let mut moved = false;
-        'turns: loop {
-            match self.turn_at(index, out)? {
-                Moved::Ran | Moved::Gave => moved = true,
-                Moved::Waits | Moved::Held | Moved::Ended => return Ok(moved),
-            }
+        'turns: while self.turn_at(index, out)?.is_move() {
+            moved = true;
         }
+        Ok(moved)
     }
 
     // The exit code of the last machine.

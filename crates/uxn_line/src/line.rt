@@ -15,9 +15,9 @@ ghost use Rattle.uxn_line.specs.Moves.{
   Adds,
   Came,
   IsHeld,
-  IsStuck,
   IsUnderWay,
   IsWaiting,
+  is_move,
   last_of,
   turned_by,
 };
@@ -43,6 +43,15 @@ pub enum Moved {
     Held,
     /// Its run is over.
     Ended,
+}
+
+impl Moved {
+    /// Whether the machine moved.
+    pub fn is_move(self) -> bool
+        ensures { result ≡ is_move self }
+    {
+        matches!(self, Moved::Ran | Moved::Gave)
+    }
 }
 
 /// Machines in a line: what each writes to port 18 is given to the next one.
@@ -116,7 +125,7 @@ impl<'a> Line<'a> {
             → (result ≡ Ok Moved.Ended) ↔ HasEnded (place_in job turned (machine - 1)) }
 
         // The other three change nothing, nor does a failure, which comes only where the count of `out` rose.
-        ensures same { IfOk result (λ moved. IsStuck moved → self.new ≡ self.old) }
+        ensures same { IfOk result (λ moved. is_move moved ≡ false → self.new ≡ self.old) }
         ensures err { OnErr result (self.new ≡ self.old) }
         ensures out_err { OnErr result (O.told out.new ≡ O.told out.old) }
         ensures ledger { Counted (O.faults out.old) (O.faults out.new) (is_err result) }

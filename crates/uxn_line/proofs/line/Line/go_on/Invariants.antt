@@ -3,7 +3,7 @@ use Rattle.uxn_line.specs.Streams.{Job}
 use Rattle.uxn_line.specs.Standing.{Turned, Stands}
 use Rattle.uxn_line.specs.Moves.{sink_view, Reaches}
 use Rattle.uxn_line.specs.Work.{work_left}
-use Rattle.uxn_line.proofs.finish.Line.go_on.Given as goal
+use Rattle.uxn_line.proofs.line.Line.go_on.Given as goal
 
 abbrev pub invariant-turns : goal.invariant-turns
 invariant-turns g l = record {
