@@ -17,6 +17,7 @@ use Rattle.uxn_line.specs.Moves.{last_of, written_in, SinkView, sink_view, Takes
 use Rattle.uxn_line.specs.Work.{work_left, MovesOn}
 use Rattle.uxn_line.proofs.MachineTurns.{run-put}
 use Rattle.uxn_line.proofs.Turning.{follows}
+use Rattle.uxn_line.proofs.Standings.{same-or-not}
 use Rattle.uxn_line.proofs.Running.{adds-nothing}
 
 -- a place within a list has an item
@@ -211,3 +212,15 @@ still-here job turned line line_now begun machine out out_now step is same came 
     let P : Line → Type 0 = λ l. Stands job l turned in
     let Q : Line → Type 0 = λ l. IsStill job l turned machine in
     subst Q same (move-still job turned line machine out step is (came job turned (subst P (sym same) stands)).cause)
+
+-- one machine more was given turns, in a line where none moved so far
+pub still-more : (job : Job) (turned : Turned) (line begun : Line) (index : ℕ) → line ≡ begun
+    → ((machine : ℕ) → machine < index → IsStill job begun turned machine) → (Stands job line turned → IsStill job line turned index)
+    → Stands job begun turned → (machine : ℕ) → machine < index + 1 → IsStill job begun turned machine
+still-more job turned line begun index same before last stands machine within = elim (same-or-not machine index) [
+  | inl is ↦
+      let P : ℕ → Type 0 = λ m. IsStill job begun turned m in
+      let Q : Line → Type 0 = λ l. Stands job l turned → IsStill job l turned index in
+      subst P (sym is) (subst Q same last stands)
+  | inr apart ↦ before machine (omega (arith, within, apart))
+]

@@ -70,14 +70,14 @@ impl<'a> Line<'a> {
         Ok(moved)
     }
 
-    // The exit code of the last machine.
+    // The exit code of the last machine, in whatever state it stands.
     fn exit_code(&mut self) -> u8
-        ensures same { self.new ≡ self.old }
+        ensures stands { (job : Job) (turned : Turned) → Stands job self.old turned → Stands job self.new turned }
         ensures code { (job : Job) (turned : Turned) → Stands job self.old turned
             → result ≡ exit_code_at (place_in job turned (last_of job)).state }
     {
-        match self.members.last_mut() {
-            Some(last) => last.machine.exit_code(),
+        match self.members.len().checked_sub(1) {
+            Some(last) => self.members[last].machine.exit_code(),
             None => 0,
         }
     }
