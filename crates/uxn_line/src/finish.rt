@@ -32,7 +32,7 @@ impl<'a> Line<'a> {
         ensures sure { (job : Job) (begun : SinkView) → IsUnderWay job begun self.old (sink_view (O.told out.old) (O.sure out.old))
             → length (stream job (last_of job)) < begun.sure → IsOk result }
     {
-        while self.round(out)? {}
+        'rounds: while self.round(out)? {}
         Ok(self.exit_code())
     }
 
@@ -76,9 +76,10 @@ impl<'a> Line<'a> {
         ensures code { (job : Job) (turned : Turned) → Stands job self.old turned
             → result ≡ exit_code_at (place_in job turned (last_of job)).state }
     {
-        match self.members.len().checked_sub(1) {
-            Some(last) => self.members[last].machine.exit_code(),
-            None => 0,
+        let count = self.members.len();
+        if count == 0 {
+            return 0;
         }
+        self.members[count - 1].machine.exit_code()
     }
 }
