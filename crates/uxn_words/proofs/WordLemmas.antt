@@ -12,7 +12,7 @@ use Rattle.clap.specs.declared.error.kind.ErrorKind.TheVariants.{OutOfMemory}
 use Rattle.clap.specs.declared.parser.matches.ArgMatches.{ArgMatches}
 use Rattle.clap.proofs.WalkLemmas.{first_value-rows}
 use Rattle.uxn_words.specs.declared.words.Command.{Command}
-use Rattle.uxn_words.specs.declared.words.Command.TheVariants.{Play, Debug, Assemble, Disassemble, Generate}
+use Rattle.uxn_words.specs.declared.words.Command.TheVariants.{Play, Debug, Assemble, Disassemble, Generate, Line}
 use Rattle.uxn_words.specs.Words.{Given, asked_by, asked_with, budget_in, choices_of, command_of, count_in, file_name, is_legal, is_on, is_whole, items_of, settings, task_in, value_in, value_of}
 use Rattle.uxn_words.specs.Asked.{parser_for}
 use Rattle.uxn_words.proofs.ArgumentLemmas.{blind, has_only_switch, is_apart, items_first, no_switch_unseen, row, unseen, with_defaults}
@@ -26,6 +26,7 @@ is_plain_parser Debug = refl
 is_plain_parser Assemble = refl
 is_plain_parser Disassemble = refl
 is_plain_parser Generate = refl
+is_plain_parser Line = refl
 
 simple_parser : (command : Command) → is_simple (parser_for (choices_of command)) ≡ true
 simple_parser Play = refl
@@ -33,6 +34,7 @@ simple_parser Debug = refl
 simple_parser Assemble = refl
 simple_parser Disassemble = refl
 simple_parser Generate = refl
+simple_parser Line = refl
 
 apart_choices : (command : Command) → is_apart (choices_of command) ≡ true
 apart_choices Play = refl
@@ -40,6 +42,7 @@ apart_choices Debug = refl
 apart_choices Assemble = refl
 apart_choices Disassemble = refl
 apart_choices Generate = refl
+apart_choices Line = refl
 
 -- the one switch of a command is `--rom`
 has_one_switch : (command : Command) → has_only_switch (codes "rom") (choices_of command) ≡ true
@@ -48,6 +51,7 @@ has_one_switch Debug = refl
 has_one_switch Assemble = refl
 has_one_switch Disassemble = refl
 has_one_switch Generate = refl
+has_one_switch Line = refl
 
 -- ---- the values
 

@@ -7,7 +7,7 @@ use Rattle.std.specs.Option.{option_map_or}
 use Rattle.std.specs.Str.{bytes_eq}
 use Rattle.line_texts.specs.Numbers.{number_within}
 use Rattle.uxn_words.specs.declared.words.Command.{Command}
-use Rattle.uxn_words.specs.declared.words.Command.TheVariants.{Play, Debug, Assemble, Disassemble, Generate}
+use Rattle.uxn_words.specs.declared.words.Command.TheVariants.{Play, Debug, Assemble, Disassemble, Generate, Line}
 use Rattle.uxn_words.specs.declared.task.Task.{Task}
 
 -- the commands by name
@@ -18,6 +18,7 @@ command_of name =
     else if bytes_eq name (codes "asm") then Some Assemble
     else if bytes_eq name (codes "dis") then Some Disassemble
     else if bytes_eq name (codes "gen") then Some Generate
+    else if bytes_eq name (codes "line") then Some Line
     else None
 
 -- an option of a command: its name, whether it has a value or is a switch, and whether it may not be missing
@@ -48,6 +49,7 @@ choices_of Debug = required (codes "commands") ∷ required (codes "log") ∷ op
 choices_of Assemble = required (codes "out") ∷ optional (codes "symbols") ∷ optional (codes "listing") ∷ []
 choices_of Disassemble = optional (codes "symbols") ∷ []
 choices_of Generate = []
+choices_of Line = []
 
 -- a word that names a file or is the value of an option: it is not empty and does not begin with `-` (45)
 abbrev pub is_plain : List ℕ → Bool
@@ -160,6 +162,7 @@ count_in Debug word = Some 0
 count_in Assemble word = Some 0
 count_in Disassemble word = Some 0
 count_in Generate word = number_within 1 8000 word
+count_in Line word = Some 0
 
 -- what the values of a file and of options ask for, by their names
 abbrev pub task_with : Command → (List ℕ → Option (List ℕ)) → List ℕ → ℕ → ℕ → Task

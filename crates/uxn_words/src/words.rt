@@ -26,6 +26,8 @@ pub enum Command {
     Disassemble,
     /// `gen N`: makes a workload of N routines, runs it, and writes a summary to the standard output.
     Generate,
+    /// `line SETUP`: runs the machines of a setup in a line, each giving its bytes to the next one.
+    Line,
 }
 
 /// What legal words ask for: the words that name files, and what else they say.
@@ -77,6 +79,8 @@ fn command_named(name: &[u8]) -> Option<Command>
         Some(Command::Disassemble)
     } else if name == b"gen".as_slice() {
         Some(Command::Generate)
+    } else if name == b"line".as_slice() {
+        Some(Command::Line)
     } else {
         None
     }
@@ -234,7 +238,7 @@ impl Command {
                 with_option(alloc, parser, "listing", false)
             }
             Command::Disassemble => with_option(alloc, parser, "symbols", false),
-            Command::Generate => Ok(parser),
+            Command::Generate | Command::Line => Ok(parser),
         }
     }
 
@@ -247,7 +251,11 @@ impl Command {
                 let count = number_within(1, 8000, word)?;
                 Some(count as u16)
             }
-            Command::Play | Command::Debug | Command::Assemble | Command::Disassemble => Some(0),
+            Command::Play
+            | Command::Debug
+            | Command::Assemble
+            | Command::Disassemble
+            | Command::Line => Some(0),
         }
     }
 
