@@ -145,7 +145,7 @@ fn runs_sources(rt: HostRuntime) {
 const FAULTY: &[u8] = b"#41 ,x";
 
 /// Calls that are refused.
-static REFUSALS: [Call; 8] = [
+static REFUSALS: [Call; 9] = [
     Call {
         words: &["play", "a.tal"],
         file: FAULTY,
@@ -218,6 +218,15 @@ static REFUSALS: [Call; 8] = [
         err: b"output: s\n",
         made: None,
     },
+    Call {
+        words: &["line", "a.tal"],
+        file: FAULTY,
+        faults: NONE,
+        status: 139,
+        out: b"",
+        err: b"setup 1: FewMachines\n",
+        made: None,
+    },
 ];
 
 #[test]
@@ -225,14 +234,26 @@ fn refuses_with_one_line(rt: HostRuntime) {
     all_give(&rt, rt.alloc(), &REFUSALS);
 }
 
-/// A disassembly, and the summary of a workload, which asks the tree nothing.
-static PRINTED: [Call; 2] = [
+/// A setup, whose first line is a comment, and the source of its two machines, which has a macro for each word of the other lines.
+const JOINED: &[u8] = b"#00 %machine { } %a.tal { LIT 41 #18 DEO }\nmachine a.tal\nmachine a.tal\n";
+
+/// A disassembly, machines in a line, and the summary of a workload, which asks the tree nothing.
+static PRINTED: [Call; 3] = [
     Call {
         words: &["dis", "a.tal"],
         file: &[0x80, 0x41, 0x80, 0x18, 0x17],
         faults: NONE,
         status: 0,
         out: b"|0100\nLIT 41 ( 0100 )\nLIT 18 ( 0102 )\nDEO ( 0104 )\n",
+        err: b"",
+        made: None,
+    },
+    Call {
+        words: &["line", "a.tal"],
+        file: JOINED,
+        faults: NONE,
+        status: 0,
+        out: b"AA",
         err: b"",
         made: None,
     },
@@ -255,7 +276,7 @@ static PRINTED: [Call; 2] = [
 ];
 
 #[test]
-fn prints_a_disassembly_and_a_summary(rt: HostRuntime) {
+fn prints_a_disassembly_a_line_and_a_summary(rt: HostRuntime) {
     all_give(&rt, rt.alloc(), &PRINTED);
 }
 
@@ -263,7 +284,7 @@ fn prints_a_disassembly_and_a_summary(rt: HostRuntime) {
 const WRITES: &[u8] = b"LIT 41 #18 DEO LIT 42 #19 DEO BRK";
 
 /// Calls in which the tree or an output fails.
-static FAILURES: [Call; 6] = [
+static FAILURES: [Call; 8] = [
     Call {
         words: &["play", "a.tal"],
         file: WRITES,
@@ -279,6 +300,27 @@ static FAILURES: [Call; 6] = [
         faults: Faults { err: &[0], ..NONE },
         status: 137,
         out: b"A",
+        err: b"",
+        made: None,
+    },
+    Call {
+        words: &["line", "a.tal"],
+        file: JOINED,
+        faults: Faults { out: &[1], ..NONE },
+        status: 137,
+        out: b"A",
+        err: b"",
+        made: None,
+    },
+    Call {
+        words: &["line", "a.tal"],
+        file: JOINED,
+        faults: Faults {
+            tree: &[(TreeCall::Read, 3)],
+            ..NONE
+        },
+        status: 136,
+        out: b"",
         err: b"",
         made: None,
     },
