@@ -6,3 +6,15 @@ pub mod NewMachines
 pub mod Handing
 pub mod Writing
 pub mod Turned
+pub mod Working
+pub mod Rings
+pub mod Giving
+pub mod Standings
+pub mod Running
+pub mod Passing
+pub mod Putting
+pub mod Coming
+pub mod Feeding
+pub mod Beginning
+pub mod Ending
+pub mod Finished

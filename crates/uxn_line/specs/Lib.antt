@@ -4,6 +4,10 @@ pub mod Setups
 pub mod Limits
 pub mod Gathered
 pub mod Places
+pub mod Gifts
 pub mod Streams
 pub mod Machines
 pub mod Members
+pub mod Work
+pub mod Standing
+pub mod Moves

@@ -8,6 +8,8 @@ use Rattle.play_script.specs.declared.script.Event.{Event}
 use Rattle.play_script.specs.declared.script.Event.TheVariants.{Input, EndInput, Frame, Device, Shot, Expect}
 use Rattle.play_script.specs.declared.script.Version.TheVariants.{First}
 use Rattle.play_script.specs.Scripts.{ScriptView, script_with}
+use Rattle.system_port.specs.DebugText.{exit_code_of}
+use Rattle.varvara_bus.specs.History.{stored}
 use Rattle.varvara_bus.specs.declared.time.Clock.{Clock as BusClock}
 use Rattle.varvara_bus.specs.State.{new_state}
 use Rattle.vector_loop.specs.declared.output.Outputs.{Outputs}
@@ -72,6 +74,10 @@ run_at job machine = run_of job.budget (rom_at job machine) (script_at job machi
 
 abbrev pub stream : Job → ℕ → List ℕ
 stream job machine = put_by (run_at job machine).changes
+
+-- the exit code of a run that ends in this state
+abbrev pub exit_code_at : State → ℕ
+exit_code_at state = exit_code_of (stored state.devices.history 0x0f)
 
 -- where a run stands before its first turn: in the reset vector
 abbrev pub gifts_of : ScriptView → List Gift

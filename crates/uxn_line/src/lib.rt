@@ -1,8 +1,13 @@
 //! Machines in a line: the setup that says which machines there are, what the first one is given, and who gets turns.
 #![tactic(auto)]
 
+mod finish;
+mod giver;
 mod keyword;
 mod law;
+mod line;
+#[cfg(test)]
+mod line_tests;
 mod machine;
 #[cfg(test)]
 mod machine_tests;
@@ -16,7 +21,9 @@ mod setup_line;
 #[cfg(test)]
 mod tests;
 
+pub use giver::Giver;
 pub use law::turns_are_the_run;
+pub use line::{Line, Moved};
 pub use machine::Machine;
 pub use member::Member;
 pub use output::next_byte;

@@ -4,8 +4,10 @@ ghost use Rattle.uxn_memory.specs.Bytes.{largest_rom};
 ghost use Rattle.uxn_opcodes.specs.Rule.{opcode_at};
 ghost use Rattle.console_port.specs.Console.{event_byte};
 ghost use Rattle.play_script.specs.Held.{bytes_in};
+ghost use Rattle.play_script.specs.Limits.{IsTime};
+ghost use Rattle.play_script.specs.Scripts.{ScriptView};
 ghost use Rattle.vector_loop.specs.Run.{made_ready};
-ghost use Rattle.uxn_line.specs.Streams.{clock_by, first_place};
+ghost use Rattle.uxn_line.specs.Streams.{clock_by, exit_code_at, first_place};
 ghost use Rattle.varvara_bus.specs.History.{stored, stored_short};
 ghost use Rattle.varvara_bus.specs.State.{DeviceState, storing};
 ghost use Rattle.varvara_bus.specs.Model.{instruction_effect};
@@ -14,8 +16,9 @@ ghost use Rattle.uxn_line.specs.Places.{Place, Gift, console_of, turn};
 ghost use Rattle.uxn_line.specs.Machines.{Rests, HasDone, StandsAt, handed_on};
 
 use console_port::{EventKind, KIND};
-use play_script::Script;
+use play_script::Clock as ScriptClock;
 use std::alloc::{AllocError, Global};
+use system_port::exit_code;
 use uxn_io::{Bytes, NoSink, NoTree};
 use uxn_opcodes::{Core, Turn, step};
 use varvara_bus::{Bus, Clock, Devices};
@@ -79,11 +82,10 @@ fn state_of(devices: &mut Devices) -> u8
     bus.stored(STATE)
 }
 
-/// The clock of a machine that is given a script.
-fn clock_of(script: &Script) -> Clock
-    ensures { result ≡ clock_by script.now.clock }
+/// The clock of a machine, by that of its script.
+fn clock_of(clock: ScriptClock) -> Clock
+    ensures { result ≡ clock_by clock }
 {
-    let clock = script.clock();
     Clock {
         seconds: clock.seconds,
         offset: clock.offset,
@@ -106,19 +108,21 @@ fn make_ready(devices: &mut Devices, arguments: &[Bytes])
 }
 
 impl Machine {
-    /// The new machine of a ROM, with the clock of a script, about to run its reset vector.
+    /// The new machine of a ROM, with the arguments and the clock of a script, about to run its reset vector.
     pub fn new(
         alloc: Global,
         rom: &[u8],
-        script: &Script,
+        arguments: &[Bytes],
+        clock: ScriptClock,
         budget: u32,
     ) -> Result<Machine, AllocError>
-        requires { length rom.now ≤ largest_rom }
-        ensures { IfOk result (λ machine. StandsAt machine (first_place budget rom.now script.now)) }
+        requires small { length rom.now ≤ largest_rom }
+        requires time { IsTime clock }
+        ensures { IfOk result (λ machine. (script : ScriptView) → script.arguments ≡ bytes_in arguments.now → script.clock ≡ clock
+            → StandsAt machine (first_place budget rom.now script)) }
     {
-        script.known();
-        let mut devices = Devices::new(alloc, None, clock_of(script))?;
-        make_ready(&mut devices, script.args());
+        let mut devices = Devices::new(alloc, None, clock_of(clock))?;
+        make_ready(&mut devices, arguments);
         let core = Core::new(alloc, rom)?;
         Ok(Machine {
             core,
@@ -130,6 +134,7 @@ impl Machine {
     /// Runs one instruction of the vector that runs.
     pub fn run(&mut self)
         requires { 0 < self.old.left }
+        ensures left { self.new.left < self.old.left }
         ensures stands { (budget : ℕ) (now : Place) → StandsAt self.old now → StandsAt self.new (turn budget now) }
         ensures put { (budget : ℕ) (now : Place) → StandsAt self.old now
             → (turn budget now).put ≡ now.put ++ handed_on self.old.core }
@@ -143,7 +148,8 @@ impl Machine {
     /// Gives an idle machine whose run is not over its next byte, with its kind.
     pub fn give(&mut self, byte: u8, kind: EventKind, budget: u32)
         requires { self.old.left ≡ 0 }
-        ensures { (now : Place) (gift : Gift) (gifts : List Gift) → StandsAt self.old now → now.gifts ≡ gift ∷ gifts
+        ensures left { self.new.left ≤ budget }
+        ensures stands { (now : Place) (gift : Gift) (gifts : List Gift) → StandsAt self.old now → now.gifts ≡ gift ∷ gifts
             → console_of gift ≡ (byte, kind) → is_over now.state ≡ false → StandsAt self.new (turn budget now) }
     {
         let address = hold(&mut self.devices, byte, kind);
@@ -156,8 +162,16 @@ impl Machine {
     /// Whether the state is not 0, which ends the run of an idle machine.
     pub fn is_over(&mut self) -> bool
         ensures over { (now : Place) → StandsAt self.old now → result ≡ is_over now.state }
-        ensures stands { (now : Place) → StandsAt self.old now → StandsAt self.new now }
+        ensures same { self.new ≡ self.old }
     {
         state_of(&mut self.devices) != 0
+    }
+
+    /// The exit code of a run that ended in this state.
+    pub fn exit_code(&mut self) -> u8
+        ensures code { (now : Place) → StandsAt self.old now → result ≡ exit_code_at now.state }
+        ensures same { self.new ≡ self.old }
+    {
+        exit_code(state_of(&mut self.devices))
     }
 }

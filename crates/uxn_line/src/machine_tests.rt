@@ -29,7 +29,8 @@ fn run_on(machine: &mut Machine, most: u32) -> u32 {
 #[test]
 fn a_machine_stops_between_instructions(rt: HostRuntime) -> Result<(), Fail> {
     let script = read_script(rt.alloc(), b"")?;
-    let mut machine = Machine::new(rt.alloc(), ONE_MORE, &script, 100)?;
+    script.known();
+    let mut machine = Machine::new(rt.alloc(), ONE_MORE, script.args(), script.clock(), 100)?;
     assert!(rt; machine.left == 100);
     assert!(rt; run_on(&mut machine, 200) == 4);
     assert!(rt; machine.left == 0);
@@ -43,7 +44,8 @@ fn a_machine_stops_between_instructions(rt: HostRuntime) -> Result<(), Fail> {
 #[test]
 fn a_state_ends_a_machine(rt: HostRuntime) -> Result<(), Fail> {
     let script = read_script(rt.alloc(), b"")?;
-    let mut machine = Machine::new(rt.alloc(), ENDS, &script, 100)?;
+    script.known();
+    let mut machine = Machine::new(rt.alloc(), ENDS, script.args(), script.clock(), 100)?;
     assert!(rt; run_on(&mut machine, 200) == 4);
     assert!(rt; machine.is_over());
     Ok(())

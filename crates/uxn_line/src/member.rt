@@ -1,14 +1,26 @@
 //! A machine in a line, with the bytes that were handed to it.
-ghost use Rattle.std.specs.Prelude.{◌≡◌, ◌↔◌, ◌++◌, ◌∷◌, [], ℕ, List, ◌<◌, true, false};
+ghost use Rattle.std.specs.Prelude.{◌≡◌, ◌↔◌, ◌+◌, ◌++◌, ◌∷◌, [], ℕ, List, ◌<◌, ◌≤◌, true, false, IfOk, length, drop};
 ghost use Rattle.circular_buffer.specs.Buffer.{buffer};
+ghost use Rattle.uxn_memory.specs.Bytes.{largest_rom};
+ghost use Rattle.play_script.specs.Held.{bytes_in};
+ghost use Rattle.play_script.specs.Limits.{IsTime};
+ghost use Rattle.play_script.specs.Scripts.{ScriptView};
 ghost use Rattle.vector_loop.specs.State.{is_over};
-ghost use Rattle.uxn_line.specs.Places.{Place, Gift, console_of, turn};
+ghost use Rattle.uxn_line.specs.Places.{Place, Gift, HasEnded, console_of, turn};
+ghost use Rattle.uxn_line.specs.Streams.{first_place, gifts_of};
 ghost use Rattle.uxn_line.specs.Machines.{StandsAt, handed_on};
-ghost use Rattle.uxn_line.specs.Members.{MemberAt};
+ghost use Rattle.uxn_line.specs.Members.{MemberAt, has_ended, next_gift};
+ghost use Rattle.uxn_line.specs.Work.{work};
 
 use crate::machine::Machine;
 use circular_buffer::HeapCircularBuffer;
 use console_port::EventKind;
+use play_script::Clock;
+use std::alloc::{AllocError, Global};
+use uxn_io::Bytes;
+
+/// How many bytes the ring before a machine has room for.
+const ROOM: usize = 256;
 
 /// A machine in the middle of its run, and its ring.
 #[derive(Drop)]
@@ -19,21 +31,57 @@ pub struct Member {
     pub ring: HeapCircularBuffer<u8>,
     /// Whether it was given all that it is ever given.
     pub all_given: bool,
-    /// Whether its run is over.
-    pub over: bool,
+    /// Whether its state was not 0 when it last was idle.
+    pub stopped: bool,
 }
 
 impl Member {
-    /// Sees whether the run is over. Then nothing is kept for it.
+    /// A new machine of a ROM, with an empty ring.
+    pub fn new(
+        alloc: Global,
+        rom: &[u8],
+        arguments: &[Bytes],
+        clock: Clock,
+        budget: u32,
+        all_given: bool,
+    ) -> Result<Member, AllocError>
+        requires small { length rom.now ≤ largest_rom }
+        requires time { IsTime clock }
+        requires some { 1 ≤ budget }
+        ensures stands { IfOk result (λ member. (script : ScriptView) → script.arguments ≡ bytes_in arguments.now → script.clock ≡ clock
+            → (all_given ≡ true) ↔ (gifts_of script ≡ []) → MemberAt member (first_place budget rom.now script)) }
+        ensures ring { IfOk result (λ member. member.ring ≡ buffer [] 256) }
+    {
+        Ok(Member {
+            machine: Machine::new(alloc, rom, arguments, clock, budget)?,
+            ring: HeapCircularBuffer::with_capacity(alloc, ROOM)?,
+            all_given,
+            stopped: false,
+        })
+    }
+
+    /// Whether its run is over: it is idle, and its state is not 0 or all was given.
+    pub fn is_over(&self) -> bool
+        ensures value { result ≡ has_ended self.now }
+        ensures ended { (now : Place) → MemberAt self.now now → (result ≡ true) ↔ HasEnded now }
+    {
+        self.machine.left == 0 && (self.stopped || self.all_given)
+    }
+
+    // Sees whether the run is over. Then nothing is kept for it.
     fn settle(&mut self)
         ensures stands { (now : Place) → StandsAt self.old.machine now → (self.old.all_given ≡ true) ↔ (now.gifts ≡ [])
             → MemberAt self.new now }
-        ensures kept { self.new.over ≡ false → self.new.ring ≡ self.old.ring }
-        ensures dropped { self.new.over ≡ true → self.new.ring ≡ buffer [] self.old.ring.capacity }
+        ensures kept { has_ended self.new ≡ false → self.new.ring ≡ self.old.ring }
+        ensures dropped { has_ended self.new ≡ true → self.new.ring ≡ buffer [] self.old.ring.capacity }
+        ensures left { self.new.machine.left ≡ self.old.machine.left }
+        ensures given { self.new.all_given ≡ self.old.all_given }
     {
-        let stopped = self.machine.is_over();
-        self.over = self.machine.left == 0 && (stopped || self.all_given);
-        if self.over {
+        if self.machine.left > 0 {
+            return;
+        }
+        self.stopped = self.machine.is_over();
+        if self.is_over() {
             self.ring.clear();
         }
     }
@@ -44,8 +92,9 @@ impl Member {
         ensures stands { (budget : ℕ) (now : Place) → MemberAt self.old now → MemberAt self.new (turn budget now) }
         ensures put { (budget : ℕ) (now : Place) → MemberAt self.old now
             → (turn budget now).put ≡ now.put ++ handed_on self.old.machine.core }
-        ensures kept { self.new.over ≡ false → self.new.ring ≡ self.old.ring }
-        ensures dropped { self.new.over ≡ true → self.new.ring ≡ buffer [] self.old.ring.capacity }
+        ensures kept { has_ended self.new ≡ false → self.new.ring ≡ self.old.ring }
+        ensures dropped { has_ended self.new ≡ true → self.new.ring ≡ buffer [] self.old.ring.capacity }
+        ensures work { (budget before : ℕ) → work budget before self.new < work budget before self.old }
     {
         self.machine.run();
         self.settle();
@@ -57,11 +106,56 @@ impl Member {
         ensures stands { (now : Place) (gift : Gift) (gifts : List Gift) → MemberAt self.old now → now.gifts ≡ gift ∷ gifts
             → console_of gift ≡ (byte, kind) → (last ≡ true) ↔ (gifts ≡ []) → is_over now.state ≡ false
             → MemberAt self.new (turn budget now) }
-        ensures kept { self.new.over ≡ false → self.new.ring ≡ self.old.ring }
-        ensures dropped { self.new.over ≡ true → self.new.ring ≡ buffer [] self.old.ring.capacity }
+        ensures kept { has_ended self.new ≡ false → self.new.ring ≡ self.old.ring }
+        ensures dropped { has_ended self.new ≡ true → self.new.ring ≡ buffer [] self.old.ring.capacity }
+        ensures left { self.new.machine.left ≤ budget }
+        ensures given { self.new.all_given ≡ last }
     {
         self.machine.give(byte, kind, budget);
         self.all_given = last;
         self.settle();
+    }
+
+    /// Whether its ring is empty and a byte may still be handed to it.
+    pub fn must_wait(&self, none_comes: bool) -> bool
+        ensures { (result ≡ true) ↔ ((self.now.ring.items ≡ []) × (none_comes ≡ false)) }
+    {
+        self.ring.is_empty() && !none_comes
+    }
+
+    /// Gives an idle machine whose run is not over the next byte of its ring, or the end of its input where the ring is empty.
+    pub fn give_next(&mut self, budget: u32)
+        requires idle { self.old.machine.left ≡ 0 }
+        requires goes_on { has_ended self.old ≡ false }
+        ensures stands { (now : Place) (gifts : List Gift) → MemberAt self.old now → now.gifts ≡ next_gift self.old.ring.items ∷ gifts
+            → (self.old.ring.items ≡ []) ↔ (gifts ≡ []) → is_over now.state ≡ false → MemberAt self.new (turn budget now) }
+        ensures kept { has_ended self.new ≡ false → self.new.ring ≡ buffer (drop 1 self.old.ring.items) self.old.ring.capacity }
+        ensures dropped { has_ended self.new ≡ true → self.new.ring ≡ buffer [] self.old.ring.capacity }
+        ensures work { (before : ℕ) → work budget before self.new < work budget before self.old }
+    {
+        match self.ring.pop_front() {
+            Some(byte) => self.give(byte, EventKind::Input, false, budget),
+            None => self.give(0, EventKind::End, true, budget),
+        }
+    }
+
+    /// Whether its run is not over and its ring is full.
+    pub fn is_full(&self) -> bool
+        ensures over { has_ended self.now ≡ true → result ≡ false }
+        ensures full { has_ended self.now ≡ false → (result ≡ true) ↔ (self.now.ring.capacity ≤ length self.now.ring.items) }
+    {
+        !self.is_over() && self.ring.len() >= self.ring.capacity()
+    }
+
+    /// Keeps a byte that is handed to it, unless its run is over.
+    pub fn take(&mut self, byte: u8)
+        requires { has_ended self.old ≡ false → length self.old.ring.items < self.old.ring.capacity }
+        ensures over { has_ended self.old ≡ true → self.new ≡ self.old }
+        ensures kept { has_ended self.old ≡ false
+            → self.new ≡ record self.old { ring = buffer (self.old.ring.items ++ byte ∷ []) self.old.ring.capacity } }
+    {
+        if !self.is_over() {
+            self.ring.push_back(byte);
+        }
     }
 }

@@ -7,8 +7,9 @@ use std::test::Fail;
 /// The byte that a program of one instruction, over `41` `42` and a port on the working stack, hands on.
 fn handed(rt: &HostRuntime, port: u8, code: u8) -> Result<Option<u8>, Fail> {
     let script = read_script(rt.alloc(), b"")?;
+    script.known();
     let rom = [0x80, 0x41, 0x80, 0x42, 0x80, port, code];
-    let mut machine = Machine::new(rt.alloc(), &rom, &script, 100)?;
+    let mut machine = Machine::new(rt.alloc(), &rom, script.args(), script.clock(), 100)?;
     for _ in 0..3 {
         if machine.left > 0 {
             machine.run();

@@ -1,0 +1,99 @@
+-- The first machine of a line that was given what comes next of its script.
+use Rattle.std.proofs.Common.{◌≡◌, ◌≢◌, ℕ, zero, suc, ◌+◌, ◌<◌, ◌≤◌, ◌↔◌, Bool, true, false, cond, List, [], ◌∷◌, drop, length, get_or, refl, sym, ap, subst, ◌∙◌, arith}
+use Rattle.std.specs.Prelude.{Some, None, Ok, option_map, slice_get, slice_set}
+use Rattle.circular_buffer.specs.Buffer.{buffer}
+use Rattle.vector_loop.specs.State.{is_over}
+use Rattle.vector_loop.specs.Run.{ConsoleByte}
+use Rattle.uxn_line.specs.declared.line.Line.{Line}
+use Rattle.uxn_line.specs.declared.line.Moved.TheVariants.{Gave}
+use Rattle.uxn_line.specs.declared.member.Member.{Member}
+use Rattle.uxn_line.specs.Places.{Place, Gift, console_of, turn}
+use Rattle.uxn_line.specs.Streams.{Job, after}
+use Rattle.uxn_line.specs.Members.{MemberAt, has_ended, IsOpen}
+use Rattle.uxn_line.specs.Standing.{Turned, one_more, place_in, InLine, Stands}
+use Rattle.uxn_line.specs.Moves.{SinkView, Came}
+use Rattle.uxn_line.specs.Work.{still_given, work, works, work_left}
+use Rattle.uxn_line.proofs.Turned.{give-gifts, give-put}
+use Rattle.uxn_line.proofs.Working.{until_all, idle-open, ring-within, given-less, head-less}
+use Rattle.uxn_line.proofs.Standings.{place-more}
+use Rattle.uxn_line.proofs.Running.{with_member, room-stays, within-stays, empty-stays}
+use Rattle.uxn_line.proofs.Feeding.{FoundOpen, found-open, IdleAt, idle-at, give-came}
+
+-- the first gift, by what was taken
+pub record FirstGift (all : List Gift) (given : ConsoleByte) : Type 0 where
+  pub gift : Gift
+  pub are : all ≡ gift ∷ drop 1 all
+  pub is : console_of gift ≡ given
+
+pub first-gift : (all : List Gift) (given : ConsoleByte) → option_map console_of (slice_get all 0) ≡ Some given → FirstGift all given
+first-gift [] given is = absurd (cc)
+first-gift (gift ∷ all) given is = record { gift = gift; are = refl; is = cc }
+
+pub no-gift : (all : List Gift) → option_map console_of (slice_get all 0) ≡ None → all ≡ []
+no-gift [] is = refl
+no-gift (gift ∷ all) is = absurd (cc)
+
+-- what the giving does to the machine
+pub record FirstGiven (budget byte : ℕ) (member now : Member) (given : ConsoleByte) (last : Bool) : Type 0 where
+  pub stands : (place : Place) (gift : Gift) (gifts : List Gift) → MemberAt member place → place.gifts ≡ gift ∷ gifts → console_of gift ≡ given
+      → (last ≡ true) ↔ (gifts ≡ []) → is_over place.state ≡ false → MemberAt now (turn budget place)
+  pub kept : has_ended now ≡ false → now.ring ≡ member.ring
+  pub dropped : has_ended now ≡ true → now.ring ≡ buffer [] member.ring.capacity
+  pub left : now.machine.left ≤ budget
+
+-- the line then
+abbrev pub begun_on : Line → List Gift → Member → Line
+begun_on line rest now = record (with_member line 0 now) { giver = rest }
+
+pub first-came : (job : Job) (line : Line) (turned : Turned) (member now : Member) (given : ConsoleByte) (last : Bool) (rest : List Gift) (out : SinkView)
+    → Stands job line turned → FoundOpen line 0 member → option_map console_of (slice_get line.giver 0) ≡ Some given → rest ≡ drop 1 line.giver
+    → (last ≡ true) ↔ (rest ≡ []) → FirstGiven line.budget given.0 member now given last
+    → Came job turned 0 line (begun_on line rest now) out out (Ok Gave)
+first-came job line turned member now given last rest out stands found taken rest_is is_last gives =
+    let place = place_in job turned 0 in
+    let inline = stands.each 0 member found.there in
+    let idle = idle-at member place inline.stands found.idle found.goes_on in
+    let first = first-gift line.giver given taken in
+    let are : place.gifts ≡ first.gift ∷ rest = sym stands.script ∙ first.are ∙ ap (λ r. first.gift ∷ r) (sym rest_is) in
+    let gifts = give-gifts line.budget place first.gift rest idle.idle are idle.goes_on in
+    let at = gives.stands place first.gift rest inline.stands are first.is is_last idle.goes_on in
+    let P : ℕ → Type 0 = λ b. MemberAt now (turn b place) in
+    let Q : Place → Type 0 = λ p. MemberAt now p in
+    give-came job line (begun_on line rest now) turned 0 member now out stands (record {
+      there = found.there;
+      items = refl;
+      budget = refl;
+      script = sym gifts ∙ ap (λ b. (turn b place).gifts) stands.budget ∙ ap (λ (p : Place). p.gifts) (sym (place-more job 0 turned));
+      own = record {
+        stands = subst Q (sym (place-more job 0 turned)) (subst P stands.budget at);
+        ring = empty-stays member now gives.kept gives.dropped inline.ring;
+        room = room-stays member now gives.kept gives.dropped ∙ inline.room;
+        within = within-stays member now gives.kept gives.dropped 256 inline.within;
+      };
+      put = give-put job.budget place first.gift rest idle.idle are idle.goes_on;
+    }) found.idle found.goes_on (λ waits. waits)
+
+-- the first of a list was set
+set-first : (budget before before_now : ℕ) (members : List Member) (member now : Member) → slice_get members 0 ≡ Some member
+    → work budget before_now now < work budget before member → works budget before_now (slice_set members 0 now) < works budget before members
+set-first budget before before_now [] member now there less = absurd (cc)
+set-first budget before before_now (first ∷ members) member now there less =
+    let same : first ≡ member = cc in
+    let P : Member → Type 0 = λ m. works budget before_now (now ∷ members) < works budget before (m ∷ members) in
+    subst P (sym same) (head-less budget before before_now member now members less)
+
+some-until : (given : Bool) → until_all given ≤ 1
+some-until true = omega arith
+some-until false = omega arith
+
+pub first-less : (line : Line) (member now : Member) (given : ConsoleByte) (last : Bool) (rest : List Gift) → FoundOpen line 0 member
+    → option_map console_of (slice_get line.giver 0) ≡ Some given → rest ≡ drop 1 line.giver → FirstGiven line.budget given.0 member now given last
+    → work_left (begun_on line rest now) < work_left line
+first-less line member now given last rest found taken rest_is gives =
+    let first = first-gift line.giver given taken in
+    let size : length line.giver ≡ suc (length rest) = ap length (first.are ∙ ap (λ r. first.gift ∷ r) (sym rest_is)) in
+    let within = ring-within now member.ring.items member.ring.capacity _ gives.kept gives.dropped in
+    let open_still : until_all member.all_given ≡ 1 = ap until_all (idle-open member found.idle found.goes_on).1 in
+    let most = some-until now.all_given in
+    set-first line.budget (length line.giver) (length rest) line.members.items member now found.there
+    (given-less line.budget (length line.giver) (length rest) member now found.goes_on (omega (arith, size, within, open_still, most)) gives.left)

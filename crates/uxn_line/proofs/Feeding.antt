@@ -1,0 +1,232 @@
+-- A machine of a line that was given what comes next, or waits for it.
+use Rattle.std.proofs.Common.{◌≡◌, ◌≢◌, ℕ, zero, suc, ◌+◌, ◌-◌, ◌<◌, ◌≤◌, ◌↔◌, ◌⊎◌, inl, inr, Bool, true, false, List, [], ◌∷◌, ◌++◌, take, drop, length, get_or, refl, sym, ap, subst, ◌∙◌, arith, append-nil}
+use Rattle.std.specs.Prelude.{Some, Ok, slice_get, slice_set}
+use Rattle.std.proofs.lemmas.List.{length-set}
+use Rattle.std.proofs.lemmas.Option.{slice_get_within, slice_get_read}
+use Rattle.circular_buffer.specs.Buffer.{Buffer, buffer}
+use Rattle.vector_loop.specs.State.{is_over}
+use Rattle.uxn_line.specs.declared.line.Line.{Line}
+use Rattle.uxn_line.specs.declared.line.Moved.TheVariants.{Gave, Waits}
+use Rattle.uxn_line.specs.declared.member.Member.{Member}
+use Rattle.uxn_line.specs.Places.{Place, Gift, HasEnded, turn}
+use Rattle.uxn_line.specs.Streams.{Job, script_at, stream, gifts_of, after}
+use Rattle.uxn_line.specs.Members.{MemberAt, has_ended, IsOpen, next_gift}
+use Rattle.uxn_line.specs.Standing.{Turned, one_more, place_in, given_after, Between, RingBefore, InLine, Stands}
+use Rattle.uxn_line.specs.Moves.{SinkView, IsWaiting, ring_of, Came}
+use Rattle.uxn_line.proofs.Turned.{give-gifts, give-put}
+use Rattle.uxn_line.proofs.Working.{bools, idle-open}
+use Rattle.uxn_line.proofs.Standings.{same-or-not, more-here, more-apart, place-more, place-apart, ended-is, not-ended, goes-on, set-here, set-apart, OneMore, stands-more}
+use Rattle.uxn_line.proofs.Running.{found-is, with_member, handed-nothing, put-behind, adds-none, adds-nothing, room-stays, within-stays, empty-stays}
+use Rattle.uxn_line.proofs.Coming.{Comes, comes}
+
+-- the member that was found where a machine is idle and not at its end
+pub record FoundOpen (line : Line) (machine : ℕ) (found : Member) : Type 0 where
+  pub there : slice_get line.members.items machine ≡ Some found
+  pub idle : found.machine.left ≡ 0
+  pub goes_on : has_ended found ≡ false
+
+pub found-open : (line : Line) (machine : ℕ) (found : Member) → IsOpen line machine → found ≡ get_or line.members.items machine found
+    → FoundOpen line machine found
+found-open line machine found is read =
+    let same = found-is line.members.items machine found is.member read is.there in
+    let P : Member → Type 0 = λ m. FoundOpen line machine m in
+    subst P (sym same) (record { there = is.there; idle = is.idle; goes_on = is.goes_on })
+
+-- where it stands
+pub record IdleAt (place : Place) : Type 0 where
+  pub idle : place.left ≡ 0
+  pub goes_on : is_over place.state ≡ false
+  pub some : place.gifts ≢ []
+
+pub idle-at : (member : Member) (place : Place) → MemberAt member place → member.machine.left ≡ 0 → has_ended member ≡ false → IdleAt place
+idle-at member place at idle goes =
+    let left = sym at.stands.left ∙ idle in
+    let still = idle-open member idle goes in
+    record {
+      idle = left;
+      goes_on = sym (at.stopped left) ∙ still.0;
+      some = λ none. (let all = at.given.1 none in let open_still = still.1 in cc);
+    }
+
+-- a line in which a machine was given something
+pub record GivesIn (job : Job) (turned : Turned) (line line_now : Line) (machine : ℕ) (member now : Member) : Type 0 where
+  pub there : slice_get line.members.items machine ≡ Some member
+  pub items : line_now.members.items ≡ slice_set line.members.items machine now
+  pub budget : line_now.budget ≡ line.budget
+  pub script : line_now.giver ≡ (place_in job (one_more machine turned) 0).gifts
+  pub own : InLine job (one_more machine turned) machine now
+  pub put : (turn job.budget (place_in job turned machine)).put ≡ (place_in job turned machine).put
+
+pub give-stands : (job : Job) (line line_now : Line) (turned : Turned) (machine : ℕ) (member now : Member) → Stands job line turned
+    → GivesIn job turned line line_now machine member now → Stands job line_now (one_more machine turned)
+give-stands job line line_now turned machine member now stands gives =
+    let items = line.members.items in
+    let at : (other : ℕ) → slice_get line_now.members.items other ≡ slice_get (slice_set items machine now) other
+    = λ other. ap (λ all. slice_get all other) gives.items in
+    stands-more job turned machine line line_now stands (record {
+      member = now;
+      here = at machine ∙ set-here items machine now (slice_get_within items machine member gives.there);
+      own = gives.own;
+      behind = λ next at_next.
+          let there = sym (set-apart items machine (suc machine) now (λ same. omega (arith, same))) ∙ sym (at (suc machine)) ∙ at_next in
+          let in_line = stands.each (suc machine) next there in
+          put-behind job turned machine [] next next (handed-nothing next in_line.within)
+          (gives.put ∙ sym (append-nil _)) in_line;
+      apart = λ other apart further. at other ∙ set-apart items machine other now apart;
+      count = ap length gives.items ∙ length-set items machine now;
+      budget = gives.budget;
+      script = gives.script;
+    })
+
+-- a turn of it is a giving, where it does not wait
+pub give-came : (job : Job) (line line_now : Line) (turned : Turned) (machine : ℕ) (member now : Member) (out : SinkView) → Stands job line turned
+    → GivesIn job turned line line_now machine member now → member.machine.left ≡ 0 → has_ended member ≡ false
+    → (IsWaiting job line turned machine → ⊥) → Came job turned machine line line_now out out (Ok Gave)
+give-came job line line_now turned machine member now out stands gives idle goes comes =
+    let at = (stands.each machine member gives.there).stands in
+    record {
+      cause = record {
+        idle = sym at.stands.left ∙ idle;
+        goes_on = not-ended member (place_in job turned machine) at goes;
+        comes = comes;
+      };
+      follows = (give-stands job line line_now turned machine member now stands gives, adds-none job turned machine out gives.put);
+    }
+
+-- what is left of the script where another machine than the first had a turn
+pub script-apart : (job : Job) (line : Line) (turned : Turned) (before : ℕ) → Stands job line turned
+    → line.giver ≡ (place_in job (one_more (suc before) turned) 0).gifts
+script-apart job line turned before stands =
+    stands.script ∙ ap (λ (p : Place). p.gifts) (sym (place-apart job (suc before) turned 0 (λ same. omega (arith, same))))
+
+-- a machine behind another that was given the first of its ring, or the end
+pub record NextGiven (budget : ℕ) (member now : Member) : Type 0 where
+  pub stands : (place : Place) (gifts : List Gift) → MemberAt member place → place.gifts ≡ next_gift member.ring.items ∷ gifts
+      → (member.ring.items ≡ []) ↔ (gifts ≡ []) → is_over place.state ≡ false → MemberAt now (turn budget place)
+  pub kept : has_ended now ≡ false → now.ring ≡ buffer (drop 1 member.ring.items) member.ring.capacity
+  pub dropped : has_ended now ≡ true → now.ring ≡ buffer [] member.ring.capacity
+
+shorter : (ring : List ℕ) → length (drop 1 ring) ≤ length ring
+shorter [] = omega arith
+shorter (byte ∷ ring) = omega arith
+
+pub next-own : (job : Job) (turned : Turned) (before : ℕ) (member now : Member) → NextGiven job.budget member now → InLine job turned (suc before) member
+    → IdleAt (place_in job turned (suc before)) → Comes job before (turned before) (turned (suc before)) member.ring.items
+    → InLine job (one_more (suc before) turned) (suc before) now
+next-own job turned before member now given inline idle next =
+    let place = place_in job turned (suc before) in
+    let here = more-here (suc before) turned in
+    let there = more-apart (suc before) turned before (λ same. omega (arith, same)) in
+    let at : MemberAt now (turn job.budget place) = given.stands place next.gifts inline.stands next.are next.last idle.goes_on in
+    let gifts = give-gifts job.budget place (next_gift member.ring.items) next.gifts idle.idle next.are idle.goes_on in
+    let total = length (gifts_of (script_at job (suc before))) in
+    let count = ap (λ g. total - length g) gifts ∙ next.given in
+    let room_ring : (has_ended now ≡ false → now.ring.items ≡ drop 1 member.ring.items) = λ goes. ap (λ (r : Buffer ℕ). r.items) (given.kept goes) in
+    let P : ℕ → Type 0 = λ n. MemberAt now (after job (suc before) n) in
+    let Q : ℕ → Type 0 = λ n. Between job before n (one_more (suc before) turned (suc before)) now.ring.items in
+    let R : ℕ → Type 0 = λ n. Between job before (turned before) n now.ring.items in
+    let between : Between job before (turned before) (suc (turned (suc before))) now.ring.items = record {
+      dropped = λ ended. ap (λ (r : Buffer ℕ). r.items) (given.dropped ((ended-is now (turn job.budget place) at).1 ended));
+      written = λ goes.
+          next.written
+          ∙ ap (λ k. take k (stream job before) ++ drop 1 member.ring.items) (sym count)
+          ∙ ap (λ r. take (given_after job (suc before) (suc (turned (suc before)))) (stream job before) ++ r)
+          (sym (room_ring (goes-on now (turn job.budget place) at goes)));
+    } in
+    let S : Buffer ℕ → Type 0 = λ r. length r.items ≤ 256 in
+    record {
+      stands = subst P (sym here) at;
+      ring = subst Q (sym there) (subst R (sym here) between);
+      room = elim (bools (has_ended now)) [
+        | inl over ↦ ap (λ (r : Buffer ℕ). r.capacity) (given.dropped over) ∙ inline.room
+        | inr goes ↦ ap (λ (r : Buffer ℕ). r.capacity) (given.kept goes) ∙ inline.room
+      ];
+      within = elim (bools (has_ended now)) [
+        | inl over ↦ subst S (sym (given.dropped over)) (omega arith)
+        | inr goes ↦ (let less = shorter member.ring.items in subst S (sym (given.kept goes)) (omega (arith, less, inline.within)))
+      ];
+    }
+
+pub next-came : (job : Job) (line : Line) (turned : Turned) (before : ℕ) (member now last : Member) (out : SinkView) → Stands job line turned
+    → FoundOpen line (suc before) member → NextGiven line.budget member now → slice_get line.members.items before ≡ Some last
+    → (member.ring.items ≡ [] → has_ended last ≡ true)
+    → Came job turned (suc before) line (with_member line (suc before) now) out out (Ok Gave)
+next-came job line turned before member now last out stands found given there ended =
+    let place = place_in job turned (suc before) in
+    let inline = stands.each (suc before) member found.there in
+    let at = inline.stands in
+    let idle = idle-at member place at found.idle found.goes_on in
+    let last_at = (stands.each before last there).stands in
+    let over : member.ring.items ≡ [] → HasEnded (place_in job turned before) = λ none. (ended-is last (place_in job turned before) last_at).0 (ended none) in
+    let between : Between job before (turned before) (turned (suc before)) member.ring.items = inline.ring in
+    let next = comes job before (turned before) (turned (suc before)) member.ring.items stands.job_is
+    (between.written (not-ended member place at found.goes_on)) idle.some over in
+    let P : ℕ → Type 0 = λ b. NextGiven b member now in
+    give-came job line (with_member line (suc before) now) turned (suc before) member now out stands (record {
+      there = found.there;
+      items = refl;
+      budget = refl;
+      script = script-apart job line turned before stands;
+      own = next-own job turned before member now (subst P stands.budget given) inline idle next;
+      put = give-put job.budget place (next_gift member.ring.items) next.gifts idle.idle next.are idle.goes_on;
+    }) found.idle found.goes_on
+    (λ waits. waits.comes (over (ap ring_of (sym found.there) ∙ waits.nothing)))
+
+-- a machine waits whose ring is empty, where the run of the one before it goes on
+pub wait-came : (job : Job) (line : Line) (turned : Turned) (before : ℕ) (member last : Member) (out : SinkView) → Stands job line turned
+    → FoundOpen line (suc before) member → slice_get line.members.items before ≡ Some last → member.ring.items ≡ [] → has_ended last ≡ false
+    → Came job turned (suc before) line line out out (Ok Waits)
+wait-came job line turned before member last out stands found there none goes =
+    let at = (stands.each (suc before) member found.there).stands in
+    record {
+      cause = record {
+        goes_on = not-ended member (place_in job turned (suc before)) at found.goes_on;
+        idle = sym at.stands.left ∙ found.idle;
+        nothing = ap ring_of found.there ∙ none;
+        comes = not-ended last (place_in job turned before) (stands.each before last there).stands goes;
+      };
+      follows = (stands, adds-nothing job turned turned out refl);
+    }
+
+-- what was found of a machine behind another, of that one, and whether it waits
+pub record Behind (line : Line) (machine : ℕ) (last seen : Member) (none_comes waits : Bool) : Type 0 where
+  pub behind : 1 ≤ machine
+  pub is_open : IsOpen line machine
+  pub last_is : last ≡ get_or line.members.items (machine - 1) last
+  pub seen_is : seen ≡ get_or line.members.items machine seen
+  pub none_is : none_comes ≡ has_ended last
+  pub waits_is : (waits ≡ true) ↔ ((seen.ring.items ≡ []) × (none_comes ≡ false))
+
+last-there : (line : Line) (before : ℕ) (last member : Member) → last ≡ get_or line.members.items (suc before - 1) last
+    → slice_get line.members.items (suc before) ≡ Some member → slice_get line.members.items before ≡ Some last
+last-there line before last member read there =
+    let items = line.members.items in
+    let one : suc before - 1 ≡ before = omega arith in
+    let within = slice_get_within items (suc before) member there in
+    slice_get_read items (length items) before last refl (omega (arith, within)) (read ∙ ap (λ n. get_or items n last) one)
+
+pub behind-waits : (job : Job) (line : Line) (turned : Turned) (machine : ℕ) (last seen : Member) (none_comes waits : Bool) (out : SinkView)
+    → Behind line machine last seen none_comes waits → waits ≡ true → Stands job line turned → Came job turned machine line line out out (Ok Waits)
+behind-waits job line turned zero last seen none_comes waits out at yes_waits stands = (let some = at.behind in absurd (omega (arith, some)))
+behind-waits job line turned (suc before) last seen none_comes waits out at yes_waits stands =
+    let found = found-open line (suc before) seen at.is_open at.seen_is in
+    let is = at.waits_is.0 yes_waits in
+    wait-came job line turned before seen last out stands found (last-there line before last seen at.last_is found.there) is.0 (sym at.none_is ∙ is.1)
+
+pub behind-gives : (job : Job) (line : Line) (turned : Turned) (machine : ℕ) (last seen found now : Member) (none_comes waits : Bool) (out : SinkView)
+    → Behind line machine last seen none_comes waits → waits ≡ false → found ≡ get_or line.members.items machine found
+    → NextGiven line.budget found now → Stands job line turned → Came job turned machine line (with_member line machine now) out out (Ok Gave)
+behind-gives job line turned zero last seen found now none_comes waits out at goes read given stands = (let some = at.behind in absurd (omega (arith, some)))
+behind-gives job line turned (suc before) last seen found now none_comes waits out at goes read given stands =
+    let first = found-open line (suc before) seen at.is_open at.seen_is in
+    let open_found = found-open line (suc before) found at.is_open read in
+    let one = first.there in
+    let two = open_found.there in
+    let same : seen ≡ found = cc in
+    let P : Member → Type 0 = λ m. (waits ≡ true) ↔ ((m.ring.items ≡ []) × (none_comes ≡ false)) in
+    let test = subst P same at.waits_is in
+    next-came job line turned before found now last out stands open_found given (last-there line before last found at.last_is open_found.there)
+    (λ none. elim (bools none_comes) [
+      | inl comes ↦ sym at.none_is ∙ comes
+      | inr more ↦ absurd (let e = test.1 (none, more) in cc)
+    ])

@@ -1,0 +1,176 @@
+-- A machine of a line that handed a byte on to the next one, or could not.
+use Rattle.std.proofs.Common.{◌≡◌, ◌≢◌, ℕ, zero, suc, ◌+◌, ◌-◌, ◌<◌, ◌≤◌, ◌↔◌, ◌⊎◌, inl, inr, Bool, true, false, List, [], ◌∷◌, ◌++◌, length, get_or, refl, sym, ap, subst, ◌∙◌, arith, length-append, add-one}
+use Rattle.std.specs.Prelude.{Some, Ok, slice_get, slice_set}
+use Rattle.std.specs.Vec.{with_item}
+use Rattle.std.proofs.lemmas.List.{length-set}
+use Rattle.std.proofs.lemmas.Option.{slice_get_within, slice_get_read}
+use Rattle.circular_buffer.specs.Buffer.{Buffer, buffer}
+use Rattle.uxn_line.specs.declared.line.Line.{Line}
+use Rattle.uxn_line.specs.declared.line.Moved.TheVariants.{Ran, Held}
+use Rattle.uxn_line.specs.declared.member.Member.{Member}
+use Rattle.uxn_line.specs.Machines.{handed_on}
+use Rattle.uxn_line.specs.Streams.{Job}
+use Rattle.uxn_line.specs.Members.{MemberAt, has_ended, IsRunning}
+use Rattle.uxn_line.specs.Standing.{Turned, one_more, place_in, InLine, Stands}
+use Rattle.uxn_line.specs.Moves.{last_of, SinkView, IsHeld, ring_of, ring_before, Came}
+use Rattle.uxn_line.specs.Work.{work, work_left}
+use Rattle.uxn_line.proofs.Working.{bools, pair-less, taken-pays}
+use Rattle.uxn_line.proofs.Standings.{not-ended, goes-on, set-here, set-apart}
+use Rattle.uxn_line.proofs.Running.{found-is, RanFrom, Handed, RunsIn, with_member, Found, run-came, adds-apart, adds-nothing}
+
+-- the next machine, as it is found, and what it is once it was handed a byte
+pub record Taken (byte : ℕ) (line : Line) (machine : ℕ) (next now : Member) : Type 0 where
+  pub there : slice_get line.members.items (suc machine) ≡ Some next
+  pub room : has_ended next ≡ false → length next.ring.items < next.ring.capacity
+  pub over : has_ended next ≡ true → now ≡ next
+  pub kept : has_ended next ≡ false → now ≡ record next { ring = buffer (next.ring.items ++ byte ∷ []) next.ring.capacity }
+
+-- the item that was read at the place behind
+pub read-behind : {X : Type 0} (items : List X) (place : ℕ) (found : X) → place + 1 < length items → found ≡ get_or items (place + 1) found
+    → slice_get items (suc place) ≡ Some found
+read-behind items place found within read =
+    ap (λ n. slice_get items n) (sym (add-one place)) ∙ slice_get_read items (length items) (place + 1) found refl within read
+
+taken-handed : (byte : ℕ) (line : Line) (machine : ℕ) (next now : Member) → Taken byte line machine next now → length next.ring.items ≤ 256
+    → next.ring.capacity ≡ 256 → Handed (byte ∷ []) next now
+taken-handed byte line machine next now taken within room =
+    let P : Member → Type 0 = λ m. Handed (byte ∷ []) next m in
+    elim (bools (has_ended next)) [
+      | inl ended ↦ subst P (sym (taken.over ended)) (record {
+        stands = λ place at. at;
+        over = λ over. refl;
+        kept = λ goes. absurd (cc);
+        room = refl;
+        within = within;
+      })
+      | inr goes ↦
+          let longer = length-append next.ring.items (byte ∷ []) in
+          let fits = taken.room goes in
+          subst P (sym (taken.kept goes)) (record {
+            stands = λ place at. record { stands = at.stands; given = at.given; stopped = at.stopped };
+            over = λ over. absurd (cc);
+            kept = λ goes. refl;
+            room = refl;
+            within = omega (arith, longer, fits, room);
+          })
+    ]
+
+-- the line once the byte was handed on and the machine ran
+abbrev pub passed : Line → ℕ → Member → Member → Line
+passed line machine next_now now = with_member (with_member line (suc machine) next_now) machine now
+
+pub pass-runs : (byte : ℕ) (line : Line) (machine : ℕ) (member now next next_now : Member) → Found (byte ∷ []) line machine member → RanFrom member now
+    → Taken byte line machine next next_now → RunsIn line (passed line machine next_now now) machine member now
+pass-runs byte line machine member now next next_now found ran taken =
+    let items = line.members.items in
+    let middle = slice_set items (suc machine) next_now in
+    let behind : suc machine ≢ machine = λ same. omega (arith, same) in
+    record {
+      at = found.there;
+      here = set-here middle machine now (slice_get_within middle machine member (set-apart items (suc machine) machine next_now (λ same. behind (sym same)) ∙ found.there));
+      apart = λ other apart further. set-apart middle machine other now apart ∙ set-apart items (suc machine) other next_now further;
+      behind = λ last at_last.
+          let is = sym (set-here items (suc machine) next_now (slice_get_within items (suc machine) next taken.there))
+          ∙ sym (set-apart middle machine (suc machine) now behind) ∙ at_last in
+          let same : next_now ≡ last = cc in (
+            next,
+            taken.there,
+            λ full room.
+                let P : Member → Type 0 = λ m. Handed (handed_on member.machine.core) next m in
+                let Q : List ℕ → Type 0 = λ bytes. Handed bytes next next_now in
+                subst P same (subst Q (sym found.writes) (taken-handed byte line machine next next_now taken full room)),
+          );
+      count = length-set middle machine now ∙ length-set items (suc machine) next_now;
+      budget = refl;
+      script = refl;
+      ran = ran;
+    }
+
+pub pass-came : (job : Job) (byte : ℕ) (line : Line) (turned : Turned) (machine : ℕ) (member now next next_now : Member) (out : SinkView) → Stands job line turned
+    → Found (byte ∷ []) line machine member → RanFrom member now → Taken byte line machine next next_now
+    → Came job turned machine line (passed line machine next_now now) out out (Ok Ran)
+pass-came job byte line turned machine member now next next_now out stands found ran taken =
+    let runs = pass-runs byte line machine member now next next_now found ran taken in
+    let inline = stands.each (suc machine) next taken.there in
+    let there = slice_get_within line.members.items (suc machine) next taken.there in
+    let count = stands.machines in
+    run-came job line (passed line machine next_now now) turned machine member now out out stands runs
+    (λ held.
+    let room = taken.room (goes-on next (place_in job turned (suc machine)) inline.stands held.goes_on) in
+    let full : length next.ring.items ≡ 256 = ap (λ o. length (ring_of o)) (sym taken.there) ∙ held.full in
+    omega (arith, room, full, inline.room))
+    (adds-apart job turned machine out (λ last. omega (arith, last, there, count)))
+
+pub pass-less : (byte : ℕ) (line : Line) (machine : ℕ) (member now next next_now : Member) → Found (byte ∷ []) line machine member
+    → ((left : ℕ) → work line.budget left now < work line.budget left member) → Taken byte line machine next next_now
+    → work_left (passed line machine next_now now) < work_left line
+pass-less byte line machine member now next next_now found less taken =
+    pair-less line.budget (length line.giver) line.members.items machine member now next next_now found.there taken.there less
+    (taken-pays line.budget byte next next_now taken.over taken.kept)
+
+-- the machine that is found again once the byte was handed on
+pub found-again : (byte : ℕ) (line : Line) (machine : ℕ) (next_now found : Member) → IsRunning (byte ∷ []) line machine
+    → found ≡ get_or (slice_set line.members.items (machine + 1) next_now) machine found → Found (byte ∷ []) line machine found
+found-again byte line machine next_now found running read =
+    let items = line.members.items in
+    let there = set-apart items (machine + 1) machine next_now (λ same. omega (arith, same)) ∙ running.there in
+    let same = found-is (slice_set items (machine + 1) next_now) machine found running.member read there in
+    let P : Member → Type 0 = λ m. Found (byte ∷ []) line machine m in
+    subst P (sym same) (record { there = running.there; some = running.vector; writes = running.writes })
+
+-- a machine whose byte has no room is held
+pub held-came : (job : Job) (byte : ℕ) (line : Line) (turned : Turned) (machine : ℕ) (next : Member) (out : SinkView) → Stands job line turned
+    → IsRunning (byte ∷ []) line machine → slice_get line.members.items (suc machine) ≡ Some next → has_ended next ≡ false
+    → next.ring.capacity ≤ length next.ring.items → Came job turned machine line line out out (Ok Held)
+held-came job byte line turned machine next out stands running there goes full =
+    let own = (stands.each machine running.member running.there).stands in
+    let inline = stands.each (suc machine) next there in
+    let within = slice_get_within line.members.items (suc machine) next there in
+    let count = stands.machines in
+    let some = running.vector in
+    let left = own.stands.left in
+    let length_is : length next.ring.items ≡ 256 = omega (arith, full, inline.room, inline.within) in
+    record {
+      cause = record {
+        vector = omega (arith, some, left);
+        writes = λ none. (let e = sym (ap handed_on (sym own.stands.core) ∙ running.writes) ∙ none in cc);
+        there = omega (arith, within, count);
+        goes_on = not-ended next (place_in job turned (suc machine)) inline.stands goes;
+        full = ap (λ o. length (ring_of o)) there ∙ length_is;
+      };
+      follows = (stands, adds-nothing job turned turned out refl);
+    }
+
+-- what was found of the next machine, and that its ring is not full
+pub taken-of : (byte : ℕ) (line : Line) (machine : ℕ) (seen found now : Member) (full : Bool) → machine + 1 < length line.members.items
+    → seen ≡ get_or line.members.items (machine + 1) seen → found ≡ get_or line.members.items (machine + 1) found
+    → (has_ended seen ≡ false → (full ≡ true) ↔ (seen.ring.capacity ≤ length seen.ring.items)) → full ≡ false
+    → (has_ended found ≡ true → now ≡ found)
+    → (has_ended found ≡ false → now ≡ record found { ring = buffer (found.ring.items ++ byte ∷ []) found.ring.capacity })
+    → Taken byte line machine found now
+taken-of byte line machine seen found now full within read again test not_full over kept =
+    let first = read-behind line.members.items machine seen within read in
+    let second = read-behind line.members.items machine found within again in
+    let same : seen ≡ found = cc in
+    let P : Member → Type 0 = λ m. has_ended m ≡ false → (full ≡ true) ↔ (m.ring.capacity ≤ length m.ring.items) in
+    let at = subst P same test in
+    record {
+      there = second;
+      room = λ goes. (let h : (found.ring.capacity ≤ length found.ring.items) → ⊥ = λ past. (let e = (at goes).1 past in cc) in omega (arith, h));
+      over = over;
+      kept = kept;
+    }
+
+pub room-left : (seen found : Member) (full : Bool) → seen ≡ found
+    → (has_ended seen ≡ false → (full ≡ true) ↔ (seen.ring.capacity ≤ length seen.ring.items)) → full ≡ false → has_ended found ≡ false
+    → length found.ring.items < found.ring.capacity
+room-left seen found full same test not_full =
+    let P : Member → Type 0 = λ m. has_ended m ≡ false → length m.ring.items < m.ring.capacity in
+    subst P same (λ goes. (let h : (seen.ring.capacity ≤ length seen.ring.items) → ⊥ = λ past. (let e = (test goes).1 past in cc) in omega (arith, h)))
+
+-- a machine with a full ring is not at its end
+pub full-goes : (member : Member) (full : Bool) → (has_ended member ≡ true → full ≡ false) → full ≡ true → has_ended member ≡ false
+full-goes member full over is = elim (bools (has_ended member)) [
+  | inl ended ↦ absurd (let e = over ended in cc)
+  | inr goes ↦ goes
+]

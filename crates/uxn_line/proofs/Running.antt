@@ -1,0 +1,276 @@
+-- A machine of a line that ran an instruction.
+use Rattle.std.proofs.Common.{◌≡◌, ◌≢◌, ℕ, zero, suc, ◌+◌, ◌-◌, ◌<◌, ◌≤◌, ◌⊎◌, inl, inr, Bool, true, false, List, [], ◌∷◌, ◌++◌, take, length, get_or, refl, sym, ap, subst, ◌∙◌, arith, append-nil}
+use Rattle.std.specs.Prelude.{Some, None, Ok, slice_get}
+use Rattle.std.specs.Vec.{with_item}
+use Rattle.std.proofs.lemmas.List.{length-set}
+use Rattle.std.proofs.lemmas.Option.{get_or_from_slice_get, slice_get_within}
+use Rattle.circular_buffer.specs.Buffer.{Buffer, buffer}
+use Rattle.uxn_io.specs.Outside.{extended-nothing}
+use Rattle.uxn_line.specs.declared.line.Line.{Line}
+use Rattle.uxn_line.specs.declared.line.Moved.TheVariants.{Ran}
+use Rattle.uxn_line.specs.declared.member.Member.{Member}
+use Rattle.uxn_line.specs.Places.{Place, HasEnded, turn}
+use Rattle.uxn_line.specs.Machines.{handed_on}
+use Rattle.uxn_line.specs.Streams.{Job, script_at, stream, gifts_of, after}
+use Rattle.uxn_line.specs.Members.{MemberAt, has_ended, IsRunning}
+use Rattle.uxn_line.specs.Standing.{Turned, one_more, place_in, given_after, Between, RingBefore, InLine, Stands}
+use Rattle.uxn_line.specs.Moves.{last_of, written_in, SinkView, Takes, Adds, IsHeld, Came}
+use Rattle.uxn_line.proofs.Turned.{run-gifts}
+use Rattle.uxn_line.proofs.Working.{bools}
+use Rattle.uxn_line.proofs.Standings.{same-or-not, more-here, more-apart, place-more, place-apart, ended-is, not-ended, goes-on, ring-grows, OneMore, stands-more, set-here, set-apart}
+
+-- the item that was found at a place
+pub found-is : {X : Type 0} (items : List X) (place : ℕ) (found item : X) → found ≡ get_or items place found → slice_get items place ≡ Some item
+    → found ≡ item
+found-is items place found item read there = read ∙ get_or_from_slice_get items place item found there
+
+-- what the running of an instruction does to a machine with its ring
+pub record RanFrom (member now : Member) : Type 0 where
+  pub some : 0 < member.machine.left
+  pub stands : (budget : ℕ) (place : Place) → MemberAt member place → MemberAt now (turn budget place)
+  pub put : (budget : ℕ) (place : Place) → MemberAt member place → (turn budget place).put ≡ place.put ++ handed_on member.machine.core
+  pub kept : has_ended now ≡ false → now.ring ≡ member.ring
+  pub dropped : has_ended now ≡ true → now.ring ≡ buffer [] member.ring.capacity
+
+-- what the handing on of bytes does to the next one
+pub record Handed (bytes : List ℕ) (member now : Member) : Type 0 where
+  pub stands : (place : Place) → MemberAt member place → MemberAt now place
+  pub over : has_ended member ≡ true → now.ring.items ≡ member.ring.items
+  pub kept : has_ended member ≡ false → now.ring.items ≡ member.ring.items ++ bytes
+  pub room : now.ring.capacity ≡ member.ring.capacity
+  pub within : length now.ring.items ≤ 256
+
+pub handed-nothing : (member : Member) → length member.ring.items ≤ 256 → Handed [] member member
+handed-nothing member within = record {
+  stands = λ place at. at;
+  over = λ over. refl;
+  kept = λ goes. sym (append-nil member.ring.items);
+  room = refl;
+  within = within;
+}
+
+-- a ring that is kept or emptied
+module _ (member now : Member) (kept : has_ended now ≡ false → now.ring ≡ member.ring)
+    (dropped : has_ended now ≡ true → now.ring ≡ buffer [] member.ring.capacity) where
+  pub room-stays : now.ring.capacity ≡ member.ring.capacity
+  room-stays = elim (bools (has_ended now)) [
+    | inl over ↦ ap (λ (r : Buffer ℕ). r.capacity) (dropped over)
+    | inr goes ↦ ap (λ (r : Buffer ℕ). r.capacity) (kept goes)
+  ]
+
+  pub within-stays : (most : ℕ) → length member.ring.items ≤ most → length now.ring.items ≤ most
+  within-stays most within =
+      let P : Buffer ℕ → Type 0 = λ r. length r.items ≤ most in
+      elim (bools (has_ended now)) [
+        | inl over ↦ subst P (sym (dropped over)) (omega arith)
+        | inr goes ↦ subst P (sym (kept goes)) within
+      ]
+
+  pub empty-stays : member.ring.items ≡ [] → now.ring.items ≡ []
+  empty-stays none = elim (bools (has_ended now)) [
+    | inl over ↦ ap (λ (r : Buffer ℕ). r.items) (dropped over)
+    | inr goes ↦ ap (λ (r : Buffer ℕ). r.items) (kept goes) ∙ none
+  ]
+
+-- a machine in a vector is not at its end
+pub running-goes : (member : Member) (place : Place) → MemberAt member place → 0 < member.machine.left → HasEnded place → ⊥
+running-goes member place at some ended = let l = at.stands.left in omega (arith, l, some, ended.0)
+
+same-turns : (job : Job) (turned : Turned) (machine other : ℕ) → other ≢ machine → one_more machine turned other ≡ turned other
+same-turns job turned machine other apart = more-apart machine turned other apart
+
+run-ring : (job : Job) (turned : Turned) (machine : ℕ) (member now : Member) → RanFrom member now → InLine job turned machine member
+    → MemberAt now (place_in job (one_more machine turned) machine) → RingBefore job (one_more machine turned) machine now.ring.items
+run-ring job turned zero member now ran inline at = empty-stays member now ran.kept ran.dropped inline.ring
+run-ring job turned (suc before) member now ran inline at =
+    let place = place_in job turned (suc before) in
+    let between : Between job before (turned before) (turned (suc before)) member.ring.items = inline.ring in
+    let here = more-here (suc before) turned in
+    let there = more-apart (suc before) turned before (λ same. omega (arith, same)) in
+    let P : ℕ → Type 0 = λ n. Between job before n (one_more (suc before) turned (suc before)) now.ring.items in
+    let Q : ℕ → Type 0 = λ n. Between job before (turned before) n now.ring.items in
+    let R : ℕ → Type 0 = λ n. MemberAt now (after job (suc before) n) in
+    let at_next : MemberAt now (turn job.budget place) = subst R here at in
+    let total = length (gifts_of (script_at job (suc before))) in
+    let given = ap (λ g. total - length g) (run-gifts job.budget member.machine place ran.some inline.stands.stands) in
+    let grown : Between job before (turned before) (suc (turned (suc before))) now.ring.items = record {
+      dropped = λ ended. ap (λ (r : Buffer ℕ). r.items) (ran.dropped ((ended-is now (turn job.budget place) at_next).1 ended));
+      written = λ goes.
+          between.written (running-goes member place inline.stands ran.some)
+          ∙ ap (λ n. take n (stream job before) ++ member.ring.items) (sym given)
+          ∙ ap (λ (r : Buffer ℕ). take (given_after job (suc before) (suc (turned (suc before)))) (stream job before) ++ r.items)
+          (sym (ran.kept (goes-on now (turn job.budget place) at_next goes)));
+    } in
+    subst P (sym there) (subst Q (sym here) grown)
+
+-- a machine that ran is in line after one more turn
+pub run-own : (job : Job) (turned : Turned) (machine : ℕ) (member now : Member) → RanFrom member now → InLine job turned machine member
+    → InLine job (one_more machine turned) machine now
+run-own job turned machine member now ran inline =
+    let P : Place → Type 0 = λ p. MemberAt now p in
+    let at = subst P (sym (place-more job machine turned)) (ran.stands job.budget (place_in job turned machine) inline.stands) in
+    record {
+      stands = at;
+      ring = run-ring job turned machine member now ran inline at;
+      room = room-stays member now ran.kept ran.dropped ∙ inline.room;
+      within = within-stays member now ran.kept ran.dropped 256 inline.within;
+    }
+
+-- the next one is in line where it was handed the bytes that were written
+pub put-behind : (job : Job) (turned : Turned) (machine : ℕ) (bytes : List ℕ) (next now : Member) → Handed bytes next now
+    → (turn job.budget (place_in job turned machine)).put ≡ (place_in job turned machine).put ++ bytes
+    → InLine job turned (suc machine) next → InLine job (one_more machine turned) (suc machine) now
+put-behind job turned machine bytes next now handed put inline =
+    let here = more-here machine turned in
+    let there = more-apart machine turned (suc machine) (λ same. omega (arith, same)) in
+    let place = place_in job turned (suc machine) in
+    let between : Between job machine (turned machine) (turned (suc machine)) next.ring.items = inline.ring in
+    let P : ℕ → Type 0 = λ n. MemberAt now (after job (suc machine) n) in
+    let Q : ℕ → Type 0 = λ n. Between job machine n (one_more machine turned (suc machine)) now.ring.items in
+    let R : ℕ → Type 0 = λ n. Between job machine (suc (turned machine)) n now.ring.items in
+    record {
+      stands = subst P (sym there) (handed.stands place inline.stands);
+      ring = subst Q (sym here) (subst R (sym there)
+          (ring-grows job machine (turned machine) (suc (turned machine)) (turned (suc machine)) next.ring.items now.ring.items bytes
+          (λ ended. handed.over ((ended-is next place inline.stands).1 ended) ∙ between.dropped ended)
+          (λ goes. handed.kept (goes-on next place inline.stands goes)) put between));
+      room = handed.room ∙ inline.room;
+      within = handed.within;
+    }
+
+-- what a sink takes of nothing
+pub takes-nothing : (out : SinkView) → Takes out out []
+takes-nothing out = record { told = sym (extended-nothing out.told); sure = omega arith }
+
+pub adds-nothing : (job : Job) (turned now : Turned) (out : SinkView) → written_in job now ≡ written_in job turned → Adds job turned now out out
+adds-nothing job turned now out same =
+    record { more = []; written = same ∙ sym (append-nil (written_in job turned)); added = takes-nothing out }
+
+pub adds-apart : (job : Job) (turned : Turned) (machine : ℕ) (out : SinkView) → last_of job ≢ machine → Adds job turned (one_more machine turned) out out
+adds-apart job turned machine out apart =
+    adds-nothing job turned (one_more machine turned) out (ap (λ (p : Place). p.put) (place-apart job machine turned (last_of job) apart))
+
+-- what is put where a machine wrote these bytes more
+pub adds-here : (job : Job) (turned : Turned) (machine : ℕ) (bytes : List ℕ) (out now : SinkView) → last_of job ≡ machine
+    → (turn job.budget (place_in job turned machine)).put ≡ (place_in job turned machine).put ++ bytes → Takes out now bytes
+    → Adds job turned (one_more machine turned) out now
+adds-here job turned machine bytes out now last put takes =
+    let P : ℕ → Type 0 = λ m. (place_in job (one_more machine turned) m).put ≡ (place_in job turned m).put ++ bytes in
+    record {
+      more = bytes;
+      written = subst P (sym last) (ap (λ (p : Place). p.put) (place-more job machine turned) ∙ put);
+      added = takes;
+    }
+
+pub adds-none : (job : Job) (turned : Turned) (machine : ℕ) (out : SinkView)
+    → (turn job.budget (place_in job turned machine)).put ≡ (place_in job turned machine).put → Adds job turned (one_more machine turned) out out
+adds-none job turned machine out same = elim (same-or-not (last_of job) machine) [
+  | inl last ↦ adds-here job turned machine [] out out last (same ∙ sym (append-nil _)) (takes-nothing out)
+  | inr apart ↦ adds-apart job turned machine out apart
+]
+
+-- a line in which a machine ran
+pub record RunsIn (line line_now : Line) (machine : ℕ) (member now : Member) : Type 0 where
+  pub at : slice_get line.members.items machine ≡ Some member
+  pub here : slice_get line_now.members.items machine ≡ Some now
+  pub apart : (other : ℕ) → other ≢ machine → other ≢ suc machine → slice_get line_now.members.items other ≡ slice_get line.members.items other
+  pub behind : (next : Member) → slice_get line_now.members.items (suc machine) ≡ Some next
+      → (was : Member) × (slice_get line.members.items (suc machine) ≡ Some was)
+      × (length was.ring.items ≤ 256 → was.ring.capacity ≡ 256 → Handed (handed_on member.machine.core) was next)
+  pub count : length line_now.members.items ≡ length line.members.items
+  pub budget : line_now.budget ≡ line.budget
+  pub script : line_now.giver ≡ line.giver
+  pub ran : RanFrom member now
+
+pub run-puts : (job : Job) (line line_now : Line) (turned : Turned) (machine : ℕ) (member now : Member) → Stands job line turned
+    → RunsIn line line_now machine member now
+    → (turn job.budget (place_in job turned machine)).put ≡ (place_in job turned machine).put ++ handed_on member.machine.core
+run-puts job line line_now turned machine member now stands runs =
+    runs.ran.put job.budget (place_in job turned machine) (stands.each machine member runs.at).stands
+
+run-script : (job : Job) (line : Line) (turned : Turned) (machine : ℕ) (member : Member) → Stands job line turned
+    → MemberAt member (place_in job turned machine) → 0 < member.machine.left → line.giver ≡ (place_in job (one_more machine turned) 0).gifts
+run-script job line turned machine member stands at some = elim (same-or-not 0 machine) [
+  | inl first ↦
+      let P : ℕ → Type 0 = λ m. (place_in job (one_more machine turned) m).gifts ≡ (place_in job turned m).gifts in
+      stands.script ∙ sym (subst P (sym first) (ap (λ (p : Place). p.gifts) (place-more job machine turned)
+      ∙ run-gifts job.budget member.machine (place_in job turned machine) some at.stands))
+  | inr apart ↦ stands.script ∙ ap (λ (p : Place). p.gifts) (sym (place-apart job machine turned 0 apart))
+]
+
+pub run-stands : (job : Job) (line line_now : Line) (turned : Turned) (machine : ℕ) (member now : Member) → Stands job line turned
+    → RunsIn line line_now machine member now → Stands job line_now (one_more machine turned)
+run-stands job line line_now turned machine member now stands runs =
+    let inline = stands.each machine member runs.at in
+    stands-more job turned machine line line_now stands (record {
+      member = now;
+      here = runs.here;
+      own = run-own job turned machine member now runs.ran inline;
+      behind = λ next at_next.
+          let was = runs.behind next at_next in
+          let in_line = stands.each (suc machine) was.0 was.1 in
+          put-behind job turned machine (handed_on member.machine.core) was.0 next (was.2 in_line.within in_line.room)
+          (run-puts job line line_now turned machine member now stands runs) in_line;
+      apart = runs.apart;
+      count = runs.count;
+      budget = runs.budget;
+      script = runs.script ∙ run-script job line turned machine member stands inline.stands runs.ran.some;
+    })
+
+-- a turn of it is a run, where it is not held
+pub run-came : (job : Job) (line line_now : Line) (turned : Turned) (machine : ℕ) (member now : Member) (out out_now : SinkView) → Stands job line turned
+    → RunsIn line line_now machine member now → (IsHeld job line turned machine → ⊥) → Adds job turned (one_more machine turned) out out_now
+    → Came job turned machine line line_now out out_now (Ok Ran)
+run-came job line line_now turned machine member now out out_now stands runs free adds =
+    let left = (stands.each machine member runs.at).stands.stands.left in
+    record {
+      cause = record { vector = omega (arith, left, runs.ran.some); free = free };
+      follows = (run-stands job line line_now turned machine member now stands runs, adds);
+    }
+
+-- a line with another member at a place
+abbrev pub with_member : Line → ℕ → Member → Line
+with_member line machine now = record line { members = with_item line.members machine now }
+
+-- the member that was found where a machine runs
+pub record Found (bytes : List ℕ) (line : Line) (machine : ℕ) (found : Member) : Type 0 where
+  pub there : slice_get line.members.items machine ≡ Some found
+  pub some : 0 < found.machine.left
+  pub writes : handed_on found.machine.core ≡ bytes
+
+pub found-running : (bytes : List ℕ) (line : Line) (machine : ℕ) (found : Member) → IsRunning bytes line machine
+    → found ≡ get_or line.members.items machine found → Found bytes line machine found
+found-running bytes line machine found running read =
+    let same = found-is line.members.items machine found running.member read running.there in
+    let P : Member → Type 0 = λ m. Found bytes line machine m in
+    subst P (sym same) (record { there = running.there; some = running.vector; writes = running.writes })
+
+-- a machine that writes nothing ran
+pub quiet-runs : (line : Line) (machine : ℕ) (member now : Member) → Found [] line machine member → RanFrom member now
+    → RunsIn line (with_member line machine now) machine member now
+quiet-runs line machine member now found ran =
+    let items = line.members.items in
+    record {
+      at = found.there;
+      here = set-here items machine now (slice_get_within items machine member found.there);
+      apart = λ other apart further. set-apart items machine other now apart;
+      behind = λ next at_next. (
+        next,
+        sym (set-apart items machine (suc machine) now (λ same. omega (arith, same))) ∙ at_next,
+        λ full room. (let Q : List ℕ → Type 0 = λ bytes. Handed bytes next next in subst Q (sym found.writes) (handed-nothing next full)),
+      );
+      count = length-set items machine now;
+      budget = refl;
+      script = refl;
+      ran = ran;
+    }
+
+pub quiet-came : (job : Job) (line : Line) (turned : Turned) (machine : ℕ) (member now : Member) (out : SinkView) → Stands job line turned
+    → Found [] line machine member → RanFrom member now → Came job turned machine line (with_member line machine now) out out (Ok Ran)
+quiet-came job line turned machine member now out stands found ran =
+    let runs = quiet-runs line machine member now found ran in
+    let puts = run-puts job line (with_member line machine now) turned machine member now stands runs in
+    let core = (stands.each machine member found.there).stands.stands.core in
+    run-came job line (with_member line machine now) turned machine member now out out stands runs
+    (λ held. held.writes (ap handed_on (sym core) ∙ found.writes))
+    (adds-none job turned machine out (puts ∙ ap (λ bytes. (place_in job turned machine).put ++ bytes) found.writes ∙ append-nil _))

@@ -1,0 +1,165 @@
+-- A line in which one machine had a turn more stands for one more of it.
+use Rattle.std.proofs.Common.{◌≡◌, ◌≢◌, ℕ, zero, suc, ◌+◌, ◌-◌, ◌==◌, ◌<◌, ◌≤◌, ◌&&◌, ◌||◌, ◌↔◌, ◌⊎◌, inl, inr, Bool, true, false, cond, List, [], ◌∷◌, ◌++◌, take, length, refl, sym, ap, subst, ◌∙◌, arith, append_assoc, append-nil}
+use Rattle.std.specs.Prelude.{Some, None, slice_get, slice_set}
+use Rattle.std.proofs.lemmas.Bool.Decides.{nat_tests}
+use Rattle.circular_buffer.specs.Buffer.{Buffer, buffer}
+use Rattle.vector_loop.specs.State.{is_over}
+use Rattle.uxn_line.specs.declared.line.Line.{Line}
+use Rattle.uxn_line.specs.declared.member.Member.{Member}
+use Rattle.uxn_line.specs.Places.{Place, HasEnded, turn}
+use Rattle.uxn_line.specs.Machines.{handed_on}
+use Rattle.uxn_line.specs.Streams.{Job, IsJob, script_at, stream, gifts_of, after}
+use Rattle.uxn_line.specs.Members.{MemberAt, has_ended}
+use Rattle.uxn_line.specs.Standing.{Turned, one_more, place_in, given_after, Between, RingBefore, InLine, Stands}
+use Rattle.uxn_line.proofs.Working.{bools}
+
+-- numbers that are equal or not
+pub same-or-not : (m n : ℕ) → (m ≡ n) ⊎ (m ≢ n)
+same-or-not m n = elim (bools (m == n)) [
+  | inl same ↦ inl (grind (arith, nat_tests, same))
+  | inr apart ↦ inr (λ same. grind (arith, nat_tests, apart, same))
+]
+
+-- what stands at a place of a list in which one item was set
+pub set-here : {X : Type 0} (xs : List X) (place : ℕ) (x : X) → place < length xs → slice_get (slice_set xs place x) place ≡ Some x
+set-here [] place x within = absurd (omega (arith, within))
+set-here (first ∷ xs) zero x within = refl
+set-here (first ∷ xs) (suc place) x within = set-here xs place x (omega (arith, within))
+
+pub set-apart : {X : Type 0} (xs : List X) (place other : ℕ) (x : X) → other ≢ place → slice_get (slice_set xs place x) other ≡ slice_get xs other
+set-apart [] place other x apart = refl
+set-apart (first ∷ xs) zero zero x apart = absurd (apart refl)
+set-apart (first ∷ xs) zero (suc other) x apart = refl
+set-apart (first ∷ xs) (suc place) zero x apart = refl
+set-apart (first ∷ xs) (suc place) (suc other) x apart = set-apart xs place other x (λ same. apart (ap suc same))
+
+-- one more turn
+pub more-here : (machine : ℕ) (turned : Turned) → one_more machine turned machine ≡ suc (turned machine)
+more-here machine turned =
+    let same : (machine == machine) ≡ true = grind (arith, nat_tests) in ap (λ b. cond b (suc (turned machine)) (turned machine)) same
+
+pub more-apart : (machine : ℕ) (turned : Turned) (other : ℕ) → other ≢ machine → one_more machine turned other ≡ turned other
+more-apart machine turned other apart =
+    let test : (other == machine) ≡ false = grind (arith, nat_tests, apart) in ap (λ b. cond b (suc (turned other)) (turned other)) test
+
+pub place-more : (job : Job) (machine : ℕ) (turned : Turned) → place_in job (one_more machine turned) machine ≡ turn job.budget (place_in job turned machine)
+place-more job machine turned = ap (after job machine) (more-here machine turned)
+
+pub place-apart : (job : Job) (machine : ℕ) (turned : Turned) (other : ℕ) → other ≢ machine
+    → place_in job (one_more machine turned) other ≡ place_in job turned other
+place-apart job machine turned other apart = ap (after job other) (more-apart machine turned other apart)
+
+-- a machine is known to be at its end
+either : (stopped given : Bool) → (stopped || given) ≡ true → (stopped ≡ true) ⊎ (given ≡ true)
+either true given is = inl refl
+either false given is = inr is
+
+pub ended-is : (member : Member) (now : Place) → MemberAt member now → (has_ended member ≡ true) ↔ HasEnded now
+ended-is member now at = (
+  λ ended.
+      let idle : member.machine.left ≡ 0 = elim (bools (member.machine.left == 0)) [
+        | inl none ↦ grind (arith, nat_tests, none)
+        | inr some ↦ absurd (let e = sym ended ∙ ap (λ b. b && (member.stopped || member.all_given)) some in cc)
+      ] in
+      let left = sym at.stands.left ∙ idle in
+      let none : (member.machine.left == 0) ≡ true = grind (arith, nat_tests, idle) in
+      let both : (member.stopped || member.all_given) ≡ true = ap (λ b. b && (member.stopped || member.all_given)) (sym none) ∙ ended in (
+        left,
+        elim (either member.stopped member.all_given both) [
+          | inl stopped ↦ inl (sym (at.stopped left) ∙ stopped)
+          | inr given ↦ inr (at.given.0 given)
+        ],
+      ),
+  λ over.
+      let idle = at.stands.left ∙ over.0 in
+      let none : (member.machine.left == 0) ≡ true = grind (arith, nat_tests, idle) in
+      ap (λ b. b && (member.stopped || member.all_given)) none
+      ∙ elim over.1 [
+        | inl stopped ↦ ap (λ b. b || member.all_given) (at.stopped over.0 ∙ stopped)
+        | inr given ↦ or-true member.stopped member.all_given (at.given.1 given)
+      ],
+)
+  where
+    or-true : (a b : Bool) → b ≡ true → (a || b) ≡ true
+    or-true true b is = refl
+    or-true false b is = is
+
+pub not-ended : (member : Member) (now : Place) → MemberAt member now → has_ended member ≡ false → HasEnded now → ⊥
+not-ended member now at goes ended = let e = (ended-is member now at).1 ended in cc
+
+pub goes-on : (member : Member) (now : Place) → MemberAt member now → (HasEnded now → ⊥) → has_ended member ≡ false
+goes-on member now at goes = elim (bools (has_ended member)) [
+  | inl ended ↦ absurd (goes ((ended-is member now at).0 ended))
+  | inr is ↦ is
+]
+
+-- a machine whose turns, and those of the one before it, are the same is in line as before
+pub in-line-same : (job : Job) (turned now : Turned) (machine : ℕ) (member : Member) → now machine ≡ turned machine
+    → ((before : ℕ) → machine ≡ suc before → now before ≡ turned before) → InLine job turned machine member → InLine job now machine member
+in-line-same job turned now zero member same before inline =
+    let P : ℕ → Type 0 = λ n. MemberAt member (after job zero n) in
+    record { stands = subst P (sym same) inline.stands; ring = inline.ring; room = inline.room; within = inline.within }
+in-line-same job turned now (suc machine) member same before inline =
+    let P : ℕ → Type 0 = λ n. MemberAt member (after job (suc machine) n) in
+    let Q : ℕ → Type 0 = λ n. Between job machine n (turned (suc machine)) member.ring.items in
+    let R : ℕ → Type 0 = λ n. Between job machine (now machine) n member.ring.items in
+    record {
+      stands = subst P (sym same) inline.stands;
+      ring = subst R (sym same) (subst Q (sym (before machine refl)) inline.ring);
+      room = inline.room;
+      within = inline.within;
+    }
+
+-- the ring behind a machine that wrote so many bytes more, which the next one keeps or drops
+pub ring-grows : (job : Job) (machine count count_now next : ℕ) (ring ring_now bytes : List ℕ)
+    → (HasEnded (after job (suc machine) next) → ring_now ≡ []) → ((HasEnded (after job (suc machine) next) → ⊥) → ring_now ≡ ring ++ bytes)
+    → (after job machine count_now).put ≡ (after job machine count).put ++ bytes
+    → Between job machine count next ring → Between job machine count_now next ring_now
+ring-grows job machine count count_now next ring ring_now bytes drops keeps put between = record {
+  dropped = drops;
+  written = λ goes.
+      let given = take (given_after job (suc machine) next) (stream job machine) in
+      put ∙ ap (λ all. all ++ bytes) (between.written goes) ∙ append_assoc given ring bytes ∙ ap (λ r. given ++ r) (sym (keeps goes));
+}
+
+-- all machines of a line where one had a turn more
+pub record OneMore (job : Job) (turned : Turned) (machine : ℕ) (line line_now : Line) : Type 0 where
+  pub member : Member
+  pub here : slice_get line_now.members.items machine ≡ Some member
+  pub own : InLine job (one_more machine turned) machine member
+  pub behind : (next : Member) → slice_get line_now.members.items (suc machine) ≡ Some next → InLine job (one_more machine turned) (suc machine) next
+  pub apart : (other : ℕ) → other ≢ machine → other ≢ suc machine → slice_get line_now.members.items other ≡ slice_get line.members.items other
+  pub count : length line_now.members.items ≡ length line.members.items
+  pub budget : line_now.budget ≡ line.budget
+  pub script : line_now.giver ≡ (place_in job (one_more machine turned) 0).gifts
+
+pub stands-more : (job : Job) (turned : Turned) (machine : ℕ) (line line_now : Line) → Stands job line turned
+    → OneMore job turned machine line line_now → Stands job line_now (one_more machine turned)
+stands-more job turned machine line line_now stands more =
+    let now = one_more machine turned in
+    record {
+      job_is = stands.job_is;
+      some = stands.some;
+      machines = more.count ∙ stands.machines;
+      budget = more.budget ∙ stands.budget;
+      script = more.script;
+      each = λ other member at.
+          elim (same-or-not other machine) [
+            | inl same ↦
+                let P : ℕ → Type 0 = λ m. InLine job now m member in
+                let here = sym more.here ∙ ap (λ m. slice_get line_now.members.items m) (sym same) ∙ at in
+                let is : more.member ≡ member = cc in
+                let Q : Member → Type 0 = λ m. InLine job now machine m in
+                subst P (sym same) (subst Q is more.own)
+            | inr apart ↦
+                elim (same-or-not other (suc machine)) [
+                  | inl next ↦
+                      let P : ℕ → Type 0 = λ m. InLine job now m member in
+                      subst P (sym next) (more.behind member (ap (λ m. slice_get line_now.members.items m) (sym next) ∙ at))
+                  | inr further ↦
+                      in-line-same job turned now other member (more-apart machine turned other apart)
+                      (λ before is. more-apart machine turned before (λ same. further (is ∙ ap suc same)))
+                      (stands.each other member (sym (more.apart other apart further) ∙ at))
+                ]
+          ];
+    }

@@ -1,0 +1,54 @@
+use Rattle.std.proofs.Common.{◌≡◌, ◌<◌, ◌∷◌, [], length, refl, sym, ap, ◌∙◌, arith}
+use Rattle.std.specs.Prelude.{Some, slice_get, option_to_list}
+use Rattle.std.proofs.lemmas.Option.{slice_get_read}
+use Rattle.uxn_line.specs.Standing.{place_in}
+use Rattle.uxn_line.proofs.Standings.{ended-is}
+use Rattle.uxn_line.proofs.Running.{adds-nothing}
+use Rattle.uxn_line.proofs.line.Line.turn_at.Goals as goal
+
+pub returns-then-is_over-clause-came : goal.returns-then-is_over-clause-came
+returns-then-is_over-clause-came g c job turned stands =
+    let items = c.args.self.now.members.items in
+    let member = c.index-member.result.now in
+    let there = slice_get_read items (length items) c.args.index member refl c.requires c.index-member.ensures in
+    let at = (stands.each c.args.index member there).stands in
+    record {
+      cause = (ended-is member (place_in job turned c.args.index) at).0 (sym c.is_over.ensures.value ∙ c.if-is_over.true);
+      follows = (stands, adds-nothing job turned turned _ refl);
+    }
+
+pub give_at-requires : goal.give_at-requires
+give_at-requires g c =
+    let items = c.args.self.now.members.items in
+    record {
+      member = c.index-member.result.now;
+      there = slice_get_read items (length items) c.args.index c.index-member.result.now refl c.requires c.index-member.ensures;
+      idle = c.if-member-eq0.true;
+      goes_on = sym c.is_over.ensures.value ∙ c.if-is_over.false;
+    }
+
+pub returns-then-member-eq0-clause-came : goal.returns-then-member-eq0-clause-came
+returns-then-member-eq0-clause-came g c job turned stands = c.give_at.ensures.came job turned _ stands
+
+pub run_at-requires : goal.run_at-requires
+run_at-requires g c =
+    let items = c.args.self.now.members.items in
+    record {
+      member = c.index-member.result.now;
+      there = slice_get_read items (length items) c.args.index c.index-member.result.now refl c.requires c.index-member.ensures;
+      vector = omega (arith, c.if-member-eq0.false);
+      writes = sym c.next_byte.ensures ∙ ap option_to_list c.in-None.is;
+    }
+
+pub write_at-requires : goal.write_at-requires
+write_at-requires g c =
+    let items = c.args.self.now.members.items in
+    record {
+      member = c.index-member.result.now;
+      there = slice_get_read items (length items) c.args.index c.index-member.result.now refl c.requires c.index-member.ensures;
+      vector = omega (arith, c.if-member-eq0.false);
+      writes = sym c.next_byte.ensures ∙ ap option_to_list c.in-Some.is;
+    }
+
+pub returns-in-None-clause-came : goal.returns-in-None-clause-came
+returns-in-None-clause-came g c job turned stands = c.run_at.ensures.came job turned _ stands
