@@ -3,7 +3,7 @@ _uxn() {
     local run='--rom --script --root --frames --samples --report --budget' word=${COMP_WORDS[COMP_CWORD]} words
     COMPREPLY=()
     if [[ $COMP_CWORD -eq 1 ]]; then
-        mapfile -t COMPREPLY < <(compgen -W 'play debug asm dis gen' -- "$word")
+        mapfile -t COMPREPLY < <(compgen -W 'play debug asm dis gen line' -- "$word")
         return
     fi
     case ${COMP_WORDS[COMP_CWORD - 1]} in
@@ -18,6 +18,7 @@ _uxn() {
     debug) words="--commands --log --symbols $run" ;;
     asm) words='--out --symbols --listing' ;;
     dis) words='--symbols' ;;
+    line) words= ;;
     *) return ;;
     esac
     if [[ $word == -* ]]; then

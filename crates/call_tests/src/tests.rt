@@ -222,8 +222,14 @@ const CALL: Call = Call {
     after: &[],
 };
 
+/// A setup, whose first line is a comment, and the source of its two machines, which has a macro for each word of the other lines.
+const JOINED: Files = &[(
+    "a.tal",
+    Some(b"#00 %machine { } %a.tal { LIT 41 #18 DEO }\nmachine a.tal\nmachine a.tal\n"),
+)];
+
 /// Calls in which the tree or an output fails.
-static CALLS: [Call; 25] = [
+static CALLS: [Call; 27] = [
     // The outputs.
     Call {
         puts: Puts { out: &[0], ..ALL },
@@ -292,6 +298,21 @@ static CALLS: [Call; 25] = [
         ],
         status: 0,
         out: b"source 95\nrom 30\ninstructions 253\nvectors 61\ncuts 0\nframes 60\nconsole 0100\nexit 0\n",
+        ..CALL
+    },
+    // Machines in a line: each of the two puts a byte at its start, and the second one the first one's again.
+    Call {
+        words: &["line", "a.tal"],
+        before: JOINED,
+        puts: Puts { out: &[1], ..ALL },
+        status: 137,
+        out: b"A",
+        ..CALL
+    },
+    Call {
+        words: &["line", "a.tal"],
+        before: JOINED,
+        fails: &[(TreeCall::Read, 3)],
         ..CALL
     },
     // Pictures.

@@ -20,7 +20,7 @@ use Rattle.uxn_words.specs.Places.{root_by, HasApartOutputs}
 use Rattle.uxn_cli.specs.Verdict.{and_then, View, Work, Write, source_in, texts_of, inputs_by, outputs_by, outputs_of, clashes, blocked_seen, made_by, judged}
 use Rattle.uxn_cli.specs.Answer.{IsViewOf, Judges, HasEnded, IsRefused, HasCut}
 use Rattle.uxn_cli.proofs.ChangeLemmas.{written-changes, written-cut}
-use Rattle.uxn_cli.proofs.VerdictLemmas.{unread_script, unread_commands, unseen_part, unseen_parent}
+use Rattle.uxn_cli.proofs.VerdictLemmas.{unread_script, unread_commands, unseen_part, unseen_parent, unread_named}
 use Rattle.uxn_cli.specs.Causes.{verdict_on}
 use Rattle.uxn_cli.specs.Room.{Takes, TakesFor, TreeSuffices}
 use Rattle.uxn_cli.proofs.ApartLemmas.{makes_all, fills_all}
@@ -36,13 +36,14 @@ asm_view tree task file blocked = record {
   commands = (unread_commands tree task).0;
   part = (unseen_part tree task).0;
   parent = (unseen_parent tree task).0;
+  named = (unread_named tree task).0;
   blocked = blocked;
 }
 
 pub sees_asm : (tree : Option Nodes) (task : Task) (file : FileBytes) (blocked : Option (List ℕ)) → task.command ≡ Assemble
     → IfSome tree (λ nodes. file ≡ whole_file (file_at nodes task.file) 4194304) → IfSome tree (λ nodes. blocked ≡ blocked_seen nodes task) → IsViewOf tree task (asm_view tree task file blocked)
-sees_asm None task file blocked asm found looked = record { file = tt; symbols = tt; script = tt; commands = tt; part = tt; parent = tt; blocked = tt }
-sees_asm (Some nodes) task file blocked asm found looked = record { file = rw asm found; symbols = rw asm refl; script = refl; commands = refl; part = refl; parent = refl; blocked = looked }
+sees_asm None task file blocked asm found looked = record { file = tt; symbols = tt; script = tt; commands = tt; part = tt; parent = tt; named = tt; blocked = tt }
+sees_asm (Some nodes) task file blocked asm found looked = record { file = rw asm found; symbols = rw asm refl; script = refl; commands = refl; part = refl; parent = refl; named = refl; blocked = looked }
 
 then_made : (said : Result (List ℕ) Rattle.uxn_cli.specs.declared.refusal.Refusal.Refusal) (work : List ℕ → Work) (blocked : Option (List ℕ))
     → and_then (and_then said (λ source. Ok (work source))) (made_by blocked) ≡ and_then said (λ source. made_by blocked (work source))

@@ -1,5 +1,6 @@
-use Rattle.std.proofs.Common.{◌≡◌, ℕ, ◌≤◌, ◌⊎◌, Bool, true, false, List, [], codes, refl, ap, sym, ◌∙◌, inl, inr, subst, arith}
+use Rattle.std.proofs.Common.{◌≡◌, ℕ, ◌≤◌, ◌⊎◌, Bool, true, false, cond, List, [], ◌∷◌, codes, refl, ap, sym, ◌∙◌, inl, inr, subst, arith}
 use Rattle.std.specs.Prelude.{Option, Some, None, Result, Ok, Err, IfSome}
+use Rattle.std.specs.List.{list_all}
 use Rattle.tal_rom.specs.Assembly.{first_fault, rom_of}
 use Rattle.uxn_io.specs.declared.trees.FileBytes.{FileBytes}
 use Rattle.uxn_io.specs.declared.trees.FileBytes.TheVariants.{Found, Missing as NoFile, TooLong}
@@ -7,10 +8,10 @@ use Rattle.uxn_io.specs.ByteList.{ByteList}
 use Rattle.uxn_io.specs.Files.{Nodes}
 use Rattle.uxn_opcodes.specs.declared.Stop.TheVariants.{TreeFault, SinkFault, NoMemory}
 use Rattle.uxn_words.specs.declared.words.Command.{Command}
-use Rattle.uxn_words.specs.declared.words.Command.TheVariants.{Play, Debug, Assemble, Disassemble, Generate}
+use Rattle.uxn_words.specs.declared.words.Command.TheVariants.{Play, Debug, Assemble, Disassemble, Generate, Line}
 use Rattle.uxn_words.specs.declared.task.Task.{Task}
 use Rattle.uxn_cli.specs.declared.refusal.Refusal.{Refusal}
-use Rattle.uxn_cli.specs.declared.refusal.Refusal.TheVariants.{NotUnderstood, NoPath, NoOutput, Missing, Faulty, LongRom, BadSymbols, BadScript, BadCommands}
+use Rattle.uxn_cli.specs.declared.refusal.Refusal.TheVariants.{NotUnderstood, NoPath, NoOutput, Missing, Faulty, LongRom, BadSymbols, BadScript, BadCommands, BadSetup, OtherEvents}
 use Rattle.uxn_io.specs.Faults.{Counts, Rose, Ledger, TreeRose, OutRose, ErrRose, TheTree, ASink}
 use Rattle.uxn_opcodes.specs.declared.Stop.{Stop}
 use Rattle.uxn_cli.specs.Blame.{blame_of, blame_at, early_status}
@@ -27,10 +28,15 @@ use Rattle.uxn_debugger.specs.Reading.{commands_of_text}
 use Rattle.system_port.specs.DebugText.{exit_code_of}
 use Rattle.varvara_bus.specs.History.{stored}
 use Rattle.uxn_cli.specs.Job.{Job, trail_of}
-use Rattle.uxn_cli.specs.Verdict.{and_then, View, Work, Run, Write, Print, view_of, source_by, source_in, rom_in, labels_by, labels_at, labels_in, given_in, debug_labels, commands_from, commands_in, script_from, script_in, home_by, job_of, program_in, texts_of, summary_in, work_of, made_by, judged, verdict}
+use Rattle.uxn_cli.specs.Verdict.{and_then, View, Work, Run, Write, Print, RunLine, roms_in, line_in, view_of, source_by, source_in, rom_in, labels_by, labels_at, labels_in, given_in, debug_labels, commands_from, commands_in, script_from, script_in, home_by, job_of, program_in, texts_of, summary_in, work_of, made_by, judged, verdict}
+use Rattle.uxn_line.specs.declared.setup.SetupKind.{SetupKind}
+use Rattle.uxn_line.specs.Setups.{SetupView, setup_of}
+use Rattle.uxn_line.specs.Streams.{run_at}
+use Rattle.uxn_cli.specs.Setup.{NamedFiles, setup_from, setup_in, is_of_console, console_script}
+use Rattle.uxn_line.specs.Moves.{last_of}
 use Rattle.uxn_cli.specs.Outcome.{outcome_of}
 use Rattle.uxn_cli.specs.Answer.{IsUntold, IsViewOf, Judges, HasOutcome, HasEnded, EndsEarly, IsCut, MayStop, Answers}
-use Rattle.uxn_cli.specs.Causes.{IsEarly, IsExactly, verdict_on, IsIllegal, IsPathless, IsMissing, IsFaulty, IsUnfit, IsBadScript, IsBadCommands, IsBlocked, EndsWith, PutsLine}
+use Rattle.uxn_cli.specs.Causes.{IsEarly, IsExactly, verdict_on, IsIllegal, IsPathless, IsMissing, IsFaulty, IsUnfit, IsBadScript, IsBadCommands, IsBlocked, IsBadSetup, IsRefusing, EndsWith, PutsLine}
 use Rattle.tal_symbols.specs.Reading.{symbols_in}
 use Rattle.tal_listing.specs.Disassembly.{disassembly}
 
@@ -49,12 +55,35 @@ is_code : (work : Work) → status_by (Ok work) ≤ 127
 is_code (Run job) = code-small (exit_state job)
 is_code (Write texts) = omega arith
 is_code (Print text) = omega arith
+is_code (RunLine job) = code-small (stored (run_at job (last_of job)).last.devices.history 0x0f)
 
 -- an outcome is no early end
-pub is_small : (v : Result Work Refusal) → status_by v ≤ 135
-is_small (Ok work) = omega (arith, is_code work)
-is_small (Err NotUnderstood) = omega arith
-is_small _ = omega arith
+abbrev IsUsual : ℕ → Type 0
+IsUsual status = (status ≤ 135) ⊎ (status ≡ 139)
+
+is_usual : (v : Result Work Refusal) → IsUsual (status_by v)
+is_usual (Ok work) = inl (omega (arith, is_code work))
+is_usual (Err NotUnderstood) = inl (omega arith)
+is_usual (Err (BadSetup number kind)) = inr refl
+is_usual (Err OtherEvents) = inr refl
+is_usual _ = inl (omega arith)
+
+late : (status : ℕ) → IsUsual status → IsEarly status → ⊥
+late status (inl small) (inl e) = omega (arith, small, e)
+late status (inl small) (inr (inl e)) = omega (arith, small, e)
+late status (inl small) (inr (inr e)) = omega (arith, small, e)
+late status (inr is) (inl e) = omega (arith, is, e)
+late status (inr is) (inr (inl e)) = omega (arith, is, e)
+late status (inr is) (inr (inr e)) = omega (arith, is, e)
+
+-- nor is the status of a refusal
+refusing_large : (status : ℕ) → IsRefusing status → 128 ≤ status
+refusing_large status (inl among) = among.0
+refusing_large status (inr is) = omega (arith, is)
+
+refusing_late : (status : ℕ) → IsRefusing status → IsEarly status → ⊥
+refusing_late status (inl among) = late status (inl among.1)
+refusing_late status (inr is) = late status (inr is)
 
 -- which verdict has a status
 only_missing : (v : Result Work Refusal) → status_by v ≡ 130 → IsMissing v
@@ -99,6 +128,16 @@ only_script : (v : Result Work Refusal) → status_by v ≡ 132 → IsBadScript 
 only_script (Err (BadScript number kind)) e = (number, kind, refl)
 only_script (Ok work) e = absurd (omega (arith, is_code work))
 only_script _ e = absurd (omega arith)
+
+only_setup : (v : Result Work Refusal) → status_by v ≡ 139 → IsBadSetup v
+only_setup (Err (BadSetup number kind)) e = inl (number, kind, refl)
+only_setup (Err OtherEvents) e = inr refl
+only_setup (Ok work) e = absurd (omega (arith, is_code work))
+only_setup _ e = absurd (omega arith)
+
+is_refused_setup : (v : Result Work Refusal) → IsBadSetup v → status_by v ≡ 139
+is_refused_setup v (inl p) = ap status_by p.2
+is_refused_setup v (inr p) = ap status_by p
 
 only_illegal : (r : Refusal) → status_of r ≡ 128 → r ≡ NotUnderstood
 only_illegal NotUnderstood e = refl
@@ -175,6 +214,28 @@ summary-later count =
     then-later (source_by (source_of count) (first_fault (source_of count))) _ (judged-source (source_of count) (first_fault (source_of count)))
     (λ source. then-later (script_from (script_of (codes "frame 60"))) _ (from-later (script_of (codes "frame 60"))) (λ script. tt))
 
+setup-later : (path : List ℕ) (file : FileBytes) → IsLater (setup_in path file)
+setup-later path NoFile = omega arith
+setup-later path (TooLong length) = omega arith
+setup-later path (Found text) = elim (setup_of text.list) as (λ s. IsLater (setup_from s)) [ Ok setup ↦ tt | Err fault ↦ (let le : 130 ≤ 139 = omega arith in le) ]
+
+roms-later : (paths : List (List ℕ)) (files : List FileBytes) → IsLater (roms_in paths files)
+roms-later [] files = tt
+roms-later (path ∷ paths) [] = omega arith
+roms-later (path ∷ paths) (file ∷ files) =
+    then-later (program_in false path file) _ (program-later false path file)
+    (λ rom. then-later (roms_in paths files) (λ roms. Ok (rom ∷ roms)) (roms-later paths files) (λ roms. tt))
+
+console-later : (script : ScriptView) → IsLater (console_script script)
+console-later script =
+    elim (list_all is_of_console script.events) as (λ b. IsLater (cond b (Ok script) (Err OtherEvents))) [ true ↦ tt | false ↦ (let le : 130 ≤ 139 = omega arith in le) ]
+
+line-later : (setup : SetupView) (named : NamedFiles) → IsLater (line_in setup named)
+line-later setup named =
+    then-later (roms_in setup.sources named.sources) _ (roms-later setup.sources named.sources)
+    (λ roms. then-later (script_in setup.script named.script) _ (script-later setup.script named.script)
+    (λ script. then-later (console_script script) _ (console-later script) (λ given. tt)))
+
 work-later : (command : Command) (task : Task) (view : View) → IsLater (work_of command task view)
 work-later Play task view =
     then-later (program_in task.rom task.file view.file) (λ rom. and_then (script_in task.script view.script) (λ script. Ok (Run (job_of task (home_by task.root view.part view.parent) rom script None))))
@@ -192,6 +253,9 @@ work-later Disassemble task view =
     (rom-later task.file view.file)
     (λ rom. then-later (labels_in task.symbols view.symbols) (λ labels. Ok (Print (disassembly rom labels))) (labels-later task.symbols view.symbols) (λ labels. tt))
 work-later Generate task view = then-later (summary_in task.count) (λ text. Ok (Print text)) (summary-later task.count) (λ text. tt)
+work-later Line task view =
+    then-later (setup_in task.file view.file) _ (setup-later task.file view.file)
+    (λ setup. then-later (line_in setup view.named) (λ job. Ok (RunLine job)) (line-later setup view.named) (λ job. tt))
 
 made-later : (blocked : Option (List ℕ)) (work : Work) → IsLater (made_by blocked work)
 made-later None work = tt
@@ -206,7 +270,7 @@ later-status (Err refusal) number later e large small = omega arith
 
 -- the verdict on what stands in a tree that tells its contents
 same_view : (nodes : Nodes) (task : Task) (view : View) → IsViewOf (Some nodes) task view → view ≡ view_of nodes task
-same_view nodes task view seen = rw (← seen.file, ← seen.symbols, ← seen.script, ← seen.commands, ← seen.part, ← seen.parent, ← seen.blocked) refl
+same_view nodes task view seen = rw (← seen.file, ← seen.symbols, ← seen.script, ← seen.commands, ← seen.part, ← seen.parent, ← seen.named, ← seen.blocked) refl
 
 pub told_verdict : (nodes : Nodes) (asked : Result Task Refusal) (found : Result Work Refusal) → Judges asked (Some nodes) found → found ≡ verdict_on nodes asked
 told_verdict nodes (Err refusal) found j = sym j.judged
@@ -229,11 +293,6 @@ module _ (asked : Result Task Refusal) (before now : World) (answer : ℕ) where
     | NoMemory ↦ λ s. inr (inr s)
   ] e.status
 
-  early_large : IsEarly answer → 136 ≤ answer
-  early_large (inl e) = omega arith
-  early_large (inr (inl e)) = omega arith
-  early_large (inr (inr e)) = omega arith
-
   -- a run that is not told ends with an exit code
   untold_code : (tree : Option Nodes) (found : Result Work Refusal) → IsUntold tree found → status_by found ≤ 127
   untold_code (Some nodes) found untold = absurd untold
@@ -241,7 +300,7 @@ module _ (asked : Result Task Refusal) (before now : World) (answer : ℕ) where
   untold_code None (Ok work) untold = is_code work
 
   -- a status comes exactly with a fact, where a verdict has that status exactly with it; a refusal's, where a run may not be told
-  exactly : (status : ℕ) (P : Type 0) → status ≤ 135 → ((found : Result Work Refusal) → IsUntold before.files found → 128 ≤ status)
+  exactly : (status : ℕ) (P : Type 0) → IsUsual status → ((found : Result Work Refusal) → IsUntold before.files found → 128 ≤ status)
       → ((found : Result Work Refusal) → Judges asked before.files found → status_by found ≡ status → P)
       → ((found : Result Work Refusal) → Judges asked before.files found → P → status_by found ≡ status) → Answers asked before now answer → IsExactly answer status P
   exactly status P small large only whenever (inl ended) = elim ended.has [
@@ -255,20 +314,20 @@ module _ (asked : Result Task Refusal) (before now : World) (answer : ℕ) where
     }
   ]
   exactly status P small large only whenever (inr early) = record {
-    only = λ e. (let large = early_large (early_is early) in absurd (omega arith));
+    only = λ e. absurd (late status small (subst IsEarly e (early_is early)));
     whenever = λ p. inr (early_is early);
   }
 
   pub exactly_illegal : Answers asked before now answer → IsExactly answer 128 (IsIllegal asked)
-  exactly_illegal = exactly 128 (IsIllegal asked) (omega arith) (λ found untold. omega arith)
+  exactly_illegal = exactly 128 (IsIllegal asked) (inl (omega arith)) (λ found untold. omega arith)
       (λ found j e. illegal_asked asked j.view (ap status_by j.judged ∙ e)) (λ found j p. sym (ap status_by j.judged) ∙ ap (λ a. status_by (verdict a j.view)) p)
 
   pub exactly_pathless : Answers asked before now answer → IsExactly answer 129 (IsPathless asked)
-  exactly_pathless = exactly 129 (IsPathless asked) (omega arith) (λ found untold. omega arith)
+  exactly_pathless = exactly 129 (IsPathless asked) (inl (omega arith)) (λ found untold. omega arith)
       (λ found j e. pathless_asked asked j.view (ap status_by j.judged ∙ e)) (λ found j p. sym (ap status_by j.judged) ∙ ap (λ a. status_by (verdict a j.view)) p.1)
 
   -- the same for a status that what stands in the tree decides
-  exactly_told : (tree : Option Nodes) → before.files ≡ tree → (status : ℕ) → status ≤ 135 → (Is : Result Work Refusal → Type 0)
+  exactly_told : (tree : Option Nodes) → before.files ≡ tree → (status : ℕ) → IsUsual status → (Is : Result Work Refusal → Type 0)
       → ((v : Result Work Refusal) → status_by v ≡ status → Is v) → ((v : Result Work Refusal) → Is v → status_by v ≡ status)
       → Answers asked before now answer → IfSome tree (λ nodes. IsExactly answer status (Is (verdict_on nodes asked)))
   exactly_told None same status small Is only whenever a = tt
@@ -278,25 +337,28 @@ module _ (asked : Result Task Refusal) (before now : World) (answer : ℕ) where
       (λ found j p. ap status_by (on found j) ∙ whenever (verdict_on nodes asked) p) a
 
   pub exactly_missing : Answers asked before now answer → IfSome before.files (λ nodes. IsExactly answer 130 (IsMissing (verdict_on nodes asked)))
-  exactly_missing = exactly_told before.files refl 130 (omega arith) IsMissing only_missing (λ v p. ap status_by p.1)
+  exactly_missing = exactly_told before.files refl 130 (inl (omega arith)) IsMissing only_missing (λ v p. ap status_by p.1)
 
   pub exactly_faulty : Answers asked before now answer → IfSome before.files (λ nodes. IsExactly answer 131 (IsFaulty (verdict_on nodes asked)))
-  exactly_faulty = exactly_told before.files refl 131 (omega arith) IsFaulty only_faulty (λ v p. ap status_by p.2)
+  exactly_faulty = exactly_told before.files refl 131 (inl (omega arith)) IsFaulty only_faulty (λ v p. ap status_by p.2)
 
   pub exactly_unfit : Answers asked before now answer → IfSome before.files (λ nodes. IsExactly answer 134 (IsUnfit (verdict_on nodes asked)))
-  exactly_unfit = exactly_told before.files refl 134 (omega arith) IsUnfit only_unfit is_unfit
+  exactly_unfit = exactly_told before.files refl 134 (inl (omega arith)) IsUnfit only_unfit is_unfit
 
   pub exactly_blocked : Answers asked before now answer → IfSome before.files (λ nodes. IsExactly answer 135 (IsBlocked (verdict_on nodes asked)))
-  exactly_blocked = exactly_told before.files refl 135 (omega arith) IsBlocked only_blocked (λ v p. ap status_by p.1)
+  exactly_blocked = exactly_told before.files refl 135 (inl (omega arith)) IsBlocked only_blocked (λ v p. ap status_by p.1)
 
   pub exactly_script : Answers asked before now answer → IfSome before.files (λ nodes. IsExactly answer 132 (IsBadScript (verdict_on nodes asked)))
-  exactly_script = exactly_told before.files refl 132 (omega arith) IsBadScript only_script (λ v p. ap status_by p.2)
+  exactly_script = exactly_told before.files refl 132 (inl (omega arith)) IsBadScript only_script (λ v p. ap status_by p.2)
 
   pub exactly_commands : Answers asked before now answer → IfSome before.files (λ nodes. IsExactly answer 133 (IsBadCommands (verdict_on nodes asked)))
-  exactly_commands = exactly_told before.files refl 133 (omega arith) IsBadCommands only_commands (λ v p. ap status_by p.2)
+  exactly_commands = exactly_told before.files refl 133 (inl (omega arith)) IsBadCommands only_commands (λ v p. ap status_by p.2)
+
+  pub exactly_setup : Answers asked before now answer → IfSome before.files (λ nodes. IsExactly answer 139 (IsBadSetup (verdict_on nodes asked)))
+  exactly_setup = exactly_told before.files refl 139 (inr refl) IsBadSetup only_setup is_refused_setup
 
   exactly_code : (code : ℕ) → code ≤ 127 → Answers asked before now answer → IfSome before.files (λ nodes. IsExactly answer code (EndsWith code (verdict_on nodes asked)))
-  exactly_code code small = exactly_told before.files refl code (omega arith) (EndsWith code) (only_code code small) (is_ended code)
+  exactly_code code small = exactly_told before.files refl code (inl (omega arith)) (EndsWith code) (only_code code small) (is_ended code)
 
   pub exactly_accepted : Answers asked before now answer → IfSome before.files (λ nodes. (code : ℕ) → code ≤ 127 → IsExactly answer code (EndsWith code (verdict_on nodes asked)))
   exactly_accepted a = go before.files (λ code small. exactly_code code small a)
@@ -317,17 +379,17 @@ module _ (asked : Result Task Refusal) (before now : World) (answer : ℕ) where
       go (Ok work) has = absurd (let e = has.status in omega (arith, is_code work))
       go (Err refusal) has = (refusal, has)
 
-  pub is_quiet : Answers asked before now answer → 128 ≤ answer → answer ≤ 135 → now.out ≡ before.out
-  is_quiet (inl ended) large small = let r = refusal_of ended large in ap (λ w. w.out) (r.1.world ∙ changed_by-err before (line_of r.0))
-  is_quiet (inr early) large small = let later = early_large (early_is early) in absurd (omega arith)
+  pub is_quiet : Answers asked before now answer → IsRefusing answer → now.out ≡ before.out
+  is_quiet (inl ended) refusing = let r = refusal_of ended (refusing_large answer refusing) in ap (λ w. w.out) (r.1.world ∙ changed_by-err before (line_of r.0))
+  is_quiet (inr early) refusing = absurd (refusing_late answer refusing (early_is early))
 
-  pub puts_line : Answers asked before now answer → 128 ≤ answer → answer ≤ 135 → PutsLine before.err now.err
-  puts_line (inl ended) large small = let r = refusal_of ended large in (text_of r.0, ap (λ w. w.err) (r.1.world ∙ changed_by-err before (line_of r.0)))
-  puts_line (inr early) large small = let later = early_large (early_is early) in absurd (omega arith)
+  pub puts_line : Answers asked before now answer → IsRefusing answer → PutsLine before.err now.err
+  puts_line (inl ended) refusing = let r = refusal_of ended (refusing_large answer refusing) in (text_of r.0, ap (λ w. w.err) (r.1.world ∙ changed_by-err before (line_of r.0)))
+  puts_line (inr early) refusing = absurd (refusing_late answer refusing (early_is early))
 
-  pub is_untouched : Answers asked before now answer → 128 ≤ answer → answer ≤ 135 → now.files ≡ before.files
-  is_untouched (inl ended) large small = let r = refusal_of ended large in ap (λ w. w.files) (r.1.world ∙ changed_by-err before (line_of r.0))
-  is_untouched (inr early) large small = let later = early_large (early_is early) in absurd (omega arith)
+  pub is_untouched : Answers asked before now answer → IsRefusing answer → now.files ≡ before.files
+  is_untouched (inl ended) refusing = let r = refusal_of ended (refusing_large answer refusing) in ap (λ w. w.files) (r.1.world ∙ changed_by-err before (line_of r.0))
+  is_untouched (inr early) refusing = absurd (refusing_late answer refusing (early_is early))
 
   -- what is accepted ends with its exit code, unless a count rose or memory was wanting
   pub completes : (TreeRose OutRose ErrRose : Type 0) → Answers asked before now answer → (answer ≡ 136 → TreeRose) → (answer ≡ 137 → OutRose ⊎ ErrRose)
@@ -369,7 +431,7 @@ wanting asked before now answer answers = go before.files refl answers
         → IfSome tree (λ nodes. answer ≡ 138 → (now ≡ before) ⊎ MayStop (verdict_on nodes asked) NoMemory)
     go None told answered = tt
     go (Some nodes) told (inl ended) = λ is. elim ended.has [
-      | inl has ↦ absurd (let status = has.status in let small = is_small ended.found in omega (arith, is, status, small))
+      | inl has ↦ absurd (late _ (is_usual ended.found) (inr (inr (sym has.status ∙ is))))
       | inr untold ↦ absurd (let code = untold.1 in omega (arith, is, code))
     ]
     go (Some nodes) told (inr early) = λ is. wanting_cut asked before now nodes early.stop told (sym early.status ∙ is) early.stands

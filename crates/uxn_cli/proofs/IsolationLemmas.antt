@@ -13,7 +13,7 @@ use Rattle.uxn_words.specs.declared.task.Task.{Task}
 use Rattle.uxn_cli.specs.declared.refusal.Refusal.{Refusal}
 use Rattle.uxn_cli.specs.Lines.{line_of}
 use Rattle.uxn_words.specs.Places.{root_by}
-use Rattle.uxn_cli.specs.Verdict.{Work, Run, Write, Print, view_of, judged, work_of}
+use Rattle.uxn_cli.specs.Verdict.{Work, Run, Write, Print, RunLine, view_of, judged, work_of}
 use Rattle.uxn_cli.specs.Outcome.{outcome_of, creating, writing, running}
 use Rattle.uxn_cli.specs.Causes.{verdict_on, IsAside}
 use Rattle.uxn_cli.specs.Isolation.{LookSame, files_after, IsWritten, LooksAtItsView}
@@ -43,6 +43,7 @@ unfolding running writing
 work-outputs path m n (Run job) among = made-same path m n _ _ among
 work-outputs path m n (Write texts) among = made-same path m n _ _ among
 work-outputs path m n (Print text) among = absurd cc
+work-outputs path m n (RunLine job) among = absurd cc
 
 -- a line leaves the files as they are
 line-leaves : (nodes : Nodes) (line : List ℕ) → files_by nodes (map (λ byte. ToErr byte) line) ≡ nodes

@@ -16,3 +16,4 @@ pub mod ObservationLemmas
 pub mod DoneLemmas
 pub mod IsolationLemmas
 pub mod WorkloadLemmas
+pub mod JoiningLemmas

@@ -15,7 +15,7 @@ use Rattle.varvara_bus.specs.Bus.{IsOutside}
 use Rattle.varvara_bus.specs.Touching.{Spares, Each, StandsApart, each-append, each-map, told_at, spared, spared-front, kept-node}
 use Rattle.uxn_opcodes.specs.Rule.{new_core}
 use Rattle.uxn_words.specs.declared.words.Command.{Command}
-use Rattle.uxn_words.specs.declared.words.Command.TheVariants.{Play, Debug, Assemble, Disassemble, Generate}
+use Rattle.uxn_words.specs.declared.words.Command.TheVariants.{Play, Debug, Assemble, Disassemble, Generate, Line}
 use Rattle.uxn_words.specs.declared.task.Task.{Task}
 use Rattle.uxn_cli.specs.declared.refusal.Refusal.{Refusal}
 use Rattle.uxn_opcodes.specs.declared.Core.{Core}
@@ -23,8 +23,9 @@ use Rattle.vector_loop.specs.declared.output.Outputs.{Outputs}
 use Rattle.vector_loop.specs.Trail.{Trail}
 use Rattle.vector_loop.specs.Touching.{IsOther, run-leaves}
 use Rattle.uxn_cli.specs.Job.{Debugging, Job, Home, log_in, outputs_in, outputs_by as run_outputs_by, trail_of, trail_by, devices_with, start_with, text_at, log_by}
-use Rattle.uxn_cli.specs.Verdict.{and_then, View, Work, Run, Write, Print, source_in, rom_in, labels_in, program_in, script_in, given_in, debug_labels, commands_in, debugging, home_by, job_of, texts_of, summary_in, outputs_by, root_by, work_of, made_by, verdict}
-use Rattle.uxn_cli.specs.Outcome.{outcome_of, creating, filling_all, reporting, running}
+use Rattle.uxn_cli.specs.Verdict.{and_then, View, Work, Run, Write, Print, RunLine, line_in, source_in, rom_in, labels_in, program_in, script_in, given_in, debug_labels, commands_in, debugging, home_by, job_of, texts_of, summary_in, outputs_by, root_by, work_of, made_by, verdict}
+use Rattle.uxn_cli.specs.Setup.{setup_in}
+use Rattle.uxn_cli.specs.Outcome.{outcome_of, creating, filling_all, reporting, running, line_bytes}
 use Rattle.uxn_cli.specs.Answer.{IsUntold, HasCut, IsCut, Answers}
 use Rattle.uxn_cli.specs.Causes.{IsAside, KeepsOthers}
 use Rattle.uxn_cli.proofs.ChangeLemmas.{paths_in, creating-spares, filling-spares, writing-spares}
@@ -42,11 +43,13 @@ abbrev pub paths_by : Work → List (List ℕ)
 paths_by (Run job) = outputs_in job
 paths_by (Write texts) = paths_in texts
 paths_by (Print text) = []
+paths_by (RunLine job) = []
 
 abbrev root_in : Work → Option (List ℕ)
 root_in (Run job) = job.home.root
 root_in (Write texts) = None
 root_in (Print text) = None
+root_in (RunLine job) = None
 
 pub record Writes (command : Command) (task : Task) (work : Work) : Type 0 where
   pub paths : paths_by work ≡ outputs_by command task
@@ -88,6 +91,10 @@ work-writes Disassemble task view work e =
 work-writes Generate task view work e =
     written_by (summary_in task.count) (λ text. Ok (Print text)) (Writes Generate task) work
     (λ text h. same_work (Print text) work (Writes Generate task) (record { paths = refl; root = refl }) h) e
+work-writes Line task view work e =
+    written_by (setup_in task.file view.file) _ (Writes Line task) work
+    (λ setup f. written_by (line_in setup view.named) (λ job. Ok (RunLine job)) (Writes Line task) work
+    (λ job h. same_work (RunLine job) work (Writes Line task) (record { paths = refl; root = refl }) h) f) e
 
 -- ---- which paths it leaves alone
 
@@ -140,6 +147,7 @@ work-spares : (path : List ℕ) (work : Work) → list_any (bytes_eq path) (path
 work-spares path (Run job) none outside = job-spares path job none outside
 work-spares path (Write texts) none outside = writing-spares path texts none
 work-spares path (Print text) none outside = each-map (Spares path) (λ byte. ToOut byte) text (λ byte. tt)
+work-spares path (RunLine job) none outside = each-map (Spares path) (λ byte. ToOut byte) (line_bytes job) (λ byte. tt)
 
 pub found-spares : (asked : Result Task Refusal) (view : View) (path : List ℕ) (found : Result Work Refusal) → IfOk asked (λ task. IsAside task path) → verdict asked view ≡ found → Each (Spares path) (outcome_of found).changes
 found-spares asked view path (Err refusal) aside e = each-map (Spares path) (λ byte. ToErr byte) _ (λ byte. tt)

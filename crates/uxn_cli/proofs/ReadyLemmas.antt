@@ -16,7 +16,7 @@ use Rattle.file_ports.specs.RootPart.{below, parent_is_folder}
 use Rattle.uxn_cli.specs.Job.{Home, home_in}
 use Rattle.uxn_cli.specs.Verdict.{and_then, View, Work, Run, file_seen, symbols_seen, symbols_by, script_seen, script_by, commands_seen, program_in, script_in, given_in, debug_labels, commands_in, debugging, home_by, job_of, work_of, root_by}
 use Rattle.uxn_cli.specs.Prepared.{Sees, Accepts, rom_in_program, labels_in_program, LoadsProgram, Loads, SeesWork, Unready, IsHomeOf}
-use Rattle.uxn_cli.proofs.VerdictLemmas.{unread_symbols, unread_script, unread_commands, unseen_part, unseen_parent}
+use Rattle.uxn_cli.proofs.VerdictLemmas.{unread_symbols, unread_script, unread_commands, unseen_part, unseen_parent, unread_named}
 
 module _ (task : Task) (tree : Option Nodes) where
   -- what was seen, where the outputs were not looked at yet
@@ -28,6 +28,7 @@ module _ (task : Task) (tree : Option Nodes) where
     commands = commands;
     part = (unseen_part tree task).0;
     parent = (unseen_parent tree task).0;
+    named = (unread_named tree task).0;
     blocked = None;
   }
 
@@ -61,6 +62,7 @@ module _ (task : Task) (tree : Option Nodes) where
     commands = c;
     part = (unseen_part tree task).1;
     parent = (unseen_parent tree task).1;
+    named = (unread_named tree task).1;
     work = is;
   }
 

@@ -236,11 +236,11 @@ module _ (task : Task) (tree : Option Nodes) (outputs : List Output) (paths : pa
 
 module _ (task : Task) (tree : Option Nodes) where
   -- what was seen of the inputs and of the outputs is a view, which the verdict is on
-  judges : (said : Result Work Refusal) (work : SeesWork tree task said) (blocked : Option (List ℕ)) → IfSome tree (λ nodes. blocked ≡ blocked_seen nodes task)
+  pub judges : (said : Result Work Refusal) (work : SeesWork tree task said) (blocked : Option (List ℕ)) → IfSome tree (λ nodes. blocked ≡ blocked_seen nodes task)
       → Judges (Ok task) tree (and_then said (made_by blocked))
   judges said work blocked looked = record {
     view = record work.view { blocked = blocked };
-    seen = record { file = work.file; symbols = work.symbols; script = work.script; commands = work.commands; part = work.part; parent = work.parent; blocked = looked };
+    seen = record { file = work.file; symbols = work.symbols; script = work.script; commands = work.commands; part = work.part; parent = work.parent; named = work.named; blocked = looked };
     judged = ap (λ s. and_then s (made_by blocked)) (same_work task.command ∙ work.work);
   }
     where
@@ -250,6 +250,7 @@ module _ (task : Task) (tree : Option Nodes) where
       same_work Rattle.uxn_words.specs.declared.words.Command.TheVariants.Assemble = refl
       same_work Rattle.uxn_words.specs.declared.words.Command.TheVariants.Disassemble = refl
       same_work Rattle.uxn_words.specs.declared.words.Command.TheVariants.Generate = refl
+      same_work Rattle.uxn_words.specs.declared.words.Command.TheVariants.Line = refl
 
   -- the inputs were refused, or could not be read
   pub unprepared : (new : Option Nodes) (out err : Option (List ℕ)) (halt : Halt) → Unready tree task halt → new ≡ tree

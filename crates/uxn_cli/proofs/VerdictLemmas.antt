@@ -22,7 +22,8 @@ use Rattle.uxn_cli.specs.Blame.{Stops}
 use Rattle.uxn_words.specs.Words.{settings}
 use Rattle.uxn_cli.specs.World.{world}
 use Rattle.uxn_cli.specs.Request.{and_then, legal, paths_in, apart, request}
-use Rattle.uxn_cli.specs.Verdict.{View, Work, Print, rom_in, labels_in, symbols_by, symbols_seen, script_seen, commands_seen, part_seen, parent_seen, blocked_seen, made_by, judged, verdict}
+use Rattle.uxn_cli.specs.Verdict.{View, Work, Print, rom_in, labels_in, symbols_by, symbols_seen, script_seen, commands_seen, part_seen, parent_seen, named_seen, blocked_seen, made_by, judged, verdict}
+use Rattle.uxn_cli.specs.Setup.{NamedFiles, no_files}
 use Rattle.uxn_cli.specs.Follows.{Follows}
 use Rattle.uxn_cli.specs.Answer.{IsViewOf, IsViewFor, IsRefused, Performs, Ends}
 
@@ -62,7 +63,7 @@ pub words_failed : (asked : Result Task Refusal) (tree : Option Nodes) (out err 
     → Performs asked (world tree out err) (world tree out err) (Err halt)
 words_failed asked tree out err (Refused refusal) f = rw f (record {
   judges = record {
-    view = record { file = NoFile; symbols = NoFile; script = NoFile; commands = NoFile; part = fin.empty; parent = false; blocked = None };
+    view = record { file = NoFile; symbols = NoFile; script = NoFile; commands = NoFile; part = fin.empty; parent = false; named = no_files; blocked = None };
     seen = tt;
     judged = refl;
   };
@@ -97,6 +98,10 @@ abbrev pub unseen_parent : (tree : Option Nodes) (task : Task) → (parent : Boo
 unseen_parent None task = (false, tt)
 unseen_parent (Some nodes) task = (parent_seen nodes task, refl)
 
+abbrev pub unread_named : (tree : Option Nodes) (task : Task) → (named : NamedFiles) × IfSome tree (λ nodes. named ≡ named_seen nodes task)
+unread_named None task = (no_files, tt)
+unread_named (Some nodes) task = (named_seen nodes task, refl)
+
 abbrev pub unlooked : (tree : Option Nodes) (task : Task) → (blocked : Option (List ℕ)) × IfSome tree (λ nodes. blocked ≡ blocked_seen nodes task)
 unlooked None task = (None, tt)
 unlooked (Some nodes) task = (blocked_seen nodes task, refl)
@@ -110,13 +115,14 @@ dis_view tree task file symbols = record {
   commands = (unread_commands tree task).0;
   part = (unseen_part tree task).0;
   parent = (unseen_parent tree task).0;
+  named = (unread_named tree task).0;
   blocked = None;
 }
 
 pub sees_dis : (tree : Option Nodes) (task : Task) (file symbols : FileBytes) → task.command ≡ Disassemble
     → IfSome tree (λ nodes. file ≡ whole_file (file_at nodes task.file) 65280) → IfSome tree (λ nodes. symbols ≡ symbols_by nodes task.symbols) → IsViewOf tree task (dis_view tree task file symbols)
-sees_dis None task file symbols dis found read = record { file = tt; symbols = tt; script = tt; commands = tt; part = tt; parent = tt; blocked = tt }
-sees_dis (Some nodes) task file symbols dis found read = rw dis (record { file = found; symbols = read; script = refl; commands = refl; part = refl; parent = refl; blocked = refl })
+sees_dis None task file symbols dis found read = record { file = tt; symbols = tt; script = tt; commands = tt; part = tt; parent = tt; named = tt; blocked = tt }
+sees_dis (Some nodes) task file symbols dis found read = rw dis (record { file = found; symbols = read; script = refl; commands = refl; part = refl; parent = refl; named = refl; blocked = refl })
 
 pub judged-dis : (tree : Option Nodes) (task : Task) (file symbols : FileBytes) → task.command ≡ Disassemble
     → judged task (dis_view tree task file symbols) ≡ and_then (rom_in task.file file) (λ rom. and_then (labels_in task.symbols symbols) (λ labels. Ok (Print (disassembly rom labels))))

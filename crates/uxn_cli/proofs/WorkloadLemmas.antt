@@ -10,7 +10,7 @@ use Rattle.uxn_words.specs.declared.task.Task.{Task}
 use Rattle.uxn_cli.specs.declared.running.Ended.{Ended}
 use Rattle.uxn_cli.specs.Answer.{IsViewOf}
 use Rattle.uxn_cli.specs.Verdict.{and_then, View, Print, summary_in, judged}
-use Rattle.uxn_cli.proofs.VerdictLemmas.{then_ok, unread_script, unread_commands, unseen_part, unseen_parent}
+use Rattle.uxn_cli.proofs.VerdictLemmas.{then_ok, unread_script, unread_commands, unseen_part, unseen_parent, unread_named}
 use Rattle.uxn_cli.specs.Job.{exit_in}
 use Rattle.uxn_cli.specs.Ended.{told_by_run}
 use Rattle.uxn_cli.specs.Workload.{empty_world, console_of, told_of}
@@ -38,13 +38,14 @@ own_view tree task = record {
   commands = (unread_commands tree task).0;
   part = (unseen_part tree task).0;
   parent = (unseen_parent tree task).0;
+  named = (unread_named tree task).0;
   blocked = None;
 }
 
 pub sees_own : (tree : Option Nodes) (task : Task) → task.command ≡ Generate → IsViewOf tree task (own_view tree task)
-sees_own None task own = record { file = tt; symbols = tt; script = tt; commands = tt; part = tt; parent = tt; blocked = tt }
+sees_own None task own = record { file = tt; symbols = tt; script = tt; commands = tt; part = tt; parent = tt; named = tt; blocked = tt }
 sees_own (Some nodes) task own =
-    rw own (record { file = refl; symbols = refl; script = refl; commands = refl; part = refl; parent = refl; blocked = refl })
+    rw own (record { file = refl; symbols = refl; script = refl; commands = refl; part = refl; parent = refl; named = refl; blocked = refl })
 
 pub judged-own : (tree : Option Nodes) (task : Task) → task.command ≡ Generate
     → judged task (own_view tree task) ≡ and_then (summary_in task.count) (λ text. Ok (Print text))

@@ -10,8 +10,8 @@ use Rattle.uxn_cli.specs.declared.refusal.Refusal.{Refusal}
 use Rattle.uxn_cli.specs.declared.refusal.Halt.{Halt}
 use Rattle.uxn_cli.specs.declared.refusal.Halt.TheVariants.{Refused, Stopped}
 use Rattle.uxn_cli.specs.Blame.{early_status}
-use Rattle.uxn_cli.specs.Verdict.{View, Work, Run, Write, Print, verdict}
-use Rattle.uxn_cli.specs.Verdict.{file_seen, symbols_seen, script_seen, commands_seen, part_seen, parent_seen, blocked_seen}
+use Rattle.uxn_cli.specs.Verdict.{View, Work, Run, Write, Print, RunLine, verdict}
+use Rattle.uxn_cli.specs.Verdict.{file_seen, symbols_seen, script_seen, commands_seen, part_seen, parent_seen, named_seen, blocked_seen}
 use Rattle.uxn_cli.specs.Outcome.{Outcome, outcome_of}
 use Rattle.uxn_cli.specs.Job.{Job, trail_of}
 
@@ -28,6 +28,7 @@ pub record IsViewOf (tree : Option Nodes) (task : Task) (view : View) : Type 0 w
   pub commands : IfSome tree (λ nodes. view.commands ≡ commands_seen nodes task)
   pub part : IfSome tree (λ nodes. view.part ≡ part_seen nodes task)
   pub parent : IfSome tree (λ nodes. view.parent ≡ parent_seen nodes task)
+  pub named : IfSome tree (λ nodes. view.named ≡ named_seen nodes task)
   pub blocked : IfSome tree (λ nodes. view.blocked ≡ blocked_seen nodes task)
 
 abbrev pub IsViewFor : Option Nodes → Result Task Refusal → View → Type 0
@@ -46,6 +47,7 @@ IsUntold None (Err refusal) = ⊥
 IsUntold None (Ok (Run job)) = IsSome job.home.root
 IsUntold None (Ok (Write texts)) = ⊥
 IsUntold None (Ok (Print text)) = ⊥
+IsUntold None (Ok (RunLine job)) = ⊥
 
 -- the call ended with the outcome of its verdict; with some exit code, where what the run does is not told
 pub record HasEnded (asked : Result Task Refusal) (before now : World) (answer : ℕ) : Type 0 where
@@ -72,12 +74,14 @@ MayStop (Ok (Run job)) SinkFault = Unit {0}
 MayStop (Ok (Run job)) NoMemory = IsSome job.debug ⊎ ListsFolder job
 MayStop (Ok (Write texts)) TreeFault = Unit {0}
 MayStop (Ok (Print text)) SinkFault = Unit {0}
+MayStop (Ok (RunLine job)) SinkFault = Unit {0}
 MayStop _ _ = ⊥
 
--- all that is done is to put one text
+-- all that is done is to put one text, of a line the bytes of its last machine
 abbrev pub IsText : Result Work Refusal → Type 0
 IsText (Err refusal) = Unit {0}
 IsText (Ok (Print text)) = Unit {0}
+IsText (Ok (RunLine job)) = Unit {0}
 IsText _ = ⊥
 
 -- of what was to be done a front was done; of a text that was to be put a front that is shorter

@@ -2,6 +2,7 @@ pub mod Lines
 pub mod World
 pub mod Outputs
 pub mod Request
+pub mod Setup
 pub mod Verdict
 pub mod Follows
 pub mod Blame
@@ -9,6 +10,7 @@ pub mod Job
 pub mod Outcome
 pub mod Room
 pub mod Prepared
+pub mod Joined
 pub mod Answer
 pub mod Causes
 pub mod OpcodeNames

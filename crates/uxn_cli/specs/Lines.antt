@@ -5,9 +5,10 @@ use Rattle.tal_words.specs.Faults.{kind_name}
 use Rattle.tal_symbols.specs.Answers.{symbol_kind_name}
 use Rattle.play_script.specs.Kinds.{kind_name as script_kind_name}
 use Rattle.uxn_debugger.specs.Kinds.{kind_name as command_kind_name}
+use Rattle.uxn_line.specs.Kinds.{kind_name as setup_kind_name}
 use Rattle.uxn_cli.specs.declared.refusal.Refusal.{Refusal}
 use Rattle.uxn_cli.specs.declared.refusal.Refusal.TheVariants.{NotUnderstood, NoPath, NoOutput, Missing, Faulty, LongRom}
-use Rattle.uxn_cli.specs.declared.refusal.Refusal.TheVariants.{BadSymbols, BadScript, BadCommands}
+use Rattle.uxn_cli.specs.declared.refusal.Refusal.TheVariants.{BadSymbols, BadScript, BadCommands, BadSetup, OtherEvents}
 
 abbrev pub status_of : Refusal → ℕ
 status_of NotUnderstood = 128
@@ -19,6 +20,8 @@ status_of (LongRom length) = 134
 status_of (BadSymbols entry kind) = 134
 status_of (BadScript number kind) = 132
 status_of (BadCommands number kind) = 133
+status_of (BadSetup number kind) = 139
+status_of OtherEvents = 139
 
 -- a text and a newline
 abbrev pub line : List ℕ → List ℕ
@@ -39,6 +42,8 @@ text_of (LongRom length) = codes "rom: " ++ decimal length ++ codes " bytes"
 text_of (BadSymbols entry kind) = codes "symbols " ++ decimal entry ++ codes ": " ++ symbol_kind_name kind
 text_of (BadScript number kind) = codes "script " ++ decimal number ++ codes ": " ++ script_kind_name kind
 text_of (BadCommands number kind) = codes "commands " ++ decimal number ++ codes ": " ++ command_kind_name kind
+text_of (BadSetup number kind) = codes "setup " ++ decimal number ++ codes ": " ++ setup_kind_name kind
+text_of OtherEvents = codes "setup 0: Events"
 
 abbrev pub line_of : Refusal → List ℕ
 line_of refusal = line (text_of refusal)

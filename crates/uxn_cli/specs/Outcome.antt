@@ -8,7 +8,9 @@ use Rattle.uxn_cli.specs.World.{Text}
 use Rattle.vector_loop.specs.Trail.{Trail}
 use Rattle.play_script.specs.declared.script.Version.{Version}
 use Rattle.uxn_cli.specs.Job.{Job, outputs_in, trail_of, exit_of, report_of, log_by}
-use Rattle.uxn_cli.specs.Verdict.{Work, Run, Write, Print}
+use Rattle.uxn_line.specs.Streams.{Job as LineJob, run_at, stream, exit_code_at}
+use Rattle.uxn_line.specs.Moves.{last_of}
+use Rattle.uxn_cli.specs.Verdict.{Work, Run, Write, Print, RunLine}
 
 pub record Outcome : Type 0 where
   pub status : ℕ
@@ -43,8 +45,16 @@ running job =
     creating (outputs_in job)
     ++ (reporting job.report job.script.version (trail_of job) ++ filling_all (log_by job.debug (trail_of job)))
 
+-- of machines in a line: the exit code of the last one's run, and what it writes to port 18
+abbrev pub line_exit : LineJob → ℕ
+line_exit job = exit_code_at (run_at job (last_of job)).last
+
+abbrev pub line_bytes : LineJob → List ℕ
+line_bytes job = stream job (last_of job)
+
 abbrev pub outcome_of : Result Work Refusal → Outcome
 outcome_of (Err refusal) = record { status = status_of refusal; changes = map (λ byte. ToErr byte) (line_of refusal) }
 outcome_of (Ok (Run job)) = record { status = exit_of job; changes = running job }
 outcome_of (Ok (Write texts)) = record { status = 0; changes = writing texts }
 outcome_of (Ok (Print text)) = record { status = 0; changes = printing text }
+outcome_of (Ok (RunLine job)) = record { status = line_exit job; changes = printing (line_bytes job) }

@@ -33,7 +33,7 @@ use Rattle.uxn_cli.specs.declared.refusal.Refusal.{Refusal}
 use Rattle.uxn_cli.specs.declared.refusal.Refusal.TheVariants.{NoOutput}
 use Rattle.uxn_cli.specs.declared.refusal.Halt.{Halt}
 use Rattle.uxn_cli.specs.declared.refusal.Halt.TheVariants.{Refused, Stopped}
-use Rattle.uxn_cli.specs.Verdict.{View, Work, Run, file_seen, symbols_seen, script_seen, commands_seen, part_seen, parent_seen}
+use Rattle.uxn_cli.specs.Verdict.{View, Work, Run, file_seen, symbols_seen, script_seen, commands_seen, part_seen, parent_seen, named_seen}
 use Rattle.uxn_cli.specs.Verdict.{program_in, own_labels, debugging, job_of, work_of}
 use Rattle.uxn_cli.specs.World.{world}
 use Rattle.uxn_cli.specs.Job.{Debugging, Home, no_home, home_in, clock_by, outputs_by, trail_by, exit_in, log_by}
@@ -83,6 +83,7 @@ pub record SeesWork (tree : Option Nodes) (task : Task) (said : Result Work Refu
   pub commands : IfSome tree (λ nodes. view.commands ≡ commands_seen nodes task)
   pub part : IfSome tree (λ nodes. view.part ≡ part_seen nodes task)
   pub parent : IfSome tree (λ nodes. view.parent ≡ parent_seen nodes task)
+  pub named : IfSome tree (λ nodes. view.named ≡ named_seen nodes task)
   pub work : work_of task.command task view ≡ said
 
 -- devices are new: they stand for new ones with this script and this root, whatever lies there

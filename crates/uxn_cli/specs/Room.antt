@@ -6,8 +6,8 @@ use Rattle.uxn_io.specs.Taking.{TreeTakes, SinkTakes, bytes_out, bytes_err}
 use Rattle.uxn_cli.specs.declared.refusal.Refusal.{Refusal}
 use Rattle.uxn_cli.specs.Lines.{line_of}
 use Rattle.uxn_cli.specs.World.{Text}
-use Rattle.uxn_cli.specs.Verdict.{Work, Run, Write, Print}
-use Rattle.uxn_cli.specs.Outcome.{running}
+use Rattle.uxn_cli.specs.Verdict.{Work, Run, Write, Print, RunLine}
+use Rattle.uxn_cli.specs.Outcome.{running, line_bytes}
 
 -- a tree surely takes files: it has room for more files than these, and each is no longer than a file may be
 pub record Takes (room : Room) (texts : List Text) : Type 0 where
@@ -20,6 +20,7 @@ TakesFor (Err refusal) room nodes = Unit {0}
 TakesFor (Ok (Run job)) room nodes = TreeTakes room nodes (running job)
 TakesFor (Ok (Write texts)) room nodes = Takes room texts
 TakesFor (Ok (Print text)) room nodes = Unit {0}
+TakesFor (Ok (RunLine job)) room nodes = Unit {0}
 
 -- the tree suffices: it is read without a fault, and surely takes what is done to it
 pub record TreeSuffices (verdict : Result Work Refusal) (room : Room) (nodes : Nodes) : Type 0 where
@@ -32,3 +33,4 @@ SinksSuffice (Err refusal) out err = length (line_of refusal) < err
 SinksSuffice (Ok (Run job)) out err = SinkTakes out (bytes_out (running job)) × SinkTakes err (bytes_err (running job))
 SinksSuffice (Ok (Write texts)) out err = Unit {0}
 SinksSuffice (Ok (Print text)) out err = length text < out
+SinksSuffice (Ok (RunLine job)) out err = length (line_bytes job) < out

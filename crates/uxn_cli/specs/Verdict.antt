@@ -1,5 +1,5 @@
 -- What the words and the view of the tree determine before anything is done: a refusal, or the work.
-use Rattle.std.specs.Prelude.{ℕ, Bool, true, false, not, List, [], ◌++◌, codes}
+use Rattle.std.specs.Prelude.{ℕ, Bool, true, false, not, List, [], ◌∷◌, ◌++◌, map, codes}
 use Rattle.std.specs.Prelude.{find, Option, Some, None, Result, Ok, Err}
 use Rattle.std.specs.Prelude.{if◌then◌else◌, unwrap_or}
 use Rattle.tal_words.specs.declared.fault.Fault.{Fault}
@@ -29,11 +29,14 @@ use Rattle.uxn_io.specs.WholeFile.{whole_file}
 use Rattle.uxn_words.specs.declared.words.Command.{Command}
 use Rattle.uxn_memory.specs.Bytes.{largest_rom}
 use Rattle.tal_rom.specs.Rom.{rom_limit}
-use Rattle.uxn_words.specs.declared.words.Command.TheVariants.{Play, Debug, Assemble, Disassemble, Generate}
+use Rattle.uxn_words.specs.declared.words.Command.TheVariants.{Play, Debug, Assemble, Disassemble, Generate, Line}
 use Rattle.uxn_words.specs.declared.task.Task.{Task}
 use Rattle.uxn_cli.specs.declared.refusal.Refusal.{Refusal}
 use Rattle.uxn_cli.specs.declared.refusal.Refusal.TheVariants.{NoOutput, Missing, Faulty, LongRom, BadSymbols, BadScript, BadCommands}
 use Rattle.uxn_cli.specs.Job.{Debugging, Job, Home, no_home, text_at}
+use Rattle.uxn_line.specs.Setups.{SetupView}
+use Rattle.uxn_line.specs.Streams.{Job as LineJob}
+use Rattle.uxn_cli.specs.Setup.{NamedFiles, no_files, setup_in, console_script, line_job}
 use Rattle.uxn_workload.specs.Source.{source_of}
 use Rattle.uxn_cli.specs.World.{Text}
 use Rattle.uxn_cli.specs.Workload.{workload_text}
@@ -41,7 +44,7 @@ pub use Rattle.uxn_cli.specs.Request.{and_then}
 pub use Rattle.uxn_words.specs.Places.{inputs_by, outputs_by, outputs_of, root_by, clashes, HasApartOutputs}
 
 -- what the tree shows a task: its file, its file of symbols, its script, its commands, what lies beneath its root and whether the
--- root's parent is a folder, and the first output that cannot be made
+-- root's parent is a folder, the files that its setup names, and the first output that cannot be made
 pub record View : Type 0 where
   pub file : FileBytes
   pub symbols : FileBytes
@@ -49,16 +52,18 @@ pub record View : Type 0 where
   pub commands : FileBytes
   pub part : Nodes
   pub parent : Bool
+  pub named : NamedFiles
   pub blocked : Option (List ℕ)
 
 -- no more bytes of a file are looked at: all banks are filled by a ROM that is run, bank 0 by one that is disassembled, as by one
--- that a source is assembled to; and 4,194,304 of a source
+-- that a source is assembled to; and 4,194,304 of a source or a setup
 abbrev pub limit_by : Command → Bool → ℕ
 limit_by Play rom = if rom then largest_rom else 4194304
 limit_by Debug rom = if rom then largest_rom else 4194304
 limit_by Assemble rom = 4194304
 limit_by Disassemble rom = rom_limit
 limit_by Generate rom = 0
+limit_by Line rom = 4194304
 
 abbrev pub file_limit : Task → ℕ
 file_limit task = limit_by task.command task.rom
@@ -70,6 +75,7 @@ file_input Debug task = Some task.file
 file_input Assemble task = Some task.file
 file_input Disassemble task = Some task.file
 file_input Generate task = None
+file_input Line task = Some task.file
 
 abbrev pub input_by : Nodes → Option (List ℕ) → ℕ → FileBytes
 input_by nodes None limit = NoFile
@@ -89,6 +95,7 @@ symbols_input Debug task = task.symbols
 symbols_input Assemble task = None
 symbols_input Disassemble task = task.symbols
 symbols_input Generate task = None
+symbols_input Line task = None
 
 abbrev pub symbols_seen : Nodes → Task → FileBytes
 symbols_seen nodes task = symbols_by nodes (symbols_input task.command task)
@@ -112,6 +119,25 @@ part_seen nodes task = below (root_by task.command task) nodes
 abbrev pub parent_seen : Nodes → Task → Bool
 parent_seen nodes task = parent_is_folder (root_by task.command task) nodes
 
+-- the source of each machine that a setup gives, and its script; other commands have no setup
+abbrev pub source_at : Nodes → List ℕ → FileBytes
+source_at nodes path = whole_file (file_at nodes path) 4194304
+
+abbrev pub named_by : Nodes → Result SetupView Refusal → NamedFiles
+named_by nodes (Ok setup) = record { sources = map (source_at nodes) setup.sources; script = script_by nodes setup.script }
+named_by nodes (Err refusal) = no_files
+
+abbrev pub named_in : Command → Nodes → Task → NamedFiles
+named_in Play nodes task = no_files
+named_in Debug nodes task = no_files
+named_in Assemble nodes task = no_files
+named_in Disassemble nodes task = no_files
+named_in Generate nodes task = no_files
+named_in Line nodes task = named_by nodes (setup_in task.file (file_seen nodes task))
+
+abbrev pub named_seen : Nodes → Task → NamedFiles
+named_seen nodes task = named_in task.command nodes task
+
 abbrev pub blocked_seen : Nodes → Task → Option (List ℕ)
 blocked_seen nodes task = find (λ path. not (can_create nodes path)) (outputs_of task)
 
@@ -123,6 +149,7 @@ view_of nodes task = record {
   commands = commands_seen nodes task;
   part = part_seen nodes task;
   parent = parent_seen nodes task;
+  named = named_seen nodes task;
   blocked = blocked_seen nodes task;
 }
 
@@ -240,11 +267,26 @@ summary_in count =
     and_then (script_from (script_of (codes "frame 60"))) (λ script.
     Ok (workload_text source (rom_of source) script)))
 
--- what is to be done: a ROM is run, files are written, or a text is printed
+-- the ROM of each machine's source, which is there (130) and has no fault (131); one after the other
+abbrev pub roms_in : List (List ℕ) → List FileBytes → Result (List (List ℕ)) Refusal
+roms_in [] files = Ok []
+roms_in (path ∷ paths) [] = Err (Missing path)
+roms_in (path ∷ paths) (file ∷ files) =
+    and_then (program_in false path file) (λ rom. and_then (roms_in paths files) (λ roms. Ok (rom ∷ roms)))
+
+-- a line of the machines of a setup, once the files that it names are accepted
+abbrev pub line_in : SetupView → NamedFiles → Result LineJob Refusal
+line_in setup named =
+    and_then (roms_in setup.sources named.sources) (λ roms.
+    and_then (script_in setup.script named.script) (λ script.
+    and_then (console_script script) (λ given. Ok (line_job setup roms given))))
+
+-- what is to be done: a ROM is run, files are written, a text is printed, or machines in a line are run
 pub data Work : Type 0 where
   Run : (job : Job) → Work
   Write : (texts : List Text) → Work
   Print : (text : List ℕ) → Work
+  RunLine : (job : LineJob) → Work
 
 -- the work of a command, once its inputs are accepted one after the other
 abbrev pub work_of : Command → Task → View → Result Work Refusal
@@ -264,6 +306,8 @@ work_of Disassemble task view =
     and_then (rom_in task.file view.file) (λ rom.
     and_then (labels_in task.symbols view.symbols) (λ labels. Ok (Print (disassembly rom labels))))
 work_of Generate task view = and_then (summary_in task.count) (λ text. Ok (Print text))
+work_of Line task view =
+    and_then (setup_in task.file view.file) (λ setup. and_then (line_in setup view.named) (λ job. Ok (RunLine job)))
 
 -- then each output can be made (135)
 abbrev pub made_by : Option (List ℕ) → Work → Result Work Refusal

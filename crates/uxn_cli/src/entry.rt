@@ -9,7 +9,7 @@ ghost use Rattle.uxn_cli.specs.Follows.{Follows};
 ghost use Rattle.uxn_cli.specs.Answer.{Performs, Ends, MayStop, Answers};
 ghost use Rattle.uxn_cli.specs.Blame.{blame_in, blame_by, blame_at, early_status, OnRefused};
 ghost use Rattle.uxn_cli.specs.Room.{TreeSuffices, SinksSuffice};
-ghost use Rattle.uxn_cli.specs.Causes.{IsEarly, IsExactly, verdict_on, IsIllegal, IsPathless, IsMissing, IsFaulty, IsUnfit, IsBadScript, IsBadCommands, IsBlocked, EndsWith, KeepsOthers, PutsLine};
+ghost use Rattle.uxn_cli.specs.Causes.{IsEarly, IsExactly, verdict_on, IsIllegal, IsPathless, IsMissing, IsFaulty, IsUnfit, IsBadScript, IsBadCommands, IsBlocked, IsBadSetup, IsRefusing, EndsWith, KeepsOthers, PutsLine};
 ghost use Rattle.uxn_cli.specs.Outcome.{outcome_of};
 ghost use Rattle.uxn_cli.specs.Observation.{HaveSameItems, IsOutcomeButLog};
 
@@ -17,6 +17,7 @@ use super::assembling::assemble_files;
 use super::commands::disassemble_rom;
 use super::debugging::debug;
 use super::generating::generate;
+use super::joining::join;
 use super::paths::{apart, paths_in};
 use super::playing::play;
 use super::refusal::{Halt, Refusal};
@@ -66,6 +67,7 @@ fn perform<T: Tree, O: Sink, E: Sink>(
         Command::Assemble => assemble_files(alloc, &task, tree),
         Command::Disassemble => disassemble_rom(alloc, &task, tree, out, err),
         Command::Generate => generate(alloc, &task, tree, out, err),
+        Command::Line => join(alloc, &task, tree, out, err),
     }
 }
 
@@ -138,11 +140,14 @@ fn status_of<T: Tree, O: Sink, E: Sink>(
 /// - `asm SRC --out P` writes a ROM, and a symbol file and a listing where they are asked for.
 /// - `dis ROM` prints a disassembly.
 /// - `gen N` makes a source of N routines, runs it over 60 frames with a tree and sinks of its own, and prints a summary.
+/// - `line SETUP` runs the machines of a setup in a line: what each writes to port 18 is given to the next one, and the bytes of
+///   the last one go to `out`. Bytes to port 19 and debug texts are dropped.
 ///
-/// The status of a run is its exit code, 0 to 127, and else 0. A refusal puts its one line on `err` and nothing
+/// The status of a run is its exit code, 0 to 127, that of a line is the exit code of its last machine, and else it is 0. A refusal puts its one line on `err` and nothing
 /// else: 128 for words that are not legal, 129 for a word that is no path, 130 for an input that is no file, 131
 /// for a source with a fault, 132 for a script and 133 for commands with a faulty line, 134 for a ROM of more than
-/// 65,280 bytes or a faulty symbol file, 135 for an output that clashes or cannot be made. The call ends early with
+/// 65,280 bytes or a faulty symbol file, 135 for an output that clashes or cannot be made, 139 for a setup with a faulty line or
+/// the script of one that has other events than input and its end. The call ends early with
 /// 136 where the tree failed, with 137 where a sink failed, and with 138 where memory is wanting: in a `play` only before
 /// anything was done, or as its program lists a folder.
 pub fn uxn<T: Tree, O: Sink, E: Sink>(
@@ -170,13 +175,14 @@ pub fn uxn<T: Tree, O: Sink, E: Sink>(
     ensures bad_script { IfSome (T.told tree.old) (λ nodes. IsExactly result 132 (IsBadScript (verdict_on nodes (request (map string_bytes words.now))))) }
     ensures bad_commands { IfSome (T.told tree.old) (λ nodes. IsExactly result 133 (IsBadCommands (verdict_on nodes (request (map string_bytes words.now))))) }
     ensures blocked { IfSome (T.told tree.old) (λ nodes. IsExactly result 135 (IsBlocked (verdict_on nodes (request (map string_bytes words.now))))) }
+    ensures bad_setup { IfSome (T.told tree.old) (λ nodes. IsExactly result 139 (IsBadSetup (verdict_on nodes (request (map string_bytes words.now))))) }
     ensures accepted { IfSome (T.told tree.old) (λ nodes. (code : ℕ) → code ≤ 127
         → IsExactly result code (EndsWith code (verdict_on nodes (request (map string_bytes words.now))))) }
 
     // A refusal changes nothing in the tree, and puts its one line on the error output and nothing on the standard output.
-    ensures untouched { 128 ≤ result → result ≤ 135 → T.told tree.new ≡ T.told tree.old }
-    ensures quiet { 128 ≤ result → result ≤ 135 → O.told out.new ≡ O.told out.old }
-    ensures one_line { 128 ≤ result → result ≤ 135 → PutsLine (E.told err.old) (E.told err.new) }
+    ensures untouched { IsRefusing result → T.told tree.new ≡ T.told tree.old }
+    ensures quiet { IsRefusing result → O.told out.new ≡ O.told out.old }
+    ensures one_line { IsRefusing result → PutsLine (E.told err.old) (E.told err.new) }
 
     // A fault of the tree or of a sink is answered exactly where its count rose in this call.
     ensures ledger { Ledger (counts (T.faults tree.old) (O.faults out.old) (E.faults err.old))

@@ -6,6 +6,7 @@ mod commands;
 mod debugging;
 mod entry;
 mod generating;
+mod joining;
 mod laws;
 mod machine;
 mod making;

@@ -6,11 +6,12 @@ ghost use Rattle.uxn_cli.specs.Lines.{line, fault_text, line_of, status_of};
 ghost use Rattle.uxn_cli.specs.Blame.{blame_by, Stops};
 
 use play_script::ScriptKind;
-use std::alloc::{AllocError, Global};
+use std::alloc::{AllocError, AllocFailed, Global};
 use tal_symbols::SymbolKind;
 use tal_words::Fault;
 use uxn_debugger::CommandKind;
 use uxn_io::{Bytes, Failed, Path, ReadStop, Sink, decimal, put_all};
+use uxn_line::SetupKind;
 use uxn_opcodes::Stop;
 
 /// Why a call does nothing but put one line on the error output.
@@ -34,6 +35,10 @@ pub enum Refusal {
     BadScript(u32, ScriptKind),
     /// The first faulty line of a debugger's commands, counted from 1, and what is wrong with it.
     BadCommands(u32, CommandKind),
+    /// The first faulty line of a setup, counted from 1, and what is wrong with it.
+    BadSetup(u32, SetupKind),
+    /// The script of a setup has an event that is neither a byte of input nor the end of input.
+    OtherEvents,
 }
 
 /// Why a call ended before its work was done.
@@ -53,6 +58,18 @@ impl From<AllocError> for Halt {
     ghost from_gives = { λ _ halt. halt ≡ halts.Stopped stops.NoMemory };
 
     fn from(_want: AllocError) -> Halt {
+        Halt::Stopped(Stop::NoMemory)
+    }
+}
+
+impl<T: Drop> From<AllocFailed<T>> for Halt {
+    ghost use Rattle.std.specs.Prelude.{◌≡◌};
+    ghost use Rattle.uxn_cli.specs.declared.refusal.Halt.TheVariants as halts;
+    ghost use Rattle.uxn_opcodes.specs.declared.Stop.TheVariants as stops;
+
+    ghost from_gives = { λ _ halt. halt ≡ halts.Stopped stops.NoMemory };
+
+    fn from(_want: AllocFailed<T>) -> Halt {
         Halt::Stopped(Stop::NoMemory)
     }
 }
@@ -97,6 +114,7 @@ impl Refusal {
             Refusal::LongRom(_) | Refusal::BadSymbols(..) => 134,
             Refusal::BadScript(..) => 132,
             Refusal::BadCommands(..) => 133,
+            Refusal::BadSetup(..) | Refusal::OtherEvents => 139,
         }
     }
 
@@ -114,6 +132,8 @@ impl Refusal {
             Refusal::BadSymbols(entry, kind) => symbols_line(alloc, *entry, *kind),
             Refusal::BadScript(line, kind) => script_line(alloc, *line, *kind),
             Refusal::BadCommands(line, kind) => commands_line(alloc, *line, *kind),
+            Refusal::BadSetup(line, kind) => setup_line(alloc, *line, *kind),
+            Refusal::OtherEvents => Vec::from_slice(alloc, b"setup 0: Events\n"),
         }
     }
 
@@ -200,6 +220,18 @@ fn commands_line(alloc: Global, number: u32, kind: CommandKind) -> Result<Vec<u8
     ensures { IfOk result (λ made. made.items ≡ line_of (Refusal.BadCommands number kind)) }
 {
     let mut line = Vec::from_slice(alloc, b"commands ")?;
+    line.extend_from_slice(&decimal(u64::from(number)))?;
+    line.extend_from_slice(b": ")?;
+    line.extend_from_slice(kind.name().as_bytes())?;
+    line.push(b'\n')?;
+    Ok(line)
+}
+
+/// Names the first faulty line of a setup, and what is wrong with it.
+fn setup_line(alloc: Global, number: u32, kind: SetupKind) -> Result<Vec<u8>, AllocError>
+    ensures { IfOk result (λ made. made.items ≡ line_of (Refusal.BadSetup number kind)) }
+{
+    let mut line = Vec::from_slice(alloc, b"setup ")?;
     line.extend_from_slice(&decimal(u64::from(number)))?;
     line.extend_from_slice(b": ")?;
     line.extend_from_slice(kind.name().as_bytes())?;

@@ -5,16 +5,17 @@ use Rattle.std.specs.List.{list_any}
 use Rattle.std.specs.Str.{bytes_eq}
 use Rattle.uxn_io.specs.PathText.{is_under}
 use Rattle.uxn_words.specs.declared.words.Command.{Command}
-use Rattle.uxn_words.specs.declared.words.Command.TheVariants.{Play, Debug, Assemble, Disassemble, Generate}
+use Rattle.uxn_words.specs.declared.words.Command.TheVariants.{Play, Debug, Assemble, Disassemble, Generate, Line}
 use Rattle.uxn_words.specs.declared.task.Task.{Task}
 
--- the files that a command reads
+-- the files that the words of a command name as inputs
 abbrev pub inputs_by : Command → Task → List (List ℕ)
 inputs_by Play task = task.file ∷ option_to_list task.script
 inputs_by Debug task = task.file ∷ option_to_list task.symbols ++ option_to_list task.script ++ option_to_list task.commands
 inputs_by Assemble task = task.file ∷ []
 inputs_by Disassemble task = task.file ∷ option_to_list task.symbols
 inputs_by Generate task = []
+inputs_by Line task = task.file ∷ []
 
 -- the files that a run writes beside those beneath its root
 abbrev pub run_outputs : Task → List (List ℕ)
@@ -27,6 +28,7 @@ outputs_by Debug task = option_to_list task.log ++ run_outputs task
 outputs_by Assemble task = option_to_list task.out ++ option_to_list task.symbols ++ option_to_list task.listing
 outputs_by Disassemble task = []
 outputs_by Generate task = []
+outputs_by Line task = []
 
 abbrev pub outputs_of : Task → List (List ℕ)
 outputs_of task = outputs_by task.command task
@@ -38,6 +40,7 @@ root_by Debug task = task.root
 root_by Assemble task = None
 root_by Disassemble task = None
 root_by Generate task = None
+root_by Line task = None
 
 -- the root and the outputs, none of which may meet another
 abbrev pub places_of : Task → List (List ℕ)

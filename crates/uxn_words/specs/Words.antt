@@ -4,7 +4,7 @@ use Rattle.std.specs.Str.{bytes_eq}
 use Rattle.line_texts.specs.Numbers.{number_within}
 use Rattle.option_table.specs.Words.{Choice, operand, optional, required, switch, values_over}
 use Rattle.uxn_words.specs.declared.words.Command.{Command}
-use Rattle.uxn_words.specs.declared.words.Command.TheVariants.{Play, Debug, Assemble, Disassemble, Generate}
+use Rattle.uxn_words.specs.declared.words.Command.TheVariants.{Play, Debug, Assemble, Disassemble, Generate, Line}
 use Rattle.uxn_words.specs.declared.task.Task.{Task}
 
 -- the commands by name
@@ -15,6 +15,7 @@ command_of name =
     else if bytes_eq name (codes "asm") then Some Assemble
     else if bytes_eq name (codes "dis") then Some Disassemble
     else if bytes_eq name (codes "gen") then Some Generate
+    else if bytes_eq name (codes "line") then Some Line
     else None
 
 -- the options of a run
@@ -30,6 +31,7 @@ choices_of Debug = required (codes "commands") ∷ required (codes "log") ∷ op
 choices_of Assemble = required (codes "out") ∷ optional (codes "symbols") ∷ optional (codes "listing") ∷ []
 choices_of Disassemble = optional (codes "symbols") ∷ []
 choices_of Generate = []
+choices_of Line = []
 
 -- the greatest number of instructions of a vector: 1 to 4,294,967,295, and without the option 4,000,000
 abbrev pub budget_in : Option (List ℕ) → Option ℕ
@@ -43,6 +45,7 @@ count_in Debug word = Some 0
 count_in Assemble word = Some 0
 count_in Disassemble word = Some 0
 count_in Generate word = number_within 1 8000 word
+count_in Line word = Some 0
 
 -- what the values of a file and of options ask for, by their names
 abbrev pub task_with : Command → (List ℕ → Option (List ℕ)) → List ℕ → ℕ → ℕ → Task

@@ -69,7 +69,7 @@ impl Task {
                 push_some(&mut paths, self.symbols)?;
                 push_some(&mut paths, self.listing)?;
             }
-            Command::Disassemble | Command::Generate => {}
+            Command::Disassemble | Command::Generate | Command::Line => {}
         }
         Ok(paths)
     }
@@ -80,7 +80,7 @@ impl Task {
     {
         match self.command {
             Command::Play | Command::Debug => self.root,
-            Command::Assemble | Command::Disassemble | Command::Generate => None,
+            Command::Assemble | Command::Disassemble | Command::Generate | Command::Line => None,
         }
     }
 
@@ -108,7 +108,7 @@ impl Task {
                     || is_some(path, &self.script)
                     || is_some(path, &self.commands)
             }
-            Command::Assemble => is_file,
+            Command::Assemble | Command::Line => is_file,
             Command::Disassemble => is_file || is_some(path, &self.symbols),
             Command::Generate => false,
         }

@@ -24,6 +24,8 @@ pub enum Command {
     Disassemble,
     /// `gen N`: makes a workload of N routines, runs it, and writes a summary to the standard output.
     Generate,
+    /// `line SETUP`: runs the machines of a setup in a line, each giving its bytes to the next one.
+    Line,
 }
 
 /// What legal words ask for: the words that name files, and what else they say.
@@ -102,6 +104,8 @@ fn command_named(name: &[u8]) -> Option<Command>
         Some(Command::Disassemble)
     } else if name == b"gen".as_slice() {
         Some(Command::Generate)
+    } else if name == b"line".as_slice() {
+        Some(Command::Line)
     } else {
         None
     }
@@ -138,7 +142,7 @@ impl Command {
             Command::Debug => DEBUG.as_slice(),
             Command::Assemble => ASSEMBLE.as_slice(),
             Command::Disassemble => DISASSEMBLE.as_slice(),
-            Command::Generate => &[],
+            Command::Generate | Command::Line => &[],
         }
     }
 
@@ -151,7 +155,11 @@ impl Command {
                 let count = number_within(1, 8000, word)?;
                 Some(count as u16)
             }
-            Command::Play | Command::Debug | Command::Assemble | Command::Disassemble => Some(0),
+            Command::Play
+            | Command::Debug
+            | Command::Assemble
+            | Command::Disassemble
+            | Command::Line => Some(0),
         }
     }
 

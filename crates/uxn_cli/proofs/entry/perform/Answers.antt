@@ -25,3 +25,6 @@ returns-in-Play-clause-sure_sinks g c = rw c.in_ok-task.ensures.follows c.play.e
 
 pub returns-in-Disassemble-clause-sure_sinks : goal.returns-in-Disassemble-clause-sure_sinks
 returns-in-Disassemble-clause-sure_sinks g c = rw c.in_ok-task.ensures.follows c.disassemble_rom.ensures.sure_out
+
+pub returns-in-Line-clause-sure_sinks : goal.returns-in-Line-clause-sure_sinks
+returns-in-Line-clause-sure_sinks g c = rw c.in_ok-task.ensures.follows c.join.ensures.sure_out

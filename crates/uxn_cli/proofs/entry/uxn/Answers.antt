@@ -1,4 +1,4 @@
-use Rattle.uxn_cli.proofs.CauseLemmas.{exactly_illegal, exactly_pathless, exactly_missing, exactly_faulty, exactly_unfit, exactly_script, exactly_commands, exactly_blocked, exactly_accepted, is_untouched, is_quiet, puts_line, completes, wanting, tree-rose, sink-rose}
+use Rattle.uxn_cli.proofs.CauseLemmas.{exactly_illegal, exactly_pathless, exactly_missing, exactly_faulty, exactly_unfit, exactly_script, exactly_commands, exactly_blocked, exactly_setup, exactly_accepted, is_untouched, is_quiet, puts_line, completes, wanting, tree-rose, sink-rose}
 use Rattle.uxn_io.specs.Faults.{Rose}
 use Rattle.uxn_cli.proofs.OthersLemmas.{keeps_others}
 use Rattle.uxn_cli.proofs.ObservationLemmas.{call-shows}
@@ -42,6 +42,9 @@ returns-clause-bad_script g c = exactly_script _ _ _ _ c.status_of.ensures.outco
 
 pub returns-clause-bad_commands : goal.returns-clause-bad_commands
 returns-clause-bad_commands g c = exactly_commands _ _ _ _ c.status_of.ensures.outcome
+
+pub returns-clause-bad_setup : goal.returns-clause-bad_setup
+returns-clause-bad_setup g c = exactly_setup _ _ _ _ c.status_of.ensures.outcome
 
 pub returns-clause-complete : goal.returns-clause-complete
 returns-clause-complete g c =

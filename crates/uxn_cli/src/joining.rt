@@ -1,0 +1,193 @@
+//! What `line` does: the machines of a setup are run in a line.
+ghost use Rattle.std.specs.Prelude.{◌≡◌, ◌<◌, ◌≤◌, Ok, false, length, IfOk, IsOk, OnOk, OnErr, IfSome, is_err};
+ghost use Rattle.std.specs.List.{All, list_all};
+ghost use Rattle.uxn_io.specs.Faults.{Counted, Ledger, TheTree, ASink, counts};
+ghost use Rattle.uxn_io.specs.Room.{Leaves};
+ghost use Rattle.uxn_memory.specs.Bytes.{largest_rom};
+ghost use Rattle.uxn_cli.specs.World.{world};
+ghost use Rattle.uxn_cli.specs.Setup.{setup_in, is_of_console};
+ghost use Rattle.uxn_cli.specs.Verdict.{source_at, program_in};
+ghost use Rattle.uxn_cli.specs.Prepared.{Accepts};
+ghost use Rattle.uxn_line.specs.Limits.{AreTurns};
+ghost use Rattle.uxn_line.specs.Moves.{sink_view};
+ghost use Rattle.uxn_cli.specs.Joined.{AcceptsAll, JoinsUp, GoesOn, FallsShort, IsSure, HasDone};
+ghost use Rattle.uxn_cli.specs.Follows.{Follows};
+ghost use Rattle.uxn_cli.specs.Answer.{Performs};
+ghost use Rattle.uxn_cli.specs.Blame.{blame_in, OnRefused};
+ghost use Rattle.uxn_cli.specs.Causes.{verdict_on};
+ghost use Rattle.uxn_cli.specs.Room.{SinksSuffice};
+
+use super::commands::{SOURCE_LIMIT, accept_source};
+use super::refusal::{Halt, Refusal};
+use super::scripts::accept_script;
+use play_script::{Event, Script};
+use std::alloc::Global;
+use uxn_io::{Bytes, Failed, FileBytes, Path, Sink, Tree, read_file};
+use uxn_line::{Line, Setup, SetupKind, SetupStop, Turns, read_setup};
+use uxn_opcodes::Stop;
+use uxn_words::{Command, Task};
+
+/// The greatest length of a setup in bytes.
+const SETUP_LIMIT: u32 = 4_194_304;
+
+/// What a line is made of, once all that its setup names is accepted.
+#[derive(Drop)]
+pub struct Joined {
+    /// The setup.
+    pub setup: Setup,
+    /// The ROM of each machine.
+    pub roms: Vec<Bytes>,
+    /// The script of the first machine.
+    pub script: Script,
+}
+
+/// The setup in a file, unless no file is there or it is refused.
+fn setup_at(alloc: Global, path: &Path, file: FileBytes) -> Result<Setup, Halt>
+    ensures { Follows (λ setup. setup) result (setup_in path.now file) }
+{
+    match file {
+        FileBytes::Found(text) => match read_setup(alloc, text.as_slice()) {
+            Ok(setup) => Ok(setup),
+            Err(SetupStop::Refused { line, kind }) => {
+                Err(Halt::Refused(Refusal::BadSetup(line, kind)))
+            }
+            Err(SetupStop::NoMemory) => Err(Halt::Stopped(Stop::NoMemory)),
+        },
+        FileBytes::Missing => Err(Halt::Refused(Refusal::Missing(*path))),
+        FileBytes::TooLong(_) => Err(Halt::Refused(Refusal::BadSetup(1, SetupKind::LongSetup))),
+    }
+}
+
+/// The ROM of the source in a file, where it is accepted.
+fn accept_machine<T: Tree>(alloc: Global, path: &Path, tree: &mut T) -> Result<Bytes, Halt>
+    ensures rom { Accepts (λ rom. rom.list) (T.told tree.old) (λ nodes. source_at nodes path.now) (program_in false path.now) result }
+    ensures fits { IfOk result (λ rom. length rom.list ≤ largest_rom) }
+    ensures same { T.told tree.new ≡ T.told tree.old }
+    ensures ledger { Ledger (counts (T.faults tree.old) 0 0) (counts (T.faults tree.new) 0 0) (blame_in result) }
+    ensures sure { 0 < (T.sure tree.old).files → blame_in result ≡ TheTree → ⊥ }
+    ensures left { OnOk result (Leaves (T.sure tree.old) (T.sure tree.new) 0 0) }
+{
+    let file = read_file(alloc, tree, path, SOURCE_LIMIT)?;
+    let accepted = accept_source(alloc, path, file)?;
+    Ok(Bytes::new(alloc, accepted.assembly.rom())?)
+}
+
+/// The ROMs of all machines, one after the other.
+fn accept_machines<T: Tree>(alloc: Global, paths: &[Path], tree: &mut T) -> Result<Vec<Bytes>, Halt>
+    ensures roms { AcceptsAll (T.told tree.old) paths.now result }
+    ensures count { IfOk result (λ roms. length roms.items ≡ length paths.now) }
+    ensures fit { IfOk result (λ roms. All (λ rom. length rom.list ≤ largest_rom) roms.items) }
+    ensures same { T.told tree.new ≡ T.told tree.old }
+    ensures ledger { Ledger (counts (T.faults tree.old) 0 0) (counts (T.faults tree.new) 0 0) (blame_in result) }
+    ensures sure { 0 < (T.sure tree.old).files → blame_in result ≡ TheTree → ⊥ }
+    ensures left { OnOk result (Leaves (T.sure tree.old) (T.sure tree.new) 0 0) }
+{
+    let mut roms = Vec::new(alloc);
+    for path in paths {
+        roms.push(accept_machine(alloc, path, tree)?)?;
+    }
+    Ok(roms)
+}
+
+/// Whether an event is a byte of input, or the end of input.
+fn is_of_console(event: &Event) -> bool
+    ensures { result ≡ is_of_console event.now }
+{
+    matches!(event, Event::Input(_) | Event::EndInput)
+}
+
+/// Whether all events of a script are of the console.
+fn is_for_console(script: &Script) -> bool
+    ensures { result ≡ list_all is_of_console script.now.events }
+{
+    script.events().iter().all(|event| is_of_console(event))
+}
+
+/// What a setup joins.
+fn join_up<T: Tree>(alloc: Global, task: &Task, tree: &mut T) -> Result<Joined, Halt>
+    requires { task.now.command ≡ Command.Line }
+    ensures joins { JoinsUp (T.told tree.old) task.now result }
+    ensures same { T.told tree.new ≡ T.told tree.old }
+    ensures ledger { Ledger (counts (T.faults tree.old) 0 0) (counts (T.faults tree.new) 0 0) (blame_in result) }
+    ensures sure { 0 < (T.sure tree.old).files → blame_in result ≡ TheTree → ⊥ }
+{
+    let file = read_file(alloc, tree, &task.file, SETUP_LIMIT)?;
+    let setup = setup_at(alloc, &task.file, file)?;
+    let roms = accept_machines(alloc, setup.sources(), tree)?;
+    let script = accept_script(alloc, &setup.script(), tree)?;
+    if !is_for_console(&script) {
+        return Err(Halt::Refused(Refusal::OtherEvents));
+    }
+    Ok(Joined {
+        setup,
+        roms,
+        script,
+    })
+}
+
+/// Gives so many turns of one machine.
+fn give_turns<O: Sink>(line: &mut Line<'_>, turns: Turns, out: &mut O) -> Result<(), Failed>
+    requires { AreTurns (length line.old.members.items) turns }
+    ensures goes_on { OnOk result (GoesOn line.old (sink_view (O.told out.old) (O.sure out.old)) line.new (sink_view (O.told out.new) (O.sure out.new))) }
+    ensures front { OnErr result (FallsShort line.old (sink_view (O.told out.old) (O.sure out.old)) (O.told out.new)) }
+    ensures sure { IsSure line.old (sink_view (O.told out.old) (O.sure out.old)) (IsOk result) }
+    ensures ledger { Counted (O.faults out.old) (O.faults out.new) (is_err result) }
+    ensures machines { OnOk result (length line.new.members.items ≡ length line.old.members.items) }
+{
+    for _ in 0..turns.count {
+        line.turn(turns.machine, out)?;
+    }
+    Ok(())
+}
+
+/// Gives the turns of a schedule, in order.
+fn follow<O: Sink>(line: &mut Line<'_>, schedule: &[Turns], out: &mut O) -> Result<(), Failed>
+    requires { All (AreTurns (length line.old.members.items)) schedule.now }
+    ensures goes_on { OnOk result (GoesOn line.old (sink_view (O.told out.old) (O.sure out.old)) line.new (sink_view (O.told out.new) (O.sure out.new))) }
+    ensures front { OnErr result (FallsShort line.old (sink_view (O.told out.old) (O.sure out.old)) (O.told out.new)) }
+    ensures sure { IsSure line.old (sink_view (O.told out.old) (O.sure out.old)) (IsOk result) }
+    ensures ledger { Counted (O.faults out.old) (O.faults out.new) (is_err result) }
+{
+    for turns in schedule {
+        give_turns(line, *turns, out)?;
+    }
+    Ok(())
+}
+
+/// Runs the machines: the turns of the setup first, and then each in turn until all have ended.
+fn run_all<O: Sink>(line: &mut Line<'_>, schedule: &[Turns], out: &mut O) -> Result<u8, Failed>
+    requires { All (AreTurns (length line.old.members.items)) schedule.now }
+    ensures done { IfOk result (HasDone line.old (sink_view (O.told out.old) (O.sure out.old)) (O.told out.new)) }
+    ensures front { OnErr result (FallsShort line.old (sink_view (O.told out.old) (O.sure out.old)) (O.told out.new)) }
+    ensures sure { IsSure line.old (sink_view (O.told out.old) (O.sure out.old)) (IsOk result) }
+    ensures ledger { Counted (O.faults out.old) (O.faults out.new) (is_err result) }
+{
+    follow(line, schedule, out)?;
+    line.finish(out)
+}
+
+/// Runs the machines of a setup in a line, and gives the exit code of the last one.
+pub fn join<T: Tree, O: Sink, E: Sink>(
+    alloc: Global,
+    task: &Task,
+    tree: &mut T,
+    out: &mut O,
+    err: &mut E,
+) -> Result<u8, Halt>
+    requires { task.now.command ≡ Command.Line }
+    ensures performs { Performs (Ok task.now) (world (T.told tree.old) (O.told out.old) (E.told err.old))
+        (world (T.told tree.new) (O.told out.new) (E.told err.new)) result }
+    ensures ledger { Ledger (counts (T.faults tree.old) (O.faults out.old) (E.faults err.old))
+        (counts (T.faults tree.new) (O.faults out.new) (E.faults err.new)) (blame_in result) }
+    ensures kept { OnRefused result (err.new ≡ err.old) }
+    ensures sure_tree { 0 < (T.sure tree.old).files → blame_in result ≡ TheTree → ⊥ }
+    ensures sure_out { IfSome (T.told tree.old) (λ nodes. SinksSuffice (verdict_on nodes (Ok task.now)) (O.sure out.old) (E.sure err.old)
+        → blame_in result ≡ ASink → ⊥) }
+{
+    let joined = join_up(alloc, task, tree)?;
+    let mut line = Line::new(alloc, &joined.roms, &joined.script, joined.setup.budget())?;
+    match run_all(&mut line, joined.setup.schedule(), out) {
+        Ok(status) => Ok(status),
+        Err(Failed) => Err(Halt::Stopped(Stop::SinkFault)),
+    }
+}
