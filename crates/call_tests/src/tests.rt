@@ -300,7 +300,7 @@ static CALLS: [Call; 27] = [
         out: b"source 95\nrom 30\ninstructions 253\nvectors 61\ncuts 0\nframes 60\nconsole 0100\nexit 0\n",
         ..CALL
     },
-    // Machines in a line: each of the two puts a byte at its start, and the second one the first one's again.
+    // Machines in a line: each of the two puts two bytes, and those of the second go to the output.
     Call {
         words: &["line", "a.tal"],
         before: JOINED,
