@@ -71,9 +71,9 @@ new-behind (Err error) script budget machine rom clock behind same new ring = tt
 new-behind (Ok member) script budget zero rom clock behind same new ring = absurd (behind refl)
 new-behind (Ok member) script budget (suc before) rom clock behind same new ring = λ job script_is budget_is rom_is.
     let some : length (gifts_of (script_at job (suc before))) ≡ suc (length (stream job before))
-        = ap length (all-inputs job before) ∙ length-inputs (stream job before) in
+    = ap length (all-inputs job before) ∙ length-inputs (stream job before) in
     let at = new (script_at job (suc before)) refl (sym same)
-        (λ e. absurd (false≢true e), λ none. (let empty : length (gifts_of (script_at job (suc before))) ≡ 0 = ap length none in absurd (omega (arith, some, empty)))) in
+    (λ e. absurd (false≢true e), λ none. (let empty : length (gifts_of (script_at job (suc before))) ≡ 0 = ap length none in absurd (omega (arith, some, empty)))) in
     let R : ℕ → Type 0 = λ b. MemberAt member (first_place b rom (script_at job (suc before))) in
     let S : List ℕ → Type 0 = λ r. MemberAt member (first_place job.budget r (script_at job (suc before))) in
     new-in-line job (suc before) member (subst S (sym rom_is) (subst R (sym budget_is) at)) ring

@@ -15,7 +15,7 @@ loop-index-preserved c =
     let more = c.in_ok-push.ensures.items in
     let rom = c.index-roms-index.result in
     let at = c.in_ok-new_member.ensures (job_of c.args.roms.now c.args.script.now c.args.budget) refl refl
-        (rom-there c.args.roms.now c.loop-index.index rom c.loop-index-test.true c.index-roms-index.is ∙ sym c.as_slice.ensures) in
+    (rom-there c.args.roms.now c.loop-index.index rom c.loop-index-test.true c.index-roms-index.is ∙ sym c.as_slice.ensures) in
     record {
       count = ap length more ∙ length-append items (_ ∷ []) ∙ ap (λ n. n + 1) c.loop-index.invariant.count;
       each = λ machine other there.
