@@ -10,7 +10,7 @@ use Rattle.uxn_line.specs.Streams.{Job, stream, run_at, exit_code_at}
 use Rattle.uxn_line.specs.Standing.{Turned, place_in, Stands}
 use Rattle.uxn_line.specs.Moves.{last_of, written_in, ring_before, IsWaiting, IsHeld, IsStill, SinkView, sink_view, Takes, IsUnderWay, Reaches, AllEnded, Finishes, Stops}
 use Rattle.uxn_line.proofs.Turning.{follows}
-use Rattle.uxn_line.proofs.Ending.{takes-more, front-of, reach-on}
+use Rattle.uxn_line.proofs.Ending.{takes-more, front-of, reach-on, stream-is}
 
 module _ (job : Job) (line : Line) (turned : Turned) (still : (machine : ℕ) → machine < length job.roms → IsStill job line turned machine) where
   -- from the last machine on none is held
@@ -124,3 +124,15 @@ stands-again job line turned place found now there same stands =
       script = stands.script;
       each = λ machine member at. stands.each machine member (ap (λ all. slice_get all machine) (sym is) ∙ at);
     }
+
+-- the streams of a line after any turns
+pub fronts : (job : Job) (line : Line) (turned : Turned) → Stands job line turned → (machine : ℕ)
+    → (rest : List ℕ) × (stream job machine ≡ (place_in job turned machine).put ++ rest)
+fronts job line turned stands machine = stream-is job stands.job_is machine (turned machine)
+
+pub wholes : (job : Job) (line : Line) (turned : Turned) → Stands job line turned → (machine : ℕ) → HasEnded (place_in job turned machine)
+    → (place_in job turned machine).put ≡ stream job machine
+wholes job line turned stands machine ended =
+    let run = follows job stands.job_is machine (turned machine) in
+    let put = (place_in job turned machine).put in
+    sym (run.front ∙ ap (λ rest. put ++ rest) (run.end ended).0 ∙ append-nil put)

@@ -166,3 +166,10 @@ pub record Stops (job : Job) (turned : Turned) (line : Line) (out_before : SinkV
 abbrev pub Went : {X : Type 0} → Job → Turned → Line → SinkView → SinkView → Result X Failed → Type 0
 Went job turned line out out_now (Ok moved) = Reaches job turned line out out_now
 Went job turned line out out_now (Err failed) = Stops job turned line out out_now.told
+
+-- whatever turns were given to a line: what each machine has written to port 18 is a front of its stream, and all of it where its run is over
+pub record StreamLaw : Type 0 where
+  pub front : (job : Job) (line : Line) (turned : Turned) → Stands job line turned → (machine : ℕ)
+      → (rest : List ℕ) × (stream job machine ≡ (place_in job turned machine).put ++ rest)
+  pub whole : (job : Job) (line : Line) (turned : Turned) → Stands job line turned → (machine : ℕ)
+      → HasEnded (place_in job turned machine) → (place_in job turned machine).put ≡ stream job machine

@@ -22,7 +22,7 @@ mod setup_line;
 mod tests;
 
 pub use giver::Giver;
-pub use law::turns_are_the_run;
+pub use law::{every_order_gives_the_streams, turns_are_the_run};
 pub use line::{Line, Moved};
 pub use machine::Machine;
 pub use member::Member;

@@ -1,7 +1,7 @@
-//! Lines of two and three machines.
+//! Lines of two machines, in several orders.
 
 use super::*;
-use play_script::read_script;
+use play_script::{Script, read_script};
 use std::alloc::{AllocError, Global};
 use std::test::Fail;
 use uxn_io::{Bytes, MemSink};
@@ -12,19 +12,13 @@ const ONE_MORE: &[u8] = &[
     0x00,
 ];
 
-#[test]
-fn probe(rt: HostRuntime) -> Result<(), Fail> {
-    let script = read_script(rt.alloc(), b"input \"abc")?;
-    let mut out = MemSink::new(rt.alloc(), 100, &[])?;
-    let mut roms = Vec::new(rt.alloc());
-    roms.push(Bytes::new(rt.alloc(), ONE_MORE)?)?;
-    roms.push(Bytes::new(rt.alloc(), ONE_MORE)?)?;
-    let mut line = Line::new(rt.alloc(), roms.as_slice(), &script, 4_000_000)?;
-    for _ in 0..5 {
-        let _ = line.turn(1, &mut out);
-    }
-    let code = line.finish(&mut out);
-    assert!(rt; code == Ok(0));
-    assert!(rt; out.bytes() == [0x63, 0x64, 0x65, 0x01].as_slice());
-    Ok(())
+/// `#83 #0f DEO BRK`
+const ENDS: &[u8] = &[0x80, 0x83, 0x80, 0x0f, 0x17, 0x00];
+
+/// Two machines with `input "abc`.
+fn two<'a>(alloc: Global, second: &[u8], script: &'a Script) -> Result<Line<'a>, AllocError> {
+    let mut roms = Vec::new(alloc);
+    roms.push(Bytes::new(alloc, ONE_MORE)?)?;
+    roms.push(Bytes::new(alloc, second)?)?;
+    Line::new(alloc, roms.as_slice(), script, 100)
 }

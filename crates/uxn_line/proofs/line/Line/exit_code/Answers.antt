@@ -19,7 +19,7 @@ returns-clause-stands c job turned stands =
     let line = c.args.self.now in
     let found = c.index_mut.result.now in
     let there = slice_get_read line.members.items (length line.members.items) _ found refl
-        (omega (arith, c.if-count-eq0.false, c.len-count.ensures, line.members.ok.0)) c.index_mut.ensures.value in
+    (omega (arith, c.if-count-eq0.false, c.len-count.ensures, line.members.ok.0)) c.index_mut.ensures.value in
     stands-again job line turned _ found _ there (ap (λ (m : Machine). record found { machine = m }) c.exit_code.ensures.same) stands
 
 pub returns-clause-code : goal.returns-clause-code
@@ -28,6 +28,6 @@ returns-clause-code c job turned stands =
     let found = c.index_mut.result.now in
     let count = stands.machines in
     let there = slice_get_read line.members.items (length line.members.items) _ found refl
-        (omega (arith, c.if-count-eq0.false, c.len-count.ensures, line.members.ok.0)) c.index_mut.ensures.value in
+    (omega (arith, c.if-count-eq0.false, c.len-count.ensures, line.members.ok.0)) c.index_mut.ensures.value in
     let is : c.len-count.result - 1 ≡ last_of job = omega (arith, count, c.len-count.ensures, line.members.ok.0) in
     c.exit_code.ensures.code _ (stands.each _ found there).stands.stands ∙ ap (λ m. exit_code_at (place_in job turned m).state) is

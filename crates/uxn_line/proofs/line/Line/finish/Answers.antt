@@ -19,16 +19,16 @@ pub returns-in_err-round-clause-stops : goal.returns-in_err-round-clause-stops
 returns-in_err-round-clause-stops g c =
     let result : c.from_residual.result ≡ Err c.in_err-round.field-0.0 = search rules in
     rw result (λ job turned stands.
-        let first = c.rounds.invariant.went job turned stands in
-        stop-on job turned c.rounds.self c.round.new.self _ _ _ first (c.in_err-round.ensures.went job first.last first.stands))
+    let first = c.rounds.invariant.went job turned stands in
+    stop-on job turned c.rounds.self c.round.new.self _ _ _ first (c.in_err-round.ensures.went job first.last first.stands))
 
 pub returns-in_err-round-clause-front : goal.returns-in_err-round-clause-front
 returns-in_err-round-clause-front g c =
     let result : c.from_residual.result ≡ Err c.in_err-round.field-0.0 = search rules in
     rw result (λ job begun way.
-        let first = c.rounds.invariant.went job way.turned way.stands in
-        stop-front job begun _ _ c.args.self.now c.round.new.self way
-        (stop-on job way.turned c.rounds.self c.round.new.self _ _ _ first (c.in_err-round.ensures.went job first.last first.stands)))
+    let first = c.rounds.invariant.went job way.turned way.stands in
+    stop-front job begun _ _ c.args.self.now c.round.new.self way
+    (stop-on job way.turned c.rounds.self c.round.new.self _ _ _ first (c.in_err-round.ensures.went job first.last first.stands)))
 
 pub returns-in_err-round-clause-sure : goal.returns-in_err-round-clause-sure
 returns-in_err-round-clause-sure g c job begun way enough =
@@ -40,10 +40,10 @@ pub returns : goal.returns
 returns g c =
     let still = c.in_ok-round.ensures.still (ap Ok c.if-branch.false) in
     let done : (job : Job) (turned : Turned) → Stands job c.args.self.now turned
-        → Finishes job turned c.exit_code.new.self (sink_view (g.O.Sink.told c.args.out.now) (g.O.Sink.sure c.args.out.now))
-        (sink_view (g.O.Sink.told c.round.new.out) (g.O.Sink.sure c.round.new.out)) c.exit_code.result
-        = rounds-finish c.args.self.now c.rounds.self c.round.new.self c.exit_code.new.self _ _ _ c.exit_code.result c.rounds.invariant.went
-        c.in_ok-round.ensures.went still.0 still.1 c.exit_code.ensures.stands c.exit_code.ensures.code in
+    → Finishes job turned c.exit_code.new.self (sink_view (g.O.Sink.told c.args.out.now) (g.O.Sink.sure c.args.out.now))
+    (sink_view (g.O.Sink.told c.round.new.out) (g.O.Sink.sure c.round.new.out)) c.exit_code.result
+    = rounds-finish c.args.self.now c.rounds.self c.round.new.self c.exit_code.new.self _ _ _ c.exit_code.result c.rounds.invariant.went
+    c.in_ok-round.ensures.went still.0 still.1 c.exit_code.ensures.stands c.exit_code.ensures.code in
     record {
       finishes = done;
       stops = tt;
