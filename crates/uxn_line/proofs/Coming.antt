@@ -49,14 +49,14 @@ turns-parts budget begun (suc count) =
     }
 
 -- bytes, and then the end
-inputs : List ℕ → List Gift
+pub inputs : List ℕ → List Gift
 inputs bytes = map (λ event. OfEvent event) (map (λ byte. Input byte) bytes ++ EndInput ∷ [])
 
-all-inputs : (job : Job) (before : ℕ) → gifts_of (script_at job (suc before)) ≡ inputs (stream job before)
+pub all-inputs : (job : Job) (before : ℕ) → gifts_of (script_at job (suc before)) ≡ inputs (stream job before)
 unfolding arguments_given inputs
 all-inputs job before = refl
 
-length-inputs : (bytes : List ℕ) → length (inputs bytes) ≡ suc (length bytes)
+pub length-inputs : (bytes : List ℕ) → length (inputs bytes) ≡ suc (length bytes)
 unfolding inputs
 length-inputs [] = refl
 length-inputs (byte ∷ bytes) = ap suc (length-inputs bytes)

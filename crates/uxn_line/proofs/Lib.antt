@@ -18,3 +18,4 @@ pub mod Feeding
 pub mod Beginning
 pub mod Ending
 pub mod Finished
+pub mod NewLines

@@ -1,0 +1,42 @@
+use Rattle.std.proofs.Common.{◌≡◌, ◌+◌, [], ◌∷◌, length, refl, sym, ap, subst, ◌∙◌, arith, length-append}
+use Rattle.std.specs.Prelude.{Some, slice_get}
+use Rattle.std.proofs.lemmas.List.{length-map}
+use Rattle.uxn_io.specs.ByteList.{ByteList}
+use Rattle.uxn_line.specs.declared.line.Line.{Line}
+use Rattle.uxn_line.specs.Standing.{InLine, none_turned, Stands, job_of}
+use Rattle.uxn_line.proofs.NewLines.{rom-there, member-more}
+use Rattle.uxn_line.proofs.Running.{takes-nothing}
+use Rattle.uxn_line.proofs.line.Line.new.Goals as goal
+
+pub loop-index-preserved : goal.loop-index-preserved
+loop-index-preserved c =
+    let items = c.loop-index.members.items in
+    let member = c.in_ok-new_member.field-0 in
+    let more = c.in_ok-push.ensures.items in
+    let rom = c.index-roms-index.result in
+    let at = c.in_ok-new_member.ensures (job_of c.args.roms.now c.args.script.now c.args.budget) refl refl
+        (rom-there c.args.roms.now c.loop-index.index rom c.loop-index-test.true c.index-roms-index.is ∙ sym c.as_slice.ensures) in
+    record {
+      count = ap length more ∙ length-append items (_ ∷ []) ∙ ap (λ n. n + 1) c.loop-index.invariant.count;
+      each = λ machine other there.
+          member-more (job_of c.args.roms.now c.args.script.now c.args.budget) items member c.loop-index.index c.loop-index.invariant.count
+          c.loop-index.invariant.each at machine other (ap (λ all. slice_get all machine) (sym more) ∙ there);
+    }
+
+pub returns : goal.returns
+returns c =
+    let job = job_of c.args.roms.now c.args.script.now c.args.budget in
+    let roms = length-map c.args.roms.now (λ (r : ByteList). r.list) in
+    let line : Line = record { members = c.loop-index.members; giver = c.new-giver.result; budget = c.args.budget } in
+    let stands : Stands job line none_turned = record {
+      job_is = record { budget = c.requires.some; events = c.requires.events };
+      some = omega (arith, roms, c.requires.least);
+      machines = omega (arith, roms, c.loop-index.invariant.count, c.loop-index-test.false, c.loop-index.auto.index-end);
+      budget = refl;
+      script = c.new-giver.ensures;
+      each = c.loop-index.invariant.each;
+    } in
+    record {
+      stands = stands;
+      under_way = λ out. record { turned = none_turned; stands = stands; added = takes-nothing out };
+    }
