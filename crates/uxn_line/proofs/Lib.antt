@@ -19,3 +19,4 @@ pub mod Beginning
 pub mod Ending
 pub mod Finished
 pub mod NewLines
+pub mod ConsoleEvents

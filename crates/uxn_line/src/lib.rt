@@ -1,6 +1,7 @@
 //! Machines in a line: the setup that says which machines there are, what the first one is given, and who gets turns.
 #![tactic(auto)]
 
+mod events;
 mod finish;
 mod giver;
 mod keyword;
@@ -21,6 +22,7 @@ mod setup_line;
 #[cfg(test)]
 mod tests;
 
+pub use events::are_of_console;
 pub use giver::Giver;
 pub use law::{every_order_gives_the_streams, turns_are_the_run};
 pub use line::{Line, Moved};

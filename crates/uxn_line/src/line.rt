@@ -98,6 +98,13 @@ impl<'a> Line<'a> {
         })
     }
 
+    /// How many machines there are.
+    pub fn machines(&self) -> usize
+        ensures { result ≡ length self.now.members.items }
+    {
+        self.members.len()
+    }
+
     /// Gives a machine, from 1, one turn: an instruction of its vector, or where it is idle what comes next to its console.
     /// Errors where `out` does not take the byte that the last machine writes; then the line and `out` are as before.
     pub fn turn<O: Sink>(&mut self, machine: u8, out: &mut O) -> Result<Moved, Failed>
