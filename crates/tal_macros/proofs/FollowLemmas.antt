@@ -24,19 +24,11 @@ module _ (source : List ℕ) (words : List Word) where
       grind (arith, fault-steps source)
 
   module _ (visited : ℕ) (old new : Pass) (follows : Follows source words visited old) where
-    -- after a step that visits nothing
-    pub follows-passed : Passes source words old new → Follows source words visited new
-    follows-passed passes = grind arith
-
     module _ (word : Visited) (step : Visits source words old new word) where
       behind : reached (left source words new) ≡ drop new.count (visits_before_fault source)
       behind =
           ap (drop 1) (sym step.continues.visits ∙ follows.visits) ∙ drop-drop 1 old.count (visits_before_fault source)
           ∙ ap (λ n. drop n (visits_before_fault source)) (sym step.count)
-
-      -- after a use
-      pub follows-opened : word.is_use ≡ true → Follows source words visited new
-      follows-opened used = grind (arith, behind)
 
       -- after a word that is no use
       pub follows-given : Follows source words new.count new
@@ -52,5 +44,5 @@ module _ (source : List ℕ) (words : List Word) where
   -- after a step that gives no word
   pub follows-turn : (visited : ℕ) (old new : Pass) → Follows source words visited old
       → Passes source words old new ⊎ ((word : Visited) × (word.is_use ≡ true) × Visits source words old new word) → Follows source words visited new
-  follows-turn visited old new follows (inl passes) = follows-passed visited old new follows passes
-  follows-turn visited old new follows (inr opened) = follows-opened visited old new follows opened.0 opened.2 opened.1
+  follows-turn visited old new follows (inl passes) = grind arith
+  follows-turn visited old new follows (inr opened) = grind (arith, behind visited old new follows opened.0 opened.2)

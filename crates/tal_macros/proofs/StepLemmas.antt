@@ -9,7 +9,7 @@ use Rattle.std.proofs.lemmas.List.{map-append}
 use Rattle.tal_words.specs.Order.{collected}
 use Rattle.tal_words.specs.Faults.{least, phase_fault}
 use Rattle.tal_words.proofs.OrderLemmas.{collected-more}
-use Rattle.tal_macros.specs.Expansion.{Part, Plain, Head, Inside, Visited, known_at, macro_given, visits_given, visit_list, judged_visits, judged_part, parts_of, expansion_fault}
+use Rattle.tal_macros.specs.Expansion.{Part, Visited, known_at, macro_given, visits_given, visit_list, judged_visits, judged_part, parts_of, expansion_fault}
 use Rattle.tal_macros.specs.Steps.{Step, visit_steps, steps_given, reached, visits_before_fault}
 use Rattle.tal_macros.specs.Passing.{fault_of, rest}
 
@@ -39,13 +39,9 @@ reached-front (step ∷ steps) = elim (cases_Bool (is_none (least step.judged.ki
 ]
 
 module _ (source : List ℕ) where
-  -- what parts give does not depend on those after them
-  visits_alone : (before : List Part) (part : Part) (after others : List Part) → visits_given source before part after ≡ visits_given source before part others
-  visits_alone before part after others = grind arith
-
   visit_list-more : (before : List Part) (part : Part) → visit_list source (before ++ part ∷ []) ≡ visit_list source before ++ visits_given source before part []
   unfolding visit_list
-  visit_list-more before part = collected-more (visits_given source) visits_alone [] before part
+  visit_list-more before part = collected-more (visits_given source) (λ before part after others. grind arith) [] before part
 
   known_at-more : (before : List Part) (part : Part) → known_at source (before ++ part ∷ []) ≡ known_at source before ++ macro_given source part
   unfolding known_at
@@ -55,24 +51,16 @@ module _ (source : List ℕ) where
   pub collected-rest : (before parts : List Part) → collected (steps_given source) before parts ≡ rest source (known_at source before) (length (visit_list source before)) parts
   unfolding rest
   collected-rest before [] = refl
-  collected-rest before (Plain word ∷ parts) = simp (collected-rest (before ++ Plain word ∷ []) parts, known_at-more, visit_list-more, append-nil, length-append) refl
-  collected-rest before (Head word body ∷ parts) = simp (collected-rest (before ++ Head word body ∷ []) parts, known_at-more, visit_list-more, append-nil) refl
-  collected-rest before (Inside word ∷ parts) = simp (collected-rest (before ++ Inside word ∷ []) parts, known_at-more, visit_list-more, append-nil) refl
-
-  judged-part : (before : List Part) (part : Part) (after : List Part) → map (λ (step : Step). step.judged) (steps_given source before part after) ≡ judged_part source before part after
-  judged-part before part after = grind (arith, judged-visits)
-
-  visits-part : (before : List Part) (part : Part) (after : List Part) → visited_at (steps_given source before part after) ≡ visits_given source before part after
-  visits-part before part after = grind (arith, visits-visits)
+  collected-rest before (part ∷ parts) = grind (arith, collected-rest (before ++ part ∷ []) parts, known_at-more, visit_list-more, append-nil, length-append)
 
   -- the steps are judged as the parts are, and visit what they visit
   pub judged-steps : (before parts : List Part) → map (λ (step : Step). step.judged) (collected (steps_given source) before parts) ≡ collected (judged_part source) before parts
   judged-steps before [] = refl
-  judged-steps before (part ∷ parts) = rw (map-append, judged-part before part parts, judged-steps (before ++ part ∷ []) parts) refl
+  judged-steps before (part ∷ parts) = grind (arith, map-append, judged-visits, judged-steps (before ++ part ∷ []) parts)
 
   pub visits-steps : (before parts : List Part) → visited_at (collected (steps_given source) before parts) ≡ collected (visits_given source) before parts
   visits-steps before [] = refl
-  visits-steps before (part ∷ parts) = rw (flat_map-append, visits-part before part parts, visits-steps (before ++ part ∷ []) parts) refl
+  visits-steps before (part ∷ parts) = grind (arith, flat_map-append, visits-visits, visits-steps (before ++ part ∷ []) parts)
 
   -- the first fault of the steps is that of the expansion
   pub fault-steps : fault_of (collected (steps_given source) [] (parts_of source)) ≡ expansion_fault source
