@@ -43,9 +43,6 @@ module _ (source : List ℕ) where
   parts_free (suc inside) (word ∷ words) all = (tt, parts_free inside words all.1)
   parts_free zero (word ∷ words) all = (part_free word words all.0 all.1, parts_free (head_length (body_defined source word words)) words all.1)
 
-  macro_free : (part : Part) → IsFreePart part → AllByRecursion IsFreeMacro (macro_given source part)
-  macro_free part plain = grind arith
-
   named_free : (known : List Macro) (name : List ℕ) → AllByRecursion IsFreeMacro known → AllByRecursion IsFreeWord (unwrap_or (body_named known name) [])
   named_free [] name all = tt
   named_free (macro ∷ macros) name all = grind (arith, named_free macros name all.1)
@@ -63,7 +60,7 @@ module _ (source : List ℕ) where
   given_free : (before : List Part) (part : Part) (after : List Part) → AllByRecursion IsFreePart before → IsFreePart part → AllByRecursion IsFreeVisit (visits_given source before part after)
   unfolding known_at
   given_free before (Plain word) after all plain =
-      visits_free (known_at source before) word depth_limit (all_flat IsFreePart IsFreeMacro (macro_given source) macro_free before all) word plain
+      visits_free (known_at source before) word depth_limit (all_flat IsFreePart IsFreeMacro (macro_given source) (λ part plain. grind arith) before all) word plain
   given_free before part after all plain = tt
 
   list_free : (before parts : List Part) → AllByRecursion IsFreePart before → AllByRecursion IsFreePart parts → AllByRecursion IsFreeVisit (collected (visits_given source) before parts)

@@ -86,11 +86,10 @@ module _ (source : List ℕ) (words : List Word) (known : List Macro) (origin : 
         ≡ record { judged = record { origin = origin; kinds = visit_kinds count here }; visit = Some here }
         ∷ steps_from source words known (count + 1) (flat_map (visits source known origin (depth_limit - length bodies - 1)) (unwrap_or used []) ++ pending bodies next) at
     steps-inside used named roomy =
-        let parts : pending bodies body ≡ here ∷ (flat_map (visits source known origin (depth_limit - length bodies - 1)) (unwrap_or used []) ++ pending bodies next) =
-        rw (first, visits-inside (depth_limit - length bodies) word used named (λ some. omega (arith, roomy some))) (ap (λ all. here ∷ all) (append_assoc
-        (flat_map (visits source known origin (depth_limit - length bodies - 1)) (unwrap_or used []))
-        (flat_map (visits source known origin (depth_limit - length bodies)) (body_words words next)) (open_visits source words known origin depth_limit bodies))) in
-        rw parts (steps-first count at here _)
+        let inner = flat_map (visits source known origin (depth_limit - length bodies - 1)) (unwrap_or used []) in
+        let behind = flat_map (visits source known origin (depth_limit - length bodies)) (body_words words next) in
+        rw (first, visits-inside (depth_limit - length bodies) word used named (λ some. omega (arith, roomy some)))
+        (rw (append_assoc inner behind (open_visits source words known origin depth_limit bodies)) (steps-first count at here _))
 
 module _ (source : List ℕ) (words : List Word) (known : List Macro) (count at : ℕ) where
   -- the words of the source from an index on

@@ -1,5 +1,5 @@
 -- The steps of an expansion, as they are judged and as they visit.
-use Rattle.std.proofs.Common.{◌≡◌, ℕ, ◌+◌, List, [], ◌∷◌, ◌++◌, length, map, None, inl, inr, refl, ap, ◌∙◌, append_assoc, append-nil, length-append, arith}
+use Rattle.std.proofs.Common.{◌≡◌, ℕ, ◌+◌, List, [], ◌∷◌, ◌++◌, length, map, drop, None, inl, inr, refl, ap, ◌∙◌, append_assoc, append-nil, length-append, arith}
 use Rattle.std.specs.Prelude.{is_none}
 use Rattle.std.specs.List.{flat_map}
 use Rattle.std.specs.Option.{option_to_list}
@@ -31,12 +31,9 @@ reached-all [] none = refl
 reached-all (step ∷ steps) none = grind (arith, reached-all steps)
 
 -- what is reached is a front of what is visited
-reached-front : (steps : List Step) → (behind : List Visited) × (visited_at steps ≡ reached steps ++ behind)
-reached-front [] = ([], refl)
-reached-front (step ∷ steps) = elim (cases_Bool (is_none (least step.judged.kinds))) as (λ _. (behind : List Visited) × (visited_at (step ∷ steps) ≡ reached (step ∷ steps) ++ behind)) [
-  | inl sound ↦ ((reached-front steps).0, rw (sound, append_assoc, ← (reached-front steps).1) refl)
-  | inr faulty ↦ (visited_at (step ∷ steps), rw faulty refl)
-]
+reached-front : (steps : List Step) → visited_at steps ≡ reached steps ++ drop (length (reached steps)) (visited_at steps)
+reached-front [] = refl
+reached-front (step ∷ steps) = grind (arith, reached-front steps)
 
 module _ (source : List ℕ) where
   visit_list-more : (before : List Part) (part : Part) → visit_list source (before ++ part ∷ []) ≡ visit_list source before ++ visits_given source before part []
@@ -51,7 +48,8 @@ module _ (source : List ℕ) where
   pub collected-rest : (before parts : List Part) → collected (steps_given source) before parts ≡ rest source (known_at source before) (length (visit_list source before)) parts
   unfolding rest
   collected-rest before [] = refl
-  collected-rest before (part ∷ parts) = grind (arith, collected-rest (before ++ part ∷ []) parts, known_at-more, visit_list-more, append-nil, length-append)
+  collected-rest before (part ∷ parts) =
+      grind (arith, collected-rest (before ++ part ∷ []) parts, known_at-more, visit_list-more, append-nil, length-append)
 
   -- the steps are judged as the parts are, and visit what they visit
   pub judged-steps : (before parts : List Part) → map (λ (step : Step). step.judged) (collected (steps_given source) before parts) ≡ collected (judged_part source) before parts
@@ -74,4 +72,4 @@ module _ (source : List ℕ) where
 
   pub visits_before_fault-front : (behind : List Visited) × (visit_list source (parts_of source) ≡ visits_before_fault source ++ behind)
   unfolding visits_before_fault visit_list
-  visits_before_fault-front = rw (← visits-steps [] (parts_of source)) (reached-front (collected (steps_given source) [] (parts_of source)))
+  visits_before_fault-front = rw (← visits-steps [] (parts_of source)) (_, reached-front (collected (steps_given source) [] (parts_of source)))

@@ -16,6 +16,7 @@ pub fn plain_words_expand_to_themselves()
 {}
 
 /// No word of an expanded list has a blank in it.
+#[tactic(auto, using(crate::proofs::BlankLemmas::expanded_free))]
 pub fn expanded_words_have_no_blanks()
     ensures { (source : List ℕ) → AllByRecursion (λ word. IsBlankFree (expanded_text source word)) (expanded_of source) }
 {}
