@@ -8,7 +8,7 @@ use Rattle.tal_words.specs.Source.{word_text, expanded_text}
 use Rattle.tal_words.specs.Order.{collected}
 use Rattle.tal_words.specs.Comments.{words_of}
 use Rattle.tal_words.specs.PlainTexts.{IsPlainWord}
-use Rattle.tal_macros.specs.Expansion.{Part, Plain, Visited, depth_limit, visit_limit, without_uses, parts_from, known_at, visits, visit_list, parts_of, expanded_of, expansion_fault}
+use Rattle.tal_macros.specs.Expansion.{Visited, depth_limit, visit_limit, without_uses, parts_from, known_at, visits, visit_list, parts_of, expanded_of, expansion_fault}
 use Rattle.tal_macros.specs.Steps.{steps_given, visit_steps}
 use Rattle.tal_macros.specs.Passing.{fault_of, rest}
 use Rattle.tal_macros.proofs.StepLemmas.{visited_at, collected-rest, visits-steps, visits-visits, fault-steps}

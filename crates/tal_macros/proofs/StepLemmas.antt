@@ -1,13 +1,11 @@
 -- The steps of an expansion, as they are judged and as they visit.
-use Rattle.std.proofs.Common.{◌≡◌, ℕ, ◌+◌, List, [], ◌∷◌, ◌++◌, length, map, drop, None, inl, inr, refl, ap, ◌∙◌, append_assoc, append-nil, length-append, arith}
-use Rattle.std.specs.Prelude.{is_none}
+use Rattle.std.proofs.Common.{◌≡◌, ℕ, ◌+◌, List, [], ◌∷◌, ◌++◌, length, map, drop, None, refl, ap, ◌∙◌, append-nil, length-append, arith}
 use Rattle.std.specs.List.{flat_map}
 use Rattle.std.specs.Option.{option_to_list}
-use Rattle.std.proofs.lemmas.Bool.{cases_Bool}
 use Rattle.std.proofs.lemmas.Grind.{flat_map-append}
 use Rattle.std.proofs.lemmas.List.{map-append}
 use Rattle.tal_words.specs.Order.{collected}
-use Rattle.tal_words.specs.Faults.{least, phase_fault}
+use Rattle.tal_words.specs.Faults.{phase_fault}
 use Rattle.tal_words.proofs.OrderLemmas.{collected-more}
 use Rattle.tal_macros.specs.Expansion.{Part, Visited, known_at, macro_given, visits_given, visit_list, judged_visits, judged_part, parts_of, expansion_fault}
 use Rattle.tal_macros.specs.Steps.{Step, visit_steps, steps_given, reached, visits_before_fault}
