@@ -60,7 +60,8 @@ module _ (source : List ℕ) where
   given_free : (before : List Part) (part : Part) (after : List Part) → AllByRecursion IsFreePart before → IsFreePart part → AllByRecursion IsFreeVisit (visits_given source before part after)
   unfolding known_at
   given_free before (Plain word) after all plain =
-      visits_free (known_at source before) word depth_limit (all_flat IsFreePart IsFreeMacro (macro_given source) (λ part plain. grind arith) before all) word plain
+      let known = all_flat IsFreePart IsFreeMacro (macro_given source) (λ part plain. grind arith) before all in
+      visits_free (known_at source before) word depth_limit known word plain
   given_free before part after all plain = tt
 
   list_free : (before parts : List Part) → AllByRecursion IsFreePart before → AllByRecursion IsFreePart parts → AllByRecursion IsFreeVisit (collected (visits_given source) before parts)

@@ -69,9 +69,11 @@ module _ (source : List ℕ) (words : List Word) (brace : ℕ) where
 
       module _ (after : brace + 1 ≤ index) (within : index < length words) where
         step : (if closes (text_at index) && opened == closed then Some (index - (brace + 1)) else shifted (index - (brace + 1) + 1)
-            (matching_after (opened + one_if (opens (text_at index))) (closed + one_if (closes (text_at index))) (map (word_text source) (drop (index + 1) words))))
+            (matching_after (opened + one_if (opens (text_at index))) (closed + one_if (closes (text_at index)))
+            (map (word_text source) (drop (index + 1) words))))
             ≡ matching (map (word_text source) (drop (brace + 1) words))
-        step = sym (shifted-step (index - (brace + 1)) (closes (text_at index) && opened == closed) _) ∙ rw (drop-word words index within) at searches.found
+        step = sym (shifted-step (index - (brace + 1)) (closes (text_at index) && opened == closed) _)
+            ∙ rw (drop-word words index within) at searches.found
 
         pub searches_found : (closes (text_at index) && opened == closed) ≡ true → IsBody source words brace (record { from = brace + 1; to = index }) nested
         searches_found here =

@@ -7,7 +7,7 @@ use Rattle.std.proofs.lemmas.List.{map-append}
 use Rattle.tal_words.specs.Order.{collected}
 use Rattle.tal_words.specs.Faults.{phase_fault}
 use Rattle.tal_words.proofs.OrderLemmas.{collected-more}
-use Rattle.tal_macros.specs.Expansion.{Part, Visited, known_at, macro_given, visits_given, visit_list, judged_visits, judged_part, parts_of, expansion_fault}
+use Rattle.tal_macros.specs.Expansion.{Part, Visited, known_at, visits_given, visit_list, judged_visits, judged_part, parts_of, expansion_fault}
 use Rattle.tal_macros.specs.Steps.{Step, visit_steps, steps_given, reached, visits_before_fault}
 use Rattle.tal_macros.specs.Passing.{fault_of, rest}
 
@@ -38,16 +38,12 @@ module _ (source : List ℕ) where
   unfolding visit_list
   visit_list-more before part = collected-more (visits_given source) (λ before part after others. grind arith) [] before part
 
-  known_at-more : (before : List Part) (part : Part) → known_at source (before ++ part ∷ []) ≡ known_at source before ++ macro_given source part
-  unfolding known_at
-  known_at-more before part = rw flat_map-append (rw (append-nil (macro_given source part)) refl)
-
   -- the steps of parts behind others, by the macros and the count of those
   pub collected-rest : (before parts : List Part) → collected (steps_given source) before parts ≡ rest source (known_at source before) (length (visit_list source before)) parts
-  unfolding rest
+  unfolding rest known_at
   collected-rest before [] = refl
   collected-rest before (part ∷ parts) =
-      grind (arith, collected-rest (before ++ part ∷ []) parts, known_at-more, visit_list-more, append-nil, length-append)
+      grind (arith, collected-rest (before ++ part ∷ []) parts, flat_map-append, visit_list-more, append-nil, length-append)
 
   -- the steps are judged as the parts are, and visit what they visit
   pub judged-steps : (before parts : List Part) → map (λ (step : Step). step.judged) (collected (steps_given source) before parts) ≡ collected (judged_part source) before parts

@@ -1,4 +1,4 @@
-use Rattle.std.proofs.Common.{ap, sym, ◌∙◌, arith}
+use Rattle.std.proofs.Common.{ap, sym, ◌∙◌}
 use Rattle.tal_macros.specs.Steps.{reached}
 use Rattle.tal_macros.specs.Passing.{fault_of}
 use Rattle.tal_macros.proofs.FollowLemmas.{follows-turn, follows-given, next-given, next-none}
@@ -28,11 +28,11 @@ returns-in-Ok-End c =
     let turn = rw c.in-Ok-End.field-0-is at c.in-Ok-End.ensures in
     let follows = c.loop-word.invariant.follows in
     let next = next-none _ _ _ _ _ follows (ap reached turn.0) turn.1 in
-    rw (← c.loop-word.invariant.kept) (record { answer = (next.0, sym follows.faults ∙ ap fault_of turn.0); progress = next.1; bound = omega (arith, turn.1.count, follows.bound) })
+    rw (← c.loop-word.invariant.kept) (record { answer = (next.0, sym follows.faults ∙ ap fault_of turn.0); progress = next.1; bound = next.2 })
 
 pub returns-in-Err-Refused : goal.returns-in-Err-Refused
 returns-in-Err-Refused c =
     let turn = rw c.in-Err-Refused.field-0-is at c.in-Err-Refused.ensures in
     let follows = c.loop-word.invariant.follows in
     let next = next-none _ _ _ _ _ follows turn.0.visits turn.1 in
-    rw (← c.loop-word.invariant.kept) (record { answer = (next.0, sym follows.faults ∙ turn.0.faulty); progress = next.1; bound = omega (arith, turn.1.count, follows.bound) })
+    rw (← c.loop-word.invariant.kept) (record { answer = (next.0, sym follows.faults ∙ turn.0.faulty); progress = next.1; bound = next.2 })

@@ -16,13 +16,16 @@ use Rattle.tal_macros.proofs.PassLemmas.{pending, pending-push, steps-word, step
 use Rattle.tal_macros.proofs.pass.Pass.visit.Goals as goal
 
 -- a visit of the first word of the body, by the body that it names
-module _ (source : List ℕ) (words : List Word) (old : Pass) (word : Word) (text : List ℕ) (used : Option Body) (next : Body)
-    (first : body_words words old.body ≡ word ∷ body_words words next) (is_text : text ≡ word_text source word)
+module _ (source : List ℕ) (words : List Word) (old : Pass) (word : Word) (text : List ℕ) (used : Option Body)
+    (first : body_words words old.body ≡ word ∷ body_words words (record { from = old.body.from + 1; to = old.body.to })) (is_text : text ≡ word_text source word)
     (ensured : (all : List Word) → option_map (body_words all) used ≡ body_named (known_of all old.macros.entries) text)
     (answer : Option FaultKind)
     (judged : (word : Visited) → word.is_use ≡ is_some used → word.room ≡ depth_limit - length old.outer.items → answer ≡ least (visit_kinds old.count word)) where
   abbrev known : List Macro
   known = known_of words old.macros.entries
+
+  abbrev next : Body
+  next = record { from = old.body.from + 1; to = old.body.to }
 
   abbrev seen : Visited
   seen = visited source known old.origin (depth_limit - length old.outer.items) word
@@ -55,7 +58,7 @@ module _ (source : List ℕ) (words : List Word) (old : Pass) (word : Word) (tex
 pub returns-in-Some : goal.returns-in-Some
 returns-in-Some c = (
   rw c.new.ensures
-      (refused c.args.source.now c.args.words.now c.args.self.now c.args.word _ _ (record { from = c.args.self.now.body.from + 1; to = c.args.self.now.body.to }) c.requires.first c.text.ensures c.body_named-used.ensures _ c.visit_fault.ensures.kind
+      (refused c.args.source.now c.args.words.now c.args.self.now c.args.word _ _ c.requires.first c.text.ensures c.body_named-used.ensures _ c.visit_fault.ensures.kind
       c.in-Some.kind c.in-Some.is),
   record { continues = continues-same _ _ refl; count = refl },
 )
@@ -66,13 +69,13 @@ returns-in-Some-used c =
     let s = c.args.self.now in
     let known = known_of c.args.words.now s.macros.entries in
     let around = pending-push c.args.source.now c.args.words.now known s.origin c.push.new.self.items s.outer.items c.in-Some-used.body _ c.push.ensures.items in
-    let step = sound c.args.source.now c.args.words.now s c.args.word _ _ (record { from = c.args.self.now.body.from + 1; to = c.args.self.now.body.to }) c.requires.first c.text.ensures c.body_named-used.ensures _ c.visit_fault.ensures.kind
+    let step = sound c.args.source.now c.args.words.now s c.args.word _ _ c.requires.first c.text.ensures c.body_named-used.ensures _ c.visit_fault.ensures.kind
     c.in_default.is c.visit_fault.ensures.room c.visit_fault.ensures.few _ refl (rw (around, c.in-Some-used.is) refl) in
     (inr (step.0, step.1 ∙ ap is_some c.in-Some-used.is, step.3), omega (arith, c.push.ensures.len, c.visit_fault.ensures.few c.in_default.is))
 
 pub returns-in-None : goal.returns-in-None
 unfolding left
 returns-in-None c =
-    let step = sound c.args.source.now c.args.words.now c.args.self.now c.args.word _ _ (record { from = c.args.self.now.body.from + 1; to = c.args.self.now.body.to }) c.requires.first c.text.ensures c.body_named-used.ensures _ c.visit_fault.ensures.kind
+    let step = sound c.args.source.now c.args.words.now c.args.self.now c.args.word _ _ c.requires.first c.text.ensures c.body_named-used.ensures _ c.visit_fault.ensures.kind
     c.in_default.is c.visit_fault.ensures.room c.visit_fault.ensures.few _ refl (rw c.in-None.is refl) in
     (step.0, step.1 ∙ ap is_some c.in-None.is, step.2, step.3)
