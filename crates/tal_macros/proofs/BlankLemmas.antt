@@ -1,5 +1,5 @@
 -- No word of an expanded list has a blank.
-use Rattle.std.proofs.Common.{ℕ, zero, suc, List, [], ◌∷◌, ◌++◌, take, Option, Some, None, arith}
+use Rattle.std.proofs.Common.{ℕ, zero, suc, List, [], ◌∷◌, ◌++◌, take, arith}
 use Rattle.std.specs.Prelude.{unwrap_or}
 use Rattle.std.specs.List.{flat_map, AllByRecursion}
 use Rattle.tal_words.specs.declared.span.Word.{Word}
@@ -9,7 +9,7 @@ use Rattle.tal_words.specs.Comments.{words_of}
 use Rattle.tal_words.specs.Order.{collected}
 use Rattle.tal_words.specs.PlainTexts.{IsBlankFree}
 use Rattle.tal_words.proofs.BlankFree.{all_joined, words_free}
-use Rattle.tal_macros.specs.Expansion.{Macro, Part, Plain, Head, Inside, Visited, depth_limit, body_named, body_after, body_defined, part_of, parts_from, head_length, macro_given, known_at, visits, visits_given, visit_list, without_uses, parts_of, expanded_of}
+use Rattle.tal_macros.specs.Expansion.{Macro, Part, Plain, Head, Inside, Visited, depth_limit, body_named, body_defined, part_of, parts_from, head_length, macro_given, known_at, visits, visits_given, visit_list, without_uses, parts_of, expanded_of}
 
 -- what holds of what each of some things gives
 all_flat : {X Y : Type 0} (P : X → Type 0) (Q : Y → Type 0) (f : X → List Y) → ((x : X) → P x → AllByRecursion Q (f x)) → (xs : List X)
@@ -26,37 +26,22 @@ module _ (source : List ℕ) where
   abbrev IsFreeWord : Word → Type 0
   IsFreeWord word = IsBlankFree (word_text source word)
 
-  -- the bodies of macros
-  abbrev IsFreeBody : Option (List Word) → Type 0
-  IsFreeBody None = Unit {0}
-  IsFreeBody (Some body) = AllByRecursion IsFreeWord body
-
   abbrev IsFreePart : Part → Type 0
   IsFreePart (Plain word) = IsFreeWord word
-  IsFreePart (Head word body) = IsFreeBody body
+  IsFreePart (Head word body) = AllByRecursion IsFreeWord (unwrap_or body [])
   IsFreePart (Inside word) = Unit {0}
 
   abbrev IsFreeMacro : Macro → Type 0
   IsFreeMacro macro = AllByRecursion IsFreeWord macro.body
 
-  body_free : (words : List Word) → AllByRecursion IsFreeWord words → IsFreeBody (body_after source words)
-  body_free [] all = tt
-  body_free (brace ∷ words) all = grind (arith, all_taken IsFreeWord)
-
   part_free : (word : Word) (words : List Word) → IsFreeWord word → AllByRecursion IsFreeWord words → IsFreePart (part_of source word (body_defined source word words))
-  part_free word words plain all = grind (arith, body_free words all)
+  part_free word [] plain all = grind arith
+  part_free word (brace ∷ words) plain all = grind (arith, all_taken IsFreeWord)
 
   parts_free : (inside : ℕ) (words : List Word) → AllByRecursion IsFreeWord words → AllByRecursion IsFreePart (parts_from source inside words)
   parts_free inside [] all = tt
   parts_free (suc inside) (word ∷ words) all = (tt, parts_free inside words all.1)
   parts_free zero (word ∷ words) all = (part_free word words all.0 all.1, parts_free (head_length (body_defined source word words)) words all.1)
-
-  macro_free : (part : Part) → IsFreePart part → AllByRecursion IsFreeMacro (macro_given source part)
-  macro_free part plain = grind arith
-
-  known_free : (before : List Part) → AllByRecursion IsFreePart before → AllByRecursion IsFreeMacro (known_at source before)
-  unfolding known_at
-  known_free before all = all_flat IsFreePart IsFreeMacro (macro_given source) macro_free before all
 
   named_free : (known : List Macro) (name : List ℕ) → AllByRecursion IsFreeMacro known → AllByRecursion IsFreeWord (unwrap_or (body_named known name) [])
   named_free [] name all = tt
@@ -73,7 +58,10 @@ module _ (source : List ℕ) where
       (plain, all_flat IsFreeWord IsFreeVisit _ (visits_free known origin room all) (unwrap_or (body_named known (word_text source word)) []) (named_free known (word_text source word) all))
 
   given_free : (before : List Part) (part : Part) (after : List Part) → AllByRecursion IsFreePart before → IsFreePart part → AllByRecursion IsFreeVisit (visits_given source before part after)
-  given_free before (Plain word) after all plain = visits_free (known_at source before) word depth_limit (known_free before all) word plain
+  unfolding known_at
+  given_free before (Plain word) after all plain =
+      let known = all_flat IsFreePart IsFreeMacro (macro_given source) (λ part plain. grind arith) before all in
+      visits_free (known_at source before) word depth_limit known word plain
   given_free before part after all plain = tt
 
   list_free : (before parts : List Part) → AllByRecursion IsFreePart before → AllByRecursion IsFreePart parts → AllByRecursion IsFreeVisit (collected (visits_given source) before parts)

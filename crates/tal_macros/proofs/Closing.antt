@@ -26,15 +26,9 @@ shifted count index = option_map (λ k. count + k) index
 shifted-step : (count : ℕ) (ends : Bool) (later : Option ℕ) → shifted count (if ends then Some 0 else option_map suc later) ≡ (if ends then Some count else shifted (count + 1) later)
 shifted-step count ends later = grind arith
 
-shifted-zero : (index : Option ℕ) → shifted 0 index ≡ index
-shifted-zero index = grind arith
-
 or-step : {X : Type 0} (found : Option X) (test : Bool) (x : X) (later : Option X)
     → option_or found (if test then Some x else later) ≡ option_or (option_or found (if test then Some x else None)) later
 or-step found test x later = grind arith
-
-or-none : {X : Type 0} (found : Option X) → option_or (option_or found None) None ≡ found
-or-none found = grind arith
 
 module _ (source : List ℕ) (words : List Word) (brace : ℕ) where
   abbrev text_at : ℕ → List ℕ
@@ -63,7 +57,7 @@ module _ (source : List ℕ) (words : List Word) (brace : ℕ) where
     searches_start =
         let none : brace + 1 - (brace + 1) ≡ 0 = omega arith in
         record {
-          found = rw none (shifted-zero (matching (map (word_text source) (drop (brace + 1) words))));
+          found = rw none (grind arith);
           heads = λ to below. sym (heads-step brace to None brace_within below ∙ rw (only-no_head 123 (text_at brace) brace_opens (λ never. omega arith)) refl);
           opened_bound = omega arith;
           closed_bound = omega arith;
@@ -74,12 +68,12 @@ module _ (source : List ℕ) (words : List Word) (brace : ℕ) where
       searches_end past = body-is ∙ ap (option_map (λ count. take count (drop (brace + 1) words))) (sym (rw (drop_all index words past) at searches.found))
 
       module _ (after : brace + 1 ≤ index) (within : index < length words) where
-        abbrev later : Option ℕ
-        later = matching_after (opened + one_if (opens (text_at index))) (closed + one_if (closes (text_at index))) (map (word_text source) (drop (index + 1) words))
-
-        step : (if closes (text_at index) && opened == closed then Some (index - (brace + 1)) else shifted (index - (brace + 1) + 1) later)
+        step : (if closes (text_at index) && opened == closed then Some (index - (brace + 1)) else shifted (index - (brace + 1) + 1)
+            (matching_after (opened + one_if (opens (text_at index))) (closed + one_if (closes (text_at index)))
+            (map (word_text source) (drop (index + 1) words))))
             ≡ matching (map (word_text source) (drop (brace + 1) words))
-        step = sym (shifted-step (index - (brace + 1)) (closes (text_at index) && opened == closed) later) ∙ rw (drop-word words index within) at searches.found
+        step = sym (shifted-step (index - (brace + 1)) (closes (text_at index) && opened == closed) _)
+            ∙ rw (drop-word words index within) at searches.found
 
         pub searches_found : (closes (text_at index) && opened == closed) ≡ true → IsBody source words brace (record { from = brace + 1; to = index }) nested
         searches_found here =
@@ -91,7 +85,7 @@ module _ (source : List ℕ) (words : List Word) (brace : ℕ) where
               ordered = after;
               within = within;
               heads = sym (sym (searches.heads (index + 1) (omega arith)) ∙ heads-step index (index + 1) nested within (omega arith)
-                  ∙ rw (none, only-no_head 125 (text_at index) closing (λ never. omega arith)) (or-none nested));
+                  ∙ rw (none, only-no_head 125 (text_at index) closing (λ never. omega arith)) (grind arith));
             }
 
         pub searches_more : (closes (text_at index) && opened == closed) ≡ false

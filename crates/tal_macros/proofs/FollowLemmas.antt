@@ -1,12 +1,12 @@
 -- A pass that goes on as the expansion of its source does.
-use Rattle.std.proofs.Common.{◌≡◌, ℕ, ◌⊎◌, inl, inr, true, false, List, [], drop, Some, None, ap, sym, ◌∙◌, arith}
+use Rattle.std.proofs.Common.{◌≡◌, ℕ, ◌≤◌, ◌⊎◌, inl, inr, true, false, List, [], drop, Some, None, ap, sym, ◌∙◌, arith}
 use Rattle.std.proofs.lemmas.List.{drop-drop}
 use Rattle.tal_words.specs.declared.span.Word.{Word}
 use Rattle.tal_words.specs.declared.span.Expanded.{Expanded}
 use Rattle.tal_words.specs.Order.{collected}
 use Rattle.tal_words.specs.Comments.{words_of}
 use Rattle.tal_macros.specs.declared.pass.Pass.{Pass}
-use Rattle.tal_macros.specs.Expansion.{Visited, parts_of, parts_from, known_at, visit_list}
+use Rattle.tal_macros.specs.Expansion.{Visited, parts_of, parts_from, known_at, visit_list, visit_limit}
 use Rattle.tal_macros.specs.Steps.{steps_given, reached, next_word, visits_before_fault, Progress, words_left, advanced}
 use Rattle.tal_macros.specs.Passing.{rest, left, Passes, Visits, Follows}
 use Rattle.tal_macros.proofs.StepLemmas.{collected-rest, fault-steps}
@@ -24,19 +24,11 @@ module _ (source : List ℕ) (words : List Word) where
       grind (arith, fault-steps source)
 
   module _ (visited : ℕ) (old new : Pass) (follows : Follows source words visited old) where
-    -- after a step that visits nothing
-    pub follows-passed : Passes source words old new → Follows source words visited new
-    follows-passed passes = grind arith
-
     module _ (word : Visited) (step : Visits source words old new word) where
       behind : reached (left source words new) ≡ drop new.count (visits_before_fault source)
       behind =
           ap (drop 1) (sym step.continues.visits ∙ follows.visits) ∙ drop-drop 1 old.count (visits_before_fault source)
           ∙ ap (λ n. drop n (visits_before_fault source)) (sym step.count)
-
-      -- after a use
-      pub follows-opened : word.is_use ≡ true → Follows source words visited new
-      follows-opened used = grind (arith, behind)
 
       -- after a word that is no use
       pub follows-given : Follows source words new.count new
@@ -46,11 +38,13 @@ module _ (source : List ℕ) (words : List Word) where
       next-given plain given is = (grind arith, ap progress (grind arith))
 
     -- where nothing is left to visit
-    pub next-none : reached (left source words old) ≡ [] → Passes source words old new → (next_word (words_left (progress visited)) ≡ None) × (progress new.count ≡ advanced (progress visited))
-    next-none none passes = (grind arith, ap progress (grind arith))
+    pub next-none : reached (left source words old) ≡ [] → Passes source words old new
+        → (next_word (words_left (progress visited)) ≡ None) × (progress new.count ≡ advanced (progress visited))
+        × (new.count ≤ visit_limit)
+    next-none none passes = (grind arith, ap progress (grind arith), omega (arith, passes.count, follows.bound))
 
   -- after a step that gives no word
   pub follows-turn : (visited : ℕ) (old new : Pass) → Follows source words visited old
       → Passes source words old new ⊎ ((word : Visited) × (word.is_use ≡ true) × Visits source words old new word) → Follows source words visited new
-  follows-turn visited old new follows (inl passes) = follows-passed visited old new follows passes
-  follows-turn visited old new follows (inr opened) = follows-opened visited old new follows opened.0 opened.2 opened.1
+  follows-turn visited old new follows (inl passes) = grind arith
+  follows-turn visited old new follows (inr opened) = grind (arith, behind visited old new follows opened.0 opened.2)

@@ -1,5 +1,5 @@
 -- What an Expander has given, one word further on and at the end.
-use Rattle.std.proofs.Common.{◌≡◌, ℕ, suc, ◌+◌, ◌≤◌, List, [], ◌∷◌, ◌++◌, length, take, drop, Some, None, refl, ap, sym, ◌∙◌, arith, append-nil}
+use Rattle.std.proofs.Common.{◌≡◌, ℕ, ◌+◌, ◌≤◌, List, [], ◌∷◌, ◌++◌, length, take, drop, Some, None, refl, ap, sym, ◌∙◌, arith, append-nil, add-one}
 use Rattle.std.specs.Prelude.{not}
 use Rattle.std.proofs.lemmas.Grind.{common_steps}
 use Rattle.std.proofs.lemmas.List.{map-append, length-map, length-take, take-append-drop, drop-drop}
@@ -15,7 +15,7 @@ without_uses-append : (xs ys : List Visited) → without_uses (xs ++ ys) ≡ wit
 without_uses-append xs ys = rw filter-append (rw map-append refl)
 
 take-next : (count : ℕ) (first : Visited) (words : List Visited) → take (count + 1) (first ∷ words) ≡ first ∷ take count words
-take-next count first words = let next : count + 1 ≡ suc count = omega arith in rw next refl
+take-next count first words = rw add-one refl
 
 -- the first word that is no use, and those up to it
 next-first : (words : List Visited) (word : Expanded) → next_word words ≡ Some word → without_uses (take (count_to_next words) words) ≡ word ∷ []

@@ -1,12 +1,12 @@
 -- The faults of a head, and how the expansion goes on behind it.
-use Rattle.std.proofs.Common.{◌≡◌, ℕ, zero, suc, ◌+◌, ◌-◌, ◌<◌, ◌⊎◌, Bool, true, List, [], ◌∷◌, ◌++◌, length, take, drop, Option, Some, None, refl, ap, sym, ◌∙◌, arith}
+use Rattle.std.proofs.Common.{◌≡◌, ℕ, zero, suc, ◌+◌, ◌-◌, ◌<◌, Bool, true, List, [], ◌∷◌, ◌++◌, length, take, drop, Option, Some, None, refl, ap, sym, ◌∙◌, arith}
 use Rattle.std.specs.Prelude.{if◌then◌else◌}
 use Rattle.std.specs.List.{find}
 use Rattle.std.specs.Option.{option_to_list}
 use Rattle.std.proofs.lemmas.List.{drop-drop, length-take, length-drop}
 use Rattle.tal_words.specs.declared.span.Word.{Word}
 use Rattle.tal_words.specs.declared.fault.FaultKind.{FaultKind}
-use Rattle.tal_words.specs.declared.fault.FaultKind.TheVariants.{BadName, NoName, MacroTwice, MacroBody}
+use Rattle.tal_words.specs.declared.fault.FaultKind.TheVariants.{BadName, MacroTwice, MacroBody}
 use Rattle.tal_words.specs.Faults.{when, least, fault_at}
 use Rattle.tal_words.specs.Names.{name_fault}
 use Rattle.tal_words.specs.Source.{word_text}
@@ -16,23 +16,18 @@ use Rattle.tal_macros.specs.Bodies.{body_words, word_at}
 use Rattle.tal_macros.specs.Passing.{Continues, Refuses, rest}
 use Rattle.tal_macros.specs.Heads.{is_head, IsBody}
 use Rattle.tal_macros.proofs.Known.{drop-word}
-use Rattle.tal_macros.proofs.PassLemmas.{continues-along, continues-then, refuses-at, refuses-behind}
-
-is_bad : (test : Bool) (kind : FaultKind) → (if test then Some BadName else None) ≡ Some kind → (kind ≡ BadName) ⊎ (kind ≡ NoName)
-is_bad test kind named = grind arith
+use Rattle.tal_macros.proofs.PassLemmas.{continues-along, refuses-at}
 
 -- a fault of the name is the least of a head
-name_fault-is : (name : List ℕ) (kind : FaultKind) → name_fault name ≡ Some kind → (kind ≡ BadName) ⊎ (kind ≡ NoName)
-unfolding name_fault
-name_fault-is [] kind named = grind arith
-name_fault-is (first ∷ more) kind named = is_bad _ kind named
-
-least-kind : (kind : FaultKind) (twice unclosed : Bool) → (kind ≡ BadName) ⊎ (kind ≡ NoName) → least (kind ∷ when twice MacroTwice ++ when unclosed MacroBody) ≡ Some kind
-least-kind kind twice unclosed is = grind arith
+least-bad : (test : Bool) (kind : FaultKind) (twice unclosed : Bool) → (if test then Some BadName else None) ≡ Some kind
+    → least (option_to_list (if test then Some BadName else None) ++ when twice MacroTwice ++ when unclosed MacroBody) ≡ Some kind
+least-bad test kind twice unclosed named = grind arith
 
 pub least_name : (name : List ℕ) (kind : FaultKind) (twice unclosed : Bool) → name_fault name ≡ Some kind
     → least (option_to_list (name_fault name) ++ when twice MacroTwice ++ when unclosed MacroBody) ≡ Some kind
-least_name name kind twice unclosed named = rw named (least-kind kind twice unclosed (name_fault-is name kind named))
+unfolding name_fault
+least_name [] kind twice unclosed named = grind arith
+least_name (first ∷ more) kind twice unclosed named = least-bad _ kind twice unclosed named
 
 module _ (source : List ℕ) (known : List Macro) (count : ℕ) where
   -- the words of a body and its braces, where none of them begins a head, and where one does
@@ -88,7 +83,10 @@ module _ (source : List ℕ) (words : List Word) (at : ℕ) (known : List Macro)
     head-continues none =
         let behind : drop inside next ≡ drop (body.to + 1) words =
         drop-drop inside (at + 1) words ∙ ap (λ n. drop n words) (omega (arith, is_body.from, is_body.ordered)) in
-        rw (← behind) (continues-then _ _ _ into_body (inside-continues source after count inside next (sym is_body.heads ∙ none)))
+        let further = inside-continues source after count inside next (sym is_body.heads ∙ none) in
+        rw (← behind) (record { visits = into_body.visits ∙ further.visits; faults = into_body.faults ∙ further.faults })
 
     pub body-refuses : (inner : Word) → nested ≡ Some inner → Refuses (rest source known count (parts_from source 0 (drop at words))) (fault_at inner MacroBody)
-    body-refuses inner some = refuses-behind _ _ _ into_body (inside-refuses source after count inside next inner (sym is_body.heads ∙ some))
+    body-refuses inner some =
+        let stop = inside-refuses source after count inside next inner (sym is_body.heads ∙ some) in
+        record { visits = into_body.visits ∙ stop.visits; faulty = into_body.faults ∙ stop.faulty }

@@ -1,11 +1,10 @@
 -- One step of a pass.
-use Rattle.std.proofs.Common.{◌≡◌, ℕ, zero, suc, ◌+◌, ◌-◌, ◌<◌, ◌≤◌, true, false, List, [], ◌∷◌, ◌++◌, length, drop, Option, Some, None, is_some, refl, ap, ◌∙◌, arith, append_assoc, append-nil, length-append}
+use Rattle.std.proofs.Common.{◌≡◌, ℕ, zero, suc, ◌+◌, ◌-◌, ◌<◌, ◌≤◌, true, false, List, [], ◌∷◌, ◌++◌, length, drop, Option, Some, None, is_some, refl, ap, arith, append_assoc, append-nil, length-append}
 use Rattle.std.specs.Prelude.{unwrap_or}
 use Rattle.std.specs.List.{flat_map}
 use Rattle.std.specs.Option.{option_to_list}
 use Rattle.std.proofs.lemmas.List.{drop_all}
 use Rattle.tal_words.specs.declared.span.Word.{Word}
-use Rattle.tal_words.specs.declared.fault.Fault.{Fault}
 use Rattle.tal_words.specs.declared.fault.FaultKind.{FaultKind}
 use Rattle.tal_words.specs.Source.{begins, word_text}
 use Rattle.tal_words.specs.Faults.{Judged, least, fault_at}
@@ -27,12 +26,6 @@ refuses-at judged visit old new kind parts some = record { visits = rw (parts, s
 
 pub continues-same : (old new : List Step) → old ≡ new → Continues old new []
 continues-same old new same = record { visits = ap reached same; faults = ap fault_of same }
-
-pub continues-then : (old middle new : List Step) → Continues old middle [] → Continues middle new [] → Continues old new []
-continues-then old middle new first second = record { visits = first.visits ∙ second.visits; faults = first.faults ∙ second.faults }
-
-pub refuses-behind : (old middle : List Step) (fault : Fault) → Continues old middle [] → Refuses middle fault → Refuses old fault
-refuses-behind old middle fault first second = record { visits = first.visits ∙ second.visits; faulty = first.faults ∙ second.faulty }
 
 module _ (source : List ℕ) (words : List Word) (known : List Macro) (origin : Word) where
   -- the visits of a word begin with the word, and go on with those of its body
@@ -93,11 +86,10 @@ module _ (source : List ℕ) (words : List Word) (known : List Macro) (origin : 
         ≡ record { judged = record { origin = origin; kinds = visit_kinds count here }; visit = Some here }
         ∷ steps_from source words known (count + 1) (flat_map (visits source known origin (depth_limit - length bodies - 1)) (unwrap_or used []) ++ pending bodies next) at
     steps-inside used named roomy =
-        let parts : pending bodies body ≡ here ∷ (flat_map (visits source known origin (depth_limit - length bodies - 1)) (unwrap_or used []) ++ pending bodies next) =
-        rw (first, visits-inside (depth_limit - length bodies) word used named (λ some. omega (arith, roomy some))) (ap (λ all. here ∷ all) (append_assoc
-        (flat_map (visits source known origin (depth_limit - length bodies - 1)) (unwrap_or used []))
-        (flat_map (visits source known origin (depth_limit - length bodies)) (body_words words next)) (open_visits source words known origin depth_limit bodies))) in
-        rw parts (steps-first count at here _)
+        let inner = flat_map (visits source known origin (depth_limit - length bodies - 1)) (unwrap_or used []) in
+        let behind = flat_map (visits source known origin (depth_limit - length bodies)) (body_words words next) in
+        rw (first, visits-inside (depth_limit - length bodies) word used named (λ some. omega (arith, roomy some)))
+        (rw (append_assoc inner behind (open_visits source words known origin depth_limit bodies)) (steps-first count at here _))
 
 module _ (source : List ℕ) (words : List Word) (known : List Macro) (count at : ℕ) where
   -- the words of the source from an index on

@@ -8,7 +8,7 @@ use Rattle.tal_words.specs.Source.{word_text, expanded_text}
 use Rattle.tal_words.specs.Order.{collected}
 use Rattle.tal_words.specs.Comments.{words_of}
 use Rattle.tal_words.specs.PlainTexts.{IsPlainWord}
-use Rattle.tal_macros.specs.Expansion.{Part, Plain, Visited, depth_limit, visit_limit, without_uses, parts_from, known_at, visits, visit_list, parts_of, expanded_of, expansion_fault}
+use Rattle.tal_macros.specs.Expansion.{Visited, depth_limit, visit_limit, without_uses, parts_from, known_at, visits, visit_list, parts_of, expanded_of, expansion_fault}
 use Rattle.tal_macros.specs.Steps.{steps_given, visit_steps}
 use Rattle.tal_macros.specs.Passing.{fault_of, rest}
 use Rattle.tal_macros.proofs.StepLemmas.{visited_at, collected-rest, visits-steps, visits-visits, fault-steps}
@@ -23,14 +23,11 @@ few_words count [] few = refl
 few_words count (word ∷ words) few = rw (lt-leb visit_limit count (omega arith)) (few_words (count + 1) words (omega arith))
 
 module _ (source : List ℕ) where
-  parts_plain : (words : List Word) → AllByRecursion IsPlainWord (map (word_text source) words) → parts_from source 0 words ≡ map Plain words
-  parts_plain [] none = refl
-  parts_plain (word ∷ words) none = rw none.0.no_head (ap (λ (parts : List Part). Plain word ∷ parts) (parts_plain words none.1))
-
-  rest_plain : (count : ℕ) (words : List Word) → rest source [] count (map Plain words) ≡ visit_steps count (map seen words)
+  rest_plain : (count : ℕ) (words : List Word) → AllByRecursion IsPlainWord (map (word_text source) words)
+      → rest source [] count (parts_from source 0 words) ≡ visit_steps count (map seen words)
   unfolding rest visits
-  rest_plain count [] = refl
-  rest_plain count (word ∷ words) = rw (rest_plain (count + 1) words) refl
+  rest_plain count [] none = refl
+  rest_plain count (word ∷ words) none = rw (none.0.no_head, rest_plain (count + 1) words none.1) refl
 
   texts_seen : (words : List Word) → map (expanded_text source) (without_uses (map seen words)) ≡ map (word_text source) words
   texts_seen [] = refl
@@ -39,7 +36,7 @@ module _ (source : List ℕ) where
   module _ (texts : List (List ℕ)) (are : map (word_text source) (words_of source) ≡ texts) (none : AllByRecursion IsPlainWord texts) where
     steps_are : collected (steps_given source) [] (parts_of source) ≡ visit_steps 0 (map seen (words_of source))
     unfolding parts_of known_at visit_list
-    steps_are = collected-rest source [] (parts_of source) ∙ ap (rest source [] 0) (parts_plain (words_of source) (rw (← are) at none)) ∙ rest_plain 0 (words_of source)
+    steps_are = collected-rest source [] (parts_of source) ∙ rest_plain 0 (words_of source) (rw (← are) at none)
 
     pub expanded_texts : map (expanded_text source) (expanded_of source) ≡ texts
     unfolding expanded_of visit_list

@@ -1,15 +1,13 @@
 -- The steps of an expansion, as they are judged and as they visit.
-use Rattle.std.proofs.Common.{◌≡◌, ℕ, ◌+◌, List, [], ◌∷◌, ◌++◌, length, map, None, inl, inr, refl, ap, ◌∙◌, append_assoc, append-nil, length-append, arith}
-use Rattle.std.specs.Prelude.{is_none}
+use Rattle.std.proofs.Common.{◌≡◌, ℕ, ◌+◌, List, [], ◌∷◌, ◌++◌, length, map, drop, None, refl, ap, ◌∙◌, append-nil, length-append, arith}
 use Rattle.std.specs.List.{flat_map}
 use Rattle.std.specs.Option.{option_to_list}
-use Rattle.std.proofs.lemmas.Bool.{cases_Bool}
 use Rattle.std.proofs.lemmas.Grind.{flat_map-append}
 use Rattle.std.proofs.lemmas.List.{map-append}
 use Rattle.tal_words.specs.Order.{collected}
-use Rattle.tal_words.specs.Faults.{least, phase_fault}
+use Rattle.tal_words.specs.Faults.{phase_fault}
 use Rattle.tal_words.proofs.OrderLemmas.{collected-more}
-use Rattle.tal_macros.specs.Expansion.{Part, Plain, Head, Inside, Visited, known_at, macro_given, visits_given, visit_list, judged_visits, judged_part, parts_of, expansion_fault}
+use Rattle.tal_macros.specs.Expansion.{Part, Visited, known_at, visits_given, visit_list, judged_visits, judged_part, parts_of, expansion_fault}
 use Rattle.tal_macros.specs.Steps.{Step, visit_steps, steps_given, reached, visits_before_fault}
 use Rattle.tal_macros.specs.Passing.{fault_of, rest}
 
@@ -31,48 +29,30 @@ reached-all [] none = refl
 reached-all (step ∷ steps) none = grind (arith, reached-all steps)
 
 -- what is reached is a front of what is visited
-reached-front : (steps : List Step) → (behind : List Visited) × (visited_at steps ≡ reached steps ++ behind)
-reached-front [] = ([], refl)
-reached-front (step ∷ steps) = elim (cases_Bool (is_none (least step.judged.kinds))) as (λ _. (behind : List Visited) × (visited_at (step ∷ steps) ≡ reached (step ∷ steps) ++ behind)) [
-  | inl sound ↦ ((reached-front steps).0, rw (sound, append_assoc, ← (reached-front steps).1) refl)
-  | inr faulty ↦ (visited_at (step ∷ steps), rw faulty refl)
-]
+reached-front : (steps : List Step) → visited_at steps ≡ reached steps ++ drop (length (reached steps)) (visited_at steps)
+reached-front [] = refl
+reached-front (step ∷ steps) = grind (arith, reached-front steps)
 
 module _ (source : List ℕ) where
-  -- what parts give does not depend on those after them
-  visits_alone : (before : List Part) (part : Part) (after others : List Part) → visits_given source before part after ≡ visits_given source before part others
-  visits_alone before part after others = grind arith
-
   visit_list-more : (before : List Part) (part : Part) → visit_list source (before ++ part ∷ []) ≡ visit_list source before ++ visits_given source before part []
   unfolding visit_list
-  visit_list-more before part = collected-more (visits_given source) visits_alone [] before part
-
-  known_at-more : (before : List Part) (part : Part) → known_at source (before ++ part ∷ []) ≡ known_at source before ++ macro_given source part
-  unfolding known_at
-  known_at-more before part = rw flat_map-append (rw (append-nil (macro_given source part)) refl)
+  visit_list-more before part = collected-more (visits_given source) (λ before part after others. grind arith) [] before part
 
   -- the steps of parts behind others, by the macros and the count of those
   pub collected-rest : (before parts : List Part) → collected (steps_given source) before parts ≡ rest source (known_at source before) (length (visit_list source before)) parts
-  unfolding rest
+  unfolding rest known_at
   collected-rest before [] = refl
-  collected-rest before (Plain word ∷ parts) = simp (collected-rest (before ++ Plain word ∷ []) parts, known_at-more, visit_list-more, append-nil, length-append) refl
-  collected-rest before (Head word body ∷ parts) = simp (collected-rest (before ++ Head word body ∷ []) parts, known_at-more, visit_list-more, append-nil) refl
-  collected-rest before (Inside word ∷ parts) = simp (collected-rest (before ++ Inside word ∷ []) parts, known_at-more, visit_list-more, append-nil) refl
-
-  judged-part : (before : List Part) (part : Part) (after : List Part) → map (λ (step : Step). step.judged) (steps_given source before part after) ≡ judged_part source before part after
-  judged-part before part after = grind (arith, judged-visits)
-
-  visits-part : (before : List Part) (part : Part) (after : List Part) → visited_at (steps_given source before part after) ≡ visits_given source before part after
-  visits-part before part after = grind (arith, visits-visits)
+  collected-rest before (part ∷ parts) =
+      grind (arith, collected-rest (before ++ part ∷ []) parts, flat_map-append, visit_list-more, append-nil, length-append)
 
   -- the steps are judged as the parts are, and visit what they visit
   pub judged-steps : (before parts : List Part) → map (λ (step : Step). step.judged) (collected (steps_given source) before parts) ≡ collected (judged_part source) before parts
   judged-steps before [] = refl
-  judged-steps before (part ∷ parts) = rw (map-append, judged-part before part parts, judged-steps (before ++ part ∷ []) parts) refl
+  judged-steps before (part ∷ parts) = grind (arith, map-append, judged-visits, judged-steps (before ++ part ∷ []) parts)
 
   pub visits-steps : (before parts : List Part) → visited_at (collected (steps_given source) before parts) ≡ collected (visits_given source) before parts
   visits-steps before [] = refl
-  visits-steps before (part ∷ parts) = rw (flat_map-append, visits-part before part parts, visits-steps (before ++ part ∷ []) parts) refl
+  visits-steps before (part ∷ parts) = grind (arith, flat_map-append, visits-visits, visits-steps (before ++ part ∷ []) parts)
 
   -- the first fault of the steps is that of the expansion
   pub fault-steps : fault_of (collected (steps_given source) [] (parts_of source)) ≡ expansion_fault source
@@ -86,4 +66,4 @@ module _ (source : List ℕ) where
 
   pub visits_before_fault-front : (behind : List Visited) × (visit_list source (parts_of source) ≡ visits_before_fault source ++ behind)
   unfolding visits_before_fault visit_list
-  visits_before_fault-front = rw (← visits-steps [] (parts_of source)) (reached-front (collected (steps_given source) [] (parts_of source)))
+  visits_before_fault-front = rw (← visits-steps [] (parts_of source)) (_, reached-front (collected (steps_given source) [] (parts_of source)))

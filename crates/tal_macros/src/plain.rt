@@ -8,6 +8,7 @@ ghost use Rattle.tal_words.specs.PlainTexts.{IsBlankFree, IsPlainWord};
 ghost use Rattle.tal_macros.specs.Expansion.{expanded_of, expansion_fault, visit_limit};
 
 /// Plain words expand to themselves, and have no fault where they are at most 1,000,000.
+#[tactic(auto, using(crate::proofs::PlainLemmas::expanded_texts, crate::proofs::PlainLemmas::no_expansion_fault))]
 pub fn plain_words_expand_to_themselves()
     ensures words { (source : List ℕ) (texts : List (List ℕ)) → map (word_text source) (words_of source) ≡ texts
         → AllByRecursion IsPlainWord texts → map (expanded_text source) (expanded_of source) ≡ texts }
@@ -16,6 +17,7 @@ pub fn plain_words_expand_to_themselves()
 {}
 
 /// No word of an expanded list has a blank in it.
+#[tactic(auto, using(crate::proofs::BlankLemmas::expanded_free))]
 pub fn expanded_words_have_no_blanks()
     ensures { (source : List ℕ) → AllByRecursion (λ word. IsBlankFree (expanded_text source word)) (expanded_of source) }
 {}

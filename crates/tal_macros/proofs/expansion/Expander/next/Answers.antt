@@ -17,34 +17,22 @@ invariant_of-self c =
     let turn = rw c.in-Ok-Word.field-0-is at c.in-Ok-Word.ensures in
     follows-given _ _ _ _ _ c.loop-word.invariant.follows _ turn.3
 
-pub returns-in-Ok-Word-clause-answer : goal.returns-in-Ok-Word-clause-answer
-returns-in-Ok-Word-clause-answer c =
+pub returns-in-Ok-Word : goal.returns-in-Ok-Word
+returns-in-Ok-Word c =
     let turn = rw c.in-Ok-Word.field-0-is at c.in-Ok-Word.ensures in
-    rw (← c.loop-word.invariant.kept) (next-given _ _ _ _ _ c.loop-word.invariant.follows _ turn.3 turn.1 _ turn.2).0
+    let next = next-given _ _ _ _ _ c.loop-word.invariant.follows _ turn.3 turn.1 _ turn.2 in
+    rw (← c.loop-word.invariant.kept) (record { answer = next.0; progress = next.1; bound = turn.3.bound })
 
-pub returns-in-Ok-Word-clause-progress : goal.returns-in-Ok-Word-clause-progress
-returns-in-Ok-Word-clause-progress c =
-    let turn = rw c.in-Ok-Word.field-0-is at c.in-Ok-Word.ensures in
-    rw (← c.loop-word.invariant.kept) (next-given _ _ _ _ _ c.loop-word.invariant.follows _ turn.3 turn.1 _ turn.2).1
-
-pub returns-in-Ok-End-clause-answer : goal.returns-in-Ok-End-clause-answer
-returns-in-Ok-End-clause-answer c =
+pub returns-in-Ok-End : goal.returns-in-Ok-End
+returns-in-Ok-End c =
     let turn = rw c.in-Ok-End.field-0-is at c.in-Ok-End.ensures in
     let follows = c.loop-word.invariant.follows in
-    rw (← c.loop-word.invariant.kept) ((next-none _ _ _ _ _ follows (ap reached turn.0) turn.1).0, sym follows.faults ∙ ap fault_of turn.0)
+    let next = next-none _ _ _ _ _ follows (ap reached turn.0) turn.1 in
+    rw (← c.loop-word.invariant.kept) (record { answer = (next.0, sym follows.faults ∙ ap fault_of turn.0); progress = next.1; bound = next.2 })
 
-pub returns-in-Ok-End-clause-progress : goal.returns-in-Ok-End-clause-progress
-returns-in-Ok-End-clause-progress c =
-    let turn = rw c.in-Ok-End.field-0-is at c.in-Ok-End.ensures in
-    rw (← c.loop-word.invariant.kept) (next-none _ _ _ _ _ c.loop-word.invariant.follows (ap reached turn.0) turn.1).1
-
-pub returns-in-Err-Refused-clause-answer : goal.returns-in-Err-Refused-clause-answer
-returns-in-Err-Refused-clause-answer c =
+pub returns-in-Err-Refused : goal.returns-in-Err-Refused
+returns-in-Err-Refused c =
     let turn = rw c.in-Err-Refused.field-0-is at c.in-Err-Refused.ensures in
     let follows = c.loop-word.invariant.follows in
-    rw (← c.loop-word.invariant.kept) ((next-none _ _ _ _ _ follows turn.0.visits turn.1).0, sym follows.faults ∙ turn.0.faulty)
-
-pub returns-in-Err-Refused-clause-progress : goal.returns-in-Err-Refused-clause-progress
-returns-in-Err-Refused-clause-progress c =
-    let turn = rw c.in-Err-Refused.field-0-is at c.in-Err-Refused.ensures in
-    rw (← c.loop-word.invariant.kept) (next-none _ _ _ _ _ c.loop-word.invariant.follows turn.0.visits turn.1).1
+    let next = next-none _ _ _ _ _ follows turn.0.visits turn.1 in
+    rw (← c.loop-word.invariant.kept) (record { answer = (next.0, sym follows.faults ∙ turn.0.faulty); progress = next.1; bound = next.2 })
