@@ -19,17 +19,14 @@ use Rattle.tal_labels.proofs.AddingLemmas.{place-later, place-here}
 use Rattle.tal_labels.proofs.CallerLemmas.{lie_apart}
 use Rattle.tal_labels.proofs.placing.place.Goals as goal
 
-abbrev same : Layout → Layout
-same layout = layout
-
-stopped_shape : (source : List ℕ) (words : List Expanded) (stop : AsmStop) → FindsNone (Err stop) (shape_fault source words) → Gives same (Err stop) (place_fault source words) (layout_of source words)
+stopped_shape : (source : List ℕ) (words : List Expanded) (stop : AsmStop) → FindsNone (Err stop) (shape_fault source words) → Gives (λ layout. layout) (Err stop) (place_fault source words) (layout_of source words)
 unfolding place_fault
 stopped_shape source words (Refused found) e = rw e refl
 stopped_shape source words NoMemory e = tt
 
 stopped_place : (source : List ℕ) (words : List Expanded) (k : ℕ) (new : Kept) (stop : AsmStop) → shape_fault source words ≡ None → k < length words
     → phase_fault (each (judged_place source) (take k words) (drop k words)) ≡ placing_fault source words
-    → PlacesNext source (take k words) (get_or words k no_word) (Err stop) new → Gives same (Err stop) (place_fault source words) (layout_of source words)
+    → PlacesNext source (take k words) (get_or words k no_word) (Err stop) new → Gives (λ layout. layout) (Err stop) (place_fault source words) (layout_of source words)
 stopped_place source words k new (Refused found) shaped within so e = placing_next source words (Some found) shaped (sym so ∙ place-here source words k found shaped within e)
 stopped_place source words k new NoMemory shaped within so e = tt
 

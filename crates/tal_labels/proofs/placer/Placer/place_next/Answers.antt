@@ -1,6 +1,7 @@
-use Rattle.std.proofs.Common.{◌≡◌, ℕ, List, length, Bool, true, false, Some, None, Ok, sym, ◌∙◌, ap, arith, Result, Err}
+use Rattle.std.proofs.Common.{◌≡◌, ℕ, ◌-◌, ◌≤◌, List, length, drop, length-take, length-drop, true, Some, None, Ok, sym, ◌∙◌, ap, arith}
 use Rattle.std.specs.Option.{option_map}
-use Rattle.tal_words.specs.declared.fault.FaultKind.{FaultKind}
+use Rattle.tal_words.specs.declared.span.Span.{Span}
+use Rattle.tal_words.specs.Source.{bytes_at}
 use Rattle.tal_words.specs.declared.form.Form.{Form}
 use Rattle.tal_words.specs.declared.form.Form.TheVariants.{LambdaEnd}
 use Rattle.tal_words.specs.Forms.{form, size}
@@ -8,21 +9,20 @@ use Rattle.tal_words.specs.Faults.{least}
 use Rattle.std.proofs.Math.Dec.{ltb}
 use Rattle.tal_labels.specs.Labels.{defined_name}
 use Rattle.tal_labels.specs.Shapes.{shape_kinds}
-use Rattle.tal_labels.specs.Placing.{place_kinds, is_mark_form, is_defined}
+use Rattle.tal_labels.specs.Placing.{place_kinds, is_mark_form, formed_marks, is_defined}
 use Rattle.tal_labels.specs.Placers.{kept_by}
 use Rattle.tal_labels.proofs.LayingLemmas.{well_placed}
 use Rattle.tal_labels.proofs.PlacedLemmas.{form-closes}
-use Rattle.tal_labels.proofs.PlacingLemmas.{text-short}
 use Rattle.tal_labels.proofs.KeptLemmas.{IsNext, refused_shape, judged_next, next_kept}
 use Rattle.tal_labels.proofs.placer.Placer.place_next.Goals as goal
 
+-- a text is within its source
+text-short : (source : List ℕ) (span : Span) → length (bytes_at source span) ≤ length source
+text-short source span = omega (arith, length-take (span.end - span.start) (drop span.start source), length-drop span.start source)
+
 -- a `}` is a mark
 mark_closes : (shape : Form) (text : List ℕ) → form text ≡ Ok shape → form text ≡ Ok LambdaEnd → is_mark_form shape ≡ true
-mark_closes shape text e h = (let same : Ok LambdaEnd ≡ Ok shape = sym h ∙ e in sym (ap marked same))
-  where
-    marked : Result Form FaultKind → Bool
-    marked (Ok shape) = is_mark_form shape
-    marked (Err kind) = false
+mark_closes shape text e h = ap formed_marks (sym e ∙ h)
 
 pub keep-requires-clause-closing : goal.keep-requires-clause-closing
 keep-requires-clause-closing c closing =
