@@ -55,12 +55,6 @@ length-collected source before [] all = refl
 length-collected source before (word ∷ words) all =
     rw ((all 0 (omega arith)).1, length-collected source (before ++ word ∷ []) words (λ j below. all (suc j) (omega arith))) refl
 
--- the word at an index of a layout without a fault
-pub placed_of-get : (source : List ℕ) (words : List Expanded) → shape_fault source words ≡ None → (k : ℕ) (shape : Form) (d : PlacedWord) → k < length words → form (expanded_text source (get_or words k no_word)) ≡ Ok shape
-    → get_or (placed_of source words) k d ≡ placed_word source (take k words) (get_or words k no_word) (drop (k + 1) words) shape
-unfolding placed_of
-placed_of-get source words sound k shape d within e = collected_at source [] words (formed_at source words sound) k shape d within e
-
 -- there are as many placed words as words
 pub length-placed_of : (source : List ℕ) (words : List Expanded) → ((k : ℕ) → k < length words → (shape : Form) × (form (expanded_text source (get_or words k no_word)) ≡ Ok shape)) → length (placed_of source words) ≡ length words
 unfolding placed_of
@@ -87,20 +81,21 @@ ends_below source words place (suc k) inside none i below shape e some =
 
 -- the words of a layout without a fault lie in memory, each above the ends of those before it
 pub lie_apart : (source : List ℕ) (words : List Expanded) → shape_fault source words ≡ None → placing_fault source words ≡ None → LieApart source (placed_of source words)
-lie_apart source words shaped sound = let all = formed_at source words shaped in let count = length-placed_of source words all in record {
+unfolding placed_of
+lie_apart source words shaped sound = let all = formed_at source words shaped in let count = length-collected source [] words all in record {
   each = λ k d within.
       let inside : k < length words = omega (arith, count) in
       let formed = all k inside in
       let well = placed_well source words sound k inside formed.0 formed.1 in
-      let read = placed_of-get source words shaped k formed.0 d inside formed.1 in
+      let read = collected_at source [] words all k formed.0 d inside formed.1 in
       rw read (record { shape = formed.1; sized = refl; start = well.low; end = well.high });
   apart = λ i k d before within some more.
       let inside : k < length words = omega (arith, count) in
       let first = all i (omega arith) in
       let second = all k inside in
       let well = placed_well source words sound k inside second.0 second.1 in
-      let read_first = placed_of-get source words shaped i first.0 d (omega arith) first.1 in
-      let read = placed_of-get source words shaped k second.0 d inside second.1 in
+      let read_first = collected_at source [] words all i first.0 d (omega arith) first.1 in
+      let read = collected_at source [] words all k second.0 d inside second.1 in
       rw (read_first, read)
       (ends_below source words (address_after source (take k words)) k (omega arith) (well.above (rw read at more)) i before first.0 first.1 (rw read_first at some));
 }
