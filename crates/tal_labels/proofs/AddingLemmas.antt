@@ -38,10 +38,12 @@ fault_or-both word kinds later e h = rw (e, h) refl
 either_none : (word : Word) (a b : List FaultKind) → or_later (fault_or word (least a) None) (fault_or word (least b) None) ≡ None → a ++ b ≡ []
 either_none word a b e = grind (arith, least-none)
 
-fault_or-still : (word : Word) (o : Option FaultKind) (later : Option Fault) (fault : Fault) → fault_or word o None ≡ Some fault → fault_or word o later ≡ Some fault
+fault_or-still : (word : Word) (o : Option FaultKind) (later : Option Fault) (fault : Fault)
+    → fault_or word o None ≡ Some fault → fault_or word o later ≡ Some fault
 fault_or-still word o later fault e = grind arith
 
-either_some : (word : Word) (a b : List FaultKind) (fault : Fault) → or_later (fault_or word (least a) None) (fault_or word (least b) None) ≡ Some fault → is_some (fault_or word (least (a ++ b)) None) ≡ true
+either_some : (word : Word) (a b : List FaultKind) (fault : Fault) → or_later (fault_or word (least a) None) (fault_or word (least b) None) ≡ Some fault
+    → is_some (fault_or word (least (a ++ b)) None) ≡ true
 either_some word [] b fault e = grind arith
 either_some word (kind ∷ a) b fault e = refl
 
@@ -117,4 +119,5 @@ module _ (source : List ℕ) where
   pub place-here : (words : List Expanded) (k : ℕ) (fault : Fault) → shape_fault source words ≡ None → k < length words → next_fault source (take k words) (get_or words k no_word) ≡ Some fault
       → phase_fault (each (judged_place source) (take k words) (drop k words)) ≡ Some fault
   place-here words k fault sound within e =
-      ap phase_fault (each-step (judged_place source) words k no_word within) ∙ fault_or-still (get_or words k no_word).origin _ _ fault (sym (placed-fault words k sound within) ∙ e)
+      ap phase_fault (each-step (judged_place source) words k no_word within)
+      ∙ fault_or-still (get_or words k no_word).origin _ _ fault (sym (placed-fault words k sound within) ∙ e)

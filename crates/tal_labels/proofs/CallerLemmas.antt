@@ -56,7 +56,8 @@ length-collected source before (word ∷ words) all =
     rw ((all 0 (omega arith)).1, length-collected source (before ++ word ∷ []) words (λ j below. all (suc j) (omega arith))) refl
 
 -- there are as many placed words as words
-pub length-placed_of : (source : List ℕ) (words : List Expanded) → ((k : ℕ) → k < length words → (shape : Form) × (form (expanded_text source (get_or words k no_word)) ≡ Ok shape)) → length (placed_of source words) ≡ length words
+pub length-placed_of : (source : List ℕ) (words : List Expanded) → ((k : ℕ) → k < length words → (shape : Form) × (form (expanded_text source (get_or words k no_word)) ≡ Ok shape))
+    → length (placed_of source words) ≡ length words
 unfolding placed_of
 length-placed_of source words all = length-collected source [] words all
 

@@ -21,8 +21,7 @@ use Rattle.tal_labels.specs.Scopes.{scope_text}
 use Rattle.tal_labels.specs.Placers.{Kept, IsKept, next_fault, closed_by, closed_opener, openers_step}
 use Rattle.tal_labels.proofs.ClosingLemmas.{opens-closes}
 use Rattle.tal_labels.proofs.CallerLemmas.{length-placed_of}
-use Rattle.tal_labels.proofs.PlaceLemmas.{address_after-more}
-use Rattle.tal_labels.proofs.LayingLemmas.{scope_after-append, labels_of-append, top-append}
+use Rattle.tal_labels.proofs.LayingLemmas.{address_after-more, scope_after-append, labels_of-append, top-append}
 use Rattle.tal_labels.proofs.OpenLemmas.{opened, still-more, ClosesLast, closes_last, length-open_ones}
 use Rattle.tal_labels.proofs.AddingLemmas.{added-still, formed-added}
 
@@ -32,7 +31,8 @@ pub record IsNext (source : List ℕ) (word : Expanded) (shape : Form) (text : L
   pub formed : form text ≡ Ok shape
 
 module _ (source : List ℕ) (words : List Expanded) (word : Expanded) (kept : Kept) (so : IsKept source words kept) where
-  shape_read : (text : List ℕ) (depth : ℕ) → depth ≡ length kept.openers → text ≡ expanded_text source word → shape_kinds (form text) text depth true ≡ shape_added source words word
+  shape_read : (text : List ℕ) (depth : ℕ) → depth ≡ length kept.openers → text ≡ expanded_text source word
+      → shape_kinds (form text) text depth true ≡ shape_added source words word
   shape_read text depth deep read = rw (deep, read, so.openers, ← length-open_ones source words) refl
 
   place_read : (shape : Form) (text : List ℕ) → IsNext source word shape text
@@ -41,14 +41,16 @@ module _ (source : List ℕ) (words : List Expanded) (word : Expanded) (kept : K
       let shaped = rw next.read at next.formed in
       rw (← so.top kept.address, so.labels, so.scope, so.address, next.read, shaped) refl
 
-  pub refused_shape : (text : List ℕ) (depth : ℕ) (kind : FaultKind) → depth ≡ length kept.openers → text ≡ expanded_text source word → least (shape_kinds (form text) text depth true) ≡ Some kind
-      → next_fault source words word ≡ Some (fault_at word.origin kind)
+  pub refused_shape : (text : List ℕ) (depth : ℕ) (kind : FaultKind) → depth ≡ length kept.openers → text ≡ expanded_text source word
+      → least (shape_kinds (form text) text depth true) ≡ Some kind → next_fault source words word ≡ Some (fault_at word.origin kind)
   refused_shape text depth kind deep read e = rw (← shape_read text depth deep read, e) refl
 
-  pub judged_next : (shape : Form) (text : List ℕ) (depth : ℕ) (name : Option (List ℕ)) (o : Option FaultKind) → IsNext source word shape text → depth ≡ length kept.openers
-      → name ≡ defined_name (Ok shape) (scope_text source kept.scope) text → least (shape_kinds (form text) text depth true) ≡ None
-      → least (place_kinds (is_defined kept.labels name) kept.address (size shape text) (is_mark_form shape) (ltb kept.address kept.top)) ≡ o → next_fault source words word ≡ fault_or word.origin o None
-  judged_next shape text depth name o next deep named e f = rw (← shape_read text depth deep next.read, e, ← place_read shape text next, ← named, f) refl
+  pub judged_next : (shape : Form) (text : List ℕ) (depth : ℕ) (name : Option (List ℕ)) (o : Option FaultKind) → IsNext source word shape text
+      → depth ≡ length kept.openers → name ≡ defined_name (Ok shape) (scope_text source kept.scope) text → least (shape_kinds (form text) text depth true) ≡ None
+      → least (place_kinds (is_defined kept.labels name) kept.address (size shape text) (is_mark_form shape) (ltb kept.address kept.top)) ≡ o
+      → next_fault source words word ≡ fault_or word.origin o None
+  judged_next shape text depth name o next deep named e f =
+      rw (← shape_read text depth deep next.read, e, ← place_read shape text next, ← named, f) refl
 
 -- the last opener is closed, where there is one
 closes_by : (address at : ℕ) (old new : List PlacedWord) (before after : List ℕ) → ClosesLast 0 address old new before after

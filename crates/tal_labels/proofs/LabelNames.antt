@@ -65,7 +65,8 @@ module _ (source : List ℕ) where
   unfolding scope_after
   scope_plain [] all = refl
   scope_plain (word ∷ words) all =
-      later_plain (last_label source words) (label_name (form (expanded_text source word)) (expanded_text source word)) (scope_plain words all.1) (label_plain (form (expanded_text source word)) (expanded_text source word) all.0)
+      let text = expanded_text source word in
+      later_plain (last_label source words) (label_name (form text) text) (scope_plain words all.1) (label_plain (form text) text all.0)
 
   given_named : (before : List Expanded) (answer : Result Form FaultKind) (scope text : List ℕ) → form text ≡ answer → IsBlankFree text → IsBlankFree scope
       → AllByRecursion IsNamed (label_at source before (defined_name answer scope text))

@@ -4,19 +4,20 @@ use Rattle.tal_labels.specs.Shapes.{shape_kinds}
 use Rattle.tal_words.proofs.PassLemmas.{none-at}
 use Rattle.std.proofs.lemmas.Bool.Decides.{nat_tests}
 use Rattle.std.specs.List.{list_any}
+use Rattle.std.specs.Prelude.{is_some, unwrap_or}
 use Rattle.std.proofs.Math.Dec.{ltb}
 use Rattle.std.proofs.lemmas.List.Folds.{list_any-append}
 use Rattle.tal_words.specs.declared.span.Expanded.{Expanded}
 use Rattle.tal_words.specs.declared.form.Form.{Form}
-use Rattle.tal_words.specs.declared.form.Form.TheVariants.{LabelDef}
+use Rattle.tal_words.specs.declared.form.Form.TheVariants.{LabelDef, Pad}
 use Rattle.tal_words.specs.Faults.{least, Judged, phase_fault}
 use Rattle.tal_words.specs.Forms.{form, size}
 use Rattle.tal_words.specs.Order.{each}
 use Rattle.tal_words.specs.Source.{expanded_text}
-use Rattle.tal_labels.specs.Places.{address_after}
+use Rattle.tal_labels.specs.Places.{pad_value, moves, moved_since_pad, address_after}
 use Rattle.tal_labels.specs.Labels.{defined_name, scope_after, labels_given, labels_of}
 use Rattle.tal_labels.specs.Placing.{place_kinds, ends_given, ends_of}
-use Rattle.tal_labels.specs.Answers.{next_scope, label_of}
+use Rattle.tal_labels.specs.Answers.{next_address, next_scope, label_of}
 use Rattle.tal_words.proofs.OrderLemmas.{collected-more, last_of-more, no_word, get_or-each, length-each}
 
 -- where no word has a fault of a phase, a word has none
@@ -48,6 +49,23 @@ pub record IsWellPlaced (twice : Bool) (place size : ℕ) (is_mark below : Bool)
 
 pub well_placed : (twice : Bool) (place size : ℕ) (is_mark below : Bool) → least (place_kinds twice place size is_mark below) ≡ None → IsWellPlaced twice place size is_mark below
 well_placed twice place size is_mark below e = grind (arith, nat_tests)
+
+module _ (source : List ℕ) where
+  moved-more : (words : List Expanded) (last : Expanded) → let text = expanded_text source last in
+      moved_since_pad source (words ++ last ∷ []) ≡ cond (is_some (pad_value (form text))) 0 (moved_since_pad source words) + moves (form text) text
+  moved-more [] last = grind arith
+  moved-more (word ∷ words) last = rw (last_of-more _ words last, moved-more words last) (grind arith)
+
+  -- the place after one more word
+  pub address-more : (words : List Expanded) (last : Expanded) → let text = expanded_text source last in
+      address_after source (words ++ last ∷ []) ≡ unwrap_or (pad_value (form text)) (address_after source words) + moves (form text) text
+  unfolding address_after
+  address-more words last = rw (last_of-more _ words last, moved-more words last) (grind arith)
+
+  pub address_after-more : (words : List Expanded) (last : Expanded) (shape : Form) → form (expanded_text source last) ≡ Ok shape
+      → address_after source (words ++ last ∷ []) ≡ next_address shape (expanded_text source last) (address_after source words)
+  address_after-more words last (Pad value) e = rw (address-more words last, e) (omega arith)
+  address_after-more words last shape e = rw (address-more words last, e) refl
 
 -- the scope after one word more
 pub scope_after-append : (source : List ℕ) (before : List Expanded) (word : Expanded) (shape : Form) → form (expanded_text source word) ≡ Ok shape

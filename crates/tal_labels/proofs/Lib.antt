@@ -1,4 +1,3 @@
-pub mod PlaceLemmas
 pub mod ClosingLemmas
 pub mod ShapeLemmas
 pub mod IndexLemmas

@@ -1,6 +1,6 @@
 -- Words that are opcodes, bytes and shorts, one behind the other from the address 0100 on.
 use Rattle.std.proofs.Common.{◌≡◌, ℕ, ◌+◌, ◌<◌, ◌≤◌, true, false, List, [], ◌∷◌, ◌++◌, length, map, None, Ok, refl, ap, ◌∙◌, arith, length-append}
-use Rattle.tal_labels.proofs.LayingLemmas.{ends_of-append}
+use Rattle.tal_labels.proofs.LayingLemmas.{address-more, address_after-more, ends_of-append}
 use Rattle.std.proofs.lemmas.Bool.Decides.{nat_tests}
 use Rattle.std.specs.Prelude.{if◌then◌else◌, nat_lt}
 use Rattle.std.specs.List.{list_any, AllByRecursion}
@@ -17,7 +17,6 @@ use Rattle.tal_labels.specs.Labels.{defined_name, scope_after}
 use Rattle.tal_labels.specs.Shapes.{judged_shape, shape_fault}
 use Rattle.tal_labels.specs.PlainWords.{Coded, texts_of_coded, bytes_of_coded, pad_text, is_bare_form, StandsFor, addresses_from}
 use Rattle.tal_labels.specs.Placing.{is_mark_form, formed_size, place_kinds, ends_of, ends_above, judged_place, placing_fault, place_fault}
-use Rattle.tal_labels.proofs.PlaceLemmas.{address-more, address_after-more}
 
 -- what is known of an opcode, a byte or a short
 pub record IsCoded (word : Coded) : Type 0 where

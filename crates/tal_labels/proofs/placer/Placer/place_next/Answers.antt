@@ -30,16 +30,16 @@ keep-requires-clause-closing c closing =
 
 pub returns-in-Err-clause-value : goal.returns-in-Err-clause-value
 returns-in-Err-clause-value c words few so =
-    refused_shape c.args.source.now words c.args.word (kept_by c.args.self.now) so c.text-text.result.now c.len.result c.in-Err.kind (omega arith) c.text-text.ensures c.in-Err.ensures
-    ∙ sym (ap Some c.new.ensures)
+    refused_shape c.args.source.now words c.args.word (kept_by c.args.self.now) so c.text-text.result.now c.len.result c.in-Err.kind
+    (omega arith) c.text-text.ensures c.in-Err.ensures ∙ sym (ap Some c.new.ensures)
 
 pub returns-in-Some-clause-value : goal.returns-in-Some-clause-value
 returns-in-Some-clause-value c words few so =
     let text = c.text-text.result.now in
     let named = c.in_ok-name.ensures ∙ ap (λ s. defined_name (Ok c.in-Ok.form) s text) c.text.ensures in
     let next : IsNext c.args.source.now c.args.word c.in-Ok.form text = record { read = c.text-text.ensures; formed = c.in-Ok.ensures.0 } in
-    judged_next c.args.source.now words c.args.word (kept_by c.args.self.now) so c.in-Ok.form text c.len.result _ (Some c.in-Some.kind) next (omega arith) named c.in-Ok.ensures.1 (sym c.in-Some.ensures)
-    ∙ sym (ap Some c.new-in-Some.ensures)
+    judged_next c.args.source.now words c.args.word (kept_by c.args.self.now) so c.in-Ok.form text c.len.result _ (Some c.in-Some.kind) next
+    (omega arith) named c.in-Ok.ensures.1 (sym c.in-Some.ensures) ∙ sym (ap Some c.new-in-Some.ensures)
 
 pub returns-clause-value : goal.returns-clause-value
 returns-clause-value c words few so =
@@ -47,7 +47,8 @@ returns-clause-value c words few so =
     let kept = c.args.self.now in
     let named = c.in_ok-name.ensures ∙ ap (λ s. defined_name (Ok c.in-Ok.form) s text) c.text.ensures in
     let next : IsNext c.args.source.now c.args.word c.in-Ok.form text = record { read = c.text-text.ensures; formed = c.in-Ok.ensures.0 } in
-    let judged = judged_next c.args.source.now words c.args.word (kept_by kept) so c.in-Ok.form text c.len.result _ None next (omega arith) named c.in-Ok.ensures.1 (sym c.in_default.ensures) in
+    let judged = judged_next c.args.source.now words c.args.word (kept_by kept) so c.in-Ok.form text c.len.result _ None next
+    (omega arith) named c.in-Ok.ensures.1 (sym c.in_default.ensures) in
     let well = well_placed (is_defined kept.labels (option_map (λ bytes. bytes.items) c.in_ok-name.name)) kept.address (size c.in-Ok.form text) (is_mark_form c.in-Ok.form) (ltb kept.address kept.top) (sym c.in_default.ensures) in
     let done = next_kept c.args.source.now words c.args.word c.in-Ok.form text (option_map (λ bytes. bytes.items) c.in_ok-name.name)
     (record { word = c.args.word; form = c.in-Ok.form; address = kept.address; size = c.size.result; lambda = None })
