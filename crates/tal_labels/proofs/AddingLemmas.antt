@@ -12,8 +12,8 @@ use Rattle.tal_words.specs.Forms.{form}
 use Rattle.tal_words.specs.Braces.{opens}
 use Rattle.tal_words.specs.Order.{each, collected}
 use Rattle.tal_words.specs.Source.{expanded_text}
-use Rattle.tal_words.proofs.OrderLemmas.{each-more, no_word}
-use Rattle.tal_words.proofs.PassLemmas.{fault-here, fault-later, fault-behind, fault-front, fault_or-none}
+use Rattle.tal_words.proofs.OrderLemmas.{each-step, each-more, no_word}
+use Rattle.tal_words.proofs.PassLemmas.{fault-later, fault-behind, fault-front, fault_or-none}
 use Rattle.tal_labels.specs.Shapes.{shape_kinds, open_count, closing_distance, judged_shape, shape_fault}
 use Rattle.tal_labels.specs.Placing.{judged_place, placing_fault, place_fault}
 use Rattle.tal_labels.specs.Adding.{shape_added, adding_kinds, judged_added, added_fault, open_given, open_ones}
@@ -37,6 +37,15 @@ fault_or-both word kinds later e h = rw (e, h) refl
 -- a word has a fault in one of two phases where it has one in both together
 either_none : (word : Word) (a b : List FaultKind) → or_later (fault_or word (least a) None) (fault_or word (least b) None) ≡ None → a ++ b ≡ []
 either_none word a b e = grind (arith, least-none)
+
+fault_or-still : (word : Word) (o : Option FaultKind) (later : Option Fault) (fault : Fault)
+    → fault_or word o None ≡ Some fault → fault_or word o later ≡ Some fault
+fault_or-still word o later fault e = grind arith
+
+either_some : (word : Word) (a b : List FaultKind) (fault : Fault) → or_later (fault_or word (least a) None) (fault_or word (least b) None) ≡ Some fault
+    → is_some (fault_or word (least (a ++ b)) None) ≡ true
+either_some word [] b fault e = grind arith
+either_some word (kind ∷ a) b fault e = refl
 
 open-head : (b : Bool) (at : ℕ) (rest : List ℕ) → cond b (at ∷ []) [] ++ rest ≡ [] → (b ≡ false) × (rest ≡ [])
 open-head b at rest e = grind arith
@@ -83,19 +92,11 @@ module _ (source : List ℕ) where
   pub added-faulty : (words : List Expanded) (word : Expanded) (fault : Fault) → added_fault source words ≡ None → next_fault source words word ≡ Some fault → is_some (added_fault source (words ++ word ∷ [])) ≡ true
   unfolding added_fault
   added-faulty words word fault e h =
-      rw (added-step words word, fault-behind (each (judged_added source) [] words) (judged_added source words word [] ∷ []) e) (by (shape_added source words word) (judged_place source words word []).kinds h)
-    where
-      by : (a b : List FaultKind) → or_later (fault_or word.origin (least a) None) (fault_or word.origin (least b) None) ≡ Some fault → is_some (fault_or word.origin (least (a ++ b)) None) ≡ true
-      by [] b e = grind arith
-      by (kind ∷ a) b e = refl
+      rw (added-step words word, fault-behind (each (judged_added source) [] words) (judged_added source words word [] ∷ []) e) (either_some word.origin _ _ fault h)
 
   pub added-front : (words : List Expanded) (word : Expanded) → is_some (added_fault source words) ≡ true → is_some (added_fault source (words ++ word ∷ [])) ≡ true
   unfolding added_fault
-  added-front words word e = rw (added-step words word) (by (phase_fault (each (judged_added source) [] words)) refl e)
-    where
-      by : (o : Option Fault) → phase_fault (each (judged_added source) [] words) ≡ o → is_some o ≡ true → is_some (phase_fault (each (judged_added source) [] words ++ judged_added source words word [] ∷ [])) ≡ true
-      by (Some fault) f e = ap is_some (fault-front (each (judged_added source) [] words) (judged_added source words word [] ∷ []) fault f)
-      by None f e = cc
+  added-front words word e = rw (added-step words word) (grind (arith, fault-front (each (judged_added source) [] words) (judged_added source words word [] ∷ [])))
 
   -- words without a fault have a form
   pub formed-added : (words : List Expanded) → added_fault source words ≡ None → (k : ℕ) → k < length words → (shape : Form) × (form (expanded_text source (get_or words k no_word)) ≡ Ok shape)
@@ -118,9 +119,5 @@ module _ (source : List ℕ) where
   pub place-here : (words : List Expanded) (k : ℕ) (fault : Fault) → shape_fault source words ≡ None → k < length words → next_fault source (take k words) (get_or words k no_word) ≡ Some fault
       → phase_fault (each (judged_place source) (take k words) (drop k words)) ≡ Some fault
   place-here words k fault sound within e =
-      by (least (judged_place source (take k words) (get_or words k no_word) (drop (k + 1) words)).kinds) refl (sym (placed-fault words k sound within) ∙ e)
-    where
-      by : (o : Option FaultKind) → least (judged_place source (take k words) (get_or words k no_word) (drop (k + 1) words)).kinds ≡ o → fault_or (get_or words k no_word).origin o None ≡ Some fault
-          → phase_fault (each (judged_place source) (take k words) (drop k words)) ≡ Some fault
-      by None f e = cc
-      by (Some kind) f e = fault-here (judged_place source) words k no_word within kind f ∙ e
+      ap phase_fault (each-step (judged_place source) words k no_word within)
+      ∙ fault_or-still (get_or words k no_word).origin _ _ fault (sym (placed-fault words k sound within) ∙ e)

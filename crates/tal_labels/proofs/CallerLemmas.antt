@@ -12,11 +12,12 @@ use Rattle.tal_labels.specs.declared.placed.PlacedWord.{PlacedWord}
 use Rattle.tal_words.specs.Order.{collected}
 use Rattle.tal_words.specs.Source.{expanded_text}
 use Rattle.tal_labels.specs.Places.{address_after}
+use Rattle.tal_labels.specs.Labels.{defined_name, scope_after, labels_of}
 use Rattle.tal_labels.specs.Shapes.{open_count, closing_distance, judged_shape, shape_fault}
-use Rattle.tal_labels.specs.Placing.{placing_fault, place_fault, lambda_address, placed_given, placed_of, ends_given, ends_of, LieApart}
+use Rattle.tal_labels.specs.Placing.{is_mark_form, is_defined, ends_above, judged_place, placing_fault, place_fault, lambda_address, placed_given, placed_of, ends_given, ends_of, LieApart}
+use Rattle.tal_labels.specs.Adding.{open_word}
 use Rattle.tal_words.proofs.OrderLemmas.{no_word}
-use Rattle.tal_labels.proofs.PlacedLemmas.{placed_well}
-use Rattle.tal_labels.proofs.LayingLemmas.{ends_of-append, or_false, each-none, has_form, least-none}
+use Rattle.tal_labels.proofs.LayingLemmas.{IsWellPlaced, well_placed, ends_of-append, or_false, each-none, has_form, least-none}
 
 -- where no word has a fault, none has one of its shape or of its place
 pub place_fault-none : (source : List ℕ) (words : List Expanded) → place_fault source words ≡ None → (shape_fault source words ≡ None) × (placing_fault source words ≡ None)
@@ -30,15 +31,15 @@ formed_at source words sound k within =
     let word = get_or words k no_word in
     has_form _ (expanded_text source word) (open_count source (take k words)) (is_some (closing_distance source (drop (k + 1) words))) (least-none _ (each-none (judged_shape source) words sound k within))
 
+-- what a well placed word of a form is
+placed_well : (source : List ℕ) (words : List Expanded) → placing_fault source words ≡ None → (k : ℕ) → k < length words → (shape : Form) → form (expanded_text source (get_or words k no_word)) ≡ Ok shape
+    → IsWellPlaced (is_defined (labels_of source (take k words)) (defined_name (Ok shape) (scope_after source (take k words)) (expanded_text source (get_or words k no_word)))) (address_after source (take k words)) (size shape (expanded_text source (get_or words k no_word))) (is_mark_form shape) (ends_above source (take k words) (address_after source (take k words)))
+unfolding placing_fault
+placed_well source words sound k within shape e = well_placed _ _ _ _ _ (rw e at (each-none (judged_place source) words sound k within))
+
 -- a word that is laid out
 abbrev pub placed_word : List ℕ → List Expanded → Expanded → List Expanded → Form → PlacedWord
-placed_word source before word after shape = record {
-  word = word;
-  form = shape;
-  address = address_after source before;
-  size = size shape (expanded_text source word);
-  lambda = lambda_address source before word after;
-}
+placed_word source before word after shape = record (open_word source before word shape) { lambda = lambda_address source before word after }
 
 collected_at : (source : List ℕ) (before words : List Expanded) → ((k : ℕ) → k < length words → (shape : Form) × (form (expanded_text source (get_or words k no_word)) ≡ Ok shape))
     → (k : ℕ) (shape : Form) (d : PlacedWord) → k < length words → form (expanded_text source (get_or words k no_word)) ≡ Ok shape
@@ -54,16 +55,11 @@ length-collected source before [] all = refl
 length-collected source before (word ∷ words) all =
     rw ((all 0 (omega arith)).1, length-collected source (before ++ word ∷ []) words (λ j below. all (suc j) (omega arith))) refl
 
--- the word at an index of a layout without a fault
-pub placed_of-get : (source : List ℕ) (words : List Expanded) → shape_fault source words ≡ None → (k : ℕ) (shape : Form) (d : PlacedWord) → k < length words → form (expanded_text source (get_or words k no_word)) ≡ Ok shape
-    → get_or (placed_of source words) k d ≡ placed_word source (take k words) (get_or words k no_word) (drop (k + 1) words) shape
-unfolding placed_of
-placed_of-get source words sound k shape d within e = collected_at source [] words (formed_at source words sound) k shape d within e
-
 -- there are as many placed words as words
-pub length-placed_of : (source : List ℕ) (words : List Expanded) → shape_fault source words ≡ None → length (placed_of source words) ≡ length words
+pub length-placed_of : (source : List ℕ) (words : List Expanded) → ((k : ℕ) → k < length words → (shape : Form) × (form (expanded_text source (get_or words k no_word)) ≡ Ok shape))
+    → length (placed_of source words) ≡ length words
 unfolding placed_of
-length-placed_of source words sound = length-collected source [] words (formed_at source words sound)
+length-placed_of source words all = length-collected source [] words all
 
 -- a place that no end of some words lies above lies at or above the end of each of them that has bytes
 ends_below : (source : List ℕ) (words : List Expanded) (place k : ℕ) → k ≤ length words → list_any (λ end. ltb place end) (ends_of source (take k words)) ≡ false
@@ -86,20 +82,21 @@ ends_below source words place (suc k) inside none i below shape e some =
 
 -- the words of a layout without a fault lie in memory, each above the ends of those before it
 pub lie_apart : (source : List ℕ) (words : List Expanded) → shape_fault source words ≡ None → placing_fault source words ≡ None → LieApart source (placed_of source words)
-lie_apart source words shaped sound = record {
+unfolding placed_of
+lie_apart source words shaped sound = let all = formed_at source words shaped in let count = length-collected source [] words all in record {
   each = λ k d within.
-      let inside : k < length words = omega (arith, length-placed_of source words shaped) in
-      let formed = formed_at source words shaped k inside in
+      let inside : k < length words = omega (arith, count) in
+      let formed = all k inside in
       let well = placed_well source words sound k inside formed.0 formed.1 in
-      let read = placed_of-get source words shaped k formed.0 d inside formed.1 in
+      let read = collected_at source [] words all k formed.0 d inside formed.1 in
       rw read (record { shape = formed.1; sized = refl; start = well.low; end = well.high });
   apart = λ i k d before within some more.
-      let inside : k < length words = omega (arith, length-placed_of source words shaped) in
-      let first = formed_at source words shaped i (omega arith) in
-      let second = formed_at source words shaped k inside in
+      let inside : k < length words = omega (arith, count) in
+      let first = all i (omega arith) in
+      let second = all k inside in
       let well = placed_well source words sound k inside second.0 second.1 in
-      let read_first = placed_of-get source words shaped i first.0 d (omega arith) first.1 in
-      let read = placed_of-get source words shaped k second.0 d inside second.1 in
+      let read_first = collected_at source [] words all i first.0 d (omega arith) first.1 in
+      let read = collected_at source [] words all k second.0 d inside second.1 in
       rw (read_first, read)
       (ends_below source words (address_after source (take k words)) k (omega arith) (well.above (rw read at more)) i before first.0 first.1 (rw read_first at some));
 }

@@ -20,9 +20,8 @@ use Rattle.tal_labels.specs.Adding.{shape_added, added_fault, open_word, open_on
 use Rattle.tal_labels.specs.Scopes.{scope_text}
 use Rattle.tal_labels.specs.Placers.{Kept, IsKept, next_fault, closed_by, closed_opener, openers_step}
 use Rattle.tal_labels.proofs.ClosingLemmas.{opens-closes}
-use Rattle.tal_labels.proofs.CallerLemmas.{length-collected}
-use Rattle.tal_labels.proofs.PlaceLemmas.{address_after-more}
-use Rattle.tal_labels.proofs.LayingLemmas.{scope_after-append, labels_of-append, top-append}
+use Rattle.tal_labels.proofs.CallerLemmas.{length-placed_of}
+use Rattle.tal_labels.proofs.LayingLemmas.{address_after-more, scope_after-append, labels_of-append, top-append}
 use Rattle.tal_labels.proofs.OpenLemmas.{opened, still-more, ClosesLast, closes_last, length-open_ones}
 use Rattle.tal_labels.proofs.AddingLemmas.{added-still, formed-added}
 
@@ -32,8 +31,9 @@ pub record IsNext (source : List ℕ) (word : Expanded) (shape : Form) (text : L
   pub formed : form text ≡ Ok shape
 
 module _ (source : List ℕ) (words : List Expanded) (word : Expanded) (kept : Kept) (so : IsKept source words kept) where
-  shape_read : (text : List ℕ) → text ≡ expanded_text source word → shape_kinds (form text) text (length kept.openers) true ≡ shape_added source words word
-  shape_read text read = rw (read, so.openers, ← length-open_ones source words) refl
+  shape_read : (text : List ℕ) (depth : ℕ) → depth ≡ length kept.openers → text ≡ expanded_text source word
+      → shape_kinds (form text) text depth true ≡ shape_added source words word
+  shape_read text depth deep read = rw (deep, read, so.openers, ← length-open_ones source words) refl
 
   place_read : (shape : Form) (text : List ℕ) → IsNext source word shape text
       → place_kinds (is_defined kept.labels (defined_name (Ok shape) (scope_text source kept.scope) text)) kept.address (size shape text) (is_mark_form shape) (ltb kept.address kept.top) ≡ (judged_place source words word []).kinds
@@ -41,15 +41,16 @@ module _ (source : List ℕ) (words : List Expanded) (word : Expanded) (kept : K
       let shaped = rw next.read at next.formed in
       rw (← so.top kept.address, so.labels, so.scope, so.address, next.read, shaped) refl
 
-  pub refused_shape : (text : List ℕ) (kind : FaultKind) → text ≡ expanded_text source word → least (shape_kinds (form text) text (length kept.openers) true) ≡ Some kind
-      → next_fault source words word ≡ Some (fault_at word.origin kind)
-  refused_shape text kind read e = rw (← shape_read text read, e) refl
+  pub refused_shape : (text : List ℕ) (depth : ℕ) (kind : FaultKind) → depth ≡ length kept.openers → text ≡ expanded_text source word
+      → least (shape_kinds (form text) text depth true) ≡ Some kind → next_fault source words word ≡ Some (fault_at word.origin kind)
+  refused_shape text depth kind deep read e = rw (← shape_read text depth deep read, e) refl
 
-  pub judged_next : (shape : Form) (text : List ℕ) (o : Option FaultKind) → IsNext source word shape text
-      → least (shape_kinds (form text) text (length kept.openers) true) ≡ None
-      → least (place_kinds (is_defined kept.labels (defined_name (Ok shape) (scope_text source kept.scope) text)) kept.address (size shape text) (is_mark_form shape) (ltb kept.address kept.top)) ≡ o
+  pub judged_next : (shape : Form) (text : List ℕ) (depth : ℕ) (name : Option (List ℕ)) (o : Option FaultKind) → IsNext source word shape text
+      → depth ≡ length kept.openers → name ≡ defined_name (Ok shape) (scope_text source kept.scope) text → least (shape_kinds (form text) text depth true) ≡ None
+      → least (place_kinds (is_defined kept.labels name) kept.address (size shape text) (is_mark_form shape) (ltb kept.address kept.top)) ≡ o
       → next_fault source words word ≡ fault_or word.origin o None
-  judged_next shape text o next e f = rw (← shape_read text next.read, e, ← place_read shape text next, f) refl
+  judged_next shape text depth name o next deep named e f =
+      rw (← shape_read text depth deep next.read, e, ← place_read shape text next, ← named, f) refl
 
 -- the last opener is closed, where there is one
 closes_by : (address at : ℕ) (old new : List PlacedWord) (before after : List ℕ) → ClosesLast 0 address old new before after
@@ -75,10 +76,6 @@ module _ (source : List ℕ) (words : List Expanded) (word : Expanded) (shape : 
       (placed_of source words ++ open_word source words word shape ∷ []) ≡ placed_of source (words ++ word ∷ [])
   placed_next = (next_ones _ _ refl refl).0
 
-length-placed : (source : List ℕ) (words : List Expanded) → added_fault source words ≡ None → length (placed_of source words) ≡ length words
-unfolding placed_of
-length-placed source words sound = length-collected source [] words (formed-added source words sound)
-
 -- what is done with the next word
 pub record IsStep (source : List ℕ) (word : Expanded) (shape : Form) (text : List ℕ) (name : Option (List ℕ)) (placed : PlacedWord) (old new : Kept) : Type 0 where
   pub words : new.words ≡ closed_by (closed_opener (opens text) (closes text) old.openers) old.address (old.words ++ placed ∷ [])
@@ -100,9 +97,8 @@ pub next_kept : (source : List ℕ) (words : List Expanded) (word : Expanded) (s
 next_kept source words word shape text name placed old new so next few short named here sound above step =
     let shaped = rw next.read at next.formed in
     let fresh : placed ≡ open_word source words word shape = rw (here, next.read, so.address) refl in
-    let count : length old.words ≡ length words = ap length so.placed ∙ length-placed source words so.sound in
+    let count : length old.words ≡ length words = ap length so.placed ∙ length-placed_of source words (formed-added source words so.sound) in
     let sized : placed.size ≡ size shape (expanded_text source word) = ap (λ (p : PlacedWord). p.size) fresh in
-    let sized_by : placed.size ≡ size shape text = ap (λ (p : PlacedWord). p.size) here in
     let ones = next_ones source words word shape shaped so.sound _ _ refl refl in (
       fresh,
       record {
@@ -113,7 +109,7 @@ next_kept source words word shape text name placed old new so next few short nam
         scope = rw (step.scope, so.scope, next.read) (sym (scope_after-append source words word shape shaped));
         address = rw (step.address (omega (arith, so.small)) short, next.read, so.address) (sym (address_after-more source words word shape shaped));
         top = top-append source words word shape shaped placed.size old.top new.top sized so.top
-            (λ some. ap (λ a. ltb a old.top) (sym so.address) ∙ above (omega (arith, sized_by))) (rw (← so.address) step.top);
+            (λ some. ap (λ a. ltb a old.top) (sym so.address) ∙ above (rw (sized, ← next.read) at some)) (rw (← so.address) step.top);
         small = omega (arith, so.small, step.small short, length-append words (word ∷ []));
       },
     )

@@ -1,5 +1,5 @@
 -- The names of labels are not empty and have no blank in them, where no word has one.
-use Rattle.std.proofs.Common.{◌≡◌, ℕ, zero, suc, ◌<◌, not, List, [], ◌∷◌, ◌++◌, length, take, drop, Option, Some, None, Result, Ok, refl, arith, length-append}
+use Rattle.std.proofs.Common.{◌≡◌, ℕ, zero, suc, ◌<◌, true, not, List, [], ◌∷◌, ◌++◌, length, take, drop, Option, Some, None, Result, Ok, refl, arith, length-append}
 use Rattle.std.specs.Prelude.{◌==◌}
 use Rattle.std.specs.Option.{option_map_or}
 use Rattle.std.specs.List.{prefix_len, AllByRecursion}
@@ -11,16 +11,15 @@ use Rattle.tal_words.specs.declared.form.Form.TheVariants.{LabelDef, SubDef}
 use Rattle.tal_words.specs.declared.form.Rune.{Rune}
 use Rattle.tal_words.specs.Source.{expanded_text}
 use Rattle.tal_words.specs.Names.{first_scope, scope_of, full_name, slash, rune_of, name_fault}
-use Rattle.tal_words.specs.Opcodes.{byte_of_op}
 use Rattle.tal_words.specs.Forms.{form, rune_or_bare}
 use Rattle.tal_words.specs.Order.{collected, or_earlier}
 use Rattle.tal_labels.specs.Labels.{label_name, defined_name, last_label, scope_after, label_at, labels_given, labels_of, HasNoBlank, IsNamed}
+use Rattle.tal_labels.specs.Placing.{is_mark_form}
 use Rattle.tal_words.specs.PlainTexts.{IsBlankFree}
 use Rattle.tal_words.proofs.BlankFree.{all_joined}
 
 drop_plain : (text : List ℕ) → IsBlankFree text → IsBlankFree (drop 1 text)
-drop_plain [] plain = refl
-drop_plain (first ∷ rest) plain = grind arith
+drop_plain text plain = grind arith
 
 take_plain : (n : ℕ) (text : List ℕ) → IsBlankFree text → IsBlankFree (take n text)
 take_plain zero text plain = refl
@@ -28,22 +27,20 @@ take_plain (suc n) [] plain = refl
 take_plain (suc n) (first ∷ rest) plain = grind (arith, take_plain n rest)
 
 -- a name of a label is not empty
-bare_no_label : (rune : Option Rune) (op : Option ℕ) (first : ℕ) → byte_of_op (first ∷ []) ≡ op → rune_or_bare rune [] (first ∷ []) ≡ Ok LabelDef → ⊥
-bare_no_label (Some rune) op first is e = cc
-bare_no_label None (Some byte) first is e = (let never = rw is at e in cc)
-bare_no_label None None first is e = (let never = rw is at e in cc)
+bare_no_label : (rune : Option Rune) (first : ℕ) → rune_or_bare rune [] (first ∷ []) ≡ Ok LabelDef → ⊥
+bare_no_label rune first e = grind arith
 
 label_named : (text : List ℕ) → form text ≡ Ok LabelDef → 0 < length (drop 1 text)
 unfolding form name_fault
 label_named [] e = cc
-label_named (first ∷ []) e = absurd (grind (arith, bare_no_label (rune_of first) (byte_of_op (first ∷ [])) first refl))
+label_named (first ∷ []) e = absurd (grind (arith, bare_no_label (rune_of first) first))
 label_named (first ∷ second ∷ rest) e = omega arith
 
--- a word that defines a name in a scope is not empty
-not_empty : (text : List ℕ) → form text ≡ Ok SubDef → 0 < length text
+-- the word of a mark is not empty
+pub not_empty : (text : List ℕ) (shape : Form) → form text ≡ Ok shape → is_mark_form shape ≡ true → 0 < length text
 unfolding form
-not_empty [] e = cc
-not_empty (first ∷ rest) e = omega arith
+not_empty [] shape e mark = cc
+not_empty (first ∷ rest) shape e mark = omega arith
 
 full_plain : (scope text : List ℕ) → IsBlankFree scope → IsBlankFree text → IsBlankFree (full_name scope text)
 full_plain scope text scope_plain plain = grind (arith, list_any-append, drop_plain text plain)
@@ -51,34 +48,30 @@ full_plain scope text scope_plain plain = grind (arith, list_any-append, drop_pl
 full_some : (scope text : List ℕ) → 0 < length text → 0 < length (full_name scope text)
 full_some scope text some = grind (arith, length-append)
 
-abbrev IsPlainName : Option (List ℕ) → Type 0
-IsPlainName None = Unit {0}
-IsPlainName (Some name) = IsBlankFree name
+-- the scope of the last label
+abbrev IsPlainScope : Option (List ℕ) → Type 0
+IsPlainScope name = IsBlankFree (option_map_or scope_of name first_scope)
 
-label_plain : (answer : Result Form FaultKind) (text : List ℕ) → IsBlankFree text → IsPlainName (label_name answer text)
-label_plain (Ok LabelDef) text plain = drop_plain text plain
-label_plain _ text plain = tt
+label_plain : (answer : Result Form FaultKind) (text : List ℕ) → IsBlankFree text → IsPlainScope (label_name answer text)
+label_plain (Ok LabelDef) text plain = take_plain (prefix_len (λ byte. not (byte == slash)) (drop 1 text)) (drop 1 text) (drop_plain text plain)
+label_plain _ text plain = refl
 
-later_plain : (later earlier : Option (List ℕ)) → IsPlainName later → IsPlainName earlier → IsPlainName (or_earlier later earlier)
-later_plain later earlier a b = grind arith
-
-scoped_plain : (name : Option (List ℕ)) → IsPlainName name → IsBlankFree (option_map_or scope_of name first_scope)
-scoped_plain None plain = refl
-scoped_plain (Some name) plain = take_plain (prefix_len (λ byte. not (byte == slash)) name) name plain
+later_plain : (later earlier : Option (List ℕ)) → IsPlainScope later → IsPlainScope earlier → IsPlainScope (or_earlier later earlier)
+later_plain (Some name) earlier a b = a
+later_plain None earlier a b = b
 
 module _ (source : List ℕ) where
-  last_plain : (words : List Expanded) → AllByRecursion (HasNoBlank source) words → IsPlainName (last_label source words)
-  last_plain [] all = tt
-  last_plain (word ∷ words) all = later_plain _ _ (last_plain words all.1) (label_plain (form (expanded_text source word)) (expanded_text source word) all.0)
-
   scope_plain : (words : List Expanded) → AllByRecursion (HasNoBlank source) words → IsBlankFree (scope_after source words)
   unfolding scope_after
-  scope_plain words all = scoped_plain (last_label source words) (last_plain words all)
+  scope_plain [] all = refl
+  scope_plain (word ∷ words) all =
+      let text = expanded_text source word in
+      later_plain (last_label source words) (label_name (form text) text) (scope_plain words all.1) (label_plain (form text) text all.0)
 
   given_named : (before : List Expanded) (answer : Result Form FaultKind) (scope text : List ℕ) → form text ≡ answer → IsBlankFree text → IsBlankFree scope
       → AllByRecursion IsNamed (label_at source before (defined_name answer scope text))
   given_named before (Ok LabelDef) scope text e plain scoped = (record { some = label_named text e; blank_free = drop_plain text plain }, tt)
-  given_named before (Ok SubDef) scope text e plain scoped = (record { some = full_some scope text (not_empty text e); blank_free = full_plain scope text scoped plain }, tt)
+  given_named before (Ok SubDef) scope text e plain scoped = (record { some = full_some scope text (not_empty text SubDef e refl); blank_free = full_plain scope text scoped plain }, tt)
   given_named before _ scope text e plain scoped = tt
 
   collected_named : (before words : List Expanded) → AllByRecursion (HasNoBlank source) before → AllByRecursion (HasNoBlank source) words

@@ -1,24 +1,23 @@
-use Rattle.std.proofs.Common.{◌≡◌, ℕ, ◌+◌, ◌<◌, ◌≤◌, Bool, true, false, List, [], ◌∷◌, ◌++◌, length, Option, None, Ok, cond, ◌||◌, refl, ◌∙◌, ap, arith, take, drop, get_or, Err, Result}
+use Rattle.std.proofs.Common.{◌≡◌, ℕ, ◌+◌, ◌<◌, ◌≤◌, Bool, true, false, List, [], ◌∷◌, ◌++◌, length, None, Ok, cond, ◌||◌, refl, ◌∙◌, ap, arith, take, drop, get_or, Err, Result}
 use Rattle.tal_words.specs.declared.fault.FaultKind.{FaultKind}
 use Rattle.tal_labels.specs.Shapes.{shape_kinds}
 use Rattle.tal_words.proofs.PassLemmas.{none-at}
 use Rattle.std.proofs.lemmas.Bool.Decides.{nat_tests}
 use Rattle.std.specs.List.{list_any}
-use Rattle.std.specs.Option.{option_map_or}
+use Rattle.std.specs.Prelude.{is_some, unwrap_or}
 use Rattle.std.proofs.Math.Dec.{ltb}
 use Rattle.std.proofs.lemmas.List.Folds.{list_any-append}
 use Rattle.tal_words.specs.declared.span.Expanded.{Expanded}
 use Rattle.tal_words.specs.declared.form.Form.{Form}
-use Rattle.tal_words.specs.declared.form.Form.TheVariants.{LabelDef}
+use Rattle.tal_words.specs.declared.form.Form.TheVariants.{LabelDef, Pad}
 use Rattle.tal_words.specs.Faults.{least, Judged, phase_fault}
 use Rattle.tal_words.specs.Forms.{form, size}
-use Rattle.tal_words.specs.Names.{first_scope, scope_of}
-use Rattle.tal_words.specs.Order.{or_earlier, each}
+use Rattle.tal_words.specs.Order.{each}
 use Rattle.tal_words.specs.Source.{expanded_text}
-use Rattle.tal_labels.specs.Places.{address_after}
-use Rattle.tal_labels.specs.Labels.{label_name, defined_name, last_label, scope_after, label_at, labels_given, labels_of}
+use Rattle.tal_labels.specs.Places.{pad_value, moves, moved_since_pad, address_after}
+use Rattle.tal_labels.specs.Labels.{defined_name, scope_after, labels_given, labels_of}
 use Rattle.tal_labels.specs.Placing.{place_kinds, ends_given, ends_of}
-use Rattle.tal_labels.specs.Answers.{next_scope, label_of}
+use Rattle.tal_labels.specs.Answers.{next_address, next_scope, label_of}
 use Rattle.tal_words.proofs.OrderLemmas.{collected-more, last_of-more, no_word, get_or-each, length-each}
 
 -- where no word has a fault of a phase, a word has none
@@ -51,29 +50,39 @@ pub record IsWellPlaced (twice : Bool) (place size : ℕ) (is_mark below : Bool)
 pub well_placed : (twice : Bool) (place size : ℕ) (is_mark below : Bool) → least (place_kinds twice place size is_mark below) ≡ None → IsWellPlaced twice place size is_mark below
 well_placed twice place size is_mark below e = grind (arith, nat_tests)
 
--- the scope after a word of a form
-scope_by : (shape : Form) (text : List ℕ) (o : Option (List ℕ)) → option_map_or scope_of (or_earlier (label_name (Ok shape) text) o) first_scope ≡ next_scope shape (option_map_or scope_of o first_scope) text
-scope_by LabelDef text o = refl
-scope_by shape text o = refl
+module _ (source : List ℕ) where
+  moved-more : (words : List Expanded) (last : Expanded) → let text = expanded_text source last in
+      moved_since_pad source (words ++ last ∷ []) ≡ cond (is_some (pad_value (form text))) 0 (moved_since_pad source words) + moves (form text) text
+  moved-more [] last = grind arith
+  moved-more (word ∷ words) last = rw (last_of-more _ words last, moved-more words last) (grind arith)
+
+  -- the place after one more word
+  pub address-more : (words : List Expanded) (last : Expanded) → let text = expanded_text source last in
+      address_after source (words ++ last ∷ []) ≡ unwrap_or (pad_value (form text)) (address_after source words) + moves (form text) text
+  unfolding address_after
+  address-more words last = rw (last_of-more _ words last, moved-more words last) (grind arith)
+
+  pub address_after-more : (words : List Expanded) (last : Expanded) (shape : Form) → form (expanded_text source last) ≡ Ok shape
+      → address_after source (words ++ last ∷ []) ≡ next_address shape (expanded_text source last) (address_after source words)
+  address_after-more words last (Pad value) e = rw (address-more words last, e) (omega arith)
+  address_after-more words last shape e = rw (address-more words last, e) refl
 
 -- the scope after one word more
 pub scope_after-append : (source : List ℕ) (before : List Expanded) (word : Expanded) (shape : Form) → form (expanded_text source word) ≡ Ok shape
     → scope_after source (before ++ word ∷ []) ≡ next_scope shape (scope_after source before) (expanded_text source word)
 unfolding scope_after
-scope_after-append source before word shape e = rw (last_of-more _ before word, e) (scope_by shape (expanded_text source word) (last_label source before))
+scope_after-append source before word LabelDef e = rw (last_of-more _ before word, e) refl
+scope_after-append source before word shape e = rw (last_of-more _ before word, e) refl
 
 raised_top : (place size top : ℕ) (p : ℕ) → (0 < size → ltb place top ≡ false)
     → (ltb p top || list_any (λ end. ltb p end) (cond (ltb 0 size) ((place + size) ∷ []) [])) ≡ ltb p (cond (ltb 0 size) (place + size) top)
 raised_top place size top p above = grind (arith, nat_tests)
 
 module _ (source : List ℕ) (before : List Expanded) (word : Expanded) where
-  label_at-of : (o : Option (List ℕ)) → label_at source before o ≡ label_of o (address_after source before)
-  label_at-of o = grind arith
-
   -- the labels with one word more
   pub labels_of-append : (shape : Form) → form (expanded_text source word) ≡ Ok shape → labels_of source (before ++ word ∷ []) ≡ labels_of source before ++ label_of (defined_name (Ok shape) (scope_after source before) (expanded_text source word)) (address_after source before)
   unfolding labels_of
-  labels_of-append shape e = collected-more (labels_given source) (λ b w a c. refl) [] before word ∙ rw (label_at-of, e) refl
+  labels_of-append shape e = collected-more (labels_given source) (λ b w a c. refl) [] before word ∙ rw e (grind arith)
 
   -- the ends above a place with one word more
   pub ends_of-append : (p : ℕ) → list_any (λ end. ltb p end) (ends_of source (before ++ word ∷ [])) ≡ (list_any (λ end. ltb p end) (ends_of source before) || list_any (λ end. ltb p end) (ends_given source before word []))

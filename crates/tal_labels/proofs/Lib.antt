@@ -1,9 +1,6 @@
-pub mod PlaceLemmas
 pub mod ClosingLemmas
-pub mod StrayLemmas
 pub mod ShapeLemmas
 pub mod IndexLemmas
-pub mod PlacingLemmas
 pub mod LayingLemmas
 pub mod PlacedLemmas
 pub mod CallerLemmas

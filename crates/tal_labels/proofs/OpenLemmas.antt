@@ -1,24 +1,27 @@
--- Which openers are open after some words, and what one word more closes.
-use Rattle.std.proofs.Common.{◌≡◌, ℕ, suc, get_or, ◌+◌, ◌-◌, ◌<◌, Bool, true, false, not, List, [], ◌∷◌, ◌++◌, length, take, map, slice_get, Option, Some, None, Ok, cond, ◌&&◌, ◌⊎◌, inl, inr, refl, sym, ◌∙◌, ap, arith, append_assoc, append-nil, length-append}
+-- Which openers are open after some words, what one word more closes, and whether an opener has it as its matching brace.
+use Rattle.std.proofs.Common.{◌≡◌, ℕ, suc, get_or, ◌+◌, ◌-◌, ◌<◌, Bool, true, false, not, List, [], ◌∷◌, ◌++◌, length, take, map, slice_get, Option, Some, None, Ok, cond, ◌&&◌, ◌||◌, ◌⊎◌, inl, inr, refl, sym, ◌∙◌, ap, arith, append_assoc, append-nil, length-append}
 use Rattle.std.specs.Prelude.{◌==◌, is_some, fold}
 use Rattle.std.specs.Option.{option_map}
-use Rattle.std.proofs.lemmas.Bool.{ne_eqb, eq-eqb, cases_Bool}
+use Rattle.std.specs.List.{list_any}
+use Rattle.std.proofs.lemmas.Bool.Decides.{nat_tests}
+use Rattle.std.proofs.lemmas.Bool.{ne_eqb, eq-eqb}
 use Rattle.std.proofs.lemmas.List.{map-append, length-map, take-append-le}
 use Rattle.std.proofs.Math.Seq.{take-append_seam}
 use Rattle.tal_words.specs.declared.span.Expanded.{Expanded}
 use Rattle.tal_words.specs.declared.form.Form.{Form}
 use Rattle.tal_words.specs.Forms.{form, size}
 use Rattle.tal_words.specs.Braces.{opens, closes, matching_after, one_if}
-use Rattle.tal_words.specs.Order.{collected}
+use Rattle.tal_words.specs.Order.{collected, each}
 use Rattle.tal_words.specs.Source.{expanded_text}
 use Rattle.tal_labels.specs.declared.placed.PlacedWord.{PlacedWord}
 use Rattle.tal_labels.specs.Places.{address_after}
-use Rattle.tal_labels.specs.Shapes.{closing_distance, open_after, open_count}
+use Rattle.tal_labels.specs.Shapes.{closing_distance, open_after, open_count, is_at, closes_one_of}
 use Rattle.tal_labels.specs.Answers.{waiting_step}
 use Rattle.tal_labels.specs.Placing.{lambda_address, placed_given}
 use Rattle.tal_labels.specs.Adding.{open_word, open_given, open_ones}
 use Rattle.tal_labels.specs.Placers.{closed_at}
 use Rattle.tal_words.proofs.OrderLemmas.{no_word}
+use Rattle.tal_labels.proofs.IndexLemmas.{none_since}
 use Rattle.tal_labels.proofs.ClosingLemmas.{waiting_from, opens-closes, matching-waiting}
 
 -- how many of some texts open a brace, and how many close one
@@ -36,9 +39,6 @@ found_or (Some n) closing at = Some n
 found_or None true at = Some at
 found_or None false at = None
 
-found_or-start : (test : Bool) → cond test (Some 0) (option_map suc None) ≡ found_or None test 0
-found_or-start test = grind arith
-
 found_or-step : (here : Bool) (later : Option ℕ) (test : Bool) (at : ℕ)
     → cond here (Some 0) (option_map suc (found_or later test at)) ≡ found_or (cond here (Some 0) (option_map suc later)) test (suc at)
 found_or-step here later test at = grind arith
@@ -48,7 +48,7 @@ matching-more : (o c : ℕ) (texts : List (List ℕ)) (text : List ℕ)
 matching-more o c [] text =
     let a : o + 0 ≡ o = omega arith in
     let b : c + 0 ≡ c = omega arith in
-    rw (a, b) (found_or-start (closes text && (o == c)))
+    rw (a, b) (grind arith)
 matching-more o c (first ∷ texts) text =
     let a : o + one_if (opens first) + openings texts ≡ o + (one_if (opens first) + openings texts) = omega arith in
     let b : c + one_if (closes first) + closings texts ≡ c + (one_if (closes first) + closings texts) = omega arith in
@@ -68,6 +68,10 @@ module _ (opening closing found : Bool) (waiting : List ℕ) (at first : ℕ) (m
   count-step : (depth : ℕ) (count : ℕ → ℕ) → ((n : ℕ) → count n ≡ n - length waiting + length more)
       → count (cond opening (depth + 1) (cond closing (depth - 1) depth)) ≡ depth - length (waiting_step at opening closing waiting) + length (cond (opening && not found) (first ∷ []) [] ++ more)
   count-step depth count h = grind arith
+
+none_waits : (waiting : List ℕ) → is_some (slice_get waiting 0) ≡ false → length waiting ≡ 0
+none_waits [] e = refl
+none_waits (first ∷ waiting) e = cc
 
 -- the word that closes the last of the openers that are open, and the words before and after
 abbrev pub ClosesLast : ℕ → ℕ → List PlacedWord → List PlacedWord → List ℕ → List ℕ → Type 0
@@ -136,12 +140,7 @@ module _ (source : List ℕ) where
 
   -- where the words have no `}` for an opener before them
   pub balanced : (before words : List Expanded) → closing_distance source words ≡ None → openings (texts_of words) ≡ closings (texts_of words) + length (opened before words)
-  balanced before words e = by (waiting_from source 0 words) (sym (ap is_some e) ∙ first_waits 0 words) (balance 0 before words)
-    where
-      by : (waiting : List ℕ) → false ≡ is_some (slice_get waiting 0) → openings (texts_of words) + length waiting ≡ closings (texts_of words) + length (opened before words)
-          → openings (texts_of words) ≡ closings (texts_of words) + length (opened before words)
-      by [] e h = omega arith
-      by (first ∷ waiting) e h = cc
+  balanced before words e = omega (arith, none_waits (waiting_from source 0 words) (sym (first_waits 0 words) ∙ ap is_some e), balance 0 before words)
 
   abbrev laid : List Expanded → Expanded → Form → Option ℕ → PlacedWord
   laid before word shape lambda = record { word = word; form = shape; address = address_after source before; size = size shape (expanded_text source word); lambda = lambda }
@@ -157,16 +156,13 @@ module _ (source : List ℕ) where
 
     module _ (before : List Expanded) (word : Expanded) (words : List Expanded) (same : opens (expanded_text source word) ≡ true → closing_distance source (words ++ last ∷ []) ≡ closing_distance source words) where
       lambda-kept : lambda_address source before word (words ++ last ∷ []) ≡ lambda_address source before word words
-      lambda-kept = elim (cases_Bool (opens (expanded_text source word))) [
-        | inl opening ↦ rw (opening, same opening) (lambda-found before word words (closing_distance source words) refl)
-        | inr plain ↦ rw plain refl
-      ]
+      lambda-kept = grind (arith, same, lambda-found before word words (closing_distance source words) refl)
 
       placed-kept : placed_given source before word (words ++ last ∷ []) ≡ placed_given source before word words
       placed-kept = grind (arith, lambda-kept)
 
       open-kept : open_given source before word (words ++ last ∷ []) ≡ open_given source before word words
-      open-kept = elim (cases_Bool (opens (expanded_text source word))) [ inl opening ↦ rw (opening, same opening) refl | inr plain ↦ rw plain refl ]
+      open-kept = grind (arith, same)
 
     module _ (shape : Form) (shaped : form (expanded_text source last) ≡ Ok shape) where
       last-placed : (before : List Expanded) → placed_given source before last [] ≡ open_word source before last shape ∷ []
@@ -220,3 +216,31 @@ module _ (source : List ℕ) where
             let step = closes_front (length before) (address_after source (before ++ word ∷ words)) (laid before word formed.0 (lambda_address source before word words))
             (laid before word formed.0 (lambda_address source before word (words ++ last ∷ []))) _ _ _ _ _ _ rest (chooses before word words formed.0 _ _ _ refl refl refl) in
             rw (formed.1) step
+
+-- an opener has one word more as its `}` where nothing before closes it and all between is even
+is_at-found : (n : ℕ) (found : Option ℕ) (test : Bool) → ((m : ℕ) → found ≡ Some m → m < n) → is_at n (found_or found test n) ≡ (not (is_some found) && test)
+is_at-found n found test within = grind (arith, nat_tests)
+
+-- an opener has a `}` where it is open and nothing behind it is, so one has it where one is open
+found-step : (opening found : Bool) (opens closes at : ℕ) (inner : List ℕ) → (found ≡ false → opens ≡ closes + length inner)
+    → ((opening && (not found && opens == closes)) || not (length inner == 0)) ≡ not (length (cond (opening && not found) (at ∷ []) [] ++ inner) == 0)
+found-step opening found opens closes at inner even = grind (arith, nat_tests)
+
+pub twice : (b : Bool) → b ≡ not (not b)
+twice b = grind arith
+
+module _ (source : List ℕ) (word : Expanded) (last : closes (expanded_text source word) ≡ true) where
+  open_found : (earlier words : List Expanded)
+      → list_any (λ found. found) (each (λ before opener between. opens (expanded_text source opener) && is_at (length between) (closing_distance source (between ++ word ∷ []))) earlier words)
+      ≡ not (length (opened source earlier words) == 0)
+  open_found earlier [] = refl
+  open_found earlier (first ∷ words) =
+      let found = is_at-found (length words) (closing_distance source words) (is_balanced source words) (distance-within source words) in
+      rw (open_found (earlier ++ first ∷ []) words, distance-more source words word, last, found)
+      (found-step (opens (expanded_text source first)) (is_some (closing_distance source words)) (openings (texts_of source words)) (closings (texts_of source words)) (length earlier) _
+      (λ none. balanced source (earlier ++ first ∷ []) words (none_since _ none)))
+
+pub stray_law : (source : List ℕ) (before : List Expanded) (word : Expanded) → closes (expanded_text source word) ≡ true
+    → (open_count source before == 0) ≡ not (closes_one_of source before word)
+unfolding open_ones
+stray_law source before word last = rw (length-open_ones source before, open_found source word last [] before) (twice (length (open_ones source before) == 0))

@@ -1,12 +1,12 @@
 -- Words that are opcodes, bytes and shorts, one behind the other from the address 0100 on.
 use Rattle.std.proofs.Common.{◌≡◌, ℕ, ◌+◌, ◌<◌, ◌≤◌, true, false, List, [], ◌∷◌, ◌++◌, length, map, None, Ok, refl, ap, ◌∙◌, arith, length-append}
-use Rattle.tal_labels.proofs.LayingLemmas.{ends_of-append}
+use Rattle.tal_labels.proofs.LayingLemmas.{address-more, address_after-more, ends_of-append}
 use Rattle.std.proofs.lemmas.Bool.Decides.{nat_tests}
 use Rattle.std.specs.Prelude.{if◌then◌else◌, nat_lt}
 use Rattle.std.specs.List.{list_any, AllByRecursion}
 use Rattle.tal_words.specs.declared.span.Expanded.{Expanded}
 use Rattle.tal_words.specs.declared.form.Form.{Form}
-use Rattle.tal_words.specs.declared.form.Form.TheVariants.{Pad, Raw1, Raw2, Op}
+use Rattle.tal_words.specs.declared.form.Form.TheVariants.{Pad}
 use Rattle.tal_words.specs.Source.{expanded_text}
 use Rattle.tal_words.specs.Faults.{phase_fault}
 use Rattle.tal_words.specs.Forms.{form, size, encoded}
@@ -17,7 +17,6 @@ use Rattle.tal_labels.specs.Labels.{defined_name, scope_after}
 use Rattle.tal_labels.specs.Shapes.{judged_shape, shape_fault}
 use Rattle.tal_labels.specs.PlainWords.{Coded, texts_of_coded, bytes_of_coded, pad_text, is_bare_form, StandsFor, addresses_from}
 use Rattle.tal_labels.specs.Placing.{is_mark_form, formed_size, place_kinds, ends_of, ends_above, judged_place, placing_fault, place_fault}
-use Rattle.tal_labels.proofs.PlaceLemmas.{address_after-pad, address_after-other}
 
 -- what is known of an opcode, a byte or a short
 pub record IsCoded (word : Coded) : Type 0 where
@@ -37,10 +36,7 @@ pub record IsCoded (word : Coded) : Type 0 where
 bare_form : (shape : Form) (text : List ℕ) → is_bare_form shape ≡ true → (pad_value (Ok shape) ≡ None) × ((place target : ℕ) → encoded shape text place target ≡ encoded shape text 0 0)
     × (size shape text ≡ length (encoded shape text 0 0)) × (form_moves shape text ≡ length (encoded shape text 0 0)) × (is_mark_form shape ≡ false)
     × ((scope : List ℕ) → defined_name (Ok shape) scope text ≡ None) × (0 < length (encoded shape text 0 0))
-bare_form (Op byte) text bare = (refl, λ place target. refl, refl, refl, refl, λ scope. refl, omega arith)
-bare_form (Raw1 byte) text bare = (refl, λ place target. refl, refl, refl, refl, λ scope. refl, omega arith)
-bare_form (Raw2 short) text bare = (refl, λ place target. refl, refl, refl, refl, λ scope. refl, omega arith)
-bare_form shape text bare = cc
+bare_form shape text bare = grind arith
 
 -- what is known of a word that stands for bytes, by its form
 coded_is : (word : Coded) → StandsFor word → IsCoded word
@@ -86,18 +82,13 @@ module _ (source : List ℕ) where
   -- words have the texts of these
   abbrev pub Spells : List Expanded → List Coded → Type 0
   Spells [] [] = Unit {0}
-  Spells [] (coded ∷ codeds) = ⊥
-  Spells (word ∷ words) [] = ⊥
   Spells (word ∷ words) (coded ∷ codeds) = (expanded_text source word ≡ coded.text) × IsCoded coded × Spells words codeds
+  Spells words coded = ⊥
 
   pub spells_from : (words : List Expanded) (coded : List Coded) → map (expanded_text source) words ≡ texts_of_coded coded → AllByRecursion IsCoded coded → Spells words coded
   spells_from [] [] e are = tt
-  spells_from [] (coded ∷ codeds) e are = cc
-  spells_from (word ∷ words) [] e are = cc
-  spells_from (word ∷ words) (coded ∷ codeds) e are =
-      let first : expanded_text source word ≡ coded.text = cc in
-      let rest : map (expanded_text source) words ≡ texts_of_coded codeds = cc in
-      (first, are.0, spells_from words codeds rest are.1)
+  spells_from (word ∷ words) (coded ∷ codeds) e are = (cc, are.0, spells_from words codeds (cc) are.1)
+  spells_from words coded e are = cc
 
   pub shaped : (word : Expanded) (coded : Coded) → expanded_text source word ≡ coded.text → (is : IsCoded coded) → form (expanded_text source word) ≡ Ok is.shape
   shaped word coded e is = ap form e ∙ is.formed
@@ -121,9 +112,8 @@ module _ (source : List ℕ) where
       let formed = shaped word coded e is in
       let moved : moves (form text) text ≡ length coded.bytes = rw (formed, e) is.moved in
       let sized : formed_size (form text) text ≡ length coded.bytes = rw (formed, e) is.sized in
-      let next = address_after-other source before word (ap pad_value formed ∙ is.unpadded) in
       record {
-        address = omega (arith, next, moved, reaches.address);
+        address = rw (address-more source before word, ap pad_value formed ∙ is.unpadded) (omega (arith, moved, reaches.address));
         ends = λ place above. rw (ends_of-append source before word place, reaches.ends place (omega arith))
             (low_end (address_after source before) (formed_size (form text) text) place (omega (arith, sized, reaches.address)));
       }
@@ -156,7 +146,7 @@ module _ (source : List ℕ) where
 
     pub reaches_pad : Reaches (first ∷ []) 0
     unfolding ends_of
-    reaches_pad = record { address = address_after-pad source [] first 256 formed_pad; ends = λ place above. rw (padded, form-pad) refl }
+    reaches_pad = record { address = address_after-more source [] first (Pad 256) formed_pad; ends = λ place above. rw (padded, form-pad) refl }
 
     pub no_shape_fault : shape_fault source (first ∷ words) ≡ None
     unfolding shape_fault
@@ -171,19 +161,15 @@ module _ (source : List ℕ) where
     addresses_pad = rw (addresses_are words coded (first ∷ []) 0 spells reaches_pad) refl
 
 -- the same of any words with these texts
-plain_laid : (source : List ℕ) (words : List Expanded) (coded : List Coded) → map (expanded_text source) words ≡ pad_text ∷ texts_of_coded coded → AllByRecursion StandsFor coded
+pub plain_laid : (source : List ℕ) (words : List Expanded) (coded : List Coded) → map (expanded_text source) words ≡ pad_text ∷ texts_of_coded coded → AllByRecursion StandsFor coded
     → (length (bytes_of_coded coded) ≤ 65280 → place_fault source words ≡ None) × (addresses_of source words ≡ 256 ∷ addresses_from 0 coded)
 unfolding place_fault
 plain_laid source [] coded are all = cc
 plain_laid source (first ∷ rest) coded are all =
     let padded : expanded_text source first ≡ pad_text = cc in
-    let texts : map (expanded_text source) rest ≡ texts_of_coded coded = cc in
-    let spells = spells_from source rest coded texts (all_coded coded all) in
+    let spells = spells_from source rest coded (cc) (all_coded coded all) in
     (λ within. rw (no_shape_fault source first rest coded padded spells, no_placing_fault source first rest coded padded spells within) refl, addresses_pad source first rest coded padded spells)
 
-module _ (source : List ℕ) (words : List Expanded) (coded : List Coded) (are : map (expanded_text source) words ≡ pad_text ∷ texts_of_coded coded) (all : AllByRecursion StandsFor coded) where
-  pub plain_faultless : length (bytes_of_coded coded) ≤ 65280 → place_fault source words ≡ None
-  plain_faultless = (plain_laid source words coded are all).0
-
-  pub plain_addresses : addresses_of source words ≡ 256 ∷ addresses_from 0 coded
-  plain_addresses = (plain_laid source words coded are all).1
+pub plain_faultless : (source : List ℕ) (words : List Expanded) (coded : List Coded) → map (expanded_text source) words ≡ pad_text ∷ texts_of_coded coded → AllByRecursion StandsFor coded
+    → length (bytes_of_coded coded) ≤ 65280 → place_fault source words ≡ None
+plain_faultless source words coded are all = (plain_laid source words coded are all).0

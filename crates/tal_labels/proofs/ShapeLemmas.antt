@@ -1,34 +1,20 @@
-use Rattle.std.proofs.Common.{◌≡◌, ℕ, ◌+◌, ◌<◌, ◌≤◌, Bool, List, [], length, take, drop, get_or, length-take, Option, Some, None, Result, cond, refl, sym, ◌∙◌, ap, arith}
+use Rattle.std.proofs.Common.{◌≡◌, ℕ, ◌+◌, ◌<◌, ◌≤◌, Bool, List, [], length, take, drop, get_or, Option, Some, None, refl, sym, ◌∙◌, ap, arith}
 use Rattle.std.specs.Prelude.{is_some}
-use Rattle.std.specs.Option.{option_map}
 use Rattle.std.proofs.lemmas.List.{take_more}
 use Rattle.tal_words.specs.declared.span.Expanded.{Expanded}
 use Rattle.tal_words.specs.declared.fault.FaultKind.{FaultKind}
-use Rattle.tal_words.specs.declared.form.Form.{Form}
 use Rattle.tal_words.specs.Faults.{least, fault_at, phase_fault}
 use Rattle.tal_words.specs.Forms.{form}
-use Rattle.tal_words.specs.Braces.{opens}
 use Rattle.tal_words.specs.Order.{each}
 use Rattle.tal_words.specs.Source.{expanded_text}
-use Rattle.tal_labels.specs.Shapes.{shape_kinds, open_after, open_count, closer_of, closers_of, closing_distance, judged_shape, shape_fault}
+use Rattle.tal_labels.specs.Shapes.{shape_kinds, open_after, open_count, closer_of, closers_of, judged_shape, shape_fault}
 use Rattle.std.proofs.lemmas.List.Sums.{fold-append}
 use Rattle.tal_words.proofs.PassLemmas.{fault-here, fault-later}
 use Rattle.tal_words.proofs.OrderLemmas.{each-end, get_or-each, length-each, no_word}
 
--- by the closer of a word as by the `}` itself
-shape_kinds-closer : (f : Result Form FaultKind) (text : List ℕ) (depth at : ℕ) (o : Option ℕ) → shape_kinds f text depth (is_some (cond (opens text) (option_map (λ between. at + 1 + between) o) None)) ≡ shape_kinds f text depth (is_some o)
-shape_kinds-closer f text depth at o = grind arith
-
 open_count-more : (source : List ℕ) (words : List Expanded) (k : ℕ) (d : Expanded) → k < length words → open_count source (take (k + 1) words) ≡ open_after (open_count source (take k words)) (expanded_text source (get_or words k d))
 unfolding open_count
 open_count-more source words k d h = rw (take_more words k d h, fold-append) refl
-
--- the closer of a word, as it is read from the list
-closers_of-get : (source : List ℕ) (words : List Expanded) (k : ℕ) (d : Expanded) (e : Option ℕ) → k < length words → get_or (closers_of source words) k e ≡ cond (opens (expanded_text source (get_or words k d))) (option_map (λ between. k + 1 + between) (closing_distance source (drop (k + 1) words))) None
-unfolding closers_of
-closers_of-get source words k d e h =
-    let size : length (take k words) ≡ k = omega (arith, length-take k words) in
-    get_or-each (closer_of source) [] words k d e h ∙ rw size refl
 
 pub length-closers_of : (source : List ℕ) (words : List Expanded) → length (closers_of source words) ≡ length words
 unfolding closers_of
@@ -48,9 +34,8 @@ nothing_shaped source words = record { sound = refl; depth = refl; small = omega
 module _ (source : List ℕ) (words : List Expanded) (k : ℕ) (text : List ℕ) (depth : ℕ) (closed : Bool) (e : Option ℕ) (closers : List (Option ℕ)) (within : k < length words)
     (all : closers ≡ closers_of source words) (read : text ≡ expanded_text source (get_or words k no_word)) (shut : closed ≡ is_some (get_or closers k e)) (so : IsShapedSo source words k depth) where
   read_kinds : shape_kinds (form text) text depth closed ≡ (judged_shape source (take k words) (get_or words k no_word) (drop (k + 1) words)).kinds
-  read_kinds =
-      rw (shut, all, closers_of-get source words k no_word e within, read, so.depth)
-      (shape_kinds-closer (form (expanded_text source (get_or words k no_word))) _ _ k (closing_distance source (drop (k + 1) words)))
+  unfolding closers_of
+  read_kinds = rw (shut, all, get_or-each (closer_of source) [] words k no_word e within, read, so.depth) (grind arith)
 
   pub next_shaped : (next : ℕ) → least (shape_kinds (form text) text depth closed) ≡ None → next ≡ open_after depth text → next ≤ depth + 1 → IsShapedSo source words (k + 1) next
   next_shaped next none deeper bound = record {

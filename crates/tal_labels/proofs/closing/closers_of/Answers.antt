@@ -1,11 +1,10 @@
-use Rattle.std.proofs.Common.{arith, ◌≡◌, ◌∙◌, ap, sym, get_or, ◌+◌, ◌-◌, ◌<◌, length, drop, take, ◌∷◌, [], reverse, cond, None}
+use Rattle.std.proofs.Common.{arith, ◌≡◌, ◌∙◌, ap, sym, get_or, ◌+◌, ◌-◌, ◌<◌, length, drop, take, reverse, cond, None}
 use Rattle.std.specs.Prelude.{slice_get}
 use Rattle.std.proofs.lemmas.List.{reverse-append}
-use Rattle.tal_words.specs.Braces.{opens, closes}
+use Rattle.tal_words.specs.Braces.{opens}
 use Rattle.tal_words.specs.Source.{expanded_text}
 use Rattle.tal_words.specs.Order.{each}
 use Rattle.tal_labels.specs.Shapes.{closer_of, closers_of}
-use Rattle.tal_labels.specs.Answers.{waiting_step}
 use Rattle.tal_words.proofs.OrderLemmas.{no_word}
 use Rattle.tal_labels.proofs.ClosingLemmas.{waiting_from, waiting-step, closer-step}
 use Rattle.tal_labels.proofs.closing.closers_of.Goals as goal
@@ -21,20 +20,12 @@ loop-at-preserved c =
     let read : c.text.result.now ≡ text = c.text.ensures in
     let rest = waiting_from source (at + 1) (drop (at + 1) words) in
     let waits : reverse c.loop-at.waiting.items ≡ rest = c.loop-at.invariant.waiting ∙ ap (λ n. waiting_from source n (drop n words)) next in
-    let found = c.in_ok-closer.ensures.value
-    ∙ ap (λ t. cond (opens t) (slice_get (reverse c.loop-at.waiting.items) 0) None) read
-    ∙ ap (λ xs. cond (opens text) (slice_get xs 0) None) waits in
+    let found : c.in_ok-closer.closer ≡ cond (opens text) (slice_get rest 0) None = rw (← read, ← waits) c.in_ok-closer.ensures.value in
+    let later = c.loop-at.invariant.closers ∙ ap (λ n. each (closer_of source) (take n words) (drop n words)) next in
     record {
       within = omega arith;
-      waiting = c.in_ok-closer.ensures.rest
-          ∙ ap (λ t. waiting_step at (opens t) (closes t) (reverse c.loop-at.waiting.items)) read
-          ∙ ap (λ xs. waiting_step at (opens text) (closes text) xs) waits
-          ∙ sym (waiting-step source words at no_word within);
-      closers = ap reverse c.in_ok-push.ensures.items
-          ∙ reverse-append c.loop-at.closers.items (c.in_ok-closer.closer ∷ [])
-          ∙ ap (λ closer. closer ∷ reverse c.loop-at.closers.items) found
-          ∙ ap (λ closers. cond (opens text) (slice_get rest 0) None ∷ closers) (c.loop-at.invariant.closers ∙ ap (λ n. each (closer_of source) (take n words) (drop n words)) next)
-          ∙ sym (closer-step source words at no_word within);
+      waiting = c.in_ok-closer.ensures.rest ∙ rw (read, waits) (sym (waiting-step source words at no_word within));
+      closers = rw (c.in_ok-push.ensures.items, reverse-append, found, later) (sym (closer-step source words at no_word within));
     }
 
 pub returns : goal.returns

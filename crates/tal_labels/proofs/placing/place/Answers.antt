@@ -4,6 +4,7 @@ use Rattle.std.proofs.lemmas.Result.{err_from_is_err_and}
 use Rattle.std.proofs.lemmas.List.{take_more, take_all}
 use Rattle.tal_words.specs.declared.span.Expanded.{Expanded}
 use Rattle.tal_words.specs.declared.fault.AsmStop.{AsmStop}
+use Rattle.tal_words.specs.declared.fault.Fault.{Fault}
 use Rattle.tal_words.specs.declared.fault.AsmStop.TheVariants.{Refused, NoMemory}
 use Rattle.tal_words.specs.Faults.{Gives, phase_fault}
 use Rattle.tal_words.specs.Order.{each}
@@ -14,22 +15,22 @@ use Rattle.tal_labels.specs.Adding.{added_fault}
 use Rattle.tal_labels.specs.Shapes.{shape_fault}
 use Rattle.tal_labels.specs.Placing.{Layout, layout_of, judged_place, placing_fault, place_fault}
 use Rattle.tal_labels.specs.Placers.{Kept, IsKept, WereAdded, PlacesNext, kept_by}
-use Rattle.tal_labels.proofs.PlacedLemmas.{placing_next}
 use Rattle.tal_labels.proofs.AddingLemmas.{place-later, place-here}
 use Rattle.tal_labels.proofs.CallerLemmas.{lie_apart}
 use Rattle.tal_labels.proofs.placing.place.Goals as goal
 
-abbrev same : Layout → Layout
-same layout = layout
+placing_next : (source : List ℕ) (words : List Expanded) (o : Option Fault) → shape_fault source words ≡ None → placing_fault source words ≡ o → place_fault source words ≡ o
+unfolding place_fault
+placing_next source words o e f = rw e f
 
-stopped_shape : (source : List ℕ) (words : List Expanded) (stop : AsmStop) → FindsNone (Err stop) (shape_fault source words) → Gives same (Err stop) (place_fault source words) (layout_of source words)
+stopped_shape : (source : List ℕ) (words : List Expanded) (stop : AsmStop) → FindsNone (Err stop) (shape_fault source words) → Gives (λ layout. layout) (Err stop) (place_fault source words) (layout_of source words)
 unfolding place_fault
 stopped_shape source words (Refused found) e = rw e refl
 stopped_shape source words NoMemory e = tt
 
 stopped_place : (source : List ℕ) (words : List Expanded) (k : ℕ) (new : Kept) (stop : AsmStop) → shape_fault source words ≡ None → k < length words
     → phase_fault (each (judged_place source) (take k words) (drop k words)) ≡ placing_fault source words
-    → PlacesNext source (take k words) (get_or words k no_word) (Err stop) new → Gives same (Err stop) (place_fault source words) (layout_of source words)
+    → PlacesNext source (take k words) (get_or words k no_word) (Err stop) new → Gives (λ layout. layout) (Err stop) (place_fault source words) (layout_of source words)
 stopped_place source words k new (Refused found) shaped within so e = placing_next source words (Some found) shaped (sym so ∙ place-here source words k found shaped within e)
 stopped_place source words k new NoMemory shaped within so e = tt
 

@@ -1,20 +1,14 @@
-use Rattle.std.proofs.Common.{◌≡◌, ℕ, ◌+◌, ◌-◌, ◌≤◌, not, List, [], ◌∷◌, length, take, drop, Ok, ◌∙◌, ap, arith, length-take}
+use Rattle.std.proofs.Common.{◌≡◌, ℕ, ◌+◌, ◌-◌, ◌≤◌, not, List, length, take, drop, refl, ◌∙◌, ap, arith, length-take}
 use Rattle.std.proofs.Math.Seq.{take-append_seam}
 use Rattle.std.proofs.lemmas.List.{take-append-drop, take-append-le, drop-take, drop-drop, length-take}
 use Rattle.std.specs.Prelude.{◌==◌}
 use Rattle.std.specs.List.{prefix_len}
 use Rattle.tal_words.specs.declared.form.Form.TheVariants.{LabelDef}
 use Rattle.tal_words.specs.declared.span.Span.{Span}
-use Rattle.tal_words.specs.Forms.{form}
 use Rattle.tal_words.specs.Names.{scope_of}
 use Rattle.tal_words.specs.Source.{bytes_at}
+use Rattle.tal_labels.proofs.LabelNames.{not_empty}
 use Rattle.tal_labels.proofs.scope.scope_span.Goals as goal
-
--- a label has a first byte
-some_text : (text : List ℕ) → form text ≡ Ok LabelDef → 1 ≤ length text
-unfolding form
-some_text [] e = cc
-some_text (first ∷ text) e = omega arith
 
 -- what is taken from a front is taken from the whole
 take-front : (n m : ℕ) (xs : List ℕ) → n ≤ length (take m xs) → take n xs ≡ take n (take m xs)
@@ -37,7 +31,7 @@ part source word n some e =
     rw (count, take-front n more (drop (word.start + 1) source) short, ← read, e) (take-own (prefix_len (λ byte. not (byte == 47)) name) name)
 
 pub split_at-requires : goal.split_at-requires
-split_at-requires c = omega (arith, ap length c.text.ensures, some_text _ c.requires)
+split_at-requires c = omega (arith, ap length c.text.ensures, not_empty _ LabelDef c.requires refl)
 
 pub returns : goal.returns
-returns c = part c.args.source.now c.args.word (length c.scope_of.result.now) (some_text _ c.requires) (ap length (c.scope_of.ensures ∙ ap scope_of (c.split_at.ensures.back ∙ ap (drop 1) c.text.ensures)))
+returns c = part c.args.source.now c.args.word (length c.scope_of.result.now) (not_empty _ LabelDef c.requires refl) (ap length (c.scope_of.ensures ∙ ap scope_of (c.split_at.ensures.back ∙ ap (drop 1) c.text.ensures)))

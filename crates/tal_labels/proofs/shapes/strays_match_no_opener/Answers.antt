@@ -1,4 +1,4 @@
-use Rattle.tal_labels.proofs.StrayLemmas.{stray_law}
+use Rattle.tal_labels.proofs.OpenLemmas.{stray_law}
 use Rattle.tal_labels.proofs.shapes.strays_match_no_opener.Goals as goal
 
 pub returns : goal.returns

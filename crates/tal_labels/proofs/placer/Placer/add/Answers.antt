@@ -1,26 +1,15 @@
-use Rattle.std.proofs.Common.{◌≡◌, ℕ, List, [], ◌∷◌, ◌++◌, true, false, Option, Some, None, Result, refl, sym, ◌∙◌, ap}
+use Rattle.std.proofs.Common.{◌≡◌, ℕ, List, [], ◌∷◌, ◌++◌, true, false, Some, None, refl, sym, ◌∙◌, ap}
 use Rattle.std.specs.Prelude.{is_some}
 use Rattle.tal_words.specs.declared.span.Expanded.{Expanded}
-use Rattle.tal_words.specs.declared.fault.Fault.{Fault}
-use Rattle.tal_words.specs.declared.fault.FaultKind.{FaultKind}
-use Rattle.tal_words.specs.declared.form.Form.{Form}
-use Rattle.tal_words.specs.Forms.{form}
-use Rattle.tal_words.specs.Source.{expanded_text}
 use Rattle.tal_labels.specs.declared.placer.Placer.{Placer}
-use Rattle.tal_labels.specs.Adding.{added_fault, given_word, word_added}
+use Rattle.tal_labels.specs.Adding.{added_fault, word_added}
 use Rattle.tal_labels.specs.Placers.{WereAdded}
+use Rattle.tal_labels.proofs.IndexLemmas.{none_since}
 use Rattle.tal_labels.proofs.AddingLemmas.{added-front, added-still, added-faulty}
 use Rattle.tal_labels.proofs.placer.Placer.add.Goals as goal
 
-none_since : (o : Option Fault) → is_some o ≡ false → o ≡ None
-none_since None e = refl
-none_since (Some fault) e = cc
-
 nothing_given : (source : List ℕ) (words : List Expanded) (word : Expanded) → is_some (added_fault source (words ++ word ∷ [])) ≡ true → None ≡ word_added source words word
-nothing_given source words word e = by (form (expanded_text source word)) ∙ ap (λ b. given_word source words word b (form (expanded_text source word))) (sym e)
-  where
-    by : (f : Result Form FaultKind) → None ≡ given_word source words word true f
-    by f = refl
+nothing_given source words word e = rw e refl
 
 faulty_added : (source : List ℕ) (words : List Expanded) (placer : Placer) → placer.is_faulty ≡ true → is_some (added_fault source words) ≡ true → WereAdded source words placer
 faulty_added source words placer e h = record {
@@ -37,12 +26,8 @@ returns-then-self-clause-added c words few so = faulty_added _ _ _ c.if-self.tru
 pub returns-in-Ok-clause-value : goal.returns-in-Ok-clause-value
 returns-in-Ok-clause-value c words few so =
     let sound = none_since _ (sym so.faulty ∙ c.if-self.false) in
-    let kept = so.kept sound in
-    let placed = c.in-Ok.ensures.value words few kept in
-    let still = added-still _ words _ sound placed.0 in
-    ap Some placed.2
-    ∙ ap (given_word c.args.source.now words c.args.word false) (sym placed.1)
-    ∙ ap (λ (o : Option Fault). given_word c.args.source.now words c.args.word (is_some o) (form (expanded_text c.args.source.now c.args.word))) (sym still)
+    let placed = c.in-Ok.ensures.value words few (so.kept sound) in
+    rw (added-still _ words _ sound placed.0, placed.1) (ap Some placed.2)
 
 pub returns-in-Ok-clause-added : goal.returns-in-Ok-clause-added
 returns-in-Ok-clause-added c words few so =

@@ -1,5 +1,5 @@
 use Rattle.std.proofs.Common.{◌≡◌, ℕ, Bool, not, ◌&&◌, List, [], ◌∷◌, length, Option, Some, None, refl, sym, ◌∙◌, ap, arith}
-use Rattle.tal_labels.proofs.StrayLemmas.{twice}
+use Rattle.tal_labels.proofs.OpenLemmas.{twice}
 use Rattle.std.specs.Prelude.{◌==◌, is_some}
 use Rattle.std.proofs.lemmas.Bool.Decides.{nat_tests}
 use Rattle.tal_words.specs.declared.span.Expanded.{Expanded}

@@ -1,28 +1,26 @@
-use Rattle.std.proofs.Common.{◌≡◌, ℕ, List, length, Bool, true, false, Some, None, Ok, sym, ◌∙◌, ap, arith, Result, Err}
+use Rattle.std.proofs.Common.{◌≡◌, ℕ, ◌-◌, ◌≤◌, List, length, drop, length-take, length-drop, true, Some, None, Ok, sym, ◌∙◌, ap, arith}
 use Rattle.std.specs.Option.{option_map}
-use Rattle.tal_words.specs.declared.fault.FaultKind.{FaultKind}
+use Rattle.tal_words.specs.declared.span.Span.{Span}
+use Rattle.tal_words.specs.Source.{bytes_at}
 use Rattle.tal_words.specs.declared.form.Form.{Form}
 use Rattle.tal_words.specs.declared.form.Form.TheVariants.{LambdaEnd}
 use Rattle.tal_words.specs.Forms.{form, size}
-use Rattle.tal_words.specs.Faults.{least}
 use Rattle.std.proofs.Math.Dec.{ltb}
 use Rattle.tal_labels.specs.Labels.{defined_name}
-use Rattle.tal_labels.specs.Shapes.{shape_kinds}
-use Rattle.tal_labels.specs.Placing.{place_kinds, is_mark_form, is_defined}
+use Rattle.tal_labels.specs.Placing.{is_mark_form, formed_marks, is_defined}
 use Rattle.tal_labels.specs.Placers.{kept_by}
 use Rattle.tal_labels.proofs.LayingLemmas.{well_placed}
 use Rattle.tal_labels.proofs.PlacedLemmas.{form-closes}
-use Rattle.tal_labels.proofs.PlacingLemmas.{text-short}
 use Rattle.tal_labels.proofs.KeptLemmas.{IsNext, refused_shape, judged_next, next_kept}
 use Rattle.tal_labels.proofs.placer.Placer.place_next.Goals as goal
 
+-- a text is within its source
+text-short : (source : List ℕ) (span : Span) → length (bytes_at source span) ≤ length source
+text-short source span = omega (arith, length-take (span.end - span.start) (drop span.start source), length-drop span.start source)
+
 -- a `}` is a mark
 mark_closes : (shape : Form) (text : List ℕ) → form text ≡ Ok shape → form text ≡ Ok LambdaEnd → is_mark_form shape ≡ true
-mark_closes shape text e h = (let same : Ok LambdaEnd ≡ Ok shape = sym h ∙ e in sym (ap marked same))
-  where
-    marked : Result Form FaultKind → Bool
-    marked (Ok shape) = is_mark_form shape
-    marked (Err kind) = false
+mark_closes shape text e h = ap formed_marks (sym e ∙ h)
 
 pub keep-requires-clause-closing : goal.keep-requires-clause-closing
 keep-requires-clause-closing c closing =
@@ -32,32 +30,25 @@ keep-requires-clause-closing c closing =
 
 pub returns-in-Err-clause-value : goal.returns-in-Err-clause-value
 returns-in-Err-clause-value c words few so =
-    let text = c.text-text.result.now in
-    let deep : c.len.result ≡ length c.args.self.now.openers.items = omega arith in
-    refused_shape c.args.source.now words c.args.word (kept_by c.args.self.now) so text c.in-Err.kind c.text-text.ensures
-    (ap (λ n. least (shape_kinds (form text) text n true)) (sym deep) ∙ c.in-Err.ensures) ∙ sym (ap Some c.new.ensures)
+    refused_shape c.args.source.now words c.args.word (kept_by c.args.self.now) so c.text-text.result.now c.len.result c.in-Err.kind
+    (omega arith) c.text-text.ensures c.in-Err.ensures ∙ sym (ap Some c.new.ensures)
 
 pub returns-in-Some-clause-value : goal.returns-in-Some-clause-value
 returns-in-Some-clause-value c words few so =
     let text = c.text-text.result.now in
-    let kept = c.args.self.now in
-    let deep : c.len.result ≡ length kept.openers.items = omega arith in
     let named = c.in_ok-name.ensures ∙ ap (λ s. defined_name (Ok c.in-Ok.form) s text) c.text.ensures in
-    judged_next c.args.source.now words c.args.word (kept_by kept) so c.in-Ok.form text (Some c.in-Some.kind) (record { read = c.text-text.ensures; formed = c.in-Ok.ensures.0 })
-    (ap (λ n. least (shape_kinds (form text) text n true)) (sym deep) ∙ c.in-Ok.ensures.1)
-    (ap (λ n. least (place_kinds (is_defined kept.labels n) kept.address (size c.in-Ok.form text) (is_mark_form c.in-Ok.form) (ltb kept.address kept.top))) (sym named) ∙ sym c.in-Some.ensures)
-    ∙ sym (ap Some c.new-in-Some.ensures)
+    let next : IsNext c.args.source.now c.args.word c.in-Ok.form text = record { read = c.text-text.ensures; formed = c.in-Ok.ensures.0 } in
+    judged_next c.args.source.now words c.args.word (kept_by c.args.self.now) so c.in-Ok.form text c.len.result _ (Some c.in-Some.kind) next
+    (omega arith) named c.in-Ok.ensures.1 (sym c.in-Some.ensures) ∙ sym (ap Some c.new-in-Some.ensures)
 
 pub returns-clause-value : goal.returns-clause-value
 returns-clause-value c words few so =
     let text = c.text-text.result.now in
     let kept = c.args.self.now in
-    let deep : c.len.result ≡ length kept.openers.items = omega arith in
     let named = c.in_ok-name.ensures ∙ ap (λ s. defined_name (Ok c.in-Ok.form) s text) c.text.ensures in
     let next : IsNext c.args.source.now c.args.word c.in-Ok.form text = record { read = c.text-text.ensures; formed = c.in-Ok.ensures.0 } in
-    let judged = judged_next c.args.source.now words c.args.word (kept_by kept) so c.in-Ok.form text None next
-    (ap (λ n. least (shape_kinds (form text) text n true)) (sym deep) ∙ c.in-Ok.ensures.1)
-    (ap (λ n. least (place_kinds (is_defined kept.labels n) kept.address (size c.in-Ok.form text) (is_mark_form c.in-Ok.form) (ltb kept.address kept.top))) (sym named) ∙ sym c.in_default.ensures) in
+    let judged = judged_next c.args.source.now words c.args.word (kept_by kept) so c.in-Ok.form text c.len.result _ None next
+    (omega arith) named c.in-Ok.ensures.1 (sym c.in_default.ensures) in
     let well = well_placed (is_defined kept.labels (option_map (λ bytes. bytes.items) c.in_ok-name.name)) kept.address (size c.in-Ok.form text) (is_mark_form c.in-Ok.form) (ltb kept.address kept.top) (sym c.in_default.ensures) in
     let done = next_kept c.args.source.now words c.args.word c.in-Ok.form text (option_map (λ bytes. bytes.items) c.in_ok-name.name)
     (record { word = c.args.word; form = c.in-Ok.form; address = kept.address; size = c.size.result; lambda = None })
