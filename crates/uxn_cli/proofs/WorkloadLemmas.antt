@@ -4,7 +4,6 @@ use Rattle.std.specs.Prelude.{Option, Some, None, Ok, unwrap_or}
 use Rattle.uxn_io.specs.Files.{Nodes}
 use Rattle.uxn_io.specs.Outside.{World, changed_by}
 use Rattle.vector_loop.specs.Trail.{Trail}
-use Rattle.uxn_workload.specs.Summary.{Summary}
 use Rattle.uxn_io.specs.declared.trees.FileBytes.TheVariants.{Missing as NoFile}
 use Rattle.uxn_words.specs.declared.words.Command.TheVariants.{Generate}
 use Rattle.uxn_words.specs.declared.task.Task.{Task}

@@ -1,5 +1,5 @@
 use Rattle.std.proofs.Common.{◌≡◌, ◌∙◌, rules, ap, sym, refl}
-use Rattle.std.specs.Prelude.{Ok, Err, List, ℕ}
+use Rattle.std.specs.Prelude.{Ok, Err, ℕ}
 use Rattle.std.specs.Global.{Vec}
 use Rattle.uxn_cli.specs.Verdict.{and_then, summary_in, Work, Print}
 use Rattle.uxn_cli.proofs.VerdictLemmas.{failed_then, step_failed, print_done}

@@ -1,14 +1,13 @@
-use Rattle.std.proofs.Common.{◌≡◌, ◌∙◌, ap, sym, subst, rules, false, List, ℕ, [], refl}
-use Rattle.std.specs.Prelude.{Option, Some, None, unwrap_or, IfOk}
+use Rattle.std.proofs.Common.{◌≡◌, ◌∙◌, ap, sym, subst, false, List, ℕ, refl}
+use Rattle.std.specs.Prelude.{Option, None}
 use Rattle.std.proofs.lemmas.Result.{IfOk-weaker}
 use Rattle.std.specs.FinMap as fin
 use Rattle.uxn_io.specs.Outside.{changed_by}
 use Rattle.play_script.specs.Scripts.{ScriptView}
 use Rattle.varvara_bus.specs.State.{StandFor, new_state}
-use Rattle.uxn_workload.specs.Summary.{Summary, summary_text}
+use Rattle.uxn_workload.specs.Summary.{summary_text}
 use Rattle.uxn_cli.specs.Job.{clock_by, no_home, outputs_by, trail_by, exit_in}
-use Rattle.uxn_cli.specs.Ended.{told_by_run}
-use Rattle.uxn_cli.specs.Workload.{empty_world, workload_trail, told_of, workload_text}
+use Rattle.uxn_cli.specs.Workload.{empty_world, workload_trail, workload_text}
 use Rattle.uxn_cli.proofs.WorkloadLemmas.{world_now, has-console, same-told}
 use Rattle.uxn_cli.proofs.generating.run_workload.Goals as goal
 
