@@ -29,7 +29,6 @@ use Rattle.system_port.specs.DebugText.{exit_code_of}
 use Rattle.varvara_bus.specs.History.{stored}
 use Rattle.uxn_cli.specs.Job.{Job, trail_of}
 use Rattle.uxn_cli.specs.Verdict.{and_then, View, Work, Run, Write, Print, RunLine, roms_in, line_in, view_of, source_by, source_in, rom_in, labels_by, labels_at, labels_in, given_in, debug_labels, commands_from, commands_in, script_from, script_in, home_by, job_of, program_in, texts_of, summary_in, work_of, made_by, judged, verdict}
-use Rattle.uxn_line.specs.declared.setup.SetupKind.{SetupKind}
 use Rattle.uxn_line.specs.Setups.{SetupView, setup_of}
 use Rattle.uxn_line.specs.Streams.{run_at}
 use Rattle.uxn_cli.specs.Setup.{NamedFiles, setup_from, setup_in, is_of_console, console_script}

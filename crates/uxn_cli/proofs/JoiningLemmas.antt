@@ -1,6 +1,6 @@
 -- What `line` reads, met one after the other, and what comes of its run.
 use Rattle.std.proofs.Common.{◌≡◌, ℕ, suc, ◌+◌, ◌<◌, Bool, true, false, cond, List, [], ◌∷◌, ◌++◌, map, length, take, drop, get_or, ◌≤◌, refl, ap, sym, ◌∙◌, subst, inl, arith, take-append-drop, drop-cons}
-use Rattle.std.specs.Prelude.{Option, Some, None, Result, Ok, Err, IfOk, OnOk, OnErr, IfSome, ◌&&◌}
+use Rattle.std.specs.Prelude.{Option, Some, None, Result, Ok, Err, IfOk, OnOk, OnErr, IfSome}
 use Rattle.std.specs.List.{All, list_all}
 use Rattle.std.proofs.lemmas.List.Elements.{All-cons}
 use Rattle.std.proofs.lemmas.List.{length-append, map-append, take_more, take_all}
@@ -19,7 +19,7 @@ use Rattle.uxn_line.specs.declared.line.Line.{Line as LineOf}
 use Rattle.uxn_line.specs.Moves.{SinkView, IsUnderWay}
 use Rattle.uxn_line.specs.Setups.{SetupView}
 use Rattle.uxn_line.specs.Streams.{Job as LineJob, AreOfConsole}
-use Rattle.uxn_opcodes.specs.declared.Stop.TheVariants.{TreeFault, SinkFault, NoMemory}
+use Rattle.uxn_opcodes.specs.declared.Stop.TheVariants.{SinkFault, NoMemory}
 use Rattle.uxn_words.specs.declared.task.Task.{Task}
 use Rattle.uxn_words.specs.declared.words.Command.TheVariants.{Line}
 use Rattle.uxn_cli.specs.declared.refusal.Refusal.{Refusal}
@@ -28,7 +28,7 @@ use Rattle.uxn_cli.specs.declared.refusal.Halt.{Halt}
 use Rattle.uxn_cli.specs.declared.refusal.Halt.TheVariants.{Refused, Stopped}
 use Rattle.uxn_cli.specs.World.{world}
 use Rattle.uxn_cli.specs.Setup.{NamedFiles, setup_in, is_of_console, console_script, line_job}
-use Rattle.uxn_cli.specs.Verdict.{and_then, View, Work, RunLine, file_seen, source_at, script_by, named_in, named_by, named_seen, blocked_seen, program_in, script_in, roms_in, line_in, work_of, outputs_by, verdict}
+use Rattle.uxn_cli.specs.Verdict.{and_then, View, Work, RunLine, source_at, script_by, named_by, named_seen, blocked_seen, program_in, script_in, roms_in, line_in, work_of}
 use Rattle.uxn_cli.specs.Follows.{Follows}
 use Rattle.uxn_cli.specs.Outcome.{line_bytes, line_exit}
 use Rattle.uxn_cli.specs.Answer.{Judges, Performs}
