@@ -26,27 +26,23 @@ module _ (labels : List Label) (place : ℕ) (d : Label) (within : place < lengt
       let no : ((get_or labels place d).address == address) ≡ false = ne_eqb (get_or labels place d).address address differ in
       record { ahead = omega (arith, is.ahead); within = is.within; skipped = rw (drop_more labels place d within, no) is.skipped; found = is.found }
 
-  -- the chain of its own address begins with it
-  begun : IsNext labels (get_or labels place d).address place place
-  begun = record { ahead = omega arith; within = omega arith; skipped = refl; found = λ e inside. ap (λ (label : Label). label.address) (get_or_default labels place e d within) }
-
-  -- one more label, from the end
-  pub chained_more : (first next : List ℕ) → (get_or labels place d).address < 65536 → AreChained labels (place + 1) first next
-      → AreChained labels place (set first (get_or labels place d).address place) (set next place (get_or first (get_or labels place d).address 0))
-  chained_more first next below chained =
+  -- one more label, from the end; the chain of its own address begins with it
+  pub chained_more : (first next : List ℕ) (from head : ℕ) → (get_or labels place d).address < 65536 → from ≡ place + 1 → head ≡ get_or first (get_or labels place d).address 0
+      → AreChained labels from first next → AreChained labels place (set first (get_or labels place d).address place) (set next place head)
+  chained_more first next from head below is_from is_head chained =
       let address = (get_or labels place d).address in
-      let in_first : address < length first = omega (arith, chained.first_size) in
-      let in_next : place < length next = omega (arith, chained.next_size) in
+      let firsts = rw is_from at chained.firsts in
       record {
         first_size = length-set first address place ∙ chained.first_size;
-        next_size = length-set next place (get_or first address 0) ∙ chained.next_size;
+        next_size = length-set next place head ∙ chained.next_size;
         firsts = λ other other_below. elim (cases_eq other address) [
-          | inl same ↦ rw (same, get_or-set_same first address place 0 in_first) begun
-          | inr differ ↦ rw (get_or-set_other first address other place 0 differ) (passed other (get_or first other 0) (λ same. differ (sym same)) (chained.firsts other other_below))
+          | inl same ↦ rw (same, get_or-set_same first address place 0 (omega (arith, chained.first_size)))
+            (record { ahead = omega arith; within = omega arith; skipped = refl; found = λ e inside. ap (λ (label : Label). label.address) (get_or_default labels place e d within) })
+          | inr differ ↦ rw (get_or-set_other first address other place 0 differ) (passed other (get_or first other 0) (λ same. differ (sym same)) (firsts other other_below))
         ];
-        nexts = λ at e from inside. elim (cases_eq at place) [
-          | inl same ↦ rw (same, get_or-set_same next place (get_or first address 0) 0 in_next, ← get_or_default labels place d e within) (chained.firsts address below)
-          | inr differ ↦ rw (get_or-set_other next place at (get_or first address 0) 0 differ) (chained.nexts at e (omega arith) inside)
+        nexts = λ at e after inside. elim (cases_eq at place) [
+          | inl same ↦ rw (same, get_or-set_same next place head 0 (omega (arith, chained.next_size)), is_head, ← get_or_default labels place d e within) (firsts address below)
+          | inr differ ↦ rw (get_or-set_other next place at head 0 differ) (chained.nexts at e (omega arith) inside)
         ];
       }
 

@@ -10,6 +10,7 @@ use Rattle.tal_words.specs.Forms.{form, bare, short_bytes}
 use Rattle.tal_words.specs.Digits.{is_digit, digit_value, number_of}
 use Rattle.tal_words.specs.Names.{rune_of}
 use Rattle.tal_words.specs.PlainTexts.{IsPlainWord}
+use Rattle.tal_labels.specs.PlainWords.{StandsFor}
 use Rattle.uxn_io.specs.NumberText.{hex_digit, hex_of_byte}
 
 -- a test holds of each number below a bound
@@ -59,39 +60,44 @@ digits_plain first second rest is_first is_second plain short = record {
 }
 
 -- a byte as two digits
-module _ (byte : ℕ) (below : byte < 256) where
-  pub high_digit : (is_digit (hex_digit (byte / 16)) ≡ true) × (digit_value (hex_digit (byte / 16)) ≡ byte / 16)
-  high_digit = digit_known (byte / 16) (omega arith)
+record AreDigits (byte : ℕ) : Type 0 where
+  pub high : is_digit (hex_digit (byte / 16)) ≡ true
+  pub low : is_digit (hex_digit (byte % 16)) ≡ true
+  pub value : number_of (hex_of_byte byte) ≡ byte
 
-  pub low_digit : (is_digit (hex_digit (byte % 16)) ≡ true) × (digit_value (hex_digit (byte % 16)) ≡ byte % 16)
-  low_digit = digit_known (byte % 16) (omega arith)
+byte_digits : (byte : ℕ) → byte < 256 → AreDigits byte
+byte_digits byte below =
+    let high = digit_known (byte / 16) (omega arith) in
+    let low = digit_known (byte % 16) (omega arith) in
+    record { high = high.0; low = low.0; value = omega (arith, high.1, low.1) }
 
-  pub byte_plain : IsPlainWord (hex_of_byte byte)
-  byte_plain = digits_plain (hex_digit (byte / 16)) (hex_digit (byte % 16)) [] high_digit.0 low_digit.0 refl (omega arith)
-
-  pub form-byte : form (hex_of_byte byte) ≡ Ok (Raw1 byte)
-  form-byte =
-      let value : number_of (hex_of_byte byte) ≡ byte = omega (arith, high_digit.1, low_digit.1) in
-      form-digit (hex_digit (byte / 16)) (hex_digit (byte % 16) ∷ []) high_digit.0 ∙ rw (high_digit.0, low_digit.0) (ap (λ (n : ℕ). Ok (Raw1 n)) value)
+pub byte_stands : (byte : ℕ) → byte < 256 → StandsFor (record { text = hex_of_byte byte; bytes = byte ∷ [] })
+byte_stands byte below =
+    let digits = byte_digits byte below in
+    record {
+      plain = digits_plain (hex_digit (byte / 16)) (hex_digit (byte % 16)) [] digits.high digits.low refl (omega arith);
+      shape = Raw1 byte;
+      formed = form-digit (hex_digit (byte / 16)) (hex_digit (byte % 16) ∷ []) digits.high ∙ rw (digits.high, digits.low) (ap (λ (n : ℕ). Ok (Raw1 n)) digits.value);
+      bare = refl;
+      encodes = refl;
+    }
 
 -- two bytes as four digits
 module _ (high low : ℕ) (high_below : high < 256) (low_below : low < 256) where
   pub short_plain : IsPlainWord (hex_of_byte high ++ hex_of_byte low)
   short_plain =
-      digits_plain (hex_digit (high / 16)) (hex_digit (high % 16)) (hex_of_byte low) (high_digit high high_below).0 (low_digit high high_below).0
-      (rw (digit_plain _ (high_digit low low_below).0, digit_plain _ (low_digit low low_below).0) refl) (omega arith)
+      let digits = byte_digits low low_below in
+      digits_plain (hex_digit (high / 16)) (hex_digit (high % 16)) (hex_of_byte low) (byte_digits high high_below).high (byte_digits high high_below).low
+      (rw (digit_plain _ digits.high, digit_plain _ digits.low) refl) (omega arith)
 
-  pub form-short : form (hex_of_byte high ++ hex_of_byte low) ≡ Ok (Raw2 (256 * high + low))
-  form-short =
-      let first = high_digit high high_below in
-      let second = low_digit high high_below in
-      let third = high_digit low low_below in
-      let fourth = low_digit low low_below in
-      let value : number_of (hex_of_byte high ++ hex_of_byte low) ≡ 256 * high + low = omega (arith, first.1, second.1, third.1, fourth.1) in
-      form-digit (hex_digit (high / 16)) (hex_digit (high % 16) ∷ hex_of_byte low) first.0 ∙ rw (first.0, second.0, third.0, fourth.0) (ap (λ (n : ℕ). Ok (Raw2 n)) value)
-
-  pub short_again : short_bytes (256 * high + low) ≡ high ∷ low ∷ []
-  short_again =
-      let first : (256 * high + low) / 256 % 256 ≡ high = omega arith in
-      let second : (256 * high + low) % 256 ≡ low = omega arith in
-      rw (first, second) refl
+  pub short_stands : StandsFor (record { text = hex_of_byte high ++ hex_of_byte low; bytes = high ∷ low ∷ [] })
+  short_stands =
+      let first = byte_digits high high_below in
+      let second = byte_digits low low_below in
+      let value : number_of (hex_of_byte high ++ hex_of_byte low) ≡ 256 * high + low = omega (arith, first.value, second.value) in
+      let top : (256 * high + low) / 256 % 256 ≡ high = omega arith in
+      let rest : (256 * high + low) % 256 ≡ low = omega arith in
+      let again : short_bytes (256 * high + low) ≡ high ∷ low ∷ [] = rw (top, rest) refl in
+      let begins = form-digit (hex_digit (high / 16)) (hex_digit (high % 16) ∷ hex_of_byte low) first.high in
+      let formed = begins ∙ rw (first.high, first.low, second.high, second.low) (ap (λ (n : ℕ). Ok (Raw2 n)) value) in
+      record { plain = short_plain; shape = Raw2 (256 * high + low); formed = formed; bare = refl; encodes = again }

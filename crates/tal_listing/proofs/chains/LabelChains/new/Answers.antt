@@ -1,6 +1,5 @@
-use Rattle.std.proofs.Common.{◌≡◌, ℕ, ◌+◌, ◌-◌, ◌<◌, get_or, refl, subst, arith}
+use Rattle.std.proofs.Common.{◌≡◌, ◌-◌, ◌<◌, get_or, refl, arith}
 use Rattle.std.proofs.lemmas.List.{get_or_read}
-use Rattle.tal_listing.specs.LabelChains.{AreChained}
 use Rattle.tal_listing.proofs.ChainLemmas.{chained_start, chained_more}
 use Rattle.tal_listing.proofs.chains.LabelChains.new.Goals as goal
 
@@ -11,15 +10,13 @@ loop-place-init c =
 
 pub loop-place-preserved : goal.loop-place-preserved
 loop-place-preserved c =
-    let place = c.loop-place.place - 1 in
     let first = c.loop-place.first.items in
+    let place = c.loop-place.place - 1 in
     let address = (get_or c.args.labels.now place c.index-labels-place.result).address in
-    let from : c.loop-place.place ≡ place + 1 = omega arith in
-    let P : ℕ → Type 0 = λ n. AreChained c.args.labels.now n first c.loop-place.next.items in
-    let chained = subst P from c.loop-place.invariant in
     let below : address < 65536 = omega (arith, c.index-labels-place.element_fits) in
-    let read : c.index.result.now ≡ get_or first address 0 = get_or_read first address c.index.result.now (omega (arith, chained.first_size)) c.index.ensures 0 in
-    rw read (chained_more c.args.labels.now place c.index-labels-place.result (omega arith) first c.loop-place.next.items below chained)
+    let read = get_or_read first address c.index.result.now (omega (arith, c.loop-place.invariant.first_size, below)) c.index.ensures 0 in
+    chained_more c.args.labels.now place c.index-labels-place.result (omega arith) first c.loop-place.next.items c.loop-place.place c.index.result.now
+    below (omega arith) read c.loop-place.invariant
 
 pub returns : goal.returns
 returns c = let start : c.loop-place.place ≡ 0 = omega arith in rw start at c.loop-place.invariant
