@@ -1,28 +1,113 @@
 -- That a disassembly assembles to its ROM.
-use Rattle.std.proofs.Common.{◌≡◌, ℕ, zero, suc, ◌+◌, ◌-◌, ◌/◌, ◌%◌, ◌<◌, ◌≤◌, inl, inr, true, false, List, [], ◌∷◌, ◌++◌, length, take, drop, get_or, map, refl, ap, sym, ◌∙◌, arith, append_assoc, append-nil, length-take, length-drop}
+use Rattle.std.proofs.Common.{◌≡◌, ℕ, zero, suc, ◌+◌, ◌-◌, ◌/◌, ◌%◌, ◌<◌, ◌≤◌, inl, inr, true, false, List, [], ◌∷◌, ◌++◌, length, take, drop, get_or, map, refl, ap, sym, ◌∙◌, arith, append_assoc, append-nil, length-take, length-drop, ◌*◌, None, Ok}
 use Rattle.std.proofs.Math.Seq.{drop-append_seam}
 use Rattle.std.specs.Prelude.{◌==◌, slice_index}
 use Rattle.std.specs.List.{flat_map, list_any, AllByRecursion}
-use Rattle.std.proofs.lemmas.Bool.{cases_Bool}
+use Rattle.std.proofs.lemmas.Bool.{cases_Bool, agree_below_at, eqb-true}
 use Rattle.std.proofs.lemmas.List.{drop_all, take-append-drop, map-append, get_or-take, get_or-drop, drop_more, drop-drop}
 use Rattle.std.proofs.lemmas.List.Concat.{flat_map-append}
-use Rattle.tal_words.specs.declared.form.Form.TheVariants.{Op}
+use Rattle.tal_words.specs.declared.form.Form.TheVariants.{Op, Raw1, Raw2}
 use Rattle.tal_words.specs.declared.name.Label.{Label}
 use Rattle.tal_words.specs.Source.{is_blank, is_only}
 use Rattle.tal_words.specs.Comments.{source_limit}
 use Rattle.tal_words.specs.Opcodes.{name_of_op}
-use Rattle.tal_words.specs.PlainTexts.{Item, Comment, PlainWord, chunk_text, chunks_of_item, words_of_item, words_of_items, text_of_items, IsItem, IsComment, AreItems}
+use Rattle.tal_words.specs.PlainTexts.{Item, Comment, PlainWord, chunk_text, chunks_of_item, words_of_item, words_of_items, text_of_items, IsItem, IsComment, AreItems, IsPlainWord}
 use Rattle.tal_words.proofs.BlankFree.{all_joined}
 use Rattle.tal_words.proofs.PlainNames.{name_plain, form-name}
 use Rattle.tal_labels.specs.PlainWords.{Coded, texts_of_coded, bytes_of_coded, pad_text, StandsFor}
 use Rattle.tal_symbols.specs.SymbolFile.{are_readable}
 use Rattle.tal_rom.specs.PlainWords.{AssemblesTo}
 use Rattle.tal_rom.proofs.PlainLemmas.{plain_assembles}
-use Rattle.uxn_io.specs.NumberText.{hex_of_short}
+use Rattle.uxn_io.specs.NumberText.{hex_of_short, hex_digit, hex_of_byte}
 use Rattle.tal_listing.specs.Texts.{hex_of_bytes, behind_name}
 use Rattle.tal_listing.specs.LabelChains.{labels_of_address}
 use Rattle.tal_listing.specs.Disassembly.{Instruction, immediate_length, instructions_from, immediate_items, instruction_items, label_item, label_items, items_of, rom_start, disassembly_items, disassembly}
-use Rattle.tal_listing.proofs.InstructionTexts.{byte_stands, short_plain, short_stands}
+use Rattle.std.proofs.lemmas.Bool.Decides.{nat_tests}
+use Rattle.tal_words.specs.Forms.{form, bare, short_bytes}
+use Rattle.tal_words.specs.Digits.{is_digit, digit_value, number_of}
+use Rattle.tal_words.specs.Names.{rune_of}
+
+-- what the texts of digits are as words
+digit_known : (n : ℕ) → n < 16 → (is_digit (hex_digit n) ≡ true) × (digit_value (hex_digit n) ≡ n)
+digit_known n below = (
+  agree_below_at (λ k. is_digit (hex_digit k)) (λ _. true) 16 n refl below,
+  eqb-true (digit_value (hex_digit n)) n (agree_below_at (λ k. digit_value (hex_digit k) == k) (λ _. true) 16 n refl below),
+)
+
+-- a digit is no other character
+other : (digit byte : ℕ) → is_digit digit ≡ true → is_digit byte ≡ false → (digit == byte) ≡ false
+other digit byte is not_digit = grind (arith, nat_tests)
+
+digit_plain : (digit : ℕ) → is_digit digit ≡ true → is_blank digit ≡ false
+digit_plain digit is = grind (arith, nat_tests)
+
+digit_no_rune : (digit : ℕ) → is_digit digit ≡ true → rune_of digit ≡ None
+digit_no_rune digit is =
+    rw (other digit 44 is refl, other digit 95 is refl, other digit 46 is refl, other digit 45 is refl, other digit 59 is refl, other digit 61 is refl, other digit 33 is refl, other digit 63 is refl) refl
+
+-- a word that begins with a digit is a number, an opcode or a name
+form-digit : (digit : ℕ) (rest : List ℕ) → is_digit digit ≡ true → form (digit ∷ rest) ≡ Ok (bare (digit ∷ rest))
+unfolding form
+form-digit digit rest is =
+    rw (other digit 124 is refl, other digit 36 is refl, other digit 35 is refl, other digit 34 is refl, other digit 64 is refl, other digit 38 is refl)
+    (rw (other digit 126 is refl, other digit 47 is refl, other digit 123 is refl, other digit 125 is refl, other digit 91 is refl, other digit 93 is refl, digit_no_rune digit is) refl)
+
+-- two digits or more, as a word
+digits_plain : (first second : ℕ) (rest : List ℕ) → is_digit first ≡ true → is_digit second ≡ true → list_any is_blank rest ≡ false → length rest ≤ 2
+    → IsPlainWord (first ∷ second ∷ rest)
+digits_plain first second rest is_first is_second plain short = record {
+  some = omega arith;
+  short = omega arith;
+  blank_free = rw (digit_plain first is_first, digit_plain second is_second, plain) refl;
+  no_comment = other first 40 is_first refl;
+  no_paren = other first 41 is_first refl;
+  no_head = other first 37 is_first refl;
+  unopened = rw (digit_no_rune first is_first) refl;
+  unclosed = refl;
+}
+
+-- a byte as two digits
+record AreDigits (byte : ℕ) : Type 0 where
+  pub high : is_digit (hex_digit (byte / 16)) ≡ true
+  pub low : is_digit (hex_digit (byte % 16)) ≡ true
+  pub value : number_of (hex_of_byte byte) ≡ byte
+
+byte_digits : (byte : ℕ) → byte < 256 → AreDigits byte
+byte_digits byte below =
+    let high = digit_known (byte / 16) (omega arith) in
+    let low = digit_known (byte % 16) (omega arith) in
+    record { high = high.0; low = low.0; value = omega (arith, high.1, low.1) }
+
+byte_stands : (byte : ℕ) → byte < 256 → StandsFor (record { text = hex_of_byte byte; bytes = byte ∷ [] })
+byte_stands byte below =
+    let digits = byte_digits byte below in
+    record {
+      plain = digits_plain (hex_digit (byte / 16)) (hex_digit (byte % 16)) [] digits.high digits.low refl (omega arith);
+      shape = Raw1 byte;
+      formed = form-digit (hex_digit (byte / 16)) (hex_digit (byte % 16) ∷ []) digits.high ∙ rw (digits.high, digits.low) (ap (λ (n : ℕ). Ok (Raw1 n)) digits.value);
+      bare = refl;
+      encodes = refl;
+    }
+
+-- two bytes as four digits
+module _ (high low : ℕ) (high_below : high < 256) (low_below : low < 256) where
+  short_plain : IsPlainWord (hex_of_byte high ++ hex_of_byte low)
+  short_plain =
+      let digits = byte_digits low low_below in
+      digits_plain (hex_digit (high / 16)) (hex_digit (high % 16)) (hex_of_byte low) (byte_digits high high_below).high (byte_digits high high_below).low
+      (rw (digit_plain _ digits.high, digit_plain _ digits.low) refl) (omega arith)
+
+  short_stands : StandsFor (record { text = hex_of_byte high ++ hex_of_byte low; bytes = high ∷ low ∷ [] })
+  short_stands =
+      let first = byte_digits high high_below in
+      let second = byte_digits low low_below in
+      let value : number_of (hex_of_byte high ++ hex_of_byte low) ≡ 256 * high + low = omega (arith, first.value, second.value) in
+      let top : (256 * high + low) / 256 % 256 ≡ high = omega arith in
+      let rest : (256 * high + low) % 256 ≡ low = omega arith in
+      let again : short_bytes (256 * high + low) ≡ high ∷ low ∷ [] = rw (top, rest) refl in
+      let begins = form-digit (hex_digit (high / 16)) (hex_digit (high % 16) ∷ hex_of_byte low) first.high in
+      let formed = begins ∙ rw (first.high, first.low, second.high, second.low) (ap (λ (n : ℕ). Ok (Raw2 n)) value) in
+      record { plain = short_plain; shape = Raw2 (256 * high + low); formed = formed; bare = refl; encodes = again }
 
 -- the words of an instruction with their bytes
 abbrev coded_immediate : List ℕ → List Coded
@@ -57,20 +142,13 @@ no_label_words : (labels : List Label) → words_of_items (map label_item labels
 no_label_words [] = refl
 no_label_words (label ∷ labels) = no_label_words labels
 
--- the items behind the name of an instruction
-immediate_sound : (immediate address : List ℕ) → AllByRecursion StandsFor (coded_immediate immediate) → IsComment address
+-- the items behind the name of an instruction, their words and their bytes
+immediate_known : (name address immediate : List ℕ) → AllByRecursion StandsFor (coded_immediate immediate) → IsComment address
     → AreItems (immediate_items immediate ++ Comment address 10 ∷ [])
-immediate_sound [] address stand comment = ((comment, refl), tt)
-immediate_sound (byte ∷ bytes) address stand comment = ((stand.0.plain, refl), ((comment, refl), tt))
-
-immediate_words : (name address immediate : List ℕ)
-    → name ∷ words_of_items (immediate_items immediate ++ Comment address 10 ∷ []) ≡ name ∷ texts_of_coded (coded_immediate immediate)
-immediate_words name address [] = refl
-immediate_words name address (byte ∷ bytes) = refl
-
-immediate_bytes : (immediate : List ℕ) → bytes_of_coded (coded_immediate immediate) ≡ immediate
-immediate_bytes [] = refl
-immediate_bytes (byte ∷ bytes) = append-nil (byte ∷ bytes)
+    × (name ∷ words_of_items (immediate_items immediate ++ Comment address 10 ∷ []) ≡ name ∷ texts_of_coded (coded_immediate immediate))
+    × (bytes_of_coded (coded_immediate immediate) ≡ immediate)
+immediate_known name address [] stand comment = (((comment, refl), tt), refl, refl)
+immediate_known name address (byte ∷ bytes) stand comment = (((stand.0.plain, refl), ((comment, refl), tt)), refl, append-nil (byte ∷ bytes))
 
 -- the items of instructions are sound, and have the words that stand for their bytes
 record AreSound (labels : List Label) (is : List Instruction) (whole : List ℕ) : Type 0 where
@@ -91,7 +169,8 @@ module _ (labels : List Label) (readable : are_readable labels ≡ true) where
       let digits = short_plain (i.address / 256) (i.address % 256) (omega arith) (omega arith) in
       let comment : IsComment (hex_of_short i.address) = record { some = omega arith; blank_free = digits.blank_free; unopened = refl; unclosed = refl } in
       let name = name_plain i.opcode byte in
-      let items : AreItems (instruction_items i) = ((name, refl), immediate_sound i.immediate (hex_of_short i.address) stands comment) in
+      let known = immediate_known (name_of_op i.opcode) (hex_of_short i.address) i.immediate stands comment in
+      let items : AreItems (instruction_items i) = ((name, refl), known.0) in
       record {
         items =
             all_joined IsItem (items_of labels i) (flat_map (items_of labels) is)
@@ -103,10 +182,10 @@ module _ (labels : List Label) (readable : are_readable labels ≡ true) where
         words =
             flat_map-append words_of_item (items_of labels i) (flat_map (items_of labels) is)
             ∙ rw (flat_map-append words_of_item (label_items labels i.address) (instruction_items i), no_label_words (labels_of_address i.address labels), up.words, map-append)
-            (ap (λ (texts : List (List ℕ)). texts ++ texts_of_coded (flat_map coded_of is)) (immediate_words (name_of_op i.opcode) (hex_of_short i.address) i.immediate));
+            (ap (λ (texts : List (List ℕ)). texts ++ texts_of_coded (flat_map coded_of is)) known.1);
         bytes =
             ap (λ (bytes : List ℕ). i.opcode ∷ bytes)
-            (flat_map-append (λ (word : Coded). word.bytes) (coded_immediate i.immediate) (flat_map coded_of is) ∙ rw (immediate_bytes i.immediate, up.bytes) refl);
+            (flat_map-append (λ (word : Coded). word.bytes) (coded_immediate i.immediate) (flat_map coded_of is) ∙ rw (known.2, up.bytes) refl);
       }
 
   all_sound : (more address : ℕ) (bytes : List ℕ) → ((k : ℕ) → k < length bytes → get_or bytes k 0 < 256) → length bytes ≤ more → address + length bytes ≤ 65536
@@ -164,11 +243,10 @@ pub record DisassembledTo (rom : List ℕ) (labels : List Label) (text : List �
   pub most : ℕ
   pub enough : length rom ≤ offset + most
   pub rest : text ++ text_of_items (flat_map (items_of labels) (instructions_from most (rom_start + offset) (drop offset rom))) ≡ disassembly rom labels
-  pub within : offset ≤ length rom
 
 pub disassembled_start : (rom : List ℕ) (labels : List Label) (text : List ℕ) → text ≡ pad_text ++ 10 ∷ [] → DisassembledTo rom labels text 0
 unfolding disassembly
-disassembled_start rom labels text is = record { most = length rom; enough = omega arith; rest = rw is refl; within = omega arith }
+disassembled_start rom labels text is = record { most = length rom; enough = omega arith; rest = rw is refl }
 
 pub disassembled_end : (rom : List ℕ) (labels : List Label) (text : List ℕ) (offset : ℕ) → length rom ≤ offset → DisassembledTo rom labels text offset → text ≡ disassembly rom labels
 disassembled_end rom labels text offset past up = sym (append-nil text) ∙ rw (drop_all offset rom past, none-from) at up.rest
@@ -190,13 +268,11 @@ module _ (rom : List ℕ) (labels : List Label) (text : List ℕ) (offset : ℕ)
       rw (is_most, is_next, drop_more rom offset 0 within, place, drop-drop (length instruction_at.immediate) (offset + 1) rom) refl
 
   pub disassembled_more : (labelled more : List ℕ) (next : ℕ) → labelled ≡ text ++ text_of_items (label_items labels (rom_start + offset))
-      → more ≡ labelled ++ text_of_items (instruction_items instruction_at) → next ≡ offset + 1 + length instruction_at.immediate → next ≤ length rom
-      → DisassembledTo rom labels more next
-  disassembled_more labelled more next is_labelled is_more is_next inside = record {
+      → more ≡ labelled ++ text_of_items (instruction_items instruction_at) → next ≡ offset + 1 + length instruction_at.immediate → DisassembledTo rom labels more next
+  disassembled_more labelled more next is_labelled is_more is_next = record {
     most = up.most - 1;
     enough = omega (arith, up.enough);
     rest =
         text_more text labelled more (label_items labels (rom_start + offset)) (instruction_items instruction_at) _ _ is_labelled is_more
         (rw (instructions_more up.most (up.most - 1) next (omega (arith, up.enough)) is_next) at up.rest);
-    within = inside;
   }

@@ -12,12 +12,9 @@ use Rattle.tal_symbols.specs.SymbolFile.{is_readable, are_readable}
 use Rattle.tal_symbols.proofs.WritingLemmas.{read_back}
 use Rattle.tal_listing.proofs.labels.source_labels_are_read.Goals as goal
 
-readable_name : (label : Label) → IsNamed label → is_readable label ≡ true
-readable_name label named = grind (arith, nat_tests, named.some, named.blank_free)
-
 named_readable : (labels : List Label) → AllByRecursion IsNamed labels → are_readable labels ≡ true
 named_readable [] all = refl
-named_readable (label ∷ labels) all = and_from (is_readable label) (are_readable labels) (readable_name label all.0) (named_readable labels all.1)
+named_readable (label ∷ labels) all = and_from (is_readable label) (are_readable labels) (grind (arith, nat_tests, all.0.some, all.0.blank_free)) (named_readable labels all.1)
 
 labels_readable : (source : List ℕ) → are_readable (layout source).labels ≡ true
 unfolding layout
