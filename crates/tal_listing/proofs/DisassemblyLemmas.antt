@@ -67,24 +67,20 @@ digits_plain first second rest is_first is_second plain short = record {
 }
 
 -- a byte as two digits
-record AreDigits (byte : ℕ) : Type 0 where
-  pub high : is_digit (hex_digit (byte / 16)) ≡ true
-  pub low : is_digit (hex_digit (byte % 16)) ≡ true
-  pub value : number_of (hex_of_byte byte) ≡ byte
-
-byte_digits : (byte : ℕ) → byte < 256 → AreDigits byte
+byte_digits : (byte : ℕ) → byte < 256
+    → (is_digit (hex_digit (byte / 16)) ≡ true) × (is_digit (hex_digit (byte % 16)) ≡ true) × (number_of (hex_of_byte byte) ≡ byte)
 byte_digits byte below =
     let high = digit_known (byte / 16) (omega arith) in
     let low = digit_known (byte % 16) (omega arith) in
-    record { high = high.0; low = low.0; value = omega (arith, high.1, low.1) }
+    (high.0, low.0, omega (arith, high.1, low.1))
 
 byte_stands : (byte : ℕ) → byte < 256 → StandsFor (record { text = hex_of_byte byte; bytes = byte ∷ [] })
 byte_stands byte below =
     let digits = byte_digits byte below in
     record {
-      plain = digits_plain (hex_digit (byte / 16)) (hex_digit (byte % 16)) [] digits.high digits.low refl (omega arith);
+      plain = digits_plain (hex_digit (byte / 16)) (hex_digit (byte % 16)) [] digits.0 digits.1 refl (omega arith);
       shape = Raw1 byte;
-      formed = form-digit (hex_digit (byte / 16)) (hex_digit (byte % 16) ∷ []) digits.high ∙ rw (digits.high, digits.low) (ap (λ (n : ℕ). Ok (Raw1 n)) digits.value);
+      formed = form-digit (hex_digit (byte / 16)) (hex_digit (byte % 16) ∷ []) digits.0 ∙ rw (digits.0, digits.1) (ap (λ (n : ℕ). Ok (Raw1 n)) digits.2);
       bare = refl;
       encodes = refl;
     }
@@ -94,19 +90,19 @@ module _ (high low : ℕ) (high_below : high < 256) (low_below : low < 256) wher
   short_plain : IsPlainWord (hex_of_byte high ++ hex_of_byte low)
   short_plain =
       let digits = byte_digits low low_below in
-      digits_plain (hex_digit (high / 16)) (hex_digit (high % 16)) (hex_of_byte low) (byte_digits high high_below).high (byte_digits high high_below).low
-      (rw (digit_plain _ digits.high, digit_plain _ digits.low) refl) (omega arith)
+      digits_plain (hex_digit (high / 16)) (hex_digit (high % 16)) (hex_of_byte low) (byte_digits high high_below).0 (byte_digits high high_below).1
+      (rw (digit_plain _ digits.0, digit_plain _ digits.1) refl) (omega arith)
 
   short_stands : StandsFor (record { text = hex_of_byte high ++ hex_of_byte low; bytes = high ∷ low ∷ [] })
   short_stands =
       let first = byte_digits high high_below in
       let second = byte_digits low low_below in
-      let value : number_of (hex_of_byte high ++ hex_of_byte low) ≡ 256 * high + low = omega (arith, first.value, second.value) in
+      let value : number_of (hex_of_byte high ++ hex_of_byte low) ≡ 256 * high + low = omega (arith, first.2, second.2) in
       let top : (256 * high + low) / 256 % 256 ≡ high = omega arith in
       let rest : (256 * high + low) % 256 ≡ low = omega arith in
       let again : short_bytes (256 * high + low) ≡ high ∷ low ∷ [] = rw (top, rest) refl in
-      let begins = form-digit (hex_digit (high / 16)) (hex_digit (high % 16) ∷ hex_of_byte low) first.high in
-      let formed = begins ∙ rw (first.high, first.low, second.high, second.low) (ap (λ (n : ℕ). Ok (Raw2 n)) value) in
+      let begins = form-digit (hex_digit (high / 16)) (hex_digit (high % 16) ∷ hex_of_byte low) first.0 in
+      let formed = begins ∙ rw (first.0, first.1, second.0, second.1) (ap (λ (n : ℕ). Ok (Raw2 n)) value) in
       record { plain = short_plain; shape = Raw2 (256 * high + low); formed = formed; bare = refl; encodes = again }
 
 -- the words of an instruction with their bytes
@@ -131,10 +127,9 @@ at_sign byte (first ∷ rest) differ = refl
 label_comments : (labels : List Label) (address : ℕ) → are_readable labels ≡ true → AreItems (map label_item (labels_of_address address labels))
 label_comments [] address readable = tt
 label_comments (label ∷ labels) address readable =
-    let plain : list_any is_blank label.name ≡ false = grind arith in
     let rest = label_comments labels address (grind arith) in
     elim (cases_Bool (label.address == address)) [
-      | inl here ↦ rw here ((record { some = omega arith; blank_free = plain; unopened = at_sign 40 label.name refl; unclosed = at_sign 41 label.name refl }, refl), rest)
+      | inl here ↦ rw here ((record { some = omega arith; blank_free = grind arith; unopened = at_sign 40 label.name refl; unclosed = at_sign 41 label.name refl }, refl), rest)
       | inr other ↦ rw other rest
     ]
 

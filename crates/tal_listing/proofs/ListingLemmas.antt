@@ -4,7 +4,7 @@ use Rattle.std.proofs.lemmas.List.FromFn.{map-range_with_len_more, get_or-map-ra
 use Rattle.std.proofs.lemmas.List.Concat.{flat_map-append}
 use Rattle.tal_macros.specs.Expansion.{expanded_of}
 use Rattle.tal_labels.specs.declared.placed.PlacedWord.{PlacedWord}
-use Rattle.tal_labels.specs.Placing.{place_fault, LiesInMemory, LieApart}
+use Rattle.tal_labels.specs.Placing.{LiesInMemory, LieApart}
 use Rattle.tal_labels.proofs.CallerLemmas.{place_fault-none, lie_apart}
 use Rattle.tal_rom.specs.Program.{Program}
 use Rattle.tal_rom.specs.Assembly.{first_fault, layout, IsAssembled, rom_of}
@@ -29,8 +29,7 @@ memory_more rom before offset i byte read =
 pub sound_words : (source : List ℕ) → first_fault source ≡ None → LieApart source (layout source).words
 unfolding first_fault layout
 sound_words source sound =
-    let places : place_fault source (expanded_of source) ≡ None = grind arith in
-    let parts = place_fault-none source (expanded_of source) places in
+    let parts = place_fault-none source (expanded_of source) (grind arith) in
     lie_apart source (expanded_of source) parts.0 parts.1
 
 -- the address of a word with bytes

@@ -7,11 +7,10 @@ loop-offset-init c = disassembled_start c.args.rom.now c.args.labels.now c.exten
 
 pub loop-offset-preserved : goal.loop-offset-preserved
 loop-offset-preserved c =
-    let rom = c.args.rom.now in
     let offset = c.loop-offset.offset in
     let immediate = c.immediate_of-immediate.ensures in
-    disassembled_more rom c.args.labels.now c.loop-offset.text.items offset c.loop-offset-test.true c.loop-offset.invariant c.append_label_lines.new.text.items
-    c.append_instruction.new.text.items (offset + (1 + length c.immediate_of-immediate.result.now)) c.in_ok-append_label_lines.ensures
+    disassembled_more c.args.rom.now c.args.labels.now c.loop-offset.text.items offset c.loop-offset-test.true c.loop-offset.invariant
+    c.append_label_lines.new.text.items c.append_instruction.new.text.items (offset + (1 + length c.immediate_of-immediate.result.now)) c.in_ok-append_label_lines.ensures
     (rw (← immediate) c.in_ok-append_instruction.ensures) (omega (arith, ap length immediate))
 
 pub returns-clause-value : goal.returns-clause-value
