@@ -77,13 +77,10 @@ byte_digits byte below =
 byte_stands : (byte : ℕ) → byte < 256 → StandsFor (record { text = hex_of_byte byte; bytes = byte ∷ [] })
 byte_stands byte below =
     let digits = byte_digits byte below in
-    record {
-      plain = digits_plain (hex_digit (byte / 16)) (hex_digit (byte % 16)) [] digits.0 digits.1 refl (omega arith);
-      shape = Raw1 byte;
-      formed = form-digit (hex_digit (byte / 16)) (hex_digit (byte % 16) ∷ []) digits.0 ∙ rw (digits.0, digits.1) (ap (λ (n : ℕ). Ok (Raw1 n)) digits.2);
-      bare = refl;
-      encodes = refl;
-    }
+    let plain = digits_plain (hex_digit (byte / 16)) (hex_digit (byte % 16)) [] digits.0 digits.1 refl (omega arith) in
+    let begins = form-digit (hex_digit (byte / 16)) (hex_digit (byte % 16) ∷ []) digits.0 in
+    let formed = begins ∙ rw (digits.0, digits.1) (ap (λ (n : ℕ). Ok (Raw1 n)) digits.2) in
+    record { plain = plain; shape = Raw1 byte; formed = formed; bare = refl; encodes = refl }
 
 -- two bytes as four digits
 module _ (high low : ℕ) (high_below : high < 256) (low_below : low < 256) where
@@ -264,10 +261,8 @@ module _ (rom : List ℕ) (labels : List Label) (text : List ℕ) (offset : ℕ)
 
   pub disassembled_more : (labelled more : List ℕ) (next : ℕ) → labelled ≡ text ++ text_of_items (label_items labels (rom_start + offset))
       → more ≡ labelled ++ text_of_items (instruction_items instruction_at) → next ≡ offset + 1 + length instruction_at.immediate → DisassembledTo rom labels more next
-  disassembled_more labelled more next is_labelled is_more is_next = record {
-    most = up.most - 1;
-    enough = omega (arith, up.enough);
-    rest =
-        text_more text labelled more (label_items labels (rom_start + offset)) (instruction_items instruction_at) _ _ is_labelled is_more
-        (rw (instructions_more up.most (up.most - 1) next (omega (arith, up.enough)) is_next) at up.rest);
-  }
+  disassembled_more labelled more next is_labelled is_more is_next =
+      let so = rw (instructions_more up.most (up.most - 1) next (omega (arith, up.enough)) is_next) at up.rest in
+      let line = instruction_items instruction_at in
+      let rest = text_more text labelled more (label_items labels (rom_start + offset)) line _ _ is_labelled is_more so in
+      record { most = up.most - 1; enough = omega (arith, up.enough); rest = rest }
