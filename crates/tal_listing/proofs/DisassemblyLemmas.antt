@@ -180,8 +180,8 @@ module _ (labels : List Label) (readable : are_readable labels ≡ true) where
             (flat_map-append (λ (word : Coded). word.bytes) (coded_immediate i.immediate) (flat_map coded_of is) ∙ rw (known.2, up.bytes) refl);
       }
 
-  all_sound : (more address : ℕ) (bytes : List ℕ) → ((k : ℕ) → k < length bytes → get_or bytes k 0 < 256) → length bytes ≤ more → address + length bytes ≤ 65536
-      → AreSound labels (instructions_from more address bytes) bytes
+  all_sound : (more address : ℕ) (bytes : List ℕ) → ((k : ℕ) → k < length bytes → get_or bytes k 0 < 256) → length bytes ≤ more
+      → address + length bytes ≤ 65536 → AreSound labels (instructions_from more address bytes) bytes
   unfolding instructions_from
   all_sound more address [] small enough room = rw (none-from more address) (record { items = tt; stand = tt; words = refl; bytes = refl })
   all_sound zero address (opcode ∷ bytes) small enough room = absurd (omega arith)

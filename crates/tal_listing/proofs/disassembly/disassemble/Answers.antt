@@ -10,8 +10,8 @@ loop-offset-preserved c =
     let offset = c.loop-offset.offset in
     let immediate = c.immediate_of-immediate.ensures in
     disassembled_more c.args.rom.now c.args.labels.now c.loop-offset.text.items offset c.loop-offset-test.true c.loop-offset.invariant
-    c.append_label_lines.new.text.items c.append_instruction.new.text.items (offset + (1 + length c.immediate_of-immediate.result.now)) c.in_ok-append_label_lines.ensures
-    (rw (← immediate) c.in_ok-append_instruction.ensures) (omega (arith, ap length immediate))
+    c.append_label_lines.new.text.items c.append_instruction.new.text.items (offset + (1 + length c.immediate_of-immediate.result.now))
+    c.in_ok-append_label_lines.ensures (rw (← immediate) c.in_ok-append_instruction.ensures) (omega (arith, ap length immediate))
 
 pub returns-clause-value : goal.returns-clause-value
 returns-clause-value c = disassembled_end c.args.rom.now c.args.labels.now c.loop-offset.text.items c.loop-offset.offset (omega arith) c.loop-offset.invariant

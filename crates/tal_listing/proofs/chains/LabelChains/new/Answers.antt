@@ -30,7 +30,7 @@ chained_more labels place d first next from head within is_from below is_head ch
       next_size = length-set next place head ∙ chained.next_size;
       firsts = λ other other_below. elim (cases_eq other address) [
         | inl same ↦
-            let found = λ (e : Label) (inside : place < length labels). ap (λ (label : Label). label.address) (get_or_default labels place e d within) in
+            let found = λ (e : Label) (inside : place < length labels). ap (λ (l : Label). l.address) (get_or_default labels place e d within) in
             rw (same, get_or-set_same first address place 0 (omega (arith, chained.first_size)))
             (record { ahead = omega arith; within = omega arith; skipped = refl; found = found })
         | inr differ ↦
