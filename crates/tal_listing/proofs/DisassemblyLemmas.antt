@@ -1,9 +1,9 @@
 -- That a disassembly assembles to its ROM.
-use Rattle.std.proofs.Common.{◌≡◌, ℕ, zero, suc, ◌+◌, ◌-◌, ◌*◌, ◌/◌, ◌%◌, ◌<◌, ◌≤◌, inl, inr, true, false, List, [], ◌∷◌, ◌++◌, length, take, drop, get_or, map, refl, ap, sym, ◌∙◌, arith, append_assoc, append-nil, length-take, length-drop}
+use Rattle.std.proofs.Common.{◌≡◌, ℕ, zero, suc, ◌+◌, ◌-◌, ◌/◌, ◌%◌, ◌<◌, ◌≤◌, inl, inr, true, false, List, [], ◌∷◌, ◌++◌, length, take, drop, get_or, map, refl, ap, sym, ◌∙◌, arith, append_assoc, append-nil, length-take, length-drop, ◌*◌, None, Ok}
 use Rattle.std.proofs.Math.Seq.{drop-append_seam}
 use Rattle.std.specs.Prelude.{◌==◌, slice_index}
 use Rattle.std.specs.List.{flat_map, list_any, AllByRecursion}
-use Rattle.std.proofs.lemmas.Bool.{cases_Bool}
+use Rattle.std.proofs.lemmas.Bool.{cases_Bool, agree_below_at, eqb-true}
 use Rattle.std.proofs.lemmas.List.{drop_all, take-append-drop, map-append, get_or-take, get_or-drop, drop_more, drop-drop}
 use Rattle.std.proofs.lemmas.List.Concat.{flat_map-append}
 use Rattle.tal_words.specs.declared.form.Form.TheVariants.{Op, Raw1, Raw2}
@@ -11,60 +11,96 @@ use Rattle.tal_words.specs.declared.name.Label.{Label}
 use Rattle.tal_words.specs.Source.{is_blank, is_only}
 use Rattle.tal_words.specs.Comments.{source_limit}
 use Rattle.tal_words.specs.Opcodes.{name_of_op}
-use Rattle.tal_words.specs.PlainTexts.{Item, Comment, PlainWord, chunk_text, chunks_of_item, words_of_item, words_of_items, text_of_items, IsItem, IsComment, AreItems}
+use Rattle.tal_words.specs.PlainTexts.{Item, Comment, PlainWord, chunk_text, chunks_of_item, words_of_item, words_of_items, text_of_items, IsItem, IsComment, AreItems, IsPlainWord}
 use Rattle.tal_words.proofs.BlankFree.{all_joined}
 use Rattle.tal_words.proofs.PlainNames.{name_plain, form-name}
 use Rattle.tal_labels.specs.PlainWords.{Coded, texts_of_coded, bytes_of_coded, pad_text, StandsFor}
 use Rattle.tal_symbols.specs.SymbolFile.{are_readable}
 use Rattle.tal_rom.specs.PlainWords.{AssemblesTo}
 use Rattle.tal_rom.proofs.PlainLemmas.{plain_assembles}
-use Rattle.uxn_io.specs.NumberText.{hex_of_short}
+use Rattle.uxn_io.specs.NumberText.{hex_of_short, hex_digit, hex_of_byte}
 use Rattle.tal_listing.specs.Texts.{hex_of_bytes, behind_name}
 use Rattle.tal_listing.specs.LabelChains.{labels_of_address}
 use Rattle.tal_listing.specs.Disassembly.{Instruction, immediate_length, instructions_from, immediate_items, instruction_items, label_item, label_items, items_of, rom_start, disassembly_items, disassembly}
-use Rattle.tal_listing.proofs.InstructionTexts.{byte_plain, form-byte, short_plain, form-short, short_again}
+use Rattle.std.proofs.lemmas.Bool.Decides.{nat_tests}
+use Rattle.tal_words.specs.Forms.{form, bare, short_bytes}
+use Rattle.tal_words.specs.Digits.{is_digit, digit_value, number_of}
+use Rattle.tal_words.specs.Names.{rune_of}
 
--- an instruction lies in memory, and is made of bytes of which at most two follow the opcode
-pub record IsInstruction (instruction : Instruction) : Type 0 where
-  pub place : instruction.address < 65536
-  pub byte : instruction.opcode < 256
-  pub short : length instruction.immediate ≤ 2
-  pub small : (k : ℕ) → k < length instruction.immediate → get_or instruction.immediate k 0 < 256
+-- what the texts of digits are as words
+digit_known : (n : ℕ) → n < 16 → (is_digit (hex_digit n) ≡ true) × (digit_value (hex_digit n) ≡ n)
+digit_known n below = (
+  agree_below_at (λ k. is_digit (hex_digit k)) (λ _. true) 16 n refl below,
+  eqb-true (digit_value (hex_digit n)) n (agree_below_at (λ k. digit_value (hex_digit k) == k) (λ _. true) 16 n refl below),
+)
 
-immediate_length-le : (op : ℕ) → immediate_length op ≤ 2
-immediate_length-le op = grind arith
+-- a digit is no other character
+other : (digit byte : ℕ) → is_digit digit ≡ true → is_digit byte ≡ false → (digit == byte) ≡ false
+other digit byte is not_digit = grind (arith, nat_tests)
 
-instructions_known : (more address : ℕ) (bytes : List ℕ) → ((k : ℕ) → k < length bytes → get_or bytes k 0 < 256)
-    → (0 < length bytes → address + length bytes ≤ 65536) → AllByRecursion IsInstruction (instructions_from more address bytes)
-unfolding instructions_from
-instructions_known zero address bytes small room = tt
-instructions_known (suc more) address [] small room = tt
-instructions_known (suc more) address (opcode ∷ bytes) small room =
-    let count = immediate_length opcode in
-    let here = room (omega arith) in
-    let size = length-take count bytes in
-    let left = length-drop (length (take count bytes)) bytes in (
-      record {
-        place = omega arith;
-        byte = small 0 (omega arith);
-        short = omega (arith, size, immediate_length-le opcode);
-        small = λ k within. rw (get_or-take count bytes k 0 (omega (arith, size))) (small (suc k) (omega (arith, size)));
-      },
-      instructions_known more (address + 1 + length (take count bytes)) (drop (length (take count bytes)) bytes)
-          (λ k within. rw (get_or-drop (length (take count bytes)) bytes k 0) (small (suc (length (take count bytes) + k)) (omega (arith, left)))) (λ some. omega (arith, left)),
-    )
+digit_plain : (digit : ℕ) → is_digit digit ≡ true → is_blank digit ≡ false
+digit_plain digit is = grind (arith, nat_tests)
 
--- the bytes of the instructions are those that were read
-instruction_bytes : (more address : ℕ) (bytes : List ℕ) → length bytes ≤ more
-    → flat_map (λ (i : Instruction). i.opcode ∷ i.immediate) (instructions_from more address bytes) ≡ bytes
-unfolding instructions_from
-instruction_bytes zero address [] enough = refl
-instruction_bytes zero address (opcode ∷ bytes) enough = absurd (omega arith)
-instruction_bytes (suc more) address [] enough = refl
-instruction_bytes (suc more) address (opcode ∷ bytes) enough =
-    let front = take (immediate_length opcode) bytes in
-    rw (instruction_bytes more (address + 1 + length front) (drop (length front) bytes) (omega (arith, length-drop (length front) bytes)))
-    (ap (λ (all : List ℕ). opcode ∷ all) (rw (take-append-drop (immediate_length opcode) bytes) at (ap (λ (all : List ℕ). front ++ all) (drop-append_seam front (drop (immediate_length opcode) bytes)))))
+digit_no_rune : (digit : ℕ) → is_digit digit ≡ true → rune_of digit ≡ None
+digit_no_rune digit is =
+    rw (other digit 44 is refl, other digit 95 is refl, other digit 46 is refl, other digit 45 is refl, other digit 59 is refl, other digit 61 is refl, other digit 33 is refl, other digit 63 is refl) refl
+
+-- a word that begins with a digit is a number, an opcode or a name
+form-digit : (digit : ℕ) (rest : List ℕ) → is_digit digit ≡ true → form (digit ∷ rest) ≡ Ok (bare (digit ∷ rest))
+unfolding form
+form-digit digit rest is =
+    rw (other digit 124 is refl, other digit 36 is refl, other digit 35 is refl, other digit 34 is refl, other digit 64 is refl, other digit 38 is refl)
+    (rw (other digit 126 is refl, other digit 47 is refl, other digit 123 is refl, other digit 125 is refl, other digit 91 is refl, other digit 93 is refl, digit_no_rune digit is) refl)
+
+-- two digits or more, as a word
+digits_plain : (first second : ℕ) (rest : List ℕ) → is_digit first ≡ true → is_digit second ≡ true → list_any is_blank rest ≡ false → length rest ≤ 2
+    → IsPlainWord (first ∷ second ∷ rest)
+digits_plain first second rest is_first is_second plain short = record {
+  some = omega arith;
+  short = omega arith;
+  blank_free = rw (digit_plain first is_first, digit_plain second is_second, plain) refl;
+  no_comment = other first 40 is_first refl;
+  no_paren = other first 41 is_first refl;
+  no_head = other first 37 is_first refl;
+  unopened = rw (digit_no_rune first is_first) refl;
+  unclosed = refl;
+}
+
+-- a byte as two digits
+byte_digits : (byte : ℕ) → byte < 256
+    → (is_digit (hex_digit (byte / 16)) ≡ true) × (is_digit (hex_digit (byte % 16)) ≡ true) × (number_of (hex_of_byte byte) ≡ byte)
+byte_digits byte below =
+    let high = digit_known (byte / 16) (omega arith) in
+    let low = digit_known (byte % 16) (omega arith) in
+    (high.0, low.0, omega (arith, high.1, low.1))
+
+byte_stands : (byte : ℕ) → byte < 256 → StandsFor (record { text = hex_of_byte byte; bytes = byte ∷ [] })
+byte_stands byte below =
+    let digits = byte_digits byte below in
+    let plain = digits_plain (hex_digit (byte / 16)) (hex_digit (byte % 16)) [] digits.0 digits.1 refl (omega arith) in
+    let begins = form-digit (hex_digit (byte / 16)) (hex_digit (byte % 16) ∷ []) digits.0 in
+    let formed = begins ∙ rw (digits.0, digits.1) (ap (λ (n : ℕ). Ok (Raw1 n)) digits.2) in
+    record { plain = plain; shape = Raw1 byte; formed = formed; bare = refl; encodes = refl }
+
+-- two bytes as four digits
+module _ (high low : ℕ) (high_below : high < 256) (low_below : low < 256) where
+  short_plain : IsPlainWord (hex_of_byte high ++ hex_of_byte low)
+  short_plain =
+      let digits = byte_digits low low_below in
+      digits_plain (hex_digit (high / 16)) (hex_digit (high % 16)) (hex_of_byte low) (byte_digits high high_below).0 (byte_digits high high_below).1
+      (rw (digit_plain _ digits.0, digit_plain _ digits.1) refl) (omega arith)
+
+  short_stands : StandsFor (record { text = hex_of_byte high ++ hex_of_byte low; bytes = high ∷ low ∷ [] })
+  short_stands =
+      let first = byte_digits high high_below in
+      let second = byte_digits low low_below in
+      let value : number_of (hex_of_byte high ++ hex_of_byte low) ≡ 256 * high + low = omega (arith, first.2, second.2) in
+      let top : (256 * high + low) / 256 % 256 ≡ high = omega arith in
+      let rest : (256 * high + low) % 256 ≡ low = omega arith in
+      let again : short_bytes (256 * high + low) ≡ high ∷ low ∷ [] = rw (top, rest) refl in
+      let begins = form-digit (hex_digit (high / 16)) (hex_digit (high % 16) ∷ hex_of_byte low) first.0 in
+      let formed = begins ∙ rw (first.0, first.1, second.0, second.1) (ap (λ (n : ℕ). Ok (Raw2 n)) value) in
+      record { plain = short_plain; shape = Raw2 (256 * high + low); formed = formed; bare = refl; encodes = again }
 
 -- the words of an instruction with their bytes
 abbrev coded_immediate : List ℕ → List Coded
@@ -76,27 +112,9 @@ coded_of i = record { text = name_of_op i.opcode; bytes = i.opcode ∷ [] } ∷ 
 
 immediate_stands : (bytes : List ℕ) → length bytes ≤ 2 → ((k : ℕ) → k < length bytes → get_or bytes k 0 < 256) → AllByRecursion StandsFor (coded_immediate bytes)
 immediate_stands [] short small = tt
-immediate_stands (byte ∷ []) short small =
-    let below : byte < 256 = small 0 (omega arith) in
-    (record { plain = byte_plain byte below; shape = Raw1 byte; formed = form-byte byte below; bare = refl; encodes = refl }, tt)
-immediate_stands (byte ∷ next ∷ []) short small =
-    let below : byte < 256 = small 0 (omega arith) in
-    let next_below : next < 256 = small 1 (omega arith) in
-    (record { plain = short_plain byte next below next_below; shape = Raw2 (256 * byte + next); formed = form-short byte next below next_below; bare = refl; encodes = short_again byte next below next_below }, tt)
+immediate_stands (byte ∷ []) short small = (byte_stands byte (small 0 (omega arith)), tt)
+immediate_stands (byte ∷ next ∷ []) short small = (short_stands byte next (small 0 (omega arith)) (small 1 (omega arith)), tt)
 immediate_stands (byte ∷ next ∷ last ∷ bytes) short small = absurd (omega arith)
-
-all_stand : (is : List Instruction) → AllByRecursion IsInstruction is → AllByRecursion StandsFor (flat_map coded_of is)
-all_stand [] known = tt
-all_stand (i ∷ is) known = (
-  record { plain = name_plain i.opcode known.0.byte; shape = Op i.opcode; formed = form-name i.opcode known.0.byte; bare = refl; encodes = refl },
-  all_joined StandsFor (coded_immediate i.immediate) (flat_map coded_of is) (immediate_stands i.immediate known.0.short known.0.small) (all_stand is known.1),
-)
-
--- the comment with an address
-address_comment_is : (address : ℕ) → address < 65536 → IsComment (hex_of_short address)
-address_comment_is address below =
-    let plain = short_plain (address / 256) (address % 256) (omega arith) (omega arith) in
-    record { some = omega arith; blank_free = plain.blank_free; unopened = refl; unclosed = refl }
 
 -- the comment with the name of a label
 at_sign : (byte : ℕ) (name : List ℕ) → (64 == byte) ≡ false → is_only byte (64 ∷ name) ≡ false
@@ -106,69 +124,89 @@ at_sign byte (first ∷ rest) differ = refl
 label_comments : (labels : List Label) (address : ℕ) → are_readable labels ≡ true → AreItems (map label_item (labels_of_address address labels))
 label_comments [] address readable = tt
 label_comments (label ∷ labels) address readable =
-    let plain : list_any is_blank label.name ≡ false = grind arith in
     let rest = label_comments labels address (grind arith) in
     elim (cases_Bool (label.address == address)) [
-      | inl here ↦ rw here ((record { some = omega arith; blank_free = plain; unopened = at_sign 40 label.name refl; unclosed = at_sign 41 label.name refl }, refl), rest)
+      | inl here ↦ rw here ((record { some = omega arith; blank_free = grind arith; unopened = at_sign 40 label.name refl; unclosed = at_sign 41 label.name refl }, refl), rest)
       | inr other ↦ rw other rest
     ]
 
-module _ (labels : List Label) (readable : are_readable labels ≡ true) where
-  instruction_sound : (i : Instruction) → IsInstruction i → AreItems (instruction_items i)
-  instruction_sound i is = (
-    (name_plain i.opcode is.byte, refl),
-    by i.immediate (immediate_stands i.immediate is.short is.small),
-  )
-    where
-      by : (immediate : List ℕ) → AllByRecursion StandsFor (coded_immediate immediate) → AreItems (immediate_items immediate ++ Comment (hex_of_short i.address) 10 ∷ [])
-      by [] stand = ((address_comment_is i.address is.place, refl), tt)
-      by (byte ∷ bytes) stand = ((stand.0.plain, refl), ((address_comment_is i.address is.place, refl), tt))
-
-  all_sound : (is : List Instruction) → AllByRecursion IsInstruction is → AreItems (flat_map (items_of labels) is)
-  all_sound [] known = tt
-  all_sound (i ∷ is) known =
-      all_joined IsItem (items_of labels i) (flat_map (items_of labels) is)
-      (all_joined IsItem (label_items labels i.address) (instruction_items i) (label_comments labels i.address readable) (instruction_sound i known.0))
-      (all_sound is known.1)
-
--- the words of the items
 no_label_words : (labels : List Label) → words_of_items (map label_item labels) ≡ []
 no_label_words [] = refl
 no_label_words (label ∷ labels) = no_label_words labels
 
-immediate_words : (name address immediate : List ℕ)
-    → name ∷ words_of_items (immediate_items immediate ++ Comment address 10 ∷ []) ≡ name ∷ texts_of_coded (coded_immediate immediate)
-immediate_words name address [] = refl
-immediate_words name address (byte ∷ bytes) = refl
+-- the items behind the name of an instruction, their words and their bytes
+immediate_known : (name address immediate : List ℕ) → AllByRecursion StandsFor (coded_immediate immediate) → IsComment address
+    → AreItems (immediate_items immediate ++ Comment address 10 ∷ [])
+    × (name ∷ words_of_items (immediate_items immediate ++ Comment address 10 ∷ []) ≡ name ∷ texts_of_coded (coded_immediate immediate))
+    × (bytes_of_coded (coded_immediate immediate) ≡ immediate)
+immediate_known name address [] stand comment = (((comment, refl), tt), refl, refl)
+immediate_known name address (byte ∷ bytes) stand comment = (((stand.0.plain, refl), ((comment, refl), tt)), refl, append-nil (byte ∷ bytes))
 
-words_all : (labels : List Label) (is : List Instruction) → words_of_items (flat_map (items_of labels) is) ≡ texts_of_coded (flat_map coded_of is)
-words_all labels [] = refl
-words_all labels (i ∷ is) =
-    flat_map-append words_of_item (items_of labels i) (flat_map (items_of labels) is)
-    ∙ rw (flat_map-append words_of_item (label_items labels i.address) (instruction_items i), no_label_words (labels_of_address i.address labels), words_all labels is, map-append)
-    (ap (λ (texts : List (List ℕ)). texts ++ texts_of_coded (flat_map coded_of is)) (immediate_words (name_of_op i.opcode) (hex_of_short i.address) i.immediate))
+-- the items of instructions are sound, and have the words that stand for their bytes
+record AreSound (labels : List Label) (is : List Instruction) (whole : List ℕ) : Type 0 where
+  pub items : AreItems (flat_map (items_of labels) is)
+  pub stand : AllByRecursion StandsFor (flat_map coded_of is)
+  pub words : words_of_items (flat_map (items_of labels) is) ≡ texts_of_coded (flat_map coded_of is)
+  pub bytes : bytes_of_coded (flat_map coded_of is) ≡ whole
 
-immediate_bytes : (immediate : List ℕ) → bytes_of_coded (coded_immediate immediate) ≡ immediate
-immediate_bytes [] = refl
-immediate_bytes (byte ∷ bytes) = append-nil (byte ∷ bytes)
+none-from : (n address : ℕ) → instructions_from n address [] ≡ []
+unfolding instructions_from
+none-from zero address = refl
+none-from (suc n) address = refl
 
-bytes_all : (is : List Instruction) → bytes_of_coded (flat_map coded_of is) ≡ flat_map (λ (i : Instruction). i.opcode ∷ i.immediate) is
-bytes_all [] = refl
-bytes_all (i ∷ is) =
-    ap (λ (bytes : List ℕ). i.opcode ∷ bytes) (flat_map-append (λ (word : Coded). word.bytes) (coded_immediate i.immediate) (flat_map coded_of is) ∙ rw (immediate_bytes i.immediate, bytes_all is) refl)
+module _ (labels : List Label) (readable : are_readable labels ≡ true) where
+  sound_more : (i : Instruction) (is : List Instruction) (rest : List ℕ) → i.address < 65536 → i.opcode < 256
+      → AllByRecursion StandsFor (coded_immediate i.immediate) → AreSound labels is rest → AreSound labels (i ∷ is) (i.opcode ∷ (i.immediate ++ rest))
+  sound_more i is rest place byte stands up =
+      let digits = short_plain (i.address / 256) (i.address % 256) (omega arith) (omega arith) in
+      let comment : IsComment (hex_of_short i.address) = record { some = omega arith; blank_free = digits.blank_free; unopened = refl; unclosed = refl } in
+      let name = name_plain i.opcode byte in
+      let known = immediate_known (name_of_op i.opcode) (hex_of_short i.address) i.immediate stands comment in
+      let items : AreItems (instruction_items i) = ((name, refl), known.0) in
+      record {
+        items =
+            all_joined IsItem (items_of labels i) (flat_map (items_of labels) is)
+            (all_joined IsItem (label_items labels i.address) (instruction_items i) (label_comments labels i.address readable) items) up.items;
+        stand = (
+          record { plain = name; shape = Op i.opcode; formed = form-name i.opcode byte; bare = refl; encodes = refl },
+          all_joined StandsFor (coded_immediate i.immediate) (flat_map coded_of is) stands up.stand,
+        );
+        words =
+            flat_map-append words_of_item (items_of labels i) (flat_map (items_of labels) is)
+            ∙ rw (flat_map-append words_of_item (label_items labels i.address) (instruction_items i), no_label_words (labels_of_address i.address labels), up.words, map-append)
+            (ap (λ (texts : List (List ℕ)). texts ++ texts_of_coded (flat_map coded_of is)) known.1);
+        bytes =
+            ap (λ (bytes : List ℕ). i.opcode ∷ bytes)
+            (flat_map-append (λ (word : Coded). word.bytes) (coded_immediate i.immediate) (flat_map coded_of is) ∙ rw (known.2, up.bytes) refl);
+      }
+
+  all_sound : (more address : ℕ) (bytes : List ℕ) → ((k : ℕ) → k < length bytes → get_or bytes k 0 < 256) → length bytes ≤ more
+      → address + length bytes ≤ 65536 → AreSound labels (instructions_from more address bytes) bytes
+  unfolding instructions_from
+  all_sound more address [] small enough room = rw (none-from more address) (record { items = tt; stand = tt; words = refl; bytes = refl })
+  all_sound zero address (opcode ∷ bytes) small enough room = absurd (omega arith)
+  all_sound (suc more) address (opcode ∷ bytes) small enough room =
+      let front = take (immediate_length opcode) bytes in
+      let most : immediate_length opcode ≤ 2 = grind arith in
+      let size = length-take (immediate_length opcode) bytes in
+      let left = length-drop (length front) bytes in
+      let stands = immediate_stands front (omega (arith, size))
+      (λ k within. rw (get_or-take (immediate_length opcode) bytes k 0 (omega (arith, size))) (small (suc k) (omega (arith, size)))) in
+      let rest = all_sound more (address + 1 + length front) (drop (length front) bytes)
+      (λ k within. rw (get_or-drop (length front) bytes k 0) (small (suc (length front + k)) (omega (arith, left)))) (omega (arith, left)) (omega (arith, left, size)) in
+      let whole = rw (take-append-drop (immediate_length opcode) bytes) at (ap (λ (all : List ℕ). front ++ all) (drop-append_seam front (drop (immediate_length opcode) bytes))) in
+      rw whole at (sound_more (record { address = address; opcode = opcode; immediate = front }) _ _ (omega arith) (small 0 (omega arith)) stands rest)
 
 pub disassembly_assembles : (rom : List ℕ) (labels : List Label) → ((i : ℕ) → i < length rom → slice_index rom i < 256) → length rom ≤ 65280 → are_readable labels ≡ true
     → length (disassembly rom labels) ≤ source_limit → AssemblesTo (disassembly rom labels) rom
 unfolding disassembly
 disassembly_assembles rom labels small room readable short =
-    let is = instructions_from (length rom) rom_start rom in
-    let known = instructions_known (length rom) rom_start rom small (λ some. omega arith) in
-    let coded = flat_map coded_of is in
-    let bytes : bytes_of_coded coded ≡ rom = bytes_all is ∙ instruction_bytes (length rom) rom_start rom (omega arith) in
+    let known = all_sound labels readable (length rom) rom_start rom small (omega arith) (omega arith) in
+    let coded = flat_map coded_of (instructions_from (length rom) rom_start rom) in
     let sound : AreItems (disassembly_items rom labels) =
-    ((record { some = omega arith; short = omega arith; blank_free = refl; no_comment = refl; no_paren = refl; no_head = refl; unopened = refl; unclosed = refl }, refl), all_sound labels readable is known) in
-    let words : words_of_items (disassembly_items rom labels) ≡ pad_text ∷ texts_of_coded coded = ap (λ (texts : List (List ℕ)). pad_text ∷ texts) (words_all labels is) in
-    rw bytes at (plain_assembles (disassembly_items rom labels) coded sound words (all_stand is known) short (omega (arith, ap length bytes)))
+    ((record { some = omega arith; short = omega arith; blank_free = refl; no_comment = refl; no_paren = refl; no_head = refl; unopened = refl; unclosed = refl }, refl), known.items) in
+    let words : words_of_items (disassembly_items rom labels) ≡ pad_text ∷ texts_of_coded coded = ap (λ (texts : List (List ℕ)). pad_text ∷ texts) known.words in
+    rw known.bytes at (plain_assembles (disassembly_items rom labels) coded sound words known.stand short (omega (arith, ap length known.bytes)))
 
 -- the text of items behind others
 pub text-append : (xs ys : List Item) → text_of_items (xs ++ ys) ≡ text_of_items xs ++ text_of_items ys
@@ -185,20 +223,6 @@ pub line_text : (before name immediate address : List ℕ)
 line_text before name [] address = simp (append_assoc, append-nil) refl
 line_text before name (byte ∷ bytes) address = long_text before name (hex_of_bytes (byte ∷ bytes)) address
 
-none-from : (n address : ℕ) → instructions_from n address [] ≡ []
-unfolding instructions_from
-none-from zero address = refl
-none-from (suc n) address = refl
-
--- at most as many instructions as bytes
-enough : (n m address : ℕ) (bytes : List ℕ) → length bytes ≤ n → length bytes ≤ m → instructions_from n address bytes ≡ instructions_from m address bytes
-unfolding instructions_from
-enough n m address [] first second = none-from n address ∙ sym (none-from m address)
-enough (suc n) (suc m) address (opcode ∷ bytes) first second =
-    let count = length (take (immediate_length opcode) bytes) in
-    rw (enough n m (address + 1 + count) (drop count bytes) (omega (arith, length-drop count bytes)) (omega (arith, length-drop count bytes))) refl
-enough n m address (opcode ∷ bytes) first second = absurd (omega arith)
-
 -- the text of the items of an instruction, and of those behind them
 text_more : (text labelled more : List ℕ) (labels line rest : List Item) (whole : List ℕ) → labelled ≡ text ++ text_of_items labels → more ≡ labelled ++ text_of_items line
     → text ++ text_of_items ((labels ++ line) ++ rest) ≡ whole → more ++ text_of_items rest ≡ whole
@@ -206,17 +230,15 @@ text_more text labelled more labels line rest whole is_labelled is_more so =
     let parts = rw (text-append (labels ++ line) rest, text-append labels line) at so in
     rw (is_more, is_labelled) (simp append_assoc (simp append_assoc at parts))
 
--- the text so far, and the instructions from an offset on
-abbrev instructions_at : List ℕ → ℕ → List Instruction
-instructions_at rom offset = instructions_from (length rom - offset) (rom_start + offset) (drop offset rom)
-
+-- the text so far, and the instructions from an offset on, of which there are at most so many
 pub record DisassembledTo (rom : List ℕ) (labels : List Label) (text : List ℕ) (offset : ℕ) : Type 0 where
-  pub rest : text ++ text_of_items (flat_map (items_of labels) (instructions_at rom offset)) ≡ disassembly rom labels
-  pub within : offset ≤ length rom
+  pub most : ℕ
+  pub enough : length rom ≤ offset + most
+  pub rest : text ++ text_of_items (flat_map (items_of labels) (instructions_from most (rom_start + offset) (drop offset rom))) ≡ disassembly rom labels
 
 pub disassembled_start : (rom : List ℕ) (labels : List Label) (text : List ℕ) → text ≡ pad_text ++ 10 ∷ [] → DisassembledTo rom labels text 0
 unfolding disassembly
-disassembled_start rom labels text is = let all : length rom - 0 ≡ length rom = omega arith in record { rest = rw (is, all) refl; within = omega arith }
+disassembled_start rom labels text is = record { most = length rom; enough = omega arith; rest = rw is refl }
 
 pub disassembled_end : (rom : List ℕ) (labels : List Label) (text : List ℕ) (offset : ℕ) → length rom ≤ offset → DisassembledTo rom labels text offset → text ≡ disassembly rom labels
 disassembled_end rom labels text offset past up = sym (append-nil text) ∙ rw (drop_all offset rom past, none-from) at up.rest
@@ -230,20 +252,17 @@ module _ (rom : List ℕ) (labels : List Label) (text : List ℕ) (offset : ℕ)
   }
 
   -- the next instruction, and those behind it
-  instructions_more : instructions_at rom offset ≡ instruction_at ∷ instructions_at rom (offset + 1 + length instruction_at.immediate)
+  instructions_more : (most less next : ℕ) → most ≡ suc less → next ≡ offset + 1 + length instruction_at.immediate
+      → instructions_from most (rom_start + offset) (drop offset rom) ≡ instruction_at ∷ instructions_from less (rom_start + next) (drop next rom)
   unfolding instructions_from
-  instructions_more =
-      let count = length instruction_at.immediate in
-      let size : length rom - offset ≡ suc (length rom - offset - 1) = omega arith in
-      let place : rom_start + offset + 1 + count ≡ rom_start + (offset + 1 + count) = omega arith in
-      let left = length-drop (offset + 1 + count) rom in
-      rw (drop_more rom offset 0 within, size, place, drop-drop count (offset + 1) rom) (ap (λ (is : List Instruction). instruction_at ∷ is) (enough _ _ _ _ (omega (arith, left)) (omega (arith, left))))
+  instructions_more most less next is_most is_next =
+      let place : rom_start + offset + 1 + length instruction_at.immediate ≡ rom_start + (offset + 1 + length instruction_at.immediate) = omega arith in
+      rw (is_most, is_next, drop_more rom offset 0 within, place, drop-drop (length instruction_at.immediate) (offset + 1) rom) refl
 
   pub disassembled_more : (labelled more : List ℕ) (next : ℕ) → labelled ≡ text ++ text_of_items (label_items labels (rom_start + offset))
-      → more ≡ labelled ++ text_of_items (instruction_items instruction_at) → next ≡ offset + 1 + length instruction_at.immediate → next ≤ length rom
-      → DisassembledTo rom labels more next
-  disassembled_more labelled more next is_labelled is_more is_next inside = record {
-    rest =
-        rw is_next (text_more text labelled more (label_items labels (rom_start + offset)) (instruction_items instruction_at) _ _ is_labelled is_more (rw instructions_more at up.rest));
-    within = inside;
-  }
+      → more ≡ labelled ++ text_of_items (instruction_items instruction_at) → next ≡ offset + 1 + length instruction_at.immediate → DisassembledTo rom labels more next
+  disassembled_more labelled more next is_labelled is_more is_next =
+      let so = rw (instructions_more up.most (up.most - 1) next (omega (arith, up.enough)) is_next) at up.rest in
+      let line = instruction_items instruction_at in
+      let rest = text_more text labelled more (label_items labels (rom_start + offset)) line _ _ is_labelled is_more so in
+      record { most = up.most - 1; enough = omega (arith, up.enough); rest = rest }

@@ -1,4 +1,2 @@
-pub mod InstructionTexts
 pub mod DisassemblyLemmas
-pub mod ChainLemmas
 pub mod ListingLemmas

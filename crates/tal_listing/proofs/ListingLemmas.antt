@@ -4,7 +4,7 @@ use Rattle.std.proofs.lemmas.List.FromFn.{map-range_with_len_more, get_or-map-ra
 use Rattle.std.proofs.lemmas.List.Concat.{flat_map-append}
 use Rattle.tal_macros.specs.Expansion.{expanded_of}
 use Rattle.tal_labels.specs.declared.placed.PlacedWord.{PlacedWord}
-use Rattle.tal_labels.specs.Placing.{place_fault, LiesInMemory, LieApart}
+use Rattle.tal_labels.specs.Placing.{LiesInMemory, LieApart}
 use Rattle.tal_labels.proofs.CallerLemmas.{place_fault-none, lie_apart}
 use Rattle.tal_rom.specs.Program.{Program}
 use Rattle.tal_rom.specs.Assembly.{first_fault, layout, IsAssembled, rom_of}
@@ -29,8 +29,7 @@ memory_more rom before offset i byte read =
 pub sound_words : (source : List ℕ) → first_fault source ≡ None → LieApart source (layout source).words
 unfolding first_fault layout
 sound_words source sound =
-    let places : place_fault source (expanded_of source) ≡ None = grind arith in
-    let parts = place_fault-none source (expanded_of source) places in
+    let parts = place_fault-none source (expanded_of source) (grind arith) in
     lie_apart source (expanded_of source) parts.0 parts.1
 
 -- the address of a word with bytes
@@ -71,13 +70,12 @@ module _ (source : List ℕ) (sound : first_fault source ≡ None) (k : ℕ) (wo
   abbrev own : Piece
   own = get_or (pieces_of source (layout source).labels (layout source).words) k piece
 
-  own_address : own.address ≡ placed.address
+  own_place : (own.address ≡ placed.address) × (length pieces ≡ length (layout source).words)
   unfolding pieces_of
-  own_address = ap (λ (p : Piece). p.address) (get_or-each (piece_given source (layout source).labels) [] (layout source).words k word piece within)
-
-  piece_count : length pieces ≡ length (layout source).words
-  unfolding pieces_of
-  piece_count = length-each (piece_given source (layout source).labels) [] (layout source).words
+  own_place = (
+    ap (λ (p : Piece). p.address) (get_or-each (piece_given source (layout source).labels) [] (layout source).words k word piece within),
+    length-each (piece_given source (layout source).labels) [] (layout source).words,
+  )
 
   -- a byte of the ROM
   rom_byte : (i : ℕ) → i < 65280 → get_or (rom_of source) i 0 ≡ byte_at pieces (256 + i)
@@ -86,28 +84,23 @@ module _ (source : List ℕ) (sound : first_fault source ≡ None) (k : ℕ) (wo
       let f : ℕ → ℕ = λ n. byte_at pieces (256 + n) in
       get_or-trimmed (map f (range_with_len 0 65280)) i ∙ get_or-map-range_with_len f 0 65280 i i 0 below (omega arith)
 
-  own_covers : (j : ℕ) → j < placed.size → covers (placed.address + j) own ≡ true
-  own_covers j inside = grind (arith, nat_tests, own_address, (sound_once source sound).sized k word piece within)
-
-  alone : (j i : ℕ) → j < placed.size → i < k → covers (placed.address + j) (get_or pieces i piece) ≡ false
-  alone j i inside below = grind (arith, own_covers j inside, (sound_once source sound).once (placed.address + j) i k piece below within)
-
   byte_own : (j : ℕ) → j < placed.size → byte_at pieces (placed.address + j) ≡ get_or own.bytes j 0
   unfolding byte_at
   byte_own j inside =
-      let found = found_first pieces (placed.address + j) k piece (omega (arith, piece_count)) (own_covers j inside) (λ i below. alone j i inside below) in
-      let at : placed.address + j - own.address ≡ j = omega (arith, own_address) in
-      rw (found, at) refl
+      let once = sound_once source sound in
+      let own_covers : covers (placed.address + j) own ≡ true = grind (arith, nat_tests, own_place.0, once.sized k word piece within) in
+      let alone : (i : ℕ) → i < k → covers (placed.address + j) (get_or pieces i piece) ≡ false =
+      λ i below. grind (arith, own_covers, once.once (placed.address + j) i k piece below within) in
+      let at : placed.address + j - own.address ≡ j = omega (arith, own_place.0) in
+      rw (found_first pieces (placed.address + j) k piece (omega (arith, own_place.1)) own_covers alone, at) refl
 
   shown : memory_bytes (rom_of source) placed.address placed.size ≡ own.bytes
   shown =
-      let rom = rom_of source in
-      let f : ℕ → ℕ = λ i. get_or rom (placed.address - 256 + i) 0 in
-      let once = sound_once source sound in
-      let size = once.sized k word piece within in
+      let f : ℕ → ℕ = λ i. get_or (rom_of source) (placed.address - 256 + i) 0 in
+      let size = (sound_once source sound).sized k word piece within in
       let lies = (sound_words source sound).each k word within in
       let count = length-map-range_with_len f 0 placed.size in
-      same_number_lists (memory_bytes rom placed.address placed.size) own.bytes (omega (arith, count, size))
+      same_number_lists (memory_bytes (rom_of source) placed.address placed.size) own.bytes (omega (arith, count, size))
       (λ j below.
       let inside : j < placed.size = omega (arith, count) in
       let start = lies.start (omega arith) in

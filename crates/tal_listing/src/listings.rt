@@ -30,6 +30,7 @@ pub fn listing(alloc: Global, source: &[u8], assembly: &Assembly) -> Result<Vec<
 }
 
 /// The bytes that a listing shows beside a word are those that the word stands for.
+#[tactic(auto, using(crate::proofs::ListingLemmas::holds_words))]
 pub fn listed_bytes_are_the_words()
     ensures { (source : List ℕ) → first_fault source ≡ None → HoldsItsWords source }
 {}

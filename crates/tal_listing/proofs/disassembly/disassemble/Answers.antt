@@ -1,5 +1,4 @@
-use Rattle.std.proofs.Common.{◌+◌, length, drop, get_or, ap, arith, rules, length-take, length-drop}
-use Rattle.tal_listing.specs.Disassembly.{immediate_length}
+use Rattle.std.proofs.Common.{◌+◌, length, ap, arith, rules}
 use Rattle.tal_listing.proofs.DisassemblyLemmas.{disassembly_assembles, disassembled_start, disassembled_more, disassembled_end}
 use Rattle.tal_listing.proofs.disassembly.disassemble.Goals as goal
 
@@ -8,14 +7,11 @@ loop-offset-init c = disassembled_start c.args.rom.now c.args.labels.now c.exten
 
 pub loop-offset-preserved : goal.loop-offset-preserved
 loop-offset-preserved c =
-    let rom = c.args.rom.now in
     let offset = c.loop-offset.offset in
     let immediate = c.immediate_of-immediate.ensures in
-    let size = ap length immediate in
-    let taken = length-take (immediate_length (get_or rom offset 0)) (drop (offset + 1) rom) in
-    disassembled_more rom c.args.labels.now c.loop-offset.text.items offset c.loop-offset-test.true c.loop-offset.invariant c.append_label_lines.new.text.items
-    c.append_instruction.new.text.items (offset + (1 + length c.immediate_of-immediate.result.now)) c.in_ok-append_label_lines.ensures
-    (rw (← immediate) c.in_ok-append_instruction.ensures) (omega (arith, size)) (omega (arith, size, taken, length-drop (offset + 1) rom))
+    disassembled_more c.args.rom.now c.args.labels.now c.loop-offset.text.items offset c.loop-offset-test.true c.loop-offset.invariant
+    c.append_label_lines.new.text.items c.append_instruction.new.text.items (offset + (1 + length c.immediate_of-immediate.result.now))
+    c.in_ok-append_label_lines.ensures (rw (← immediate) c.in_ok-append_instruction.ensures) (omega (arith, ap length immediate))
 
 pub returns-clause-value : goal.returns-clause-value
 returns-clause-value c = disassembled_end c.args.rom.now c.args.labels.now c.loop-offset.text.items c.loop-offset.offset (omega arith) c.loop-offset.invariant
