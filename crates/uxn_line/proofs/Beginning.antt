@@ -1,5 +1,5 @@
 -- The first machine of a line that was given what comes next of its script.
-use Rattle.std.proofs.Common.{◌≡◌, ◌≢◌, ℕ, zero, suc, ◌+◌, ◌<◌, ◌≤◌, ◌↔◌, Bool, true, false, cond, List, [], ◌∷◌, drop, length, get_or, refl, sym, ap, subst, ◌∙◌, arith}
+use Rattle.std.proofs.Common.{◌≡◌, ℕ, suc, ◌<◌, ◌≤◌, ◌↔◌, Bool, true, false, List, [], ◌∷◌, drop, length, refl, sym, ap, subst, ◌∙◌, arith}
 use Rattle.std.specs.Prelude.{Some, None, Ok, option_map, slice_get, slice_set}
 use Rattle.circular_buffer.specs.Buffer.{buffer}
 use Rattle.vector_loop.specs.State.{is_over}
@@ -8,16 +8,16 @@ use Rattle.uxn_line.specs.declared.line.Line.{Line}
 use Rattle.uxn_line.specs.declared.line.Moved.TheVariants.{Gave}
 use Rattle.uxn_line.specs.declared.member.Member.{Member}
 use Rattle.uxn_line.specs.Places.{Place, Gift, console_of, turn}
-use Rattle.uxn_line.specs.Streams.{Job, after}
-use Rattle.uxn_line.specs.Members.{MemberAt, has_ended, IsOpen}
-use Rattle.uxn_line.specs.Standing.{Turned, one_more, place_in, InLine, Stands}
+use Rattle.uxn_line.specs.Streams.{Job}
+use Rattle.uxn_line.specs.Members.{MemberAt, has_ended}
+use Rattle.uxn_line.specs.Standing.{Turned, place_in, Stands}
 use Rattle.uxn_line.specs.Moves.{SinkView, Came}
-use Rattle.uxn_line.specs.Work.{still_given, work, works, work_left}
+use Rattle.uxn_line.specs.Work.{work, works, work_left}
 use Rattle.uxn_line.proofs.Turned.{give-gifts, give-put}
 use Rattle.uxn_line.proofs.Working.{until_all, idle-open, ring-within, given-less, head-less}
 use Rattle.uxn_line.proofs.Standings.{place-more}
 use Rattle.uxn_line.proofs.Running.{with_member, room-stays, within-stays, empty-stays}
-use Rattle.uxn_line.proofs.Feeding.{FoundOpen, found-open, IdleAt, idle-at, give-came}
+use Rattle.uxn_line.proofs.Feeding.{FoundOpen, idle-at, give-came}
 
 -- the first gift, by what was taken
 pub record FirstGift (all : List Gift) (given : ConsoleByte) : Type 0 where

@@ -1,12 +1,11 @@
 -- What comes next to a machine behind another: the bytes of the ring, those that are still to be written, and the end.
-use Rattle.std.proofs.Common.{◌≡◌, ◌≢◌, ℕ, zero, suc, ◌+◌, ◌-◌, ◌<◌, ◌≤◌, ◌↔◌, ◌⊎◌, inl, inr, Bool, true, false, cond, List, [], ◌∷◌, ◌++◌, take, drop, map, length, refl, sym, ap, subst, ◌∙◌, arith, append_assoc, append-nil, length-append}
-use Rattle.std.specs.Prelude.{Some, None}
+use Rattle.std.proofs.Common.{◌≡◌, ◌≢◌, ℕ, zero, suc, ◌+◌, ◌-◌, ◌≤◌, ◌↔◌, Bool, true, false, cond, List, [], ◌∷◌, ◌++◌, take, drop, map, length, refl, sym, ap, ◌∙◌, arith, append_assoc, length-append}
 use Rattle.std.proofs.Math.Seq.{drop-append_seam}
-use Rattle.std.proofs.lemmas.List.{take_all, length-take-le}
+use Rattle.std.proofs.lemmas.List.{length-take-le}
 use Rattle.play_script.specs.declared.script.Event.TheVariants.{Input, EndInput}
 use Rattle.vector_loop.specs.State.{State, is_over}
 use Rattle.vector_loop.specs.Run.{arguments_given}
-use Rattle.uxn_line.specs.Places.{Gift, OfEvent, Place, place, HasEnded, instruction_turn, giving_turn, idle_turn, turn_of, turn, after_turns}
+use Rattle.uxn_line.specs.Places.{Gift, OfEvent, Place, place, HasEnded, instruction_turn, giving_turn, turn_of, turn, after_turns}
 use Rattle.uxn_line.specs.Streams.{Job, IsJob, first_place, rom_at, gifts_of, script_at, stream, after}
 use Rattle.uxn_line.specs.Members.{next_gift}
 use Rattle.uxn_line.specs.Standing.{given_after}

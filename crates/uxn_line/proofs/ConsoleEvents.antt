@@ -1,5 +1,5 @@
 -- Events that are looked at one by one.
-use Rattle.std.proofs.Common.{◌≡◌, ◌≢◌, ℕ, zero, suc, ◌+◌, ◌<◌, ◌≤◌, ◌↔◌, true, false, Bool, List, [], ◌∷◌, drop, get_or, length, refl, sym, ap, subst, arith, add-one}
+use Rattle.std.proofs.Common.{◌≡◌, ℕ, zero, suc, ◌+◌, ◌<◌, ◌≤◌, ◌↔◌, true, false, Bool, List, [], ◌∷◌, drop, get_or, length, sym, subst, arith, add-one}
 use Rattle.std.proofs.Math.ListN.{drop_of_length-le}
 use Rattle.play_script.specs.declared.script.Event.{Event}
 use Rattle.uxn_line.specs.Streams.{IsOfConsole, AreOfConsole}

@@ -1,15 +1,14 @@
 -- What a line has put is a front of the stream of its last machine.
-use Rattle.std.proofs.Common.{◌≡◌, ◌≢◌, ℕ, zero, suc, ◌+◌, ◌-◌, ◌<◌, ◌≤◌, ◌⊎◌, ◌||◌, inl, inr, Bool, true, false, List, [], ◌∷◌, ◌++◌, take, length, refl, sym, ap, subst, ◌∙◌, arith, append_assoc, length-append}
-use Rattle.std.specs.Prelude.{Some, None, Option, Result, Ok, Err, OnOk, OnErr, IsOk, slice_get}
+use Rattle.std.proofs.Common.{◌≡◌, ℕ, zero, suc, ◌+◌, ◌<◌, ◌≤◌, ◌||◌, inl, inr, Bool, true, false, List, [], ◌∷◌, ◌++◌, take, length, refl, sym, ap, subst, ◌∙◌, arith, append_assoc, length-append}
+use Rattle.std.specs.Prelude.{Some, Option, Result, Ok, Err, OnOk, OnErr, IsOk, slice_get}
 use Rattle.std.proofs.Math.Seq.{take-append_seam}
 use Rattle.uxn_io.specs.Told.{extended, HasTakenFront}
-use Rattle.uxn_io.specs.Outside.{extended-extended, extended-nothing}
+use Rattle.uxn_io.specs.Outside.{extended-extended}
 use Rattle.uxn_io.specs.declared.sinks.Failed.{Failed}
 use Rattle.uxn_line.specs.declared.line.Line.{Line}
 use Rattle.uxn_line.specs.declared.line.Moved.{Moved}
 use Rattle.uxn_line.specs.declared.line.Moved.TheVariants.{Ran, Gave, Waits, Held, Ended}
-use Rattle.uxn_line.specs.declared.member.Member.{Member}
-use Rattle.uxn_line.specs.Places.{Place, turn}
+use Rattle.uxn_line.specs.Places.{turn}
 use Rattle.uxn_line.specs.Machines.{handed_on}
 use Rattle.uxn_line.specs.Streams.{Job, IsJob, stream, after}
 use Rattle.uxn_line.specs.Standing.{Turned, place_in, Stands}

@@ -1,5 +1,5 @@
 -- A machine of a line that was given what comes next, or waits for it.
-use Rattle.std.proofs.Common.{◌≡◌, ◌≢◌, ℕ, zero, suc, ◌+◌, ◌-◌, ◌<◌, ◌≤◌, ◌↔◌, ◌⊎◌, inl, inr, Bool, true, false, List, [], ◌∷◌, ◌++◌, take, drop, length, get_or, refl, sym, ap, subst, ◌∙◌, arith, append-nil}
+use Rattle.std.proofs.Common.{◌≡◌, ◌≢◌, ℕ, zero, suc, ◌-◌, ◌≤◌, ◌↔◌, inl, inr, Bool, true, false, List, [], ◌∷◌, ◌++◌, take, drop, length, get_or, refl, sym, ap, subst, ◌∙◌, arith, append-nil}
 use Rattle.std.specs.Prelude.{Some, Ok, slice_get, slice_set}
 use Rattle.std.proofs.lemmas.List.{length-set}
 use Rattle.std.proofs.lemmas.Option.{slice_get_within, slice_get_read}
@@ -11,12 +11,12 @@ use Rattle.uxn_line.specs.declared.member.Member.{Member}
 use Rattle.uxn_line.specs.Places.{Place, Gift, HasEnded, turn}
 use Rattle.uxn_line.specs.Streams.{Job, script_at, stream, gifts_of, after}
 use Rattle.uxn_line.specs.Members.{MemberAt, has_ended, IsOpen, next_gift}
-use Rattle.uxn_line.specs.Standing.{Turned, one_more, place_in, given_after, Between, RingBefore, InLine, Stands}
+use Rattle.uxn_line.specs.Standing.{Turned, one_more, place_in, given_after, Between, InLine, Stands}
 use Rattle.uxn_line.specs.Moves.{SinkView, IsWaiting, ring_of, Came}
 use Rattle.uxn_line.proofs.Turned.{give-gifts, give-put}
 use Rattle.uxn_line.proofs.Working.{bools, idle-open}
-use Rattle.uxn_line.proofs.Standings.{same-or-not, more-here, more-apart, place-more, place-apart, ended-is, not-ended, goes-on, set-here, set-apart, OneMore, stands-more}
-use Rattle.uxn_line.proofs.Running.{found-is, with_member, handed-nothing, put-behind, adds-none, adds-nothing, room-stays, within-stays, empty-stays}
+use Rattle.uxn_line.proofs.Standings.{more-here, more-apart, place-apart, ended-is, not-ended, goes-on, set-here, set-apart, stands-more}
+use Rattle.uxn_line.proofs.Running.{found-is, with_member, handed-nothing, put-behind, adds-none, adds-nothing}
 use Rattle.uxn_line.proofs.Coming.{Comes, comes}
 
 -- the member that was found where a machine is idle and not at its end

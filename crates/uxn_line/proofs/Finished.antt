@@ -1,14 +1,14 @@
 -- Where no machine of a line moves, all their runs are over.
-use Rattle.std.proofs.Common.{◌≡◌, ℕ, zero, suc, ◌+◌, ◌-◌, ◌<◌, ◌≤◌, ◌⊎◌, inl, inr, List, [], ◌∷◌, ◌++◌, length, refl, sym, ap, subst, ◌∙◌, arith, append-nil}
+use Rattle.std.proofs.Common.{◌≡◌, ℕ, zero, suc, ◌+◌, ◌-◌, ◌<◌, inl, inr, List, [], ◌∷◌, ◌++◌, length, refl, sym, ap, subst, ◌∙◌, arith, append-nil}
 use Rattle.std.specs.Prelude.{Option, Some, slice_get, slice_set}
 use Rattle.uxn_io.specs.Told.{extended, HasTakenFront}
 use Rattle.uxn_line.specs.declared.line.Line.{Line}
 use Rattle.uxn_line.specs.declared.member.Member.{Member}
 use Rattle.uxn_line.proofs.Running.{with_member}
-use Rattle.uxn_line.specs.Places.{Place, HasEnded}
-use Rattle.uxn_line.specs.Streams.{Job, stream, run_at, exit_code_at}
+use Rattle.uxn_line.specs.Places.{HasEnded}
+use Rattle.uxn_line.specs.Streams.{Job, stream, exit_code_at}
 use Rattle.uxn_line.specs.Standing.{Turned, place_in, Stands}
-use Rattle.uxn_line.specs.Moves.{last_of, written_in, ring_before, IsWaiting, IsHeld, IsStill, SinkView, sink_view, Takes, IsUnderWay, Reaches, AllEnded, Finishes, Stops}
+use Rattle.uxn_line.specs.Moves.{last_of, written_in, ring_before, IsHeld, IsStill, SinkView, sink_view, IsUnderWay, Reaches, Finishes, Stops}
 use Rattle.uxn_line.proofs.Turning.{follows}
 use Rattle.uxn_line.proofs.Ending.{takes-more, front-of, reach-on, stream-is}
 

@@ -1,8 +1,7 @@
 -- A new line stands for no turns.
-use Rattle.std.proofs.Common.{◌≡◌, ◌≢◌, ℕ, zero, suc, ◌+◌, ◌-◌, ◌<◌, ◌≤◌, ◌↔◌, ◌⊎◌, inl, inr, Bool, true, false, List, [], ◌∷◌, ◌++◌, take, get_or, length, map, pos, refl, sym, ap, subst, ◌∙◌, arith, length-append}
-use Rattle.std.specs.Prelude.{Some, None, Result, Ok, Err, IfOk, slice_get, slice_index_or}
+use Rattle.std.proofs.Common.{◌≡◌, ◌≢◌, ℕ, zero, suc, ◌-◌, ◌<◌, ◌≤◌, ◌↔◌, ◌⊎◌, inl, inr, Bool, true, false, List, [], ◌∷◌, ◌++◌, take, get_or, length, pos, refl, sym, ap, subst, ◌∙◌, arith}
+use Rattle.std.specs.Prelude.{Some, Result, Ok, Err, IfOk, slice_get, slice_index_or}
 use Rattle.std.specs.declared.alloc.AllocError.{AllocError}
-use Rattle.std.proofs.lemmas.List.{length-map}
 use Rattle.std.proofs.lemmas.Bool.{false≢true}
 use Rattle.circular_buffer.specs.Buffer.{Buffer, buffer}
 use Rattle.uxn_io.specs.ByteList.{ByteList}
@@ -10,10 +9,9 @@ use Rattle.play_script.specs.Held.{bytes_in}
 use Rattle.play_script.specs.Scripts.{ScriptView}
 use Rattle.play_script.specs.declared.script.Clock.{Clock}
 use Rattle.uxn_line.specs.declared.member.Member.{Member}
-use Rattle.uxn_line.specs.Streams.{Job, gifts_of, script_at, rom_at, first_place, after, stream}
+use Rattle.uxn_line.specs.Streams.{Job, gifts_of, script_at, rom_at, first_place, stream}
 use Rattle.uxn_line.specs.Members.{MemberAt}
-use Rattle.uxn_line.specs.Standing.{none_turned, given_after, Between, RingBefore, InLine}
-use Rattle.uxn_line.proofs.Standings.{same-or-not}
+use Rattle.uxn_line.specs.Standing.{none_turned, Between, RingBefore, InLine}
 use Rattle.uxn_line.proofs.Coming.{all-inputs, length-inputs}
 
 -- nothing was given yet

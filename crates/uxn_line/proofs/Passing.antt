@@ -1,18 +1,17 @@
 -- A machine of a line that handed a byte on to the next one, or could not.
-use Rattle.std.proofs.Common.{◌≡◌, ◌≢◌, ℕ, zero, suc, ◌+◌, ◌-◌, ◌<◌, ◌≤◌, ◌↔◌, ◌⊎◌, inl, inr, Bool, true, false, List, [], ◌∷◌, ◌++◌, length, get_or, refl, sym, ap, subst, ◌∙◌, arith, length-append, add-one}
+use Rattle.std.proofs.Common.{◌≡◌, ◌≢◌, ℕ, suc, ◌+◌, ◌<◌, ◌≤◌, ◌↔◌, inl, inr, Bool, true, false, List, [], ◌∷◌, ◌++◌, length, get_or, refl, sym, ap, subst, ◌∙◌, arith, length-append, add-one}
 use Rattle.std.specs.Prelude.{Some, Ok, slice_get, slice_set}
-use Rattle.std.specs.Vec.{with_item}
 use Rattle.std.proofs.lemmas.List.{length-set}
 use Rattle.std.proofs.lemmas.Option.{slice_get_within, slice_get_read}
-use Rattle.circular_buffer.specs.Buffer.{Buffer, buffer}
+use Rattle.circular_buffer.specs.Buffer.{buffer}
 use Rattle.uxn_line.specs.declared.line.Line.{Line}
 use Rattle.uxn_line.specs.declared.line.Moved.TheVariants.{Ran, Held}
 use Rattle.uxn_line.specs.declared.member.Member.{Member}
 use Rattle.uxn_line.specs.Machines.{handed_on}
 use Rattle.uxn_line.specs.Streams.{Job}
-use Rattle.uxn_line.specs.Members.{MemberAt, has_ended, IsRunning}
-use Rattle.uxn_line.specs.Standing.{Turned, one_more, place_in, InLine, Stands}
-use Rattle.uxn_line.specs.Moves.{last_of, SinkView, IsHeld, ring_of, ring_before, Came}
+use Rattle.uxn_line.specs.Members.{has_ended, IsRunning}
+use Rattle.uxn_line.specs.Standing.{Turned, place_in, Stands}
+use Rattle.uxn_line.specs.Moves.{SinkView, ring_of, Came}
 use Rattle.uxn_line.specs.Work.{work, work_left}
 use Rattle.uxn_line.proofs.Working.{bools, pair-less, taken-pays}
 use Rattle.uxn_line.proofs.Standings.{not-ended, goes-on, set-here, set-apart}

@@ -1,6 +1,6 @@
 -- The last machine of a line, whose byte is put.
-use Rattle.std.proofs.Common.{◌≡◌, ◌≢◌, ℕ, suc, ◌+◌, ◌-◌, ◌<◌, ◌≤◌, List, [], ◌∷◌, ◌++◌, length, refl, sym, ap, subst, ◌∙◌, arith, add-one}
-use Rattle.std.specs.Prelude.{Some, None, Ok, Err, slice_get}
+use Rattle.std.proofs.Common.{◌≡◌, ℕ, suc, ◌+◌, ◌≤◌, [], ◌∷◌, ◌++◌, length, refl, sym, ap, ◌∙◌, arith}
+use Rattle.std.specs.Prelude.{Ok, Err}
 use Rattle.std.proofs.lemmas.List.{length-set}
 use Rattle.std.proofs.lemmas.Option.{slice_get_within, slice_get_past}
 use Rattle.uxn_io.specs.declared.sinks.Failed.{Failed}
@@ -11,7 +11,7 @@ use Rattle.uxn_line.specs.Machines.{handed_on}
 use Rattle.uxn_line.specs.Streams.{Job}
 use Rattle.uxn_line.specs.Members.{IsRunning}
 use Rattle.uxn_line.specs.Standing.{Turned, place_in, Stands}
-use Rattle.uxn_line.specs.Moves.{last_of, SinkView, Takes, Came}
+use Rattle.uxn_line.specs.Moves.{SinkView, Takes, Came}
 use Rattle.uxn_line.proofs.Standings.{set-here, set-apart}
 use Rattle.uxn_line.proofs.Running.{RanFrom, RunsIn, with_member, Found, run-puts, run-came, adds-here}
 

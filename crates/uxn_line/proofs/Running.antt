@@ -1,6 +1,6 @@
 -- A machine of a line that ran an instruction.
-use Rattle.std.proofs.Common.{◌≡◌, ◌≢◌, ℕ, zero, suc, ◌+◌, ◌-◌, ◌<◌, ◌≤◌, ◌⊎◌, inl, inr, Bool, true, false, List, [], ◌∷◌, ◌++◌, take, length, get_or, refl, sym, ap, subst, ◌∙◌, arith, append-nil}
-use Rattle.std.specs.Prelude.{Some, None, Ok, slice_get}
+use Rattle.std.proofs.Common.{◌≡◌, ◌≢◌, ℕ, zero, suc, ◌-◌, ◌<◌, ◌≤◌, inl, inr, true, false, List, [], ◌++◌, take, length, get_or, refl, sym, ap, subst, ◌∙◌, arith, append-nil}
+use Rattle.std.specs.Prelude.{Some, Ok, slice_get}
 use Rattle.std.specs.Vec.{with_item}
 use Rattle.std.proofs.lemmas.List.{length-set}
 use Rattle.std.proofs.lemmas.Option.{get_or_from_slice_get, slice_get_within}
@@ -17,7 +17,7 @@ use Rattle.uxn_line.specs.Standing.{Turned, one_more, place_in, given_after, Bet
 use Rattle.uxn_line.specs.Moves.{last_of, written_in, SinkView, Takes, Adds, IsHeld, Came}
 use Rattle.uxn_line.proofs.Turned.{run-gifts}
 use Rattle.uxn_line.proofs.Working.{bools}
-use Rattle.uxn_line.proofs.Standings.{same-or-not, more-here, more-apart, place-more, place-apart, ended-is, not-ended, goes-on, ring-grows, OneMore, stands-more, set-here, set-apart}
+use Rattle.uxn_line.proofs.Standings.{same-or-not, more-here, more-apart, place-more, place-apart, ended-is, goes-on, ring-grows, stands-more, set-here, set-apart}
 
 -- the item that was found at a place
 pub found-is : {X : Type 0} (items : List X) (place : ℕ) (found item : X) → found ≡ get_or items place found → slice_get items place ≡ Some item

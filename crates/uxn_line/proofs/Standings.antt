@@ -1,16 +1,13 @@
 -- A line in which one machine had a turn more stands for one more of it.
-use Rattle.std.proofs.Common.{◌≡◌, ◌≢◌, ℕ, zero, suc, ◌+◌, ◌-◌, ◌==◌, ◌<◌, ◌≤◌, ◌&&◌, ◌||◌, ◌↔◌, ◌⊎◌, inl, inr, Bool, true, false, cond, List, [], ◌∷◌, ◌++◌, take, length, refl, sym, ap, subst, ◌∙◌, arith, append_assoc, append-nil}
-use Rattle.std.specs.Prelude.{Some, None, slice_get, slice_set}
+use Rattle.std.proofs.Common.{◌≡◌, ◌≢◌, ℕ, zero, suc, ◌==◌, ◌<◌, ◌&&◌, ◌||◌, ◌↔◌, ◌⊎◌, inl, inr, Bool, true, false, cond, List, [], ◌∷◌, ◌++◌, take, length, refl, sym, ap, subst, ◌∙◌, arith, append_assoc}
+use Rattle.std.specs.Prelude.{Some, slice_get, slice_set}
 use Rattle.std.proofs.lemmas.Bool.Decides.{nat_tests}
-use Rattle.circular_buffer.specs.Buffer.{Buffer, buffer}
-use Rattle.vector_loop.specs.State.{is_over}
 use Rattle.uxn_line.specs.declared.line.Line.{Line}
 use Rattle.uxn_line.specs.declared.member.Member.{Member}
 use Rattle.uxn_line.specs.Places.{Place, HasEnded, turn}
-use Rattle.uxn_line.specs.Machines.{handed_on}
-use Rattle.uxn_line.specs.Streams.{Job, IsJob, script_at, stream, gifts_of, after}
+use Rattle.uxn_line.specs.Streams.{Job, stream, after}
 use Rattle.uxn_line.specs.Members.{MemberAt, has_ended}
-use Rattle.uxn_line.specs.Standing.{Turned, one_more, place_in, given_after, Between, RingBefore, InLine, Stands}
+use Rattle.uxn_line.specs.Standing.{Turned, one_more, place_in, given_after, Between, InLine, Stands}
 use Rattle.uxn_line.proofs.Working.{bools}
 
 -- numbers that are equal or not

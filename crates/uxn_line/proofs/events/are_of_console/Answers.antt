@@ -1,4 +1,4 @@
-use Rattle.std.proofs.Common.{true, false, refl, arith}
+use Rattle.std.proofs.Common.{refl}
 use Rattle.std.proofs.lemmas.Bool.{false≢true}
 use Rattle.play_script.specs.declared.script.Event.TheVariants.{Input}
 use Rattle.uxn_line.proofs.ConsoleEvents.{one-more-event, one-not, all-seen}

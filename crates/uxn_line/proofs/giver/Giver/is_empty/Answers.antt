@@ -1,6 +1,6 @@
-use Rattle.std.proofs.Common.{◌≡◌, ◌≤◌, ◌<◌, length, sym, ap, ◌∙◌, arith}
+use Rattle.std.proofs.Common.{◌≤◌, length, sym, ◌∙◌, arith}
 use Rattle.std.proofs.lemmas.Bool.Decides.{nat_tests}
-use Rattle.uxn_line.proofs.Giving.{takes-none, some-texts, some-events, empty-or-not}
+use Rattle.uxn_line.proofs.Giving.{some-texts, empty-or-not}
 use Rattle.uxn_line.proofs.giver.Giver.is_empty.Goals as goal
 
 pub returns-then-is_empty : goal.returns-then-is_empty

@@ -1,7 +1,7 @@
-use Rattle.std.proofs.Common.{◌≡◌, ℕ, ◌+◌, ◌-◌, List, [], ◌∷◌, take, drop, get_or, length, sym, ap, ◌∙◌, arith}
+use Rattle.std.proofs.Common.{◌≡◌, List, ◌∷◌, drop, sym, ap, ◌∙◌}
 use Rattle.std.specs.Prelude.{Some, option_map, slice_get}
 use Rattle.play_script.specs.declared.script.Event.TheVariants.{Input}
-use Rattle.uxn_line.specs.Places.{Gift, OfArgument, OfEvent, console_of}
+use Rattle.uxn_line.specs.Places.{Gift, console_of}
 use Rattle.uxn_line.proofs.Giving.{takes-byte, takes-newline, takes-event, takes-none}
 use Rattle.uxn_line.proofs.giver.Giver.take.Goals as goal
 

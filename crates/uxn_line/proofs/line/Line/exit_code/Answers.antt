@@ -1,7 +1,6 @@
-use Rattle.std.proofs.Common.{◌≡◌, ◌-◌, ◌<◌, length, refl, sym, ap, ◌∙◌, arith}
+use Rattle.std.proofs.Common.{◌≡◌, ◌-◌, length, refl, ap, ◌∙◌, arith}
 use Rattle.std.proofs.lemmas.Option.{slice_get_read}
 use Rattle.uxn_line.specs.declared.machine.Machine.{Machine}
-use Rattle.uxn_line.specs.declared.member.Member.{Member}
 use Rattle.uxn_line.specs.Streams.{exit_code_at}
 use Rattle.uxn_line.specs.Moves.{last_of}
 use Rattle.uxn_line.specs.Standing.{place_in}

@@ -1,8 +1,8 @@
-use Rattle.std.proofs.Common.{◌≡◌, true, false, rules, refl, sym, ap, ◌∙◌, arith}
+use Rattle.std.proofs.Common.{◌≡◌, rules, refl, ap, ◌∙◌}
 use Rattle.std.specs.Prelude.{Ok, Err}
 use Rattle.uxn_line.specs.Streams.{Job}
 use Rattle.uxn_line.specs.Standing.{Turned, Stands}
-use Rattle.uxn_line.specs.Moves.{sink_view, Finishes, Stops}
+use Rattle.uxn_line.specs.Moves.{sink_view, Finishes}
 use Rattle.uxn_line.proofs.Ending.{reach-on, stop-on}
 use Rattle.uxn_line.proofs.Finished.{rounds-finish, finish-whole, stop-front, stop-unsure}
 use Rattle.uxn_line.proofs.line.Line.finish.Goals as goal

@@ -1,4 +1,3 @@
-use Rattle.std.proofs.Common.{◌≡◌, ℕ, sym, subst}
 use Rattle.uxn_line.proofs.line.Line.give_at.Goals as goal
 
 pub returns-then-index-eq0-clause-came : goal.returns-then-index-eq0-clause-came

@@ -1,5 +1,5 @@
-use Rattle.std.proofs.Common.{◌≡◌, ◌<◌, true, false, rules, refl, sym, ap, ◌∙◌, arith}
-use Rattle.std.specs.Prelude.{Ok, Err}
+use Rattle.std.proofs.Common.{◌≡◌, rules, sym, ap, ◌∙◌, arith}
+use Rattle.std.specs.Prelude.{Err}
 use Rattle.uxn_line.specs.Work.{work_left}
 use Rattle.uxn_line.proofs.Ending.{reach-more, stop-here, move-less, move-same, since, still-here}
 use Rattle.uxn_line.proofs.line.Line.go_on.Goals as goal

@@ -1,4 +1,4 @@
-use Rattle.std.proofs.Common.{◌≡◌, ℕ, ◌<◌, ◌∷◌, [], sym, ap, subst, ◌∙◌, arith, add-one}
+use Rattle.std.proofs.Common.{ℕ, ◌<◌, sym, subst, add-one}
 use Rattle.std.specs.Prelude.{Ok}
 use Rattle.uxn_line.specs.declared.line.Moved.TheVariants.{Ran}
 use Rattle.uxn_line.specs.Moves.{Came}

@@ -1,9 +1,9 @@
-use Rattle.std.proofs.Common.{◌≡◌, ◌+◌, [], ◌∷◌, length, refl, sym, ap, subst, ◌∙◌, arith, length-append}
-use Rattle.std.specs.Prelude.{Some, slice_get}
+use Rattle.std.proofs.Common.{◌+◌, [], ◌∷◌, length, refl, sym, ap, ◌∙◌, arith, length-append}
+use Rattle.std.specs.Prelude.{slice_get}
 use Rattle.std.proofs.lemmas.List.{length-map}
 use Rattle.uxn_io.specs.ByteList.{ByteList}
 use Rattle.uxn_line.specs.declared.line.Line.{Line}
-use Rattle.uxn_line.specs.Standing.{InLine, none_turned, Stands, job_of}
+use Rattle.uxn_line.specs.Standing.{none_turned, Stands, job_of}
 use Rattle.uxn_line.proofs.NewLines.{rom-there, member-more}
 use Rattle.uxn_line.proofs.Running.{takes-nothing}
 use Rattle.uxn_line.proofs.line.Line.new.Goals as goal

@@ -1,5 +1,6 @@
-use Rattle.std.proofs.Common.{◌≡◌, ◌<◌, ◌≤◌, true, false, length, rules, refl, sym, ap, ◌∙◌, arith}
+use Rattle.std.proofs.Common.{◌≡◌, rules, ap, ◌∙◌, arith}
 use Rattle.std.specs.Prelude.{Ok, Err}
+use Rattle.uxn_line.specs.Moves.{sink_view}
 use Rattle.uxn_line.proofs.Ending.{reach-on, stop-on, either-less, neither, still-more}
 use Rattle.uxn_line.proofs.line.Line.round.Goals as goal
 
@@ -7,7 +8,10 @@ pub returns-in_err-moved-clause-went : goal.returns-in_err-moved-clause-went
 returns-in_err-moved-clause-went g c job turned stands =
     let result : c.from_residual.result ≡ Err c.in_err-moved.field-0.0 = search rules in
     let first = c.loop-index.invariant.went job turned stands in
-    rw result (stop-on job turned c.loop-index.self c.go_on.new.self _ _ _ first (c.in_err-moved.ensures.went job first.last first.stands))
+    let begun = sink_view (g.O.Sink.told c.args.out.now) (g.O.Sink.sure c.args.out.now) in
+    let out = sink_view (g.O.Sink.told c.loop-index.out) (g.O.Sink.sure c.loop-index.out) in
+    rw result (stop-on job turned c.loop-index.self c.go_on.new.self begun out (g.O.Sink.told c.go_on.new.out) first
+    (c.in_err-moved.ensures.went job first.last first.stands))
 
 pub loop-index-preserved : goal.loop-index-preserved
 loop-index-preserved g c =

@@ -1,4 +1,3 @@
-use Rattle.uxn_line.specs.Moves.{sink_view}
 use Rattle.uxn_line.proofs.Ending.{came-on, came-front, came-sure}
 use Rattle.uxn_line.proofs.line.Line.turn.Goals as goal
 

@@ -1,5 +1,5 @@
-use Rattle.std.proofs.Common.{◌≡◌, ◌<◌, ◌∷◌, [], length, refl, sym, ap, ◌∙◌, arith}
-use Rattle.std.specs.Prelude.{Some, slice_get, option_to_list}
+use Rattle.std.proofs.Common.{length, refl, sym, ap, ◌∙◌, arith}
+use Rattle.std.specs.Prelude.{option_to_list}
 use Rattle.std.proofs.lemmas.Option.{slice_get_read}
 use Rattle.uxn_line.specs.Standing.{place_in}
 use Rattle.uxn_line.proofs.Standings.{ended-is}

@@ -2,8 +2,6 @@ use Rattle.std.proofs.Common.{◌≡◌, ◌≤◌, ◌<◌, ◌∷◌, [], leng
 use Rattle.std.specs.Prelude.{Err}
 use Rattle.std.proofs.lemmas.Bool.{false≢true}
 use Rattle.std.proofs.lemmas.Option.{slice_get_within}
-use Rattle.uxn_io.specs.declared.sinks.Failed.{Failed}
-use Rattle.uxn_line.specs.declared.line.Moved.{Moved}
 use Rattle.uxn_line.proofs.Running.{RanFrom, found-running}
 use Rattle.uxn_line.proofs.Putting.{put-came, fail-came}
 use Rattle.uxn_line.proofs.Working.{set-less}
