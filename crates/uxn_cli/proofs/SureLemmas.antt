@@ -159,3 +159,13 @@ no-sink before now Nobody ledger e = cc e
 no-sink before now TheTree ledger e = cc e
 no-sink before now ASink (inl rose) e = let risen = rose.out.risen in omega arith
 no-sink before now ASink (inr rose) e = let risen = rose.err.risen in omega arith
+
+-- a call of the tree alone, behind one without a fault, as a call over the tree and both outputs
+pub of_the_tree : (before middle now out err : ℕ) (blame : Blame) → counts middle 0 0 ≡ counts before 0 0
+  → Ledger (counts middle 0 0) (counts now 0 0) blame → Ledger (counts before out err) (counts now out err) blame
+of_the_tree before middle now out err Nobody same ledger =
+    (let here : middle ≡ before = cc in let moved : now ≡ middle = cc in rw moved (rw here refl))
+of_the_tree before middle now out err TheTree same ledger =
+    (let here : middle ≡ before = cc in record { tree = rw here at ledger.tree; out = refl; err = refl })
+of_the_tree before middle now out err ASink same (inl rose) = absurd (let risen = rose.out.risen in omega arith)
+of_the_tree before middle now out err ASink same (inr rose) = absurd (let risen = rose.err.risen in omega arith)

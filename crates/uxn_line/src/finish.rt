@@ -11,7 +11,9 @@ use crate::line::Line;
 use uxn_io::{Failed, Sink};
 
 impl<'a> Line<'a> {
-    /// Gives turns to the machines in order, again and again, until all have ended: the exit code of the last machine.
+    /// Gives turns to the machines in order, again and again, until all have ended: the exit code of the last machine. Each
+    /// machine gets turns as long as it moves before the next one does; every order gives the same bytes, as
+    /// `every_order_gives_the_streams` says.
     /// Errors where `out` does not take a byte that the last machine writes.
     pub fn finish<O: Sink>(&mut self, out: &mut O) -> Result<u8, Failed>
         // For all numbers of turns for which the line stood it is brought to the end of all runs, or stopped before a byte of the last.

@@ -2,7 +2,7 @@ use Rattle.std.proofs.Common.{◌≡◌, refl, inl, rules}
 use Rattle.std.specs.Prelude.{Some, Ok, Err}
 use Rattle.uxn_cli.specs.Causes.{verdict_on}
 use Rattle.uxn_cli.specs.Room.{SinksSuffice}
-use Rattle.uxn_cli.proofs.SureLemmas.{always, no-sink}
+use Rattle.uxn_cli.proofs.SureLemmas.{always, no-sink, of_the_tree}
 use Rattle.uxn_cli.specs.Prepared.{debugging_of}
 use Rattle.uxn_cli.proofs.RunLemmas.{unprepared, debug-outputs, debug-root, debug-files, debug-log, ready-unmade, ready-unmade-tree, ready-run, ready-cut, ready-tree, ready-sinks}
 use Rattle.uxn_cli.proofs.debugging.debug.Goals as goal
@@ -17,6 +17,11 @@ returns-in_err-make_outputs-clause-performs g c =
     let result : c.from_residual-in_err-make_outputs.result ≡ Err c.in_err-make_outputs.field-0.0 = search rules in
     rw result (ready-unmade (g.T.Tree.told c.args.tree.now) c.args.task.now (Some (debugging_of c.args.task.now c.in_ok-session.session)) c.in_ok-session.session.machine c.in_ok-session.ensures.prepares (debug-outputs c.args.task.now c.requires.command)
     _ c.in_ok-session.ensures.same _ _ _ c.in_err-make_outputs.field-0.0 c.in_err-make_outputs.ensures.makes)
+
+pub returns-in_err-make_outputs-clause-ledger : goal.returns-in_err-make_outputs-clause-ledger
+returns-in_err-make_outputs-clause-ledger g c =
+    let result : c.from_residual-in_err-make_outputs.result ≡ Err c.in_err-make_outputs.field-0.0 = search rules in
+    rw result (of_the_tree _ _ _ _ _ _ c.in_ok-session.ensures.ledger c.in_err-make_outputs.ensures.ledger)
 
 pub returns-in_err-make_outputs-clause-sure_tree : goal.returns-in_err-make_outputs-clause-sure_tree
 returns-in_err-make_outputs-clause-sure_tree g c =
