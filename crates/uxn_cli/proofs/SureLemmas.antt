@@ -2,7 +2,7 @@ use Rattle.std.proofs.Common.{◌≡◌, ℕ, zero, suc, ◌+◌, ◌<◌, ◌�
 use Rattle.std.specs.Prelude.{Option, Some, None, IfSome, option_map}
 use Rattle.std.proofs.lemmas.List.{length-append, length-map}
 use Rattle.std.specs.FinMap as fin
-use Rattle.uxn_io.specs.Faults.{Blame, Nobody, TheTree, ASink, Ledger, counts}
+use Rattle.uxn_io.specs.Faults.{Blame, Nobody, TheTree, ASink, Counts, Ledger, counts}
 use Rattle.uxn_io.specs.Changes.{makes_file, new_files, can_create, with_created, with_appended}
 use Rattle.uxn_io.specs.Files.{Nodes, File, bytes_at}
 use Rattle.uxn_io.specs.Outside.{Change, ToOut, ToErr, Creates, ToFile, Removes, changed_files}
@@ -162,10 +162,11 @@ no-sink before now ASink (inr rose) e = let risen = rose.err.risen in omega arit
 
 -- a call of the tree alone, behind one without a fault, as a call over the tree and both outputs
 pub of_the_tree : (before middle now out err : ℕ) (blame : Blame) → counts middle 0 0 ≡ counts before 0 0
-  → Ledger (counts middle 0 0) (counts now 0 0) blame → Ledger (counts before out err) (counts now out err) blame
+    → Ledger (counts middle 0 0) (counts now 0 0) blame → Ledger (counts before out err) (counts now out err) blame
 of_the_tree before middle now out err Nobody same ledger =
-    (let here : middle ≡ before = cc in let moved : now ≡ middle = cc in rw moved (rw here refl))
+    (let here : middle ≡ before = ap (λ (c : Counts). c.tree) same in
+    let moved : now ≡ middle = ap (λ (c : Counts). c.tree) ledger in rw moved (rw here refl))
 of_the_tree before middle now out err TheTree same ledger =
-    (let here : middle ≡ before = cc in record { tree = rw here at ledger.tree; out = refl; err = refl })
+    (let here : middle ≡ before = ap (λ (c : Counts). c.tree) same in record { tree = rw here at ledger.tree; out = refl; err = refl })
 of_the_tree before middle now out err ASink same (inl rose) = absurd (let risen = rose.out.risen in omega arith)
 of_the_tree before middle now out err ASink same (inr rose) = absurd (let risen = rose.err.risen in omega arith)
