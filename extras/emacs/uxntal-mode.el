@@ -1,7 +1,8 @@
 ;;; uxntal-mode.el --- Uxntal sources -*- lexical-binding: t -*-
 
 ;; (add-to-list 'load-path "..") (require 'uxntal-mode)
-;; `M-x compile' assembles the source by `uxn-check', which has to be in PATH as `uxn' has; `next-error' goes to the faulty word.
+;; `M-x compile' assembles the source by `uxn-check', which has to be in PATH as `uxn' has; `next-error' goes to the faulty word, also
+;; in an included file, and from a line of `uxn' itself that names one.
 
 (defconst uxntal-opcodes
   (concat "BRK\\|JCI\\|JMI\\|JSI\\|\\(?:"
@@ -50,6 +51,12 @@
   (setq-local font-lock-defaults '(uxntal-font-lock-keywords))
   (setq-local compile-command
               (concat "uxn-check " (shell-quote-argument (or buffer-file-name "")))))
+
+;; A fault of a word in an included file, as `uxn' itself tells it.
+(with-eval-after-load 'compile
+  (add-to-list 'compilation-error-regexp-alist-alist
+               '(uxntal "^source \\([^ \n]+\\) \\([0-9]+\\):\\([0-9]+\\): " 1 2 3))
+  (add-to-list 'compilation-error-regexp-alist 'uxntal))
 
 ;;;###autoload
 (add-to-list 'auto-mode-alist '("\\.tal\\'" . uxntal-mode))

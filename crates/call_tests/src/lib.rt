@@ -2,4 +2,12 @@
 #![tactic(auto)]
 
 #[cfg(test)]
-mod tests;
+mod calls;
+#[cfg(test)]
+mod fault_tests;
+#[cfg(test)]
+mod order_tests;
+#[cfg(test)]
+mod outside;
+#[cfg(test)]
+mod turn_tests;

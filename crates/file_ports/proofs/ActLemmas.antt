@@ -13,8 +13,8 @@ use Rattle.file_ports.specs.declared.stop.FileStop.{FileStop}
 use Rattle.file_ports.specs.declared.mode.Mode.{Mode}
 use Rattle.file_ports.specs.Device.{FileState, idle_at}
 use Rattle.file_ports.specs.Signs.{signs}
-use Rattle.file_ports.specs.Actions.{FileAction, Outcome, Read, Stat, Delete, seen_of, acts, reads, stats, deletes, count_from, stat_success, reading, given, moved, puts, quiet, is_file}
-use Rattle.file_ports.specs.Answers.{Does, Acted, CutOff, HasMadeFront, GivesPiece}
+use Rattle.file_ports.specs.Actions.{FileAction, Outcome, Read, Stat, Delete, seen_of, piece_read, acts, reads, stats, deletes, count_from, stat_success, reading, given, moved, puts, quiet, is_file}
+use Rattle.file_ports.specs.Answers.{Does, Acted, CutOff, HasMadeFront, GivesPiece, PutsFront, HasReadFront}
 use Rattle.file_ports.specs.PartLaws.{outcome-same}
 
 -- by what is seen of the whole tree
@@ -67,6 +67,25 @@ read-done at length count path was mode now_mode mode_after device memory memory
     let W : Option (List ℕ) → Type 0 = λ w. Does (reads at (count_from at length) (record { path = w; mode = mode }) memory (option_map (seen_of nodes) w)) nodes now (Ok taken) (record { path = w; mode = mode_after }) memory_now in
     let N : ℕ → Type 0 = λ n. Does (reads at n (record { path = Some path; mode = mode }) memory (Some (seen_of nodes path))) nodes now (Ok taken) (record { path = Some path; mode = mode_after }) memory_now in
     subst D view (subst W (sym e) (subst N counts (piece_given at count path mode now_mode mode_after memory memory_now nodes now taken same modes gives after))))
+
+-- one that stopped in the middle of a file
+pub read-front : (at length count : ℕ) (path : List ℕ) (was : Option (List ℕ)) (mode now_mode : Mode) (device : FileState) (memory memory_now : List ℕ) (before now : Option Nodes)
+    → was ≡ Some path → record { path = was; mode = mode } ≡ device → count ≡ count_from at length → now ≡ before
+    → IfSome before (λ nodes. now_mode ≡ reading mode (seen_of nodes path))
+    → PutsFront (option_map (λ nodes. given now_mode (seen_of nodes path) count) now) count memory at memory_now
+    → HasReadFront at length device memory before memory_now
+read-front at length count path was mode now_mode device memory memory_now None now e view counts same modes front =
+    let Front : Option Nodes → Type 0 = λ told. PutsFront (option_map (λ nodes. given now_mode (seen_of nodes path) count) told) count memory at memory_now in
+    let Most : ℕ → Type 0 = λ n. PutsFront None n memory at memory_now in
+    subst Most counts (subst Front same front)
+read-front at length count path was mode now_mode device memory memory_now (Some nodes) now e view counts same modes front =
+    let seen = seen_of nodes path in
+    let Front : Option Nodes → Type 0 = λ told. PutsFront (option_map (λ nodes. given now_mode (seen_of nodes path) count) told) count memory at memory_now in
+    let Gives : Mode → Type 0 = λ m. PutsFront (Some (given m seen count)) count memory at memory_now in
+    let D : FileState → Type 0 = λ d. PutsFront (Some (piece_read (count_from at length) d (option_map (seen_of nodes) d.path))) (count_from at length) memory at memory_now in
+    let W : Option (List ℕ) → Type 0 = λ w. PutsFront (Some (piece_read (count_from at length) (record { path = w; mode = mode }) (option_map (seen_of nodes) w))) (count_from at length) memory at memory_now in
+    let N : ℕ → Type 0 = λ n. PutsFront (Some (given (reading mode seen) seen n)) n memory at memory_now in
+    subst D view (subst W (sym e) (subst N counts (subst Gives modes (subst Front same front))))
 
 -- a stat
 pub stat-done : (at length count : ℕ) (path : List ℕ) (was : Option (List ℕ)) (mode : Mode) (device device_now : FileState) (kind : Kind) (memory memory_now : List ℕ) (before now : Option Nodes) (success : ℕ)

@@ -1,11 +1,13 @@
 -- A file is read chunk after chunk.
-use Rattle.std.proofs.Common.{◌≡◌, ℕ, ◌+◌, ◌<◌, ◌≤◌, List, [], ◌∷◌, length, take, drop, Option, Some, None, IfSome, refl, ap, sym, subst, ◌∙◌, arith}
-use Rattle.std.proofs.lemmas.List.{length-take, length-drop, drop-drop, take_all}
+use Rattle.std.proofs.Common.{◌≡◌, ℕ, ◌+◌, ◌<◌, ◌≤◌, List, [], ◌∷◌, ◌++◌, length, take, drop, Option, Some, None, IfSome, refl, ap, sym, subst, ◌∙◌, arith}
+use Rattle.std.specs.Prelude.{Result, Ok, Err, OnErr}
+use Rattle.std.specs.Option.{option_map}
+use Rattle.std.proofs.lemmas.List.{length-take, length-append, length-drop, drop-drop, take_all, take-take}
 use Rattle.std.proofs.Math.Seq.{take-add}
 use Rattle.uxn_io.specs.Files.{Nodes, bytes_at, bytes_from, Reads}
 use Rattle.uxn_memory.specs.Bytes.{with_bytes}
-use Rattle.file_ports.specs.Answers.{GivesPiece}
-use Rattle.file_ports.proofs.MemoryLemmas.{with_more}
+use Rattle.file_ports.specs.Answers.{GivesPiece, PutsFront}
+use Rattle.file_ports.proofs.MemoryLemmas.{with_nothing, with_more}
 
 later_is : (bytes : List ℕ) (place done : ℕ) → drop (place + done) bytes ≡ drop done (drop place bytes)
 later_is bytes place done = sym (drop-drop done place bytes)
@@ -61,3 +63,48 @@ told_end (Some nodes) told_now path old memory before into place at done n count
     let reads : Reads (bytes_from nodes path (place + done)) before into 0 = subst Q none (subst F is (subst P same read)) in
     piece_end old memory (bytes_from nodes path place) (bytes_from nodes path (place + done)) at done count so_far (later_is (bytes_at nodes path) place done)
     (none_left (bytes_from nodes path (place + done)) before into room reads) within
+
+-- so many bytes were put in memory, whatever they are
+pub record HasPut (before : List ℕ) (at done : ℕ) (now : List ℕ) : Type 0 where
+  pub put : List ℕ
+  pub count : length put ≡ done
+  pub memory : now ≡ with_bytes before at put
+
+pub put_more : (old memory now piece : List ℕ) (at done n : ℕ) → at ≤ length old → HasPut old at done memory → length piece ≡ n
+    → now ≡ with_bytes memory (at + done) piece → HasPut old at (done + n) now
+put_more old memory now piece at done n room so_far size put = record {
+  put = so_far.put ++ piece;
+  count = omega (arith, length-append so_far.put piece, so_far.count, size);
+  memory = put ∙ (λ i. with_bytes (so_far.memory i) (at + sym so_far.count i) piece) ∙ with_more old at so_far.put piece room;
+}
+
+-- what holds holds after a stop
+pub on_stop : {A E : Type 0} (result : Result A E) (P : Type 0) → P → OnErr result P
+on_stop (Ok value) P holds = tt
+on_stop (Err stop) P holds = holds
+
+-- nothing was put
+pub puts_nothing : (told : Option (List ℕ)) (most at : ℕ) (memory : List ℕ) → PutsFront told most memory at memory
+puts_nothing None most at memory = record { put = []; within = omega arith; memory = sym (with_nothing memory at); front = tt }
+puts_nothing (Some piece) most at memory = record { put = []; within = omega arith; memory = sym (with_nothing memory at); front = refl }
+
+-- what was put of a file so far is a front of what was to be put
+pub front_put : (told : Option Nodes) (path old now : List ℕ) (place at done count : ℕ) → done ≤ count → HasPut old at done now
+    → IfSome told (λ nodes. GivesPiece (take done (bytes_from nodes path place)) old at done now)
+    → PutsFront (option_map (λ nodes. take count (bytes_from nodes path place)) told) count old at now
+front_put None path old now place at done count within has gives =
+    record { put = has.put; within = omega (arith, has.count, within); memory = has.memory; front = tt }
+front_put (Some nodes) path old now place at done count within has gives =
+    let bytes = bytes_from nodes path place in
+    record {
+      put = take done bytes;
+      within = omega (arith, gives.count, within);
+      memory = gives.memory;
+      front = sym (take-take done count bytes within) ∙ ap (λ (n : ℕ). take n (take count bytes)) gives.count;
+    }
+
+-- at most so many, and so at most more
+pub front_within : (told : Option (List ℕ)) (most more at : ℕ) (before now : List ℕ) → most ≤ more → PutsFront told most before at now
+    → PutsFront told more before at now
+front_within told most more at before now within front =
+    record { put = front.put; within = omega (arith, front.within, within); memory = front.memory; front = front.front }

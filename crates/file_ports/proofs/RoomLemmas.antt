@@ -6,9 +6,10 @@ use Rattle.std.proofs.lemmas.List.{append-nil, length_push}
 use Rattle.uxn_io.specs.Files.{Nodes, kind_at, file_at, bytes_at}
 use Rattle.uxn_io.specs.Room.{Room, Leaves}
 use Rattle.uxn_io.specs.Changes.{can_create, new_files, with_appended}
-use Rattle.uxn_io.specs.Appending.{bytes_put}
+use Rattle.uxn_io.specs.NodeLaws.{bytes_put}
 use Rattle.uxn_io.specs.Outside.{Change, Creates, ToFile, Removes, files_by}
-use Rattle.uxn_io.specs.Taking.{TreeTakes, TreeLeft, files_made, files_gone, takes-first, takes-later, left-both}
+use Rattle.uxn_io.specs.Taking.{TreeTakes, TreeLeft, files_made, files_gone}
+use Rattle.uxn_io.specs.TakingLaws.{takes-first, takes-later, left-both}
 use Rattle.uxn_memory.specs.Bytes.{bank0}
 use Rattle.file_ports.specs.declared.mode.Mode.{Mode}
 use Rattle.file_ports.specs.Device.{FileState, Suits, is_writing}

@@ -6,7 +6,7 @@ use Rattle.std.proofs.lemmas.List.{append-nil, take-append-drop, map-append}
 use Rattle.uxn_io.specs.declared.sinks.Failed.{Failed}
 use Rattle.uxn_io.specs.Files.{Node, Nodes, File, kind_at, file_at, bytes_of}
 use Rattle.uxn_io.specs.Changes.{can_create, with_created, with_appended, HasAppendedFront}
-use Rattle.uxn_io.specs.Appending.{get_put}
+use Rattle.uxn_io.specs.NodeLaws.{get_put}
 use Rattle.uxn_io.specs.Outside.{Change, Creates, ToFile, files_by}
 use Rattle.uxn_memory.specs.Bytes.{bank0}
 use Rattle.file_ports.specs.declared.stop.FileStop.{FileStop}
@@ -15,7 +15,7 @@ use Rattle.file_ports.specs.declared.mode.Mode.TheVariants.{Idle, Writing}
 use Rattle.file_ports.specs.Device.{FileState, idle_at, is_writing}
 use Rattle.file_ports.specs.Actions.{Write, seen_of, is_file, begun, adds, writes, count_from}
 use Rattle.file_ports.specs.Answers.{Does, Acted, CutOff, HasMadeFront, Adds, and_then}
-use Rattle.uxn_io.specs.Taking.{files_by-append}
+use Rattle.uxn_io.specs.ChangeLaws.{files_by-append}
 use Rattle.file_ports.specs.PartLaws.{files_by-file}
 use Rattle.file_ports.proofs.ActLemmas.{acted-by, cut-by}
 

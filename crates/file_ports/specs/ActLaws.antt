@@ -9,12 +9,12 @@ use Rattle.uxn_io.specs.Files.{Nodes, is_folder, is_folder_at}
 use Rattle.uxn_io.specs.Outside.{Change, ToOut, ToErr, Creates, ToFile, Removes, World, changed_files, changed, changed_by}
 use Rattle.uxn_io.specs.Outside.{files_by, IsCutOff}
 use Rattle.uxn_memory.specs.Bytes.{bank0}
-use Rattle.file_ports.specs.RootPart.{is_in, parent_is_folder, path_changed, is_in_part, IsIn, LieIn}
+use Rattle.file_ports.specs.RootPart.{is_in, LiesIn, parent_is_folder, path_changed, is_in_part, IsIn, LieIn}
 use Rattle.file_ports.specs.Device.{FileState, idle_at, suits, Suits, is_writing}
 use Rattle.file_ports.specs.Actions.{FileAction, Outcome, Name, Read, Write, Stat, Delete, is_file, begun, adds, quiet, acts}
 use Rattle.file_ports.specs.Actions.{act, seen_in, count_from}
 use Rattle.file_ports.specs.Answers.{HasMadeFront}
-use Rattle.file_ports.specs.Beneath.{LiesIn, is_in-Decides, parent_outside}
+use Rattle.file_ports.specs.BeneathLaws.{is_in-Decides, parent_outside}
 use Rattle.file_ports.specs.PartLaws.{changed_elsewhere, named-suits}
 
 pub lie-front : (root : Option (List ℕ)) (first more : List Change) → LieIn root (first ++ more) → LieIn root first
@@ -25,7 +25,7 @@ in_part : (root : Option (List ℕ)) (path : List ℕ) → IsTrue (suits root (S
 in_part None path lies = lies
 in_part (Some root) path lies = lies
 
-pieces_lie : (root : Option (List ℕ)) (path piece : List ℕ) → IsTrue (suits root (Some path))
+pub pieces_lie : (root : Option (List ℕ)) (path piece : List ℕ) → IsTrue (suits root (Some path))
     → LieIn root (list_map (λ byte. ToFile path byte) piece)
 pieces_lie root path [] lies = tt
 pieces_lie root path (byte ∷ piece) lies = (in_part root path lies, pieces_lie root path piece lies)

@@ -1,5 +1,5 @@
 -- What the five actions of a file device do (Varvara device reference: File; profile).
-use Rattle.std.specs.Prelude.{ℕ, ◌+◌, ◌-◌, ◌^◌, min, Bool, true, false, not, ◌&&◌, ◌||◌, List, [], ◌∷◌, take, drop, length}
+use Rattle.std.specs.Prelude.{ℕ, ◌+◌, ◌-◌, min, Bool, true, false, not, ◌&&◌, ◌||◌, List, [], ◌∷◌, take, drop, length}
 use Rattle.std.specs.Prelude.{◌++◌, map as list_map}
 use Rattle.std.specs.Prelude.{Option, Some, None, if◌then◌else◌}
 use Rattle.std.specs.Option.{option_eq, option_map}
@@ -17,6 +17,7 @@ use Rattle.file_ports.specs.declared.mode.Mode.{Mode}
 use Rattle.file_ports.specs.declared.mode.Mode.TheVariants.{Idle, ReadingFile, ReadingListing, Writing}
 use Rattle.file_ports.specs.Device.{FileState, idle_at, is_writing}
 use Rattle.file_ports.specs.Names.{path_named}
+use Rattle.file_ports.specs.Place.{bytes_on}
 use Rattle.file_ports.specs.Signs.{signs}
 use Rattle.file_ports.specs.Listing.{listing_of}
 
@@ -84,16 +85,17 @@ reading (ReadingFile place) seen = ReadingFile place
 reading (ReadingListing place listing) seen = ReadingListing place listing
 reading Writing seen = looked seen.kind seen.entries
 
--- so many bytes from a place on, or as many as are left; no place is over 2^64 - 1
-abbrev pub bytes_on : List ℕ → ℕ → ℕ → List ℕ
-bytes_on bytes place count = take (min count (2 ^ 64 - 1 - place)) (drop place bytes)
-
 -- what a reading device gives; of a path that is no file any more nothing is left
 abbrev pub given : Mode → Seen → ℕ → List ℕ
 given Idle seen count = []
 given (ReadingFile place) seen count = bytes_on seen.bytes place count
 given (ReadingListing place listing) seen count = bytes_on listing place count
 given Writing seen count = []
+
+-- what a read gives, so many bytes at most
+abbrev pub piece_read : ℕ → FileState → Option Seen → List ℕ
+piece_read count device None = []
+piece_read count device (Some seen) = given (reading device.mode seen) seen count
 
 -- the place moves by their number
 abbrev pub moved : Mode → ℕ → Mode

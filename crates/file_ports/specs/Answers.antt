@@ -1,5 +1,6 @@
 -- What a call of a file device answers, and what it leaves.
-use Rattle.std.specs.Prelude.{◌≡◌, ℕ, ◌++◌, Bool, true, false, List, [], Option, Some, None, IfSome, Result, Ok, Err, length, is_some}
+use Rattle.std.specs.Prelude.{◌≡◌, ℕ, ◌++◌, ◌≤◌, Bool, true, false, List, [], Option, Some, None, IfSome, Result, Ok, Err, length, take, is_some}
+use Rattle.std.specs.Option.{option_map}
 use Rattle.uxn_io.specs.declared.trees.Kind.TheVariants.{Folder}
 use Rattle.uxn_io.specs.Files.{Nodes, kind_at}
 use Rattle.uxn_io.specs.Room.{Room}
@@ -10,7 +11,7 @@ use Rattle.file_ports.specs.declared.stop.FileStop.{FileStop}
 use Rattle.file_ports.specs.declared.stop.FileStop.TheVariants.{TreeFault, NoMemory}
 use Rattle.file_ports.specs.RootPart.{below, parent_is_folder}
 use Rattle.file_ports.specs.Device.{FileState, Suits, is_reading}
-use Rattle.file_ports.specs.Actions.{FileAction, Outcome, acts, act}
+use Rattle.file_ports.specs.Actions.{FileAction, Outcome, acts, act, seen_of, piece_read, count_from}
 
 -- the answer, the device and memory are those of an outcome
 pub record Answers (outcome : Outcome) (result : Result ℕ FileStop) (device_now : FileState) (memory_now : List ℕ) : Type 0 where
@@ -76,6 +77,19 @@ LeavesSurely action device memory before room now failed = failed ≡ false → 
 pub record GivesPiece (piece before : List ℕ) (at taken : ℕ) (now : List ℕ) : Type 0 where
   pub count : taken ≡ length piece
   pub memory : now ≡ with_bytes before at piece
+
+-- a front of a piece was put in memory, and the rest was not; where no piece is told, some bytes, at most so many
+pub record PutsFront (told : Option (List ℕ)) (most : ℕ) (before : List ℕ) (at : ℕ) (now : List ℕ) : Type 0 where
+  pub put : List ℕ
+  pub within : length put ≤ most
+  pub memory : now ≡ with_bytes before at put
+  pub front : IfSome told (λ piece. put ≡ take (length put) piece)
+
+-- so it is of the bytes that a read gives
+abbrev pub HasReadFront : ℕ → ℕ → FileState → List ℕ → Option Nodes → List ℕ → Type 0
+HasReadFront at length device before told now =
+    PutsFront (option_map (λ nodes. piece_read (count_from at length) device (option_map (seen_of nodes) device.path)) told)
+    (count_from at length) before at now
 
 -- the changes of what begins, and then more; of what does not begin none
 abbrev pub and_then : Option (List Change) → List Change → List Change

@@ -3,9 +3,10 @@ pub mod Device
 pub mod Names
 pub mod Signs
 pub mod Listing
+pub mod Place
 pub mod Actions
 pub mod Answers
-pub mod Beneath
+pub mod BeneathLaws
 pub mod PartLaws
 pub mod ActLaws
 pub mod OutsideLaws

@@ -1,5 +1,5 @@
 -- Laws of files outside the root part: actions leave them alone, and what is added to them leaves the root part alone.
-use Rattle.std.specs.Prelude.{◌≡◌, ℕ, Bool, true, false, IsTrue, IsSome, is_some, ⊤, List, [], ◌∷◌, ◌++◌, Option, Some, None}
+use Rattle.std.specs.Prelude.{◌≡◌, ℕ, Bool, true, false, IsTrue, IsSome, is_some, List, [], ◌∷◌, ◌++◌, Option, Some, None}
 use Rattle.std.specs.Str.{bytes_eq}
 use Rattle.std.specs.FinMap as map
 use Rattle.std.proofs.Common.{refl, ap, sym, ◌∙◌}
@@ -7,22 +7,12 @@ use Rattle.std.proofs.lemmas.Slice.Eq.{bytes_eq-Decides}
 use Rattle.uxn_io.specs.PathText.{parent_of}
 use Rattle.uxn_io.specs.Files.{Node, File, Folder, Nodes, bytes_of, bytes_at, file_at, is_folder, is_folder_at}
 use Rattle.uxn_io.specs.Changes.{with_appended}
-use Rattle.uxn_io.specs.Appending.{get_put}
+use Rattle.uxn_io.specs.NodeLaws.{get_put, put_elsewhere}
 use Rattle.uxn_io.specs.Outside.{Change, files_by}
-use Rattle.file_ports.specs.RootPart.{is_in, below, parent_is_folder, path_changed, is_in_part, LieIn}
+use Rattle.file_ports.specs.RootPart.{is_in, below, parent_is_folder, path_changed, is_in_part, LieIn, IsElsewhere, AreElsewhere}
 use Rattle.file_ports.specs.Device.{suits}
-use Rattle.file_ports.specs.PartLaws.{below-same, put_elsewhere}
+use Rattle.file_ports.specs.PartLaws.{below-same}
 use Rattle.file_ports.specs.ActLaws.{outside-kept}
-
--- what is changed is another path than this one, or none
-abbrev pub IsElsewhere : List ℕ → Option (List ℕ) → Type 0
-IsElsewhere path None = ⊤
-IsElsewhere path (Some other) = bytes_eq path other ≡ false
-
--- by each of these changes
-abbrev pub AreElsewhere : List ℕ → List Change → Type 0
-AreElsewhere path [] = ⊤
-AreElsewhere path (change ∷ changes) = IsElsewhere path (path_changed change) × AreElsewhere path changes
 
 apart : (root path other : List ℕ) (same : Bool) → bytes_eq path other ≡ same → is_in root other ≡ true → is_in root path ≡ false
     → same ≡ false
@@ -56,7 +46,7 @@ still-there root path changes nodes lie out there = ap is_some (file-kept root p
 appended_elsewhere : (nodes : Nodes) (path text q : List ℕ) → (q ≡ path → ⊥)
     → map.get (with_appended path text nodes) q ≡ map.get nodes q
 appended_elsewhere nodes path [] q other = refl
-appended_elsewhere nodes path (byte ∷ text) q other = put_elsewhere q path nodes (File (bytes_at nodes path ++ byte ∷ text)) other
+appended_elsewhere nodes path (byte ∷ text) q other = put_elsewhere nodes path q (File (bytes_at nodes path ++ byte ∷ text)) other
 
 -- so outside the root part they leave it as it was
 pub below-appended : (root : Option (List ℕ)) (path text : List ℕ) (nodes : Nodes) → suits root (Some path) ≡ false

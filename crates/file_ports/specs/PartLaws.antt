@@ -4,9 +4,7 @@ use Rattle.std.specs.Prelude.{map as list_map, if◌then◌else◌}
 use Rattle.std.specs.List.{filter_map, cons_option}
 use Rattle.std.specs.Option.{unwrap_or, option_map, option_and_then, option_eq}
 use Rattle.std.specs.Result.{result_ok}
-use Rattle.std.specs.Ordering.{nat_cmp, eq_by_cmp, is_eq}
-use Rattle.std.specs.declared.cmp.Ordering.{Ordering}
-use Rattle.std.specs.declared.cmp.Ordering.TheVariants.{Less, Equal, Greater}
+use Rattle.std.specs.Ordering.{nat_cmp, eq_by_cmp}
 use Rattle.std.specs.Cmp.Lexicographic.{slice_cmp, nat_list_cmp_total}
 use Rattle.std.specs.Str.{bytes_eq}
 use Rattle.std.specs.FinMap as map
@@ -16,27 +14,21 @@ use Rattle.std.proofs.lemmas.Slice.Eq.{bytes_eq-Decides}
 use Rattle.uxn_io.specs.PathText.{path_of, joined, parent_of, child_name}
 use Rattle.uxn_io.specs.Files.{Node, File, Nodes, bytes_of, bytes_at, kind_of, is_folder, is_folder_at, has_parent}
 use Rattle.uxn_io.specs.Changes.{can_create, with_appended}
-use Rattle.uxn_io.specs.Appending.{appended_both}
+use Rattle.uxn_io.specs.AppendingLaws.{appended_both}
 use Rattle.uxn_io.specs.Children.{children, entry_in}
 use Rattle.uxn_io.specs.Outside.{Change, ToOut, ToErr, Creates, ToFile, Removes, changed_files, files_by}
-use Rattle.file_ports.specs.RootPart.{is_in, below, parent_is_folder, path_changed, IsIn, LieIn}
+use Rattle.uxn_io.specs.NodeLaws.{tied_path, same_path, same_nodes, put_elsewhere, taken_elsewhere}
+use Rattle.file_ports.specs.RootPart.{is_in, LiesIn, below, parent_is_folder, path_changed, IsIn, LieIn}
 use Rattle.file_ports.specs.Device.{FileState, idle_at, suits, Suits}
 use Rattle.file_ports.specs.Names.{bytes_around, before_zero, named_in, path_named}
 use Rattle.file_ports.specs.Actions.{FileAction, Seen, can_make_in, seen_in, seen_of, acts}
 use Rattle.file_ports.specs.Answers.{outcome_of}
-use Rattle.file_ports.specs.Beneath.{LiesIn, is_in-Decides, root_in, joined_in, in_deeper, parent_before, parent_in}
-
--- the order of paths
-same_path : (p q : List ℕ) → slice_cmp nat_cmp p q ≡ Equal → p ≡ q
-same_path = map.slice_cmp-IsAntisymmetric map.nat_cmp-IsAntisymmetric
-
--- two trees that have the same node at each path are one
-same_nodes : (m n : Nodes) → ((q : List ℕ) → map.get m q ≡ map.get n q) → m ≡ n
-same_nodes m n is = map.same_map nat_list_cmp_total (map.slice_cmp-IsAntisymmetric map.nat_cmp-IsAntisymmetric) m n is
+use Rattle.file_ports.specs.BeneathLaws.{is_in-Decides, root_in, joined_in, in_deeper, parent_in}
+use Rattle.uxn_io.specs.PathLaws.{parent_before}
 
 -- the node at a path of the root part, and at any other
 get-below : (root : List ℕ) (nodes : Nodes) (q : List ℕ) → map.get (below (Some root) nodes) q ≡ cond (is_in root q) (map.get nodes q) None
-get-below root nodes q = map.get-retain_keys nodes (is_in root) q (λ x tied. ap (is_in root) (sym (same_path q x tied)))
+get-below root nodes q = map.get-retain_keys nodes (is_in root) q (λ x tied. ap (is_in root) (sym (tied_path q x tied)))
 
 pub get_in : (root : List ℕ) (nodes : Nodes) (q : List ℕ) → is_in root q ≡ true → map.get (below (Some root) nodes) q ≡ map.get nodes q
 get_in root nodes q in_root = get-below root nodes q ∙ ap (λ (b : Bool). cond b (map.get nodes q) None) in_root
@@ -63,7 +55,7 @@ entries-below root nodes =
     (λ q.
     get-below root nodes q
     ∙ ap (λ (o : Option Node). cond (is_in root q) o None) (map.get-entries nodes q)
-    ∙ sym (find-where_key (slice_cmp nat_cmp) (is_in root) q (λ x tied. ap (is_in root) (sym (same_path q x tied))) (map.entries nodes))
+    ∙ sym (find-where_key (slice_cmp nat_cmp) (is_in root) q (λ x tied. ap (is_in root) (sym (tied_path q x tied))) (map.entries nodes))
     ∙ sym (map.get-from_sorted (slice_cmp nat_cmp) listed q sorted)) in
     ap (λ (m : Nodes). map.entries m) one ∙ map.entries-from_sorted (slice_cmp nat_cmp) listed sorted
 
@@ -154,14 +146,6 @@ either_first true false x o is = refl
 either_first false true x o is = let no = is refl in cc
 either_first false false x o is = refl
 
-is_equal : (o : Ordering) → is_eq o ≡ true → o ≡ Equal
-is_equal Less e = cc
-is_equal Equal e = refl
-is_equal Greater e = cc
-
-same_key : (q path : List ℕ) → eq_by_cmp (slice_cmp nat_cmp) q path ≡ true → q ≡ path
-same_key q path e = same_path q path (is_equal (slice_cmp nat_cmp q path) e)
-
 below-insert : (root path : List ℕ) (nodes : Nodes) (node : Node) → is_in root path ≡ true
     → below (Some root) (map.insert nodes path node) ≡ map.insert (below (Some root) nodes) path node
 below-insert root path nodes node in_root =
@@ -170,7 +154,7 @@ below-insert root path nodes node in_root =
     get-below root (map.insert nodes path node) q
     ∙ ap (λ (o : Option Node). cond (is_in root q) o None) (map.get-insert nat_list_cmp_total nodes path node q)
     ∙ either_first (is_in root q) (eq_by_cmp (slice_cmp nat_cmp) q path) node (map.get nodes q)
-    (λ e. ap (is_in root) (same_key q path e) ∙ in_root)
+    (λ e. ap (is_in root) (same_path q path e) ∙ in_root)
     ∙ sym (map.get-insert nat_list_cmp_total (below (Some root) nodes) path node q
     ∙ ap (λ (o : Option Node). cond (eq_by_cmp (slice_cmp nat_cmp) q path) (Some node) o) (get-below root nodes q)))
 
@@ -218,32 +202,13 @@ below-files_by (Some root) (change ∷ changes) nodes lie =
     ∙ ap (λ (m : Nodes). files_by m changes) (below-change root change nodes lie.0)
 
 -- a change leaves the node at every other path
-other_key : (same : Bool) (x y : Option Node) → same ≡ false → cond same x y ≡ y
-other_key true x y e = cc
-other_key false x y e = refl
-
-apart : (root q path : List ℕ) (b : Bool) → eq_by_cmp (slice_cmp nat_cmp) q path ≡ b → (q ≡ path → ⊥) → b ≡ false
-apart root q path true e other = absurd (other (same_key q path e))
-apart root q path false e other = refl
-
-pub put_elsewhere : (q path : List ℕ) (nodes : Nodes) (node : Node) → (q ≡ path → ⊥)
-    → map.get (map.insert nodes path node) q ≡ map.get nodes q
-put_elsewhere q path nodes node other =
-    map.get-insert nat_list_cmp_total nodes path node q
-    ∙ other_key (eq_by_cmp (slice_cmp nat_cmp) q path) (Some node) (map.get nodes q) (apart q q path _ refl other)
-
-taken_elsewhere : (q path : List ℕ) (nodes : Nodes) → (q ≡ path → ⊥) → map.get (map.remove nodes path) q ≡ map.get nodes q
-taken_elsewhere q path nodes other =
-    map.get-remove nat_list_cmp_total nodes path q
-    ∙ other_key (eq_by_cmp (slice_cmp nat_cmp) q path) None (map.get nodes q) (apart q q path _ refl other)
-
 pub changed_elsewhere : (change : Change) (q : List ℕ) (nodes : Nodes) → (path_changed change ≡ Some q → ⊥)
     → map.get (changed_files change nodes) q ≡ map.get nodes q
 changed_elsewhere (ToOut byte) q nodes other = refl
 changed_elsewhere (ToErr byte) q nodes other = refl
-changed_elsewhere (Creates path) q nodes other = put_elsewhere q path nodes (File []) (λ e. other (ap (λ (p : List ℕ). Some p) (sym e)))
-changed_elsewhere (ToFile path byte) q nodes other = put_elsewhere q path nodes _ (λ e. other (ap (λ (p : List ℕ). Some p) (sym e)))
-changed_elsewhere (Removes path) q nodes other = taken_elsewhere q path nodes (λ e. other (ap (λ (p : List ℕ). Some p) (sym e)))
+changed_elsewhere (Creates path) q nodes other = put_elsewhere nodes path q (File []) (λ e. other (ap (λ (p : List ℕ). Some p) (sym e)))
+changed_elsewhere (ToFile path byte) q nodes other = put_elsewhere nodes path q _ (λ e. other (ap (λ (p : List ℕ). Some p) (sym e)))
+changed_elsewhere (Removes path) q nodes other = taken_elsewhere nodes path q (λ e. other (ap (λ (p : List ℕ). Some p) (sym e)))
 
 -- bytes added one after the other
 pub files_by-file : (nodes : Nodes) (path piece : List ℕ)

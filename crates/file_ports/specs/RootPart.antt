@@ -1,14 +1,17 @@
 -- The part of a tree that file devices see: the root and what lies beneath it (profile).
-use Rattle.std.specs.Prelude.{ℕ, Bool, false, IsTrue, ⊤, ◌||◌, List, [], ◌∷◌, Option, Some, None}
+use Rattle.std.specs.Prelude.{◌≡◌, ℕ, ◌⊎◌, Bool, false, IsTrue, ⊤, ◌||◌, List, [], ◌∷◌, Option, Some, None}
 use Rattle.std.specs.Str.{bytes_eq}
 use Rattle.std.specs.FinMap as map
-use Rattle.uxn_io.specs.PathText.{is_under}
+use Rattle.uxn_io.specs.PathText.{is_under, ContinuesAfter}
 use Rattle.uxn_io.specs.Files.{Nodes, has_parent}
 use Rattle.uxn_io.specs.Outside.{Change, ToOut, ToErr, Creates, ToFile, Removes}
 
 -- the root's own path, or one beneath it
 unfoldable pub is_in : List ℕ → List ℕ → Bool
 is_in root path = bytes_eq path root || is_under path root
+
+abbrev pub LiesIn : List ℕ → List ℕ → Type 0
+LiesIn root path = (path ≡ root) ⊎ ContinuesAfter path root
 
 -- the nodes at the root's own path and beneath it; without a root there are none
 abbrev pub below : Option (List ℕ) → Nodes → Nodes
@@ -41,3 +44,13 @@ IsIn root change = IsTrue (is_in_part root (path_changed change))
 abbrev pub LieIn : Option (List ℕ) → List Change → Type 0
 LieIn root [] = ⊤
 LieIn root (change ∷ changes) = IsIn root change × LieIn root changes
+
+-- what is changed is another path than this one, or none
+abbrev pub IsElsewhere : List ℕ → Option (List ℕ) → Type 0
+IsElsewhere path None = ⊤
+IsElsewhere path (Some other) = bytes_eq path other ≡ false
+
+-- by each of these changes
+abbrev pub AreElsewhere : List ℕ → List Change → Type 0
+AreElsewhere path [] = ⊤
+AreElsewhere path (change ∷ changes) = IsElsewhere path (path_changed change) × AreElsewhere path changes

@@ -6,7 +6,7 @@ ghost use Rattle.uxn_io.specs.Room.{Leaves};
 ghost use Rattle.file_ports.specs.Device.{idle_at, Suits};
 ghost use Rattle.file_ports.specs.Names.{path_named};
 ghost use Rattle.file_ports.specs.Actions.{Read, Write, Stat, Delete, count_from};
-ghost use Rattle.file_ports.specs.Answers.{Acted, ActedNowhere, CutOff, TakesNames, TakesSurely, LeavesSurely, has_failed};
+ghost use Rattle.file_ports.specs.Answers.{Acted, ActedNowhere, CutOff, HasReadFront, TakesNames, TakesSurely, LeavesSurely, has_failed};
 
 use crate::mode::Mode;
 use crate::names::path_named;
@@ -80,6 +80,7 @@ impl FileDevice {
         ensures untouched { self.old.path ≡ None → tree.new ≡ tree.old }
         ensures same { T.told tree.new ≡ T.told tree.old }
         ensures names { result ≡ Err FileStop.NoMemory → TakesNames self.old (T.told tree.old) }
+        ensures front { OnErr result (HasReadFront at length self.old memory.old (T.told tree.old) memory.new) }
         ensures stopped { OnErr result (self.new ≡ idle_at self.old.path) }
         ensures path { self.new.path ≡ self.old.path }
         ensures ledger { Counted (T.faults tree.old) (T.faults tree.new) (has_failed result) }

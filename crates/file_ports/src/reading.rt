@@ -1,13 +1,15 @@
 //! Reads: of a file, and of a folder's listing.
-ghost use Rattle.std.specs.Prelude.{◌≡◌, ℕ, ◌+◌, ◌-◌, ◌^◌, ◌<◌, ◌≤◌, false, take, drop, IfOk, IfSome, IsOk, OnOk, Err, is_err, min};
+ghost use Rattle.std.specs.Prelude.{◌≡◌, ℕ, ◌+◌, ◌-◌, ◌^◌, ◌<◌, ◌≤◌, false, take, drop, IfOk, IfSome, IsOk, OnOk, OnErr, Err, is_err, min};
+ghost use Rattle.std.specs.Option.{option_map};
 ghost use Rattle.uxn_io.specs.Faults.{Counted};
 ghost use Rattle.uxn_io.specs.Files.{bytes_from, kind_at};
 ghost use Rattle.uxn_io.specs.Children.{children};
 ghost use Rattle.uxn_io.specs.Room.{Leaves};
 ghost use Rattle.file_ports.specs.Device.{is_reading};
 ghost use Rattle.file_ports.specs.Listing.{listing_of};
+ghost use Rattle.file_ports.specs.Place.{last_place};
 ghost use Rattle.file_ports.specs.Actions.{seen_of, looked, reading, given, moved};
-ghost use Rattle.file_ports.specs.Answers.{has_failed, GivesPiece};
+ghost use Rattle.file_ports.specs.Answers.{has_failed, GivesPiece, PutsFront};
 
 use crate::listing::Listing;
 use crate::mode::Mode;
@@ -92,6 +94,8 @@ pub(crate) fn read_on<T: Tree>(
     ensures piece { IfOk result (λ read. IfSome (T.told tree.old) (λ nodes.
         GivesPiece (given mode (seen_of nodes path.now) count) memory.old at read.0 memory.new)) }
     ensures mode { IfOk result (λ read. read.1 ≡ moved mode read.0) }
+    ensures stopped { OnErr result (PutsFront (option_map (λ nodes. given mode (seen_of nodes path.now) count) (T.told tree.old))
+        count memory.old at memory.new) }
     ensures same { T.told tree.new ≡ T.told tree.old }
     ensures ledger { Counted (T.faults tree.old) (T.faults tree.new) (is_err result) }
     ensures sure { 0 < (T.sure tree.old).files → IsOk result }
@@ -118,7 +122,7 @@ pub(crate) fn read_on<T: Tree>(
 
 /// How many bytes may be read from a place on, so that no place is over the last.
 fn most_from(place: u64, count: u16) -> u16
-    ensures most { result ≡ min count (2 ^ 64 - 1 - place) }
+    ensures most { result ≡ min count (last_place - place) }
     ensures within { result ≤ count }
     ensures fits { place + result < 2 ^ 64 }
 {
@@ -152,6 +156,8 @@ fn put_file<T: Tree>(
     ensures piece { IfOk result (λ n. IfSome (T.told tree.old) (λ nodes.
         GivesPiece (take count (bytes_from nodes path.now place)) memory.old at n memory.new)) }
     ensures within { IfOk result (λ n. n ≤ count) }
+    ensures stopped { OnErr result (PutsFront (option_map (λ nodes. take count (bytes_from nodes path.now place)) (T.told tree.old))
+        count memory.old at memory.new) }
     ensures same { T.told tree.new ≡ T.told tree.old }
     ensures ledger { Counted (T.faults tree.old) (T.faults tree.new) (is_err result) }
     ensures sure { 0 < (T.sure tree.old).files → IsOk result }

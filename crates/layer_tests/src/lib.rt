@@ -1,6 +1,6 @@
 //! Tests of calls of the lower crates that no command reaches, or whose answers none shows: the sinks and trees in memory, the
-//! kinds of faults of paths, how many words an expander visited, which rows of a screen are composed, printed scripts, includes, the
-//! source of a workload, and moments gone back to.
+//! kinds of faults of paths, how many words an expander visited, what a patcher tells, which rows of a screen are composed, printed
+//! scripts, includes, the source of a workload, moments gone back to, and the turns of machines in a line.
 #![tactic(auto)]
 
 #[cfg(test)]
@@ -8,7 +8,11 @@ mod expander_tests;
 #[cfg(test)]
 mod include_tests;
 #[cfg(test)]
+mod line_tests;
+#[cfg(test)]
 mod outside_tests;
+#[cfg(test)]
+mod patcher_tests;
 #[cfg(test)]
 mod screen_tests;
 #[cfg(test)]

@@ -9,6 +9,3 @@ mod words;
 
 pub use choice::Choice;
 pub use reading::{Found, read};
-
-#[cfg(test)]
-mod tests;

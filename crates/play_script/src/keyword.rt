@@ -8,7 +8,7 @@ use crate::script::Version;
 use line_texts::{Counts, Row};
 
 /// What the first word of a line says.
-#[derive(Debug, Clone, Copy, PartialEq, Eq)]
+#[derive(Clone, Copy)]
 pub(crate) enum Keyword {
     Script,
     Clock,

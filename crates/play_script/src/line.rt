@@ -37,7 +37,7 @@ const MOST_TIMES: u64 = 1_000_000;
 const PLAYERS: u64 = 4;
 
 // What a line means.
-#[derive(Debug, Drop)]
+#[derive(Drop)]
 pub(crate) enum Meaning {
     VersionLine,
     ClockLine(Clock),

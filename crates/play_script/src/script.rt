@@ -179,7 +179,7 @@ pub enum ScriptStop {
 }
 
 // What stops a line.
-#[derive(Debug, Drop)]
+#[derive(Drop)]
 pub(crate) enum LineStop {
     Faulty(ScriptKind),
     NoMemory,

@@ -14,7 +14,7 @@ use std::alloc::{AllocError, Global};
 use uxn_io::Bytes;
 
 /// A value of a line in plain text.
-#[derive(Debug, Clone, Copy)]
+#[derive(Clone, Copy)]
 pub(crate) enum Value {
     Byte(u8),
     /// A controller's button, by its bit.
@@ -60,7 +60,7 @@ pub(crate) fn one_or(most: u64, values: &[u8]) -> Option<u64>
 }
 
 /// A row of a table of buttons: the name of one, and its bit.
-#[derive(Debug, Clone, Copy)]
+#[derive(Clone, Copy)]
 pub(crate) struct ButtonRow(&'static str, u8);
 
 static BUTTONS: [ButtonRow; 8] = [

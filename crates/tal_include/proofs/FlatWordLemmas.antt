@@ -17,6 +17,7 @@ use Rattle.tal_include.specs.Flat.{Flat, empty_flat, with_word, with_path, place
 use Rattle.tal_include.specs.Includes.{is_include, included_path, path_or_kind, bytes_or_kind, fault_at}
 use Rattle.tal_include.specs.Splice.{Outcome, Came, Met, Reading, going_on, found_or, faultless_or, through, is_long_with, at_plain_word, at_include, at_word, through_file, has_includes, spliced, walk}
 use Rattle.tal_include.specs.FlatWords.{HasItsWords, IfCame}
+use Rattle.tal_include.proofs.AloneLemmas.{HasHead, head_kept}
 use Rattle.tal_include.proofs.ChunkLemmas.{starts, IsSpoken, starts_of_tokens, words_are_tokens, chunks_faultless}
 use Rattle.tal_include.proofs.SpokenLemmas.{line_of, IsSound, IsSoundWord, words_sound}
 
@@ -173,8 +174,8 @@ all_placed flat front (word ∷ words) is = (
       (ap (map (λ (w : Word). w.span.start)) (append_assoc front (word ∷ []) words) ∙ is),
 )
 
-has_its_words : (flat : Flat) → IsFlat flat → HasItsWords flat
-has_its_words flat is =
+has_its_words : (source : List ℕ) (flat : Flat) → flat.includes ≡ has_includes source → IsFlat flat → HasItsWords source flat
+has_its_words source flat includes is =
     let are = all_lines is.texts is.sound in
     let begin : map (λ (w : Word). w.span.start) (words_of flat.text) ≡ map (λ (p : Place). p.at) flat.places =
     ap (λ (t : List ℕ). map (λ (w : Word). w.span.start) (words_of t)) is.text
@@ -187,16 +188,17 @@ has_its_words flat is =
       faultless = λ short.
           ap word_fault is.text
           ∙ chunks_faultless (lines_of is.texts) are.0 are.1 (subst (λ (t : List ℕ). length t ≤ source_limit) is.text short);
-      short = is.short;
+      short = λ has. is.short (includes ∙ has);
     }
 
-if_came : (outcome : Outcome) → IfCame IsFlat outcome → IfCame HasItsWords outcome
-if_came (Came flat) is = has_its_words flat is
-if_came (Met fault) is = tt
+if_came : (main source : List ℕ) (outcome : Outcome) → IfCame (HasHead (empty_flat main (has_includes source))) outcome → IfCame IsFlat outcome
+    → IfCame (HasItsWords source) outcome
+if_came main source (Came flat) has is = has_its_words source flat has.includes is
+if_came main source (Met fault) has is = tt
 
 -- what a source is spliced to has its words
-pub spliced_words : (reading : Reading) (main source : List ℕ) → IfCame HasItsWords (spliced reading main source)
+pub spliced_words : (reading : Reading) (main source : List ℕ) → IfCame (HasItsWords source) (spliced reading main source)
 spliced_words reading main source =
-    if_came (spliced reading main source)
+    if_came main source (spliced reading main source) (head_kept reading main source)
     (walk_flat reading 15 main source (empty_flat main (has_includes source))
     (record { texts = []; sound = tt; text = refl; places = refl; short = λ includes. omega arith }))

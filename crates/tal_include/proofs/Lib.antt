@@ -5,3 +5,5 @@ pub mod SpliceLemmas
 pub mod ChunkLemmas
 pub mod SpokenLemmas
 pub mod FlatWordLemmas
+pub mod TildeLemmas
+pub mod AloneLemmas

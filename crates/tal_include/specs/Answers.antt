@@ -1,7 +1,8 @@
 -- What a call answers, by a walk.
-use Rattle.std.specs.Prelude.{◌≡◌, Bool, true, false, Result, Ok, Err, ⊤}
+use Rattle.std.specs.Prelude.{◌≡◌, ℕ, List, Bool, true, false, Result, Ok, Err, ⊤}
 use Rattle.uxn_io.specs.Files.{Nodes, file_at}
 use Rattle.uxn_io.specs.WholeFile.{whole_file}
+use Rattle.uxn_io.specs.declared.trees.FileBytes.{FileBytes}
 use Rattle.tal_words.specs.Comments.{source_limit}
 use Rattle.tal_include.specs.declared.faults.SpliceStop.{SpliceStop}
 use Rattle.tal_include.specs.declared.faults.SpliceStop.TheVariants.{Refused, TreeFault, NoMemory}
@@ -22,6 +23,10 @@ has_failed (Err (Refused fault)) = false
 has_failed (Err TreeFault) = true
 has_failed (Err NoMemory) = false
 
+-- what a tree gives of the file at a path
+abbrev pub told_file : Nodes → List ℕ → FileBytes
+told_file nodes path = whole_file (file_at nodes path) source_limit
+
 -- a file is read as the tree tells it
 abbrev pub told_reading : Nodes → Reading
-told_reading nodes before path = whole_file (file_at nodes path) source_limit
+told_reading nodes before path = told_file nodes path

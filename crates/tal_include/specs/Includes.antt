@@ -1,16 +1,26 @@
 -- Include words, the paths that they name, and faults of includes (profile).
-use Rattle.std.specs.Prelude.{ℕ, zero, suc, Bool, false, ◌==◌, nat_le, if◌then◌else◌, List, [], ◌∷◌, drop, take}
+use Rattle.std.specs.Prelude.{ℕ, zero, suc, Bool, false, ◌==◌, nat_le, if◌then◌else◌, List, [], ◌∷◌, codes, drop, take}
 use Rattle.std.specs.Prelude.{Option, Some, None, Result, Ok, Err}
 use Rattle.uxn_io.specs.PathText.{path_of, parent_of, joined}
 use Rattle.uxn_io.specs.declared.paths.PathFault.{PathFault}
 use Rattle.uxn_io.specs.declared.trees.FileBytes.{FileBytes}
 use Rattle.uxn_io.specs.declared.trees.FileBytes.TheVariants.{Found, TooLong, Missing as NoFile}
 use Rattle.tal_words.specs.declared.fault.Fault.{Fault}
-use Rattle.tal_words.specs.Faults.{fault_text}
+use Rattle.tal_words.specs.Faults.{kind_name, fault_text}
 use Rattle.tal_include.specs.declared.faults.Origin.{Origin}
 use Rattle.tal_include.specs.declared.faults.IncludeFault.{IncludeFault}
 use Rattle.tal_include.specs.declared.faults.IncludeKind.{IncludeKind}
-use Rattle.tal_include.specs.declared.faults.IncludeKind.TheVariants.{Words, BadPath, Missing, Long, Deep, Many}
+use Rattle.tal_include.specs.declared.faults.IncludeKind.TheVariants.{Words, BadPath, Missing, Long, Deep, Many, LongFlat}
+
+-- the name of a kind, as it is printed
+abbrev pub include_kind_name : IncludeKind → List ℕ
+include_kind_name (Words kind) = kind_name kind
+include_kind_name BadPath = codes "IncludePath"
+include_kind_name Missing = codes "IncludeMissing"
+include_kind_name Long = codes "IncludeLong"
+include_kind_name Deep = codes "IncludeDeep"
+include_kind_name Many = codes "IncludeMany"
+include_kind_name LongFlat = codes "IncludeLongText"
 
 -- a word includes a file: a tilde (126) and something behind it
 abbrev pub is_include : List ℕ → Bool

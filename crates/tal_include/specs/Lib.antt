@@ -4,3 +4,4 @@ pub mod Splice
 pub mod FlatWords
 pub mod Answers
 pub mod Parts
+pub mod Included

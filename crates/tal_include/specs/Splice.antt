@@ -1,5 +1,5 @@
 -- The walk through the words of a source and of the files that it includes: the first thing met on it is the fault (profile).
-use Rattle.std.specs.Prelude.{ℕ, zero, suc, ◌+◌, Bool, ◌&&◌, nat_lt, if◌then◌else◌, List, [], ◌∷◌, length}
+use Rattle.std.specs.Prelude.{ℕ, zero, suc, ◌+◌, Bool, ◌&&◌, nat_lt, if◌then◌else◌, List, [], ◌∷◌, length, is_none}
 use Rattle.std.specs.Prelude.{Option, Some, None, Result, Ok, Err}
 use Rattle.std.specs.List.{list_any}
 use Rattle.uxn_io.specs.declared.trees.FileBytes.{FileBytes}
@@ -82,6 +82,10 @@ walk reading (suc deeper) = through_file reading (suc deeper) (walk reading deep
 -- a source has an include word
 abbrev pub has_includes : List ℕ → Bool
 has_includes source = list_any (λ word. is_include (word_text source word)) (words_of source)
+
+-- a source is spliced: it has an include word, and no fault of words, which assembly would find first
+abbrev pub is_spliced : List ℕ → Bool
+is_spliced source = is_none (word_fault source) && has_includes source
 
 -- how many deep files may be included in the main source
 abbrev pub most_deep : ℕ

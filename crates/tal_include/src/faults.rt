@@ -1,7 +1,7 @@
 //! Where words stand in files, and what can be wrong with includes.
 
 ghost use Rattle.std.specs.Prelude.{◌≡◌, ◌≤◌, length, take};
-ghost use Rattle.tal_include.specs.Includes.{fault_at, word_front};
+ghost use Rattle.tal_include.specs.Includes.{include_kind_name, fault_at, word_front};
 ghost use Rattle.tal_include.specs.declared.faults.SpliceStop.TheVariants.{NoMemory};
 
 use arrayvec::ArrayVec;
@@ -35,6 +35,23 @@ pub enum IncludeKind {
     Many,
     /// The flat text has more than 4,194,304 bytes.
     LongFlat,
+}
+
+impl IncludeKind {
+    /// The name of the kind, as it is printed.
+    pub fn name(self) -> &'static str
+        ensures { result.now ≡ include_kind_name self }
+    {
+        match self {
+            IncludeKind::Words(kind) => kind.name(),
+            IncludeKind::BadPath => "IncludePath",
+            IncludeKind::Missing => "IncludeMissing",
+            IncludeKind::Long => "IncludeLong",
+            IncludeKind::Deep => "IncludeDeep",
+            IncludeKind::Many => "IncludeMany",
+            IncludeKind::LongFlat => "IncludeLongText",
+        }
+    }
 }
 
 /// A fault: where the faulty word stands, what is wrong, and the first 255 bytes of the word.

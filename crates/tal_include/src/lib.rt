@@ -7,6 +7,6 @@ mod spliced;
 mod splicing;
 
 pub use faults::{IncludeFault, IncludeKind, Origin, SpliceStop};
-pub use laws::flat_texts_have_the_spliced_words;
+pub use laws::{flat_texts_have_the_spliced_words, splicing_looks_at_included_files_alone};
 pub use spliced::Spliced;
-pub use splicing::splice;
+pub use splicing::{has_includes, splice};

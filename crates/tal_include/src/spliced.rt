@@ -11,7 +11,7 @@ use uxn_io::Path;
 
 /// A word of the flat text: the offset of its first byte there, its file by its number in the order of
 /// reading, where the main source has 0, and its line and column in that file.
-#[derive(Clone, Copy, Debug, PartialEq, Eq)]
+#[derive(Clone, Copy, Debug)]
 pub(crate) struct Place {
     pub(crate) at: usize,
     pub(crate) file: usize,
@@ -70,6 +70,14 @@ impl Spliced {
         ensures { result.now ≡ self.now.paths }
     {
         self.paths.as_slice()
+    }
+
+    /// The flat text and the files that were read, which are given up.
+    pub fn into_parts(self) -> (Vec<u8>, Vec<Path>)
+        ensures text { result.0.items ≡ self.text }
+        ensures paths { result.1.items ≡ self.paths }
+    {
+        (self.text, self.paths)
     }
 
     /// Where the word stands that begins at an offset of the flat text. None exactly where no spliced word

@@ -1,6 +1,6 @@
 //! The walk through a source and the files that it includes.
 
-ghost use Rattle.std.specs.Prelude.{◌≡◌, ℕ, ◌+◌, ◌<◌, ◌≤◌, ◌==◌, ◌&&◌, false, length, nat_lt, IfSome, OnOk, if◌then◌else◌};
+ghost use Rattle.std.specs.Prelude.{◌≡◌, ℕ, ◌+◌, ◌<◌, ◌≤◌, ◌==◌, ◌&&◌, false, length, nat_lt, IfOk, IfSome, OnOk, if◌then◌else◌};
 ghost use Rattle.std.specs.List.{list_any};
 ghost use Rattle.uxn_io.specs.Faults.{Counted};
 ghost use Rattle.uxn_io.specs.Room.{Leaves};
@@ -8,13 +8,13 @@ ghost use Rattle.tal_words.specs.declared.span.Word.{Word};
 ghost use Rattle.tal_words.specs.Source.{word_text};
 ghost use Rattle.tal_include.specs.declared.faults.SpliceStop.TheVariants.{Refused};
 ghost use Rattle.tal_include.specs.Includes.{is_include, included_path, path_or_kind, fault_at};
-ghost use Rattle.tal_include.specs.Splice.{Reading, is_long_with, at_plain_word, at_include, through_words, spliced};
+ghost use Rattle.tal_include.specs.Splice.{Reading, is_long_with, at_plain_word, at_include, through_words, is_spliced, spliced};
 ghost use Rattle.tal_include.specs.Answers.{Gives, has_failed, told_reading};
 ghost use Rattle.tal_include.specs.Parts.{Along, IsCut, IsOpened, inner_walk};
 
 use crate::faults::{IncludeFault, IncludeKind, Origin, SpliceStop};
 use crate::spliced::Spliced;
-use std::alloc::Global;
+use std::alloc::{AllocError, Global};
 use tal_words::{AsmStop, SOURCE_LIMIT, Word, fault_word, words};
 use uxn_io::{Bytes, FileBytes, Path, ReadStop, Tree, read_file};
 
@@ -48,6 +48,20 @@ pub fn splice<T: Tree>(
     let mut flat = Spliced::new(alloc, main, includes);
     flat.add_words(alloc, tree, main, source, &words, MOST_DEEP)?;
     Ok(flat)
+}
+
+/// Whether a source is spliced: it has an include word, and no fault of words. A source without a tilde is not cut.
+pub fn has_includes(alloc: Global, source: &[u8]) -> Result<bool, AllocError>
+    ensures { IfOk result (λ answer. answer ≡ is_spliced source.now) }
+{
+    if !source.contains(&b'~') {
+        return Ok(false);
+    }
+    match words(alloc, source) {
+        Ok(words) => Ok(has_include(source, &words)),
+        Err(AsmStop::Refused(_)) => Ok(false),
+        Err(AsmStop::NoMemory) => Err(AllocError),
+    }
 }
 
 /// The words of a file. Refused with its first fault of words.

@@ -17,6 +17,7 @@ use Rattle.tal_labels.specs.Adding.{added_fault, open_word, given_word, word_add
 use Rattle.tal_labels.specs.Placers.{WereAdded}
 use Rattle.tal_rom.specs.declared.patcher.Patcher.{Patcher}
 use Rattle.tal_rom.specs.Patchers.{WerePatched}
+use Rattle.tal_rom.specs.Passing.{IsOnItsWay}
 use Rattle.tal_rom.specs.References.{reference_fault}
 use Rattle.tal_rom.specs.Rom.{pieces_of, rom_image, trimmed}
 use Rattle.tal_rom.specs.Patching.{waiting_count, all_fit, image_of}
@@ -30,13 +31,6 @@ word_given source words word placed e = by (is_some (added_fault source (words +
     by false (Ok shape) e = (let same : open_word source words word shape ≡ placed = cc in sym (ap (λ (p : PlacedWord). p.word) same))
     by false (Err kind) e = cc
     by true f e = cc
-
--- how far the pass has come: what the expander gave was added to the placer, and what that gave to the patcher
-pub record IsOnItsWay (source : List ℕ) (progress : Progress) (placer : Placer) (patcher : Patcher) : Type 0 where
-  pub reads : progress.source ≡ source
-  pub bound : progress.visited ≤ visit_limit
-  pub added : WereAdded source (given progress) placer
-  pub patched : WerePatched source (given progress) patcher
 
 module _ (source : List ℕ) (progress : Progress) (placer : Placer) (patcher : Patcher) (so : IsOnItsWay source progress placer patcher) where
   pub few : length (given progress) < 2147483647

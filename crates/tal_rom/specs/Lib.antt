@@ -8,3 +8,4 @@ pub mod Holes
 pub mod Filling
 pub mod Patching
 pub mod Patchers
+pub mod Passing

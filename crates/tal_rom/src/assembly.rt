@@ -1,10 +1,12 @@
 //! From a source to its ROM.
 
-ghost use Rattle.std.specs.Prelude.{◌≡◌, ◌≤◌, List, None, IfOk, IfSome, length, ℕ};
+ghost use Rattle.std.specs.Prelude.{◌≡◌, ◌≤◌, List, None, IfOk, IfSome, length, [], ℕ};
 ghost use Rattle.tal_words.specs.Comments.{words_of, word_fault, source_limit};
 ghost use Rattle.tal_rom.specs.Rom.{rom_limit};
 ghost use Rattle.tal_rom.specs.Assembly.{IsAssembled, first_fault, layout};
 ghost use Rattle.tal_rom.specs.Answers.{CoverOnce};
+ghost use Rattle.tal_rom.specs.Patchers.{WerePatched};
+ghost use Rattle.tal_rom.specs.Passing.{AreAdded, GoesOn, IsOnItsWay};
 
 use crate::patcher::Patcher;
 use crate::rom::rom_of;
@@ -79,20 +81,82 @@ fn in_one_pass(alloc: Global, source: &[u8], words: &[Word]) -> Result<Option<As
     requires short { length source.now ≤ source_limit }
     ensures { IfOk result (λ found. IfSome found (λ assembly. IsAssembled source.now (Ok assembly))) }
 {
+    let mut patcher = Patcher::new(alloc)?;
+    match add_all(alloc, source, words, &mut patcher)? {
+        Some(placer) => with_all(source, placer, &patcher),
+        None => Ok(None),
+    }
+}
+
+/// What a turn of the pass comes to.
+#[derive(Clone, Copy)]
+enum Turn {
+    /// One word more was added.
+    Added,
+    /// All words were added before.
+    Ended,
+    /// There is a fault.
+    Faulty,
+}
+
+/// Adds the next word that the expander gives.
+fn add_next(
+    source: &[u8],
+    expander: &mut Expander,
+    placer: &mut Placer,
+    patcher: &mut Patcher,
+) -> Result<Turn, AllocError>
+    requires short { length source.now ≤ source_limit }
+    requires so { IsOnItsWay source.now expander.old placer.old patcher.old }
+    ensures { IfOk result (λ turn. GoesOn source.now expander.old turn expander.new placer.new patcher.new) }
+{
+    match expander.next() {
+        Ok(Some(word)) => match placer.add(source, word)? {
+            Some(placed) => {
+                patcher.add(source, &placed)?;
+                Ok(Turn::Added)
+            }
+            None => Ok(Turn::Faulty),
+        },
+        Ok(None) => Ok(Turn::Ended),
+        Err(AsmStop::Refused(_)) => Ok(Turn::Faulty),
+        Err(AsmStop::NoMemory) => Err(AllocError),
+    }
+}
+
+/// Adds the words of a source up to the last one; none where they have a fault.
+fn add_all(
+    alloc: Global,
+    source: &[u8],
+    words: &[Word],
+    patcher: &mut Patcher,
+) -> Result<Option<Placer>, AllocError>
+    requires words { words.now ≡ words_of source.now }
+    requires short { length source.now ≤ source_limit }
+    requires patched { WerePatched source.now [] patcher.old }
+    ensures { IfOk result (λ all. IfSome all (λ placer. AreAdded source.now placer patcher.new)) }
+{
     let mut expander = Expander::new(alloc, source, words);
     let mut placer = Placer::new(alloc);
-    let mut patcher = Patcher::new(alloc)?;
     loop {
-        match expander.next() {
-            Ok(Some(word)) => match placer.add(source, word)? {
-                Some(placed) => patcher.add(source, &placed)?,
-                None => return Ok(None),
-            },
-            Ok(None) => break,
-            Err(AsmStop::Refused(_)) => return Ok(None),
-            Err(AsmStop::NoMemory) => return Err(AllocError),
+        match add_next(source, &mut expander, &mut placer, patcher)? {
+            Turn::Added => {}
+            Turn::Ended => return Ok(Some(placer)),
+            Turn::Faulty => return Ok(None),
         }
     }
+}
+
+/// The assembly of a source whose words were all added; none where one of them has a fault.
+fn with_all(
+    source: &[u8],
+    placer: Placer,
+    patcher: &Patcher,
+) -> Result<Option<Assembly>, AllocError>
+    requires sound { word_fault source.now ≡ None }
+    requires all { AreAdded source.now placer patcher.now }
+    ensures { IfOk result (λ found. IfSome found (λ assembly. IsAssembled source.now (Ok assembly))) }
+{
     if patcher.waiting() > 0 || !patcher.fits() {
         return Ok(None);
     }

@@ -3,7 +3,7 @@
 use tal_words::Rune;
 
 /// A reference that waits for its target.
-#[derive(Clone, Copy, Debug)]
+#[derive(Clone, Copy)]
 pub struct Hole {
     /// What the reference stands for.
     pub rune: Rune,

@@ -10,8 +10,6 @@ mod patcher;
 mod plain;
 mod references;
 mod rom;
-#[cfg(test)]
-mod tests;
 
 pub use assembly::{Assembly, assemble, words_cover_once};
 pub use patcher::{Patcher, patched_sources_are_assembled};

@@ -11,7 +11,8 @@ use Rattle.file_ports.specs.RootPart.{is_in, below}
 use Rattle.file_ports.specs.PartLaws.{below-same, get_in}
 use Rattle.uxn_io.specs.Told.{extended}
 use Rattle.uxn_io.specs.Outside.{Change, ToOut, ToErr, Creates, ToFile, Removes, World, changed_files, changed, changed_by, files_by}
-use Rattle.varvara_bus.specs.Touching.{Each, each-append, each-map, told_at, same_path}
+use Rattle.varvara_bus.specs.Touching.{Each, each-append, each-map, told_at}
+use Rattle.uxn_io.specs.NodeLaws.{same_path}
 use Rattle.uxn_cli.specs.World.{Text}
 use Rattle.uxn_cli.specs.Outcome.{creating, filling, filling_all}
 

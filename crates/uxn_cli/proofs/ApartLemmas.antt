@@ -1,99 +1,40 @@
-use Rattle.std.proofs.Common.{◌≡◌, ℕ, ◌+◌, ◌-◌, ◌<◌, ◌≤◌, Bool, true, false, true≢false, not, cond, List, [], ◌∷◌, ◌++◌, map, take, drop, length, refl, ap, sym, ◌∙◌, arith, append_assoc, take-append-drop, length-drop, length-take}
+use Rattle.std.proofs.Common.{◌≡◌, ℕ, ◌+◌, ◌-◌, ◌≤◌, Bool, true, false, true≢false, not, cond, List, [], ◌∷◌, ◌++◌, map, length, refl, ap, sym, ◌∙◌, arith}
 use Rattle.std.specs.Prelude.{Option, Some, None, IsSome, IfSome, option_map, find, All, count_by, ◌||◌, ◌&&◌, nat_lt}
 use Rattle.std.specs.Option.{unwrap_or}
-use Rattle.std.specs.List.{list_any, join_with_byte}
+use Rattle.std.specs.List.{list_any}
 use Rattle.std.specs.Str.{bytes_eq}
 use Rattle.std.specs.FinMap as fin
 use Rattle.std.specs.Cmp.Lexicographic.{slice_cmp, nat_list_cmp_total}
-use Rattle.std.specs.declared.cmp.Ordering.{Ordering}
-use Rattle.std.specs.declared.cmp.Ordering.TheVariants.{Less, Equal, Greater}
-use Rattle.std.specs.Ordering.{nat_cmp, eq_by_cmp, is_eq}
+use Rattle.std.specs.Ordering.{nat_cmp, eq_by_cmp}
 use Rattle.std.specs.Cmp.{eq_by_cmp_equiv}
+use Rattle.std.proofs.lemmas.Bool.{or_parts}
 use Rattle.std.proofs.lemmas.Bool.Decides.{nat_tests}
 use Rattle.std.proofs.lemmas.List.Sums.{sum_by-cons}
-use Rattle.std.proofs.lemmas.List.Splits.{join_with_byte-slice_split}
 use Rattle.std.proofs.lemmas.List.Elements.{All-cons, All-nil, All-head, All-tail}
 use Rattle.std.proofs.lemmas.Slice.Eq.{bytes_eq-Decides}
-use Rattle.uxn_io.specs.PathText.{components, all_but_last, parent_from, parent_of, is_under, ContinuesAfter}
+use Rattle.uxn_io.specs.PathText.{parent_of, is_under}
 use Rattle.uxn_io.specs.Changes.{can_create, with_created, with_appended}
 use Rattle.uxn_io.specs.Files.{Nodes, Node, File, file_at, bytes_at, bytes_of, is_folder, is_folder_at, has_parent}
-use Rattle.uxn_io.proofs.ComponentLemmas.{under_answer}
+use Rattle.uxn_io.specs.NodeLaws.{put_elsewhere}
+use Rattle.uxn_io.specs.PathLaws.{parent_under}
 use Rattle.uxn_cli.specs.World.{Text, with_empty, with_bytes, with_texts, CanMake, AreFiles, CanFill}
 use Rattle.uxn_words.specs.Places.{meets, clashes}
 use Rattle.uxn_cli.proofs.OutputLemmas.{insert-file}
 
--- ---- a path lies under its parent
-
-join-append : (xs ys : List (List ℕ)) → 0 < length xs → 0 < length ys → join_with_byte 47 (xs ++ ys) ≡ join_with_byte 47 xs ++ 47 ∷ join_with_byte 47 ys
-join-append [] ys some more = absurd (omega (arith, some))
-join-append (x ∷ []) [] some more = absurd (omega (arith, more))
-join-append (x ∷ []) (y ∷ ys) some more = refl
-join-append (x ∷ w ∷ xs) ys some more =
-    ap (λ (z : List ℕ). x ++ (47 ∷ z)) (join-append (w ∷ xs) ys (omega arith) more)
-    ∙ sym (append_assoc x (47 ∷ join_with_byte 47 (w ∷ xs)) (47 ∷ join_with_byte 47 ys))
-
-named_parent : (names : List (List ℕ)) (parent : List ℕ) → parent_from names ≡ Some parent → (1 < length names) × (all_but_last names ≡ parent)
-named_parent names parent e =
-    elim (nat_lt 1 (length names)) as (λ b. nat_lt 1 (length names) ≡ b → cond b (Some (all_but_last names)) None ≡ Some parent → (1 < length names) × (all_but_last names ≡ parent)) [
-      | true ↦ λ t h. (grind (arith, nat_tests), cc)
-      | false ↦ λ t h. absurd cc
-    ] refl e
-
-parent_continues : (path parent : List ℕ) → parent_of path ≡ Some parent → ContinuesAfter path parent
-unfolding parent_of
-parent_continues path parent e =
-    let names = components path in
-    let n = length names - 1 in
-    let h = named_parent names parent e in
-    let front : 0 < length (take n names) = omega (arith, h.0, length-take n names) in
-    let back : 0 < length (drop n names) = omega (arith, h.0, length-drop n names) in (
-      join_with_byte 47 (drop n names),
-      sym (join_with_byte-slice_split 47 path) ∙ ap (join_with_byte 47) (sym (take-append-drop n names)) ∙ join-append (take n names) (drop n names) front back
-          ∙ ap (λ p. p ++ 47 ∷ join_with_byte 47 (drop n names)) h.1,
-    )
-
-pub parent_under : (path parent : List ℕ) → parent_of path ≡ Some parent → is_under path parent ≡ true
-parent_under path parent e = let continues = parent_continues path parent e in sym (under_answer path parent true (λ t. continues, λ c. refl))
-
 -- ---- what a made file leaves
-
-equal_keys : (r : Ordering) → is_eq r ≡ true → r ≡ Equal
-equal_keys Less e = absurd (true≢false (sym e))
-equal_keys Equal e = refl
-equal_keys Greater e = absurd (true≢false (sym e))
-
-same_path : (path other : List ℕ) → eq_by_cmp (slice_cmp nat_cmp) path other ≡ true → path ≡ other
-same_path path other e = fin.slice_cmp-IsAntisymmetric fin.nat_cmp-IsAntisymmetric path other (equal_keys (slice_cmp nat_cmp path other) e)
-
--- another path keeps its node
-pub other_node : (nodes : Nodes) (path other : List ℕ) (node : Node) → (other ≡ path → ⊥) → fin.get (fin.insert nodes path node) other ≡ fin.get nodes other
-other_node nodes path other node apart =
-    fin.get-insert nat_list_cmp_total nodes path node other
-    ∙ elim (eq_by_cmp (slice_cmp nat_cmp) other path) as (λ b. eq_by_cmp (slice_cmp nat_cmp) other path ≡ b → cond b (Some node) (fin.get nodes other) ≡ fin.get nodes other) [
-      | true ↦ λ e. absurd (apart (same_path other path e))
-      | false ↦ λ e. refl
-    ] refl
-
-or_left : (a b : Bool) → (a || b) ≡ false → a ≡ false
-or_left true b e = absurd (true≢false e)
-or_left false b e = refl
-
-or_last : (a b : Bool) → (a || b) ≡ false → b ≡ false
-or_last true b e = absurd (true≢false e)
-or_last false b e = e
 
 not_same : (path other : List ℕ) → meets path other ≡ false → path ≡ other → ⊥
 not_same path other apart e =
-    true≢false (sym ((bytes_eq-Decides path other).1 e) ∙ or_left (bytes_eq path other) (is_under path other) (or_left (bytes_eq path other || is_under path other) (is_under other path) apart))
+    true≢false (sym ((bytes_eq-Decides path other).1 e) ∙ (or_parts (bytes_eq path other) (is_under path other) (or_parts (bytes_eq path other || is_under path other) (is_under other path) apart).0).0)
 
 not_under : (path other : List ℕ) → meets path other ≡ false → is_under path other ≡ false
-not_under path other apart = or_last (bytes_eq path other) (is_under path other) (or_left (bytes_eq path other || is_under path other) (is_under other path) apart)
+not_under path other apart = (or_parts (bytes_eq path other) (is_under path other) (or_parts (bytes_eq path other || is_under path other) (is_under other path) apart).0).1
 
 kept_parent : (nodes : Nodes) (path other : List ℕ) (node : Node) → meets path other ≡ false → (parent : Option (List ℕ)) → parent_of path ≡ parent
     → is_folder_at (fin.insert nodes other node) parent ≡ is_folder_at nodes parent
 kept_parent nodes path other node apart None e = refl
 kept_parent nodes path other node apart (Some parent) e =
-    ap is_folder (other_node nodes other parent node (λ same. true≢false (sym (parent_under path other (e ∙ ap Some same)) ∙ not_under path other apart)))
+    ap is_folder (put_elsewhere nodes other parent node (λ same. true≢false (sym (parent_under path other (e ∙ ap Some same)) ∙ not_under path other apart)))
 
 -- a file that can be made still can, once another that does not meet it was made
 create-keeps : (nodes : Nodes) (path other : List ℕ) → meets path other ≡ false → can_create nodes path ≡ true → can_create (with_created other nodes) path ≡ true
@@ -101,7 +42,7 @@ create-keeps nodes path other apart can =
     elim (can_create nodes other) as (λ b. can_create (cond b (fin.insert nodes other (File [])) nodes) path ≡ true) [
       | true ↦
           ap (λ f. f && not (is_folder (fin.get (fin.insert nodes other (File [])) path))) (kept_parent nodes path other (File []) apart (parent_of path) refl)
-          ∙ ap (λ n. has_parent nodes path && not (is_folder n)) (other_node nodes other path (File []) (not_same path other apart)) ∙ can
+          ∙ ap (λ n. has_parent nodes path && not (is_folder n)) (put_elsewhere nodes other path (File []) (not_same path other apart)) ∙ can
       | false ↦ can
     ]
 
@@ -152,7 +93,7 @@ module _ (inputs outputs : List (List ℕ)) where
   meets_few : (path : List ℕ) → clashes inputs outputs path ≡ false → count_by (meets path) outputs ≤ 1
   unfolding clashes
   meets_few path e =
-      let few : nat_lt 1 (count_by (meets path) outputs) ≡ false = or_left (nat_lt 1 (count_by (meets path) outputs)) (list_any (bytes_eq path) inputs) e in
+      let few : nat_lt 1 (count_by (meets path) outputs) ≡ false = (or_parts (nat_lt 1 (count_by (meets path) outputs)) (list_any (bytes_eq path) inputs) e).0 in
       grind (arith, nat_tests)
 
   found_none : (path : List ℕ) (paths : List (List ℕ)) → find (clashes inputs outputs) (path ∷ paths) ≡ None → (clashes inputs outputs path ≡ false) × (find (clashes inputs outputs) paths ≡ None)
@@ -191,8 +132,8 @@ counted-more p (x ∷ more) places = omega (arith, counted-more p more places, c
 clash-fewer : (inputs more places : List (List ℕ)) (path : List ℕ) → clashes inputs (more ++ places) path ≡ false → clashes inputs places path ≡ false
 unfolding clashes
 clash-fewer inputs more places path e =
-    let few : nat_lt 1 (count_by (meets path) (more ++ places)) ≡ false = or_left (nat_lt 1 (count_by (meets path) (more ++ places))) (list_any (bytes_eq path) inputs) e in
-    let last : list_any (bytes_eq path) inputs ≡ false = or_last (nat_lt 1 (count_by (meets path) (more ++ places))) (list_any (bytes_eq path) inputs) e in
+    let few : nat_lt 1 (count_by (meets path) (more ++ places)) ≡ false = (or_parts (nat_lt 1 (count_by (meets path) (more ++ places))) (list_any (bytes_eq path) inputs) e).0 in
+    let last : list_any (bytes_eq path) inputs ≡ false = (or_parts (nat_lt 1 (count_by (meets path) (more ++ places))) (list_any (bytes_eq path) inputs) e).1 in
     let fewer : nat_lt 1 (count_by (meets path) places) ≡ false = (let le = counted-more (meets path) more places in grind (arith, nat_tests)) in
     rw (fewer, last) refl
 
@@ -274,7 +215,7 @@ are_empty (text ∷ texts) nodes can =
 
 appended-other : (nodes : Nodes) (path other bytes : List ℕ) → (other ≡ path → ⊥) → bytes_at nodes other ≡ [] → bytes_at (with_appended path bytes nodes) other ≡ []
 appended-other nodes path other [] apart h = h
-appended-other nodes path other (byte ∷ more) apart h = ap (λ n. unwrap_or (bytes_of n) []) (other_node nodes path other _ apart) ∙ h
+appended-other nodes path other (byte ∷ more) apart h = ap (λ n. unwrap_or (bytes_of n) []) (put_elsewhere nodes path other _ apart) ∙ h
 
 empty_rest : (path bytes : List ℕ) (texts : List Text) (nodes : Nodes) → Avoids path (map (λ t. t.path) texts) → AreEmpty texts nodes → AreEmpty texts (with_appended path bytes nodes)
 unfolding Avoids AreEmpty

@@ -1,26 +1,29 @@
 use Rattle.std.proofs.Common.{◌≡◌, ℕ, ◌<◌, length, arith, not, List, [], ◌∷◌, map, refl, ap, ap₂, sym, ◌∙◌, subst, inl}
 use Rattle.std.specs.Prelude.{Option, Some, None, Result, Ok, Err, IfSome, option_map, option_to_list, find, ◌++◌}
 use Rattle.std.proofs.lemmas.List.{map-append, length-map}
-use Rattle.uxn_io.specs.declared.trees.FileBytes.{FileBytes}
 use Rattle.uxn_io.specs.declared.trees.FileBytes.TheVariants.{Missing as NoFile}
 use Rattle.uxn_io.specs.Changes.{can_create}
-use Rattle.uxn_io.specs.Files.{Nodes, file_at}
+use Rattle.uxn_io.specs.Files.{Nodes}
 use Rattle.uxn_io.specs.Room.{Room, Leaves}
-use Rattle.uxn_io.specs.WholeFile.{whole_file}
-use Rattle.uxn_opcodes.specs.declared.Stop.TheVariants.{TreeFault}
+use Rattle.tal_sources.specs.Sources.{Sourced}
+use Rattle.uxn_opcodes.specs.declared.Stop.TheVariants.{TreeFault, SinkFault, NoMemory}
 use Rattle.uxn_cli.specs.declared.outputs.Output.{Output}
 use Rattle.uxn_words.specs.declared.task.Task.{Task}
 use Rattle.uxn_words.specs.declared.words.Command.TheVariants.{Assemble}
 use Rattle.uxn_cli.specs.declared.refusal.Refusal.{Refusal}
 use Rattle.uxn_cli.specs.declared.refusal.Refusal.TheVariants.{NoOutput}
+use Rattle.uxn_cli.specs.declared.refusal.Halt.{Halt}
+use Rattle.uxn_cli.specs.declared.refusal.Halt.TheVariants.{Refused, Stopped}
 use Rattle.uxn_cli.specs.World.{world, Text, with_empty, with_texts, CanMake, CanFill, HasWrittenFront}
 use Rattle.uxn_cli.specs.Outputs.{seen_text, seen_texts, paths_of}
 use Rattle.uxn_cli.specs.Job.{text_at}
 use Rattle.uxn_words.specs.Places.{root_by, HasApartOutputs}
-use Rattle.uxn_cli.specs.Verdict.{and_then, View, Work, Write, source_in, texts_of, inputs_by, outputs_by, outputs_of, clashes, blocked_seen, made_by, judged}
-use Rattle.uxn_cli.specs.Answer.{IsViewOf, Judges, HasEnded, IsRefused, HasCut}
+use Rattle.uxn_cli.specs.Prepared.{Sees, Accepts, AreFree}
+use Rattle.uxn_cli.specs.Setup.{InputFile}
+use Rattle.uxn_cli.specs.Verdict.{and_then, View, Work, Write, Plan, planned, source_at, source_in, texts_of, inputs_by, outputs_by, outputs_of, clashes, blocked_seen, work_of, first_unmade, made_by, made_for, judged}
+use Rattle.uxn_cli.specs.Answer.{IsViewOf, Judges, HasEnded, IsRefused, HasCut, Performs}
 use Rattle.uxn_cli.proofs.ChangeLemmas.{written-changes, written-cut}
-use Rattle.uxn_cli.proofs.VerdictLemmas.{unread_script, unread_commands, unseen_part, unseen_parent, unread_named}
+use Rattle.uxn_cli.proofs.VerdictLemmas.{unlooked, unread_script, unread_commands, unseen_part, unseen_parent, unread_named}
 use Rattle.uxn_cli.specs.Causes.{verdict_on}
 use Rattle.uxn_cli.specs.Room.{Takes, TakesFor, TreeSuffices}
 use Rattle.uxn_cli.proofs.ApartLemmas.{makes_all, fills_all}
@@ -28,7 +31,7 @@ use Rattle.uxn_cli.proofs.CauseLemmas.{told_verdict}
 use Rattle.uxn_cli.proofs.SureLemmas.{fills_more}
 
 -- the view of `asm`
-abbrev pub asm_view : (tree : Option Nodes) (task : Task) → FileBytes → Option (List ℕ) → View
+abbrev pub asm_view : (tree : Option Nodes) (task : Task) → InputFile → Option (List ℕ) → View
 asm_view tree task file blocked = record {
   file = file;
   symbols = NoFile;
@@ -40,19 +43,42 @@ asm_view tree task file blocked = record {
   blocked = blocked;
 }
 
-pub sees_asm : (tree : Option Nodes) (task : Task) (file : FileBytes) (blocked : Option (List ℕ)) → task.command ≡ Assemble
-    → IfSome tree (λ nodes. file ≡ whole_file (file_at nodes task.file) 4194304) → IfSome tree (λ nodes. blocked ≡ blocked_seen nodes task) → IsViewOf tree task (asm_view tree task file blocked)
+pub sees_asm : (tree : Option Nodes) (task : Task) (file : InputFile) (blocked : Option (List ℕ)) → task.command ≡ Assemble
+    → IfSome tree (λ nodes. file ≡ source_at nodes task.file) → IfSome tree (λ nodes. blocked ≡ blocked_seen nodes task) → IsViewOf tree task (asm_view tree task file blocked)
 sees_asm None task file blocked asm found looked = record { file = tt; symbols = tt; script = tt; commands = tt; part = tt; parent = tt; named = tt; blocked = tt }
 sees_asm (Some nodes) task file blocked asm found looked = record { file = rw asm found; symbols = rw asm refl; script = refl; commands = refl; part = refl; parent = refl; named = refl; blocked = looked }
 
-then_made : (said : Result (List ℕ) Rattle.uxn_cli.specs.declared.refusal.Refusal.Refusal) (work : List ℕ → Work) (blocked : Option (List ℕ))
-    → and_then (and_then said (λ source. Ok (work source))) (made_by blocked) ≡ and_then said (λ source. made_by blocked (work source))
-then_made (Ok source) work blocked = refl
-then_made (Err refusal) work blocked = refl
+-- the work of `asm`
+abbrev pub asm_plan : Task → Sourced → Plan
+asm_plan task source = planned (Write (texts_of task source.text)) source.paths
 
-pub judged-asm : (tree : Option Nodes) (task : Task) (file : FileBytes) (blocked : Option (List ℕ)) → task.command ≡ Assemble
-    → judged task (asm_view tree task file blocked) ≡ and_then (source_in task.file file) (λ source. made_by blocked (Write (texts_of task source)))
-judged-asm tree task file blocked asm = rw asm (then_made (source_in task.file file) (λ source. Write (texts_of task source)) blocked)
+then_made : (said : Result Sourced Refusal) (work : Sourced → Plan) (next : Plan → Result Work Refusal)
+    → and_then (and_then said (λ source. Ok (work source))) next ≡ and_then said (λ source. next (work source))
+then_made (Ok source) work next = refl
+then_made (Err refusal) work next = refl
+
+pub judged-asm : (tree : Option Nodes) (task : Task) (file : InputFile) (blocked : Option (List ℕ)) → task.command ≡ Assemble
+    → judged task (asm_view tree task file blocked) ≡ and_then (source_in task.file file) (λ source. made_for task blocked (asm_plan task source))
+judged-asm tree task file blocked asm =
+    ap (λ c. and_then (work_of c task (asm_view tree task file blocked)) (made_for task blocked)) asm ∙ then_made (source_in task.file file) (asm_plan task) (made_for task blocked)
+
+-- the source was refused, or could not be read
+pub asm-unsourced : (task : Task) (tree now : Option Nodes) (out err : Option (List ℕ)) (halt : Halt) → task.command ≡ Assemble
+    → Accepts {B = Sourced} (λ source. source) tree (λ nodes. source_at nodes task.file) (source_in task.file) (Err halt) → now ≡ tree
+    → Performs (Ok task) (world tree out err) (world now out err) (Err halt)
+asm-unsourced task tree now out err (Refused refusal) asm sees same =
+    let blocked = unlooked tree task in
+    record {
+      judges = record {
+        view = asm_view tree task sees.file blocked.0;
+        seen = sees_asm tree task sees.file blocked.0 asm sees.seen blocked.1;
+        judged = judged-asm tree task sees.file blocked.0 asm ∙ ap (λ said. and_then said (λ source. made_for task blocked.0 (asm_plan task source))) sees.said_so;
+      };
+      same = ap (λ t. world t out err) same;
+    }
+asm-unsourced task tree now out err (Stopped TreeFault) asm other same = inl (ap (λ t. world t out err) same)
+asm-unsourced task tree now out err (Stopped NoMemory) asm other same = inl (ap (λ t. world t out err) same)
+asm-unsourced task tree now out err (Stopped SinkFault) asm other same = absurd (other refl)
 
 -- the files that are written are the outputs
 path-text_at : (path : Option (List ℕ)) (bytes : List ℕ) → map (λ (t : Text). t.path) (text_at path bytes) ≡ option_to_list path
@@ -70,11 +96,11 @@ pub seen_paths : (outputs : List Output) → map (λ (t : Text). t.path) (seen_t
 seen_paths [] = refl
 seen_paths (output ∷ outputs) = ap (λ ps. output.path ∷ ps) (seen_paths outputs)
 
-module _ (task : Task) (asm : task.command ≡ Assemble) (tree : Option Nodes) (file : FileBytes) (source : List ℕ) (outputs : List Output)
-    (found : IfSome tree (λ nodes. file ≡ whole_file (file_at nodes task.file) 4194304)) (accepted : source_in task.file file ≡ Ok source)
-    (texts : seen_texts outputs ≡ texts_of task source) where
+module _ (task : Task) (asm : task.command ≡ Assemble) (tree : Option Nodes) (source : Sourced) (outputs : List Output)
+    (sees : Sees tree (λ nodes. source_at nodes task.file) (source_in task.file) (Ok source))
+    (texts : seen_texts outputs ≡ texts_of task source.text) where
   text_paths : map (λ (t : Text). t.path) (seen_texts outputs) ≡ outputs_of task
-  text_paths = ap (map (λ (t : Text). t.path)) texts ∙ paths-texts_of task source ∙ ap (λ c. outputs_by c task) (sym asm)
+  text_paths = ap (map (λ (t : Text). t.path)) texts ∙ paths-texts_of task source.text ∙ ap (λ c. outputs_by c task) (sym asm)
 
   paths : paths_of outputs ≡ outputs_of task
   paths = sym (seen_paths outputs) ∙ text_paths
@@ -82,13 +108,17 @@ module _ (task : Task) (asm : task.command ≡ Assemble) (tree : Option Nodes) (
   looked_at : (blocked : Option (List ℕ)) → IfSome tree (λ nodes. blocked ≡ find (λ path. not (can_create nodes path)) (paths_of outputs)) → IfSome tree (λ nodes. blocked ≡ blocked_seen nodes task)
   looked_at blocked looked = rw paths at looked
 
-  judges_asm : (blocked : Option (List ℕ)) → IfSome tree (λ nodes. blocked ≡ find (λ path. not (can_create nodes path)) (paths_of outputs))
-      → Judges (Ok task) tree (made_by blocked (Write (texts_of task source)))
-  judges_asm blocked looked = record {
-    view = asm_view tree task file blocked;
-    seen = sees_asm tree task file blocked asm found (looked_at blocked looked);
-    judged = judged-asm tree task file blocked asm ∙ ap (λ said. and_then said (λ s. made_by blocked (Write (texts_of task s)))) accepted;
+  judges_asm : (blocked first : Option (List ℕ)) → IfSome tree (λ nodes. blocked ≡ find (λ path. not (can_create nodes path)) (paths_of outputs))
+      → first_unmade blocked source.paths (paths_of outputs) ≡ first → Judges (Ok task) tree (made_by first (Write (texts_of task source.text)))
+  judges_asm blocked first looked is = record {
+    view = asm_view tree task sees.file blocked;
+    seen = sees_asm tree task sees.file blocked asm sees.seen (looked_at blocked looked);
+    judged = judged-asm tree task sees.file blocked asm ∙ ap (λ said. and_then said (λ s. made_for task blocked (asm_plan task s))) sees.said_so
+        ∙ ap (λ found. made_by found (Write (texts_of task source.text))) (ap (first_unmade blocked source.paths) (sym paths) ∙ is);
   }
+
+  judges_free : AreFree tree source.paths (paths_of outputs) → Judges (Ok task) tree (Ok (Write (texts_of task source.text)))
+  judges_free free = judges_asm None None free.looked free.apart
 
   -- `asm` has no root
   no_clash : HasApartOutputs task → find (clashes (inputs_by task.command task) (outputs_of task)) (outputs_of task) ≡ None
@@ -96,8 +126,8 @@ module _ (task : Task) (asm : task.command ≡ Assemble) (tree : Option Nodes) (
 
   -- what was looked at can be made
   pub can_write : (told : Option Nodes) → told ≡ tree → HasApartOutputs task
-      → IfSome tree (λ nodes. None ≡ find (λ path. not (can_create nodes path)) (paths_of outputs)) → IfSome told (CanMake (seen_texts outputs))
-  can_write told same apart looked = rw same (go tree (rw paths at looked))
+      → AreFree tree source.paths (paths_of outputs) → IfSome told (CanMake (seen_texts outputs))
+  can_write told same apart free = rw same (go tree (rw paths at free.looked))
     where
       go : (t : Option Nodes) → IfSome t (λ nodes. None ≡ find (λ path. not (can_create nodes path)) (outputs_of task)) → IfSome t (CanMake (seen_texts outputs))
       go None l = tt
@@ -105,18 +135,18 @@ module _ (task : Task) (asm : task.command ≡ Assemble) (tree : Option Nodes) (
 
   -- the files that the verdict asks for are surely written
   pub sure_files : (start here : Room) (P : Type 0) → HasApartOutputs task
-      → IfSome tree (λ nodes. None ≡ find (λ path. not (can_create nodes path)) (paths_of outputs)) → Leaves start here 0 0
+      → AreFree tree source.paths (paths_of outputs) → Leaves start here 0 0
       → IfSome tree (λ nodes. length outputs < here.files → CanFill here.bytes (seen_texts outputs) (with_empty (seen_texts outputs) nodes) → P)
       → IfSome tree (λ nodes. TreeSuffices (verdict_on nodes (Ok task)) start nodes → P)
-  sure_files start here P apart looked left sure = go tree (judges_asm None looked) (rw paths at looked) sure
+  sure_files start here P apart free left sure = go tree (judges_free free) (rw paths at free.looked) sure
     where
-      go : (t : Option Nodes) → Judges (Ok task) t (Ok (Write (texts_of task source))) → IfSome t (λ nodes. None ≡ find (λ path. not (can_create nodes path)) (outputs_of task))
+      go : (t : Option Nodes) → Judges (Ok task) t (Ok (Write (texts_of task source.text))) → IfSome t (λ nodes. None ≡ find (λ path. not (can_create nodes path)) (outputs_of task))
           → IfSome t (λ nodes. length outputs < here.files → CanFill here.bytes (seen_texts outputs) (with_empty (seen_texts outputs) nodes) → P)
           → IfSome t (λ nodes. TreeSuffices (verdict_on nodes (Ok task)) start nodes → P)
       go None j l s = tt
       go (Some nodes) j l s = λ takes.
           let V : Result Work Refusal → Type 0 = λ v. TakesFor v start nodes in
-          let room : Takes start (texts_of task source) = subst V (sym (told_verdict nodes (Ok task) (Ok (Write (texts_of task source))) j)) takes.takes in
+          let room : Takes start (texts_of task source.text) = subst V (sym (told_verdict nodes (Ok task) (Ok (Write (texts_of task source.text))) j)) takes.takes in
           let mine : Takes start (seen_texts outputs) = rw texts room in
           let few = mine.files in
           let count = length-map outputs seen_text in
@@ -127,47 +157,44 @@ module _ (task : Task) (asm : task.command ≡ Assemble) (tree : Option Nodes) (
           (fills_all (inputs_by task.command task) (seen_texts outputs) nodes start.bytes (rw text_paths (no_clash apart)) (rw text_paths l) mine.bytes))
 
   module _ (out err : Option (List ℕ)) (now : Option Nodes) where
-    -- an output that cannot be made
-    pub is_blocked : (path : List ℕ) → IfSome tree (λ nodes. Some path ≡ find (λ p. not (can_create nodes p)) (paths_of outputs)) → now ≡ tree
-        → IsRefused (Ok task) (world tree out err) (world now out err) (NoOutput path)
-    is_blocked path looked same = record { judges = judges_asm (Some path) looked; same = ap (λ t. world t out err) same }
+    -- an output that cannot be made, or is an included file
+    pub is_blocked : (blocked : Option (List ℕ)) (path : List ℕ) → IfSome tree (λ nodes. blocked ≡ find (λ p. not (can_create nodes p)) (paths_of outputs))
+        → Some path ≡ first_unmade blocked source.paths (paths_of outputs) → now ≡ tree → IsRefused (Ok task) (world tree out err) (world now out err) (NoOutput path)
+    is_blocked blocked path looked is same = record { judges = judges_asm blocked (Some path) looked (sym is); same = ap (λ t. world t out err) same }
 
-    can_here : HasApartOutputs task → IfSome tree (λ nodes. None ≡ find (λ p. not (can_create nodes p)) (paths_of outputs))
-        → IfSome tree (CanMake (texts_of task source))
-    can_here apart looked = rw texts at (can_write tree refl apart looked)
+    can_here : HasApartOutputs task → AreFree tree source.paths (paths_of outputs) → IfSome tree (CanMake (texts_of task source.text))
+    can_here apart free = rw texts at (can_write tree refl apart free)
 
     -- a fault while the files were written
-    pub is_cut : HasApartOutputs task → IfSome tree (λ nodes. None ≡ find (λ p. not (can_create nodes p)) (paths_of outputs))
+    pub is_cut : HasApartOutputs task → AreFree tree source.paths (paths_of outputs)
         → HasWrittenFront tree now (seen_texts outputs) → HasCut (Ok task) (world tree out err) (world now out err) TreeFault
-    is_cut apart looked front = record {
-      found = Ok (Write (texts_of task source));
-      judges = judges_asm None looked;
+    is_cut apart free front = record {
+      found = Ok (Write (texts_of task source.text));
+      judges = judges_free free;
       may = inl tt;
-      front = inl (record { cut = written-cut out err (texts_of task source) tree now (can_here apart looked) (rw (← texts) front); short = λ text. absurd text });
+      front = inl (record { cut = written-cut out err (texts_of task source.text) tree now (can_here apart free) (rw (← texts) front); short = λ text. absurd text });
     }
 
     -- all files were written
-    pub is_written : HasApartOutputs task → IfSome tree (λ nodes. None ≡ find (λ p. not (can_create nodes p)) (paths_of outputs))
+    pub is_written : HasApartOutputs task → AreFree tree source.paths (paths_of outputs)
         → now ≡ option_map (with_texts (seen_texts outputs)) tree → HasEnded (Ok task) (world tree out err) (world now out err) 0
-    is_written apart looked written = record {
-      found = Ok (Write (texts_of task source));
-      judges = judges_asm None looked;
+    is_written apart free written = record {
+      found = Ok (Write (texts_of task source.text));
+      judges = judges_free free;
       has = inl (record {
         status = refl;
-        world = ap (λ t. world t out err) (written ∙ ap (λ ts. option_map (with_texts ts) tree) texts) ∙ sym (written-changes out err (texts_of task source) tree (can_here apart looked));
+        world = ap (λ t. world t out err) (written ∙ ap (λ ts. option_map (with_texts ts) tree) texts) ∙ sym (written-changes out err (texts_of task source.text) tree (can_here apart free));
       });
     }
 
--- a file that a tree which tells nothing did not make
-pub is_unmade : (task : Task) (asm : task.command ≡ Assemble) (tree now : Option Nodes) (file : FileBytes) (source path : List ℕ) (out err : Option (List ℕ))
-    → source_in task.file file ≡ Ok source → tree ≡ None → now ≡ None → IsRefused (Ok task) (world tree out err) (world now out err) (NoOutput path)
-is_unmade task asm tree now file source path out err accepted none gone =
-    let P : Option Nodes → Type 0 = λ t. IsRefused (Ok task) (world t out err) (world now out err) (NoOutput path) in
-    subst P (sym none) (record {
-      judges = record {
-        view = asm_view None task file (Some path);
-        seen = sees_asm None task file (Some path) asm tt tt;
-        judged = judged-asm None task file (Some path) asm ∙ ap (λ said. and_then said (λ s. made_by (Some path) (Write (texts_of task s)))) accepted;
-      };
-      same = ap (λ t. world t out err) gone;
-    })
+    -- a file that a tree which tells nothing did not make: it is the one that is blocked
+    pub is_unmade : (path : List ℕ) → AreFree tree source.paths (paths_of outputs) → tree ≡ None → now ≡ None → first_unmade (Some path) source.paths (paths_of outputs) ≡ Some path
+        → IsRefused (Ok task) (world tree out err) (world now out err) (NoOutput path)
+    is_unmade path free none gone is = record {
+      judges = judges_asm (Some path) (Some path) (untold tree none) is;
+      same = ap (λ t. world t out err) (gone ∙ sym none);
+    }
+      where
+        untold : (t : Option Nodes) → t ≡ None → IfSome t (λ nodes. Some path ≡ find (λ p. not (can_create nodes p)) (paths_of outputs))
+        untold None e = tt
+        untold (Some nodes) e = absurd cc

@@ -1,17 +1,19 @@
 -- Files that are written and texts that are put, as changes in order.
-use Rattle.std.proofs.Common.{◌≡◌, ◌≢◌, ℕ, zero, suc, ◌<◌, Bool, true, false, cond, List, [], ◌∷◌, ◌++◌, map, take, drop, length, refl, ap, sym, ◌∙◌, arith, take-append-drop, length-drop}
-use Rattle.std.specs.Prelude.{Option, Some, None, IfSome, option_map, slice_get, ◌||◌}
+use Rattle.std.proofs.Common.{◌≡◌, ◌≢◌, ℕ, zero, suc, ◌<◌, false, cond, List, [], ◌∷◌, ◌++◌, map, take, drop, length, refl, ap, sym, ◌∙◌, arith, take-append-drop, length-drop}
+use Rattle.std.specs.Prelude.{Option, Some, None, IfSome, option_map, slice_get}
 use Rattle.std.specs.List.{list_any}
 use Rattle.std.specs.Str.{bytes_eq}
 use Rattle.std.specs.FinMap as fin
 use Rattle.std.proofs.Common.{inl, inr}
+use Rattle.std.proofs.lemmas.Bool.{or_parts}
 use Rattle.std.proofs.lemmas.List.{map-append}
 use Rattle.std.proofs.lemmas.Grind.{flat_map-append}
 use Rattle.uxn_io.specs.Told.{extended, HasTakenFront}
 use Rattle.uxn_io.specs.Files.{Nodes, File}
 use Rattle.uxn_io.specs.Changes.{with_created, with_appended}
-use Rattle.uxn_io.specs.Outside.{Change, ToOut, ToErr, Creates, ToFile, World, changed_by, changed_by-append, changed_by-out, changed_by-err, IsCutOff, cut-first, cut-later}
-use Rattle.uxn_io.specs.Appending.{changed_by-file, cut-file}
+use Rattle.uxn_io.specs.Outside.{Change, ToOut, ToErr, Creates, ToFile, World, changed_by, IsCutOff}
+use Rattle.uxn_io.specs.ChangeLaws.{changed_by-append, changed_by-out, changed_by-err, cut-first, cut-later}
+use Rattle.uxn_io.specs.AppendingLaws.{changed_by-file, cut-file}
 use Rattle.varvara_bus.specs.Touching.{Spares, Each, each-append, each-map}
 use Rattle.uxn_cli.specs.World.{world, Text, with_empty, with_bytes, with_texts, HasMadeFront, HasFilledFront, HasWrittenFront, CanMake}
 use Rattle.uxn_cli.specs.Outcome.{creating, filling, filling_all, writing, printing}
@@ -156,20 +158,16 @@ line-cut tree out err new line front = record {
 
 -- ---- which paths are left alone
 
-parts : (a b : Bool) → (a || b) ≡ false → (a ≡ false) × (b ≡ false)
-parts true b e = absurd cc
-parts false b e = (refl, e)
-
 pub creating-spares : (path : List ℕ) (paths : List (List ℕ)) → list_any (bytes_eq path) paths ≡ false → Each (Spares path) (creating paths)
 creating-spares path [] none = tt
 creating-spares path (other ∷ paths) none =
-    let p = parts (bytes_eq path other) (list_any (bytes_eq path) paths) none in
+    let p = or_parts (bytes_eq path other) (list_any (bytes_eq path) paths) none in
     (p.0, creating-spares path paths p.1)
 
 pub filling-spares : (path : List ℕ) (texts : List Text) → list_any (bytes_eq path) (paths_in texts) ≡ false → Each (Spares path) (filling_all texts)
 filling-spares path [] none = tt
 filling-spares path (text ∷ texts) none =
-    let p = parts (bytes_eq path text.path) (list_any (bytes_eq path) (paths_in texts)) none in
+    let p = or_parts (bytes_eq path text.path) (list_any (bytes_eq path) (paths_in texts)) none in
     each-append (Spares path) (filling text) (filling_all texts) (each-map (Spares path) (λ byte. ToFile text.path byte) text.bytes (λ byte. p.0)) (filling-spares path texts p.1)
 
 pub writing-spares : (path : List ℕ) (texts : List Text) → list_any (bytes_eq path) (paths_in texts) ≡ false → Each (Spares path) (writing texts)

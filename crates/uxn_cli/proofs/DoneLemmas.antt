@@ -2,9 +2,12 @@
 use Rattle.std.proofs.Common.{◌≡◌, ℕ, ◌+◌, ◌<◌, ◌≤◌, List, [], ◌++◌, length, map, refl, ap, sym, ◌∙◌, subst, append-nil, arith}
 use Rattle.std.specs.Prelude.{Option, Some, None, IfSome, option_map}
 use Rattle.uxn_io.specs.Files.{Nodes, bytes_at}
-use Rattle.uxn_io.specs.Outside.{Change, ToFile, IsCutOff, changed_by, changed_by-append, files_by, cut-first, cut-later}
+use Rattle.uxn_io.specs.Outside.{Change, ToFile, IsCutOff, changed_by, files_by}
+use Rattle.uxn_io.specs.ChangeLaws.{changed_by-append, cut-first, cut-later}
 use Rattle.uxn_io.specs.Room.{Room, Leaves}
-use Rattle.uxn_io.specs.Taking.{TreeTakes, TreeLeft, sure, Remains, WasNotSure, files-told, remains-all, remains-both, not-sure-first, not-sure-later}
+use Rattle.uxn_io.specs.Taking.{TreeTakes, TreeLeft, sure, Remains, WasNotSure}
+use Rattle.uxn_io.specs.ChangeLaws.{files-told}
+use Rattle.uxn_io.specs.TakingLaws.{remains-all, remains-both, not-sure-first, not-sure-later}
 use Rattle.uxn_opcodes.specs.declared.Stop.{Stop}
 use Rattle.varvara_bus.proofs.Appends.{text-left, text-not-sure, text-out, text-err}
 use Rattle.uxn_cli.specs.Blame.{blame_of}

@@ -11,7 +11,8 @@ use Rattle.play_script.specs.Scripts.{ScriptView}
 use Rattle.uxn_io.specs.ByteList.{ByteList}
 use Rattle.uxn_io.specs.declared.trees.FileBytes.{FileBytes}
 use Rattle.uxn_io.specs.declared.trees.FileBytes.TheVariants.{Missing as NoFile}
-use Rattle.uxn_io.specs.Files.{Nodes}
+use Rattle.uxn_io.specs.Files.{Nodes, file_at}
+use Rattle.uxn_io.specs.WholeFile.{whole_file}
 use Rattle.uxn_io.specs.Told.{extended, HasTakenFront}
 use Rattle.uxn_io.specs.declared.sinks.Failed.{Failed}
 use Rattle.uxn_memory.specs.Bytes.{largest_rom}
@@ -27,8 +28,8 @@ use Rattle.uxn_cli.specs.declared.refusal.Refusal.TheVariants.{OtherEvents}
 use Rattle.uxn_cli.specs.declared.refusal.Halt.{Halt}
 use Rattle.uxn_cli.specs.declared.refusal.Halt.TheVariants.{Refused, Stopped}
 use Rattle.uxn_cli.specs.World.{world}
-use Rattle.uxn_cli.specs.Setup.{NamedFiles, setup_in, is_of_console, console_script, line_job}
-use Rattle.uxn_cli.specs.Verdict.{and_then, View, Work, RunLine, source_at, script_by, named_by, named_seen, blocked_seen, program_in, script_in, roms_in, line_in, work_of}
+use Rattle.uxn_cli.specs.Setup.{InputFile, NamedFiles, setup_in, is_of_console, console_script, line_job}
+use Rattle.uxn_cli.specs.Verdict.{and_then, View, Work, RunLine, source_at, script_by, named_by, named_seen, blocked_seen, machine_rom, script_in, roms_in, line_in, planned, plain, work_of, outputs_of, made_by}
 use Rattle.uxn_cli.specs.Follows.{Follows}
 use Rattle.uxn_cli.specs.Outcome.{line_bytes, line_exit}
 use Rattle.uxn_cli.specs.Answer.{Judges, Performs}
@@ -39,7 +40,7 @@ use Rattle.uxn_cli.specs.Joined.{SeesAll, AcceptsAll, GoesOn, FallsShort, HasDon
 use Rattle.uxn_cli.proofs.CauseLemmas.{told_verdict}
 use Rattle.uxn_cli.proofs.ChangeLemmas.{printed, print-cut}
 use Rattle.uxn_cli.proofs.RunLemmas.{judges}
-use Rattle.uxn_cli.proofs.VerdictLemmas.{unread_symbols, unread_script, unread_commands, unseen_part, unseen_parent, unread_named}
+use Rattle.uxn_cli.proofs.VerdictLemmas.{no_include, input_with, seen_with, unread_symbols, unread_script, unread_commands, unseen_part, unseen_parent, unread_named}
 
 -- ---- the sources of the machines, one after the other
 
@@ -53,13 +54,13 @@ rest-behind : (rom : List ℕ) (first : List (List ℕ)) (said : Result (List (L
 rest-behind rom first (Ok rest) = refl
 rest-behind rom first (Err refusal) = refl
 
-roms-front : (paths : List (List ℕ)) (files : List FileBytes) (roms more : List (List ℕ)) (others : List FileBytes) → roms_in paths files ≡ Ok roms → length files ≡ length paths
+roms-front : (paths : List (List ℕ)) (files : List InputFile) (roms more : List (List ℕ)) (others : List InputFile) → roms_in paths files ≡ Ok roms → length files ≡ length paths
     → roms_in (paths ++ more) (files ++ others) ≡ and_then (roms_in more others) (λ rest. Ok (roms ++ rest))
 roms-front [] [] roms more others is same = (let none : [] ≡ roms = cc in rest-of (roms_in more others) ∙ ap (λ r. and_then (roms_in more others) (λ rest. Ok (r ++ rest))) none)
 roms-front [] (file ∷ files) roms more others is same = absurd (omega (arith, same))
 roms-front (path ∷ paths) [] roms more others is same = absurd cc
 roms-front (path ∷ paths) (file ∷ files) roms more others is same =
-    go (program_in false path file) (roms_in paths files) is
+    go (machine_rom path file) (roms_in paths files) is
     (λ first e. roms-front paths files first more others e (let one : length (file ∷ files) ≡ length (path ∷ paths) = same in omega (arith, one)))
   where
     go : (one : Result (List ℕ) Refusal) (rest : Result (List (List ℕ)) Refusal) → and_then one (λ rom. and_then rest (λ all. Ok (rom ∷ all))) ≡ Ok roms
@@ -85,7 +86,7 @@ front-none tree = record { sees = record { files = []; seen = go tree; said_so =
     go (Some nodes) = refl
 
 module _ (tree : Option Nodes) (front : List (List ℕ)) (roms : List (List ℕ)) (path : List ℕ) (f : SeesFront tree front roms) where
-  seen-more : (file : FileBytes) (others : List FileBytes) (rest : List (List ℕ)) → IfSome tree (λ nodes. file ≡ source_at nodes path) → IfSome tree (λ nodes. others ≡ map (source_at nodes) rest)
+  seen-more : (file : InputFile) (others : List InputFile) (rest : List (List ℕ)) → IfSome tree (λ nodes. file ≡ source_at nodes path) → IfSome tree (λ nodes. others ≡ map (source_at nodes) rest)
       → IfSome tree (λ nodes. f.sees.files ++ file ∷ others ≡ map (source_at nodes) (front ++ path ∷ rest))
   seen-more file others rest one more = go tree f.sees.seen one more
     where
@@ -95,7 +96,7 @@ module _ (tree : Option Nodes) (front : List (List ℕ)) (roms : List (List ℕ)
       go (Some nodes) a b c = rw (a, b, c) (sym (map-append (source_at nodes) front (path ∷ rest)))
 
   -- one more is accepted
-  pub front-more : (rom : List ℕ) → Sees tree (λ nodes. source_at nodes path) (program_in false path) (Ok rom) → SeesFront tree (front ++ path ∷ []) (roms ++ rom ∷ [])
+  pub front-more : (rom : List ℕ) → Sees tree (λ nodes. source_at nodes path) (machine_rom path) (Ok rom) → SeesFront tree (front ++ path ∷ []) (roms ++ rom ∷ [])
   front-more rom s = record {
     sees = record {
       files = f.sees.files ++ s.file ∷ [];
@@ -111,7 +112,7 @@ module _ (tree : Option Nodes) (front : List (List ℕ)) (roms : List (List ℕ)
       none (Some nodes) = refl
 
   -- the next one is refused
-  pub front-refused : (rest : List (List ℕ)) (refusal : Refusal) → Sees tree (λ nodes. source_at nodes path) (program_in false path) (Err refusal) → SeesAll tree (front ++ path ∷ rest) (Err refusal)
+  pub front-refused : (rest : List (List ℕ)) (refusal : Refusal) → Sees tree (λ nodes. source_at nodes path) (machine_rom path) (Err refusal) → SeesAll tree (front ++ path ∷ rest) (Err refusal)
   front-refused rest refusal s = record {
     files = f.sees.files ++ s.file ∷ (others tree).0;
     seen = seen-more s.file (others tree).0 rest s.seen (others tree).1;
@@ -119,26 +120,26 @@ module _ (tree : Option Nodes) (front : List (List ℕ)) (roms : List (List ℕ)
         ∙ ap (λ one. and_then (and_then one (λ r. and_then (roms_in rest (others tree).0) (λ all. Ok (r ∷ all)))) (λ last. Ok (roms ++ last))) s.said_so;
   }
     where
-      others : (t : Option Nodes) → (files : List FileBytes) × IfSome t (λ nodes. files ≡ map (source_at nodes) rest)
+      others : (t : Option Nodes) → (files : List InputFile) × IfSome t (λ nodes. files ≡ map (source_at nodes) rest)
       others None = ([], tt)
       others (Some nodes) = (map (source_at nodes) rest, refl)
 
 -- a source that is refused, or could not be read
 pub unaccepted : (tree told : Option Nodes) (paths : List (List ℕ)) (at : ℕ) (path : List ℕ) → at < length paths → path ≡ get_or paths at path → (roms : List (List ℕ)) → SeesFront tree (take at paths) roms
-    → told ≡ tree → (halt : Halt) → Accepts {B = ByteList} (λ rom. rom.list) told (λ nodes. source_at nodes path) (program_in false path) (Err halt) → AcceptsAll tree paths (Err halt)
+    → told ≡ tree → (halt : Halt) → Accepts {B = ByteList} (λ rom. rom.list) told (λ nodes. source_at nodes path) (machine_rom path) (Err halt) → AcceptsAll tree paths (Err halt)
 unaccepted tree told paths at path lt is roms f same (Stopped stop) accepts = accepts
 unaccepted tree told paths at path lt is roms f same (Refused refusal) accepts =
-    let here : Sees tree (λ nodes. source_at nodes path) (program_in false path) (Err refusal) = subst (λ t. Sees t (λ nodes. source_at nodes path) (program_in false path) (Err refusal)) same accepts in
+    let here : Sees tree (λ nodes. source_at nodes path) (machine_rom path) (Err refusal) = subst (λ t. Sees t (λ nodes. source_at nodes path) (machine_rom path) (Err refusal)) same accepts in
     let parts : take at paths ++ path ∷ drop (suc at) paths ≡ paths =
     ap (λ p. take at paths ++ p ∷ drop (suc at) paths) is ∙ ap (λ rest. take at paths ++ rest) (sym (drop-cons paths at path lt)) ∙ take-append-drop at paths in
     subst (λ ps. SeesAll tree ps (Err refusal)) parts (front-refused tree (take at paths) roms path f (drop (suc at) paths) refusal here)
 
 -- one more that is accepted
 pub accepted-more : (tree told : Option Nodes) (paths : List (List ℕ)) (at : ℕ) (path : List ℕ) → at < length paths → path ≡ get_or paths at path → (roms : List ByteList) (rom : ByteList) (now : List ByteList)
-    → now ≡ roms ++ rom ∷ [] → SeesFront tree (take at paths) (bytes_in roms) → told ≡ tree → Sees told (λ nodes. source_at nodes path) (program_in false path) (Ok rom.list)
+    → now ≡ roms ++ rom ∷ [] → SeesFront tree (take at paths) (bytes_in roms) → told ≡ tree → Sees told (λ nodes. source_at nodes path) (machine_rom path) (Ok rom.list)
     → SeesFront tree (take (at + 1) paths) (bytes_in now)
 accepted-more tree told paths at path lt is roms rom now pushed f same there =
-    let here : Sees tree (λ nodes. source_at nodes path) (program_in false path) (Ok rom.list) = subst (λ t. Sees t (λ nodes. source_at nodes path) (program_in false path) (Ok rom.list)) same there in
+    let here : Sees tree (λ nodes. source_at nodes path) (machine_rom path) (Ok rom.list) = subst (λ t. Sees t (λ nodes. source_at nodes path) (machine_rom path) (Ok rom.list)) same there in
     let grown : take at paths ++ path ∷ [] ≡ take (at + 1) paths = ap (λ p. take at paths ++ p ∷ []) is ∙ sym (take_more paths at path lt) in
     let texts : bytes_in roms ++ rom.list ∷ [] ≡ bytes_in now = sym (ap bytes_in pushed ∙ map-append (λ (r : ByteList). r.list) roms (rom ∷ [])) in
     subst (λ ps. SeesFront tree ps (bytes_in now)) grown (subst (SeesFront tree (take at paths ++ path ∷ [])) texts (front-more tree (take at paths) (bytes_in roms) path f rom.list here))
@@ -169,7 +170,7 @@ module _ (task : Task) (tree : Option Nodes) (line : task.command ≡ Line) wher
   -- what was seen, where the outputs were not looked at yet
   abbrev line_view : FileBytes → NamedFiles → View
   line_view file named = record {
-    file = file;
+    file = input_with tree file;
     symbols = (unread_symbols tree task).0;
     script = (unread_script tree task).0;
     commands = (unread_commands tree task).0;
@@ -190,21 +191,21 @@ module _ (task : Task) (tree : Option Nodes) (line : task.command ≡ Line) wher
   abbrev from_setup : NamedFiles → Result SetupView Refusal → Result Work Refusal
   from_setup named said = and_then said (λ setup. and_then (line_in setup named) (λ job. Ok (RunLine job)))
 
-  line_seen : (file : FileBytes) (named : NamedFiles) → IfSome tree (λ nodes. file ≡ source_at nodes task.file) → IfSome tree (λ nodes. named ≡ named_seen nodes task)
-      → (said : Result Work Refusal) → from_setup named (setup_in task.file file) ≡ said → SeesWork tree task said
+  line_seen : (file : FileBytes) (named : NamedFiles) → IfSome tree (λ nodes. file ≡ whole_file (file_at nodes task.file) 4194304) → IfSome tree (λ nodes. named ≡ named_seen nodes task)
+      → (said : Result Work Refusal) → from_setup named (setup_in task.file file) ≡ said → SeesWork tree task (plain said)
   line_seen file named f n said is = record {
     view = line_view file named;
-    file = rw line f;
+    file = rw line (seen_with tree file (λ nodes. whole_file (file_at nodes task.file) 4194304) f);
     symbols = (unread_symbols tree task).1;
     script = (unread_script tree task).1;
     commands = (unread_commands tree task).1;
     part = (unseen_part tree task).1;
     parent = (unseen_parent tree task).1;
     named = n;
-    work = ap (λ c. work_of c task (line_view file named)) line ∙ is;
+    work = ap (λ c. work_of c task (line_view file named)) line ∙ ap plain is;
   }
 
-  module _ (file : FileBytes) (f : IfSome tree (λ nodes. file ≡ source_at nodes task.file)) where
+  module _ (file : FileBytes) (f : IfSome tree (λ nodes. file ≡ whole_file (file_at nodes task.file) 4194304)) where
     -- the setup is refused, or memory was wanting
     pub line-unset : (halt : Halt) → Follows (λ (setup : SetupView). setup) (Err halt) (setup_in task.file file) → Unready tree task halt
     line-unset (Stopped stop) follows = λ is. absurd (let no : NoMemory ≡ SinkFault = sym follows ∙ is in cc)
@@ -213,15 +214,15 @@ module _ (task : Task) (tree : Option Nodes) (line : task.command ≡ Line) wher
 
     module _ (setup : SetupView) (is : setup_in task.file file ≡ Ok setup) where
       -- the files that it names, as they were seen
-      named-seen : (sources : List FileBytes) (script : FileBytes) → IfSome tree (λ nodes. sources ≡ map (source_at nodes) setup.sources) → IfSome tree (λ nodes. script ≡ script_by nodes setup.script)
+      named-seen : (sources : List InputFile) (script : FileBytes) → IfSome tree (λ nodes. sources ≡ map (source_at nodes) setup.sources) → IfSome tree (λ nodes. script ≡ script_by nodes setup.script)
           → IfSome tree (λ nodes. record { sources = sources; script = script } ≡ named_seen nodes task)
       named-seen sources script a b = go tree f a b
         where
-          go : (t : Option Nodes) → IfSome t (λ nodes. file ≡ source_at nodes task.file) → IfSome t (λ nodes. sources ≡ map (source_at nodes) setup.sources) → IfSome t (λ nodes. script ≡ script_by nodes setup.script)
+          go : (t : Option Nodes) → IfSome t (λ nodes. file ≡ whole_file (file_at nodes task.file) 4194304) → IfSome t (λ nodes. sources ≡ map (source_at nodes) setup.sources) → IfSome t (λ nodes. script ≡ script_by nodes setup.script)
               → IfSome t (λ nodes. record { sources = sources; script = script } ≡ named_seen nodes task)
           go None g a b = tt
           go (Some nodes) g a b =
-              let said : named_seen nodes task ≡ named_by nodes (setup_in task.file (source_at nodes task.file)) = rw line refl in
+              let said : named_seen nodes task ≡ named_by nodes (setup_in task.file (whole_file (file_at nodes task.file) 4194304)) = rw line refl in
               sym (said ∙ ap (λ x. named_by nodes (setup_in task.file x)) (sym g) ∙ ap (named_by nodes) is ∙ rw (a, b) refl)
 
       set : (named : NamedFiles) → from_setup named (setup_in task.file file) ≡ and_then (line_in setup named) (λ job. Ok (RunLine job))
@@ -247,7 +248,7 @@ module _ (task : Task) (tree : Option Nodes) (line : task.command ≡ Line) wher
         joined script = set (record { sources = all.files; script = script }) ∙ ap (from_roms setup script) all.said_so
 
         scripted : (script : FileBytes) (said : Result ScriptView Refusal) (says : Result Work Refusal) → IfSome tree (λ nodes. script ≡ script_by nodes setup.script)
-            → script_in setup.script script ≡ said → from_script setup roms said ≡ says → SeesWork tree task says
+            → script_in setup.script script ≡ said → from_script setup roms said ≡ says → SeesWork tree task (plain says)
         scripted script said says seen e so =
             line_seen file (record { sources = all.files; script = script }) f (named-seen all.files script all.seen seen) says (joined script ∙ ap (from_script setup roms) e ∙ so)
 
@@ -273,7 +274,7 @@ module _ (task : Task) (tree : Option Nodes) (line : task.command ≡ Line) wher
           line-other e = scripted here.file (Ok script) (Err OtherEvents) here.seen here.said_so (judged false e)
 
           -- all is accepted
-          pub line-ready : list_all is_of_console script.events ≡ true → SeesWork tree task (Ok (RunLine (line_job setup roms script)))
+          pub line-ready : list_all is_of_console script.events ≡ true → SeesWork tree task (Ok (planned (RunLine (line_job setup roms script)) []))
           line-ready e = scripted here.file (Ok script) (Ok (RunLine (line_job setup roms script))) here.seen here.said_so (judged true e)
 
   -- ---- the run of a line that is ready
@@ -286,9 +287,10 @@ module _ (task : Task) (tree : Option Nodes) (line : task.command ≡ Line) wher
       go None = tt
       go (Some nodes) = rw line refl
 
-  module _ (job : LineJob) (sees : SeesWork tree task (Ok (RunLine job))) where
+  module _ (job : LineJob) (sees : SeesWork tree task (Ok (planned (RunLine job) []))) where
     judges_line : Judges (Ok task) tree (Ok (RunLine job))
-    judges_line = judges task tree (Ok (RunLine job)) sees None no_output
+    judges_line =
+        subst (λ first. Judges (Ok task) tree (made_by first (RunLine job))) (no_include (outputs_of task)) (judges task tree (Ok (planned (RunLine job) [])) sees None no_output)
 
     -- the bytes of the last machine were put, and its exit code is the status
     pub line-done : (now : Option Nodes) (out err new : Option (List ℕ)) (code : ℕ) → now ≡ tree → new ≡ extended out (line_bytes job) → code ≡ line_exit job

@@ -6,6 +6,8 @@ pub mod RegularLemmas
 pub mod CauseLemmas
 pub mod OutputLemmas
 pub mod ApartLemmas
+pub mod FreeLemmas
+pub mod SourceLemmas
 pub mod SureLemmas
 pub mod AssemblingLemmas
 pub mod OpcodeLemmas

@@ -1,8 +1,9 @@
 -- `debug` and `play` with the same items.
 use Rattle.std.proofs.Common.{◌≡◌, ℕ, ◌≤◌, Bool, true, false, true≢false, not, cond, List, [], ◌∷◌, ◌++◌, refl, ap, sym, ◌∙◌, subst, append_assoc, append-nil, arith, inl, inr}
-use Rattle.std.specs.Prelude.{Option, Some, None, Result, Ok, Err, option_to_list, option_map, find, count_by, IfSome, ◌||◌, ◌⊎◌, nat_lt}
+use Rattle.std.specs.Prelude.{Option, Some, None, Result, Ok, Err, option_to_list, option_map, find, count_by, IfSome, ◌⊎◌, nat_lt}
 use Rattle.std.specs.List.{list_any}
 use Rattle.std.specs.Str.{bytes_eq}
+use Rattle.std.proofs.lemmas.Bool.{or_parts}
 use Rattle.std.proofs.lemmas.Bool.Decides.{nat_tests}
 use Rattle.std.proofs.lemmas.List.{map-append}
 use Rattle.std.proofs.lemmas.List.Sums.{sum_by-append}
@@ -10,8 +11,9 @@ use Rattle.std.proofs.lemmas.List.Folds.{list_any-append}
 use Rattle.file_ports.specs.RootPart.{is_in, below, parent_is_folder}
 use Rattle.uxn_io.specs.Changes.{can_create}
 use Rattle.uxn_io.specs.Files.{Nodes}
-use Rattle.uxn_io.specs.Outside.{Change, Creates, World, changed_by, changed_by-append}
-use Rattle.uxn_io.specs.Taking.{files-told}
+use Rattle.uxn_io.specs.Outside.{Change, Creates, World, changed_by}
+use Rattle.uxn_io.specs.ChangeLaws.{changed_by-append}
+use Rattle.uxn_io.specs.ChangeLaws.{files-told}
 use Rattle.varvara_bus.specs.Touching.{Each, told_at, spared}
 use Rattle.play_script.specs.Scripts.{ScriptView}
 use Rattle.uxn_words.specs.declared.words.Command.TheVariants.{Play, Debug}
@@ -20,15 +22,17 @@ use Rattle.uxn_cli.specs.declared.refusal.Refusal.{Refusal}
 use Rattle.uxn_words.specs.Words.{settings}
 use Rattle.uxn_cli.specs.Request.{and_then, path_in, optional_path_in, paths_in, apart, apart_by, legal, request}
 use Rattle.uxn_words.specs.Places.{inputs_by, run_outputs, outputs_of, root_by, meets, clashes, first_clash}
-use Rattle.uxn_cli.specs.Verdict.{Work, Run, View, view_of, judged, work_of, made_by, blocked_seen, program_in, given_in, script_in, commands_in, debug_labels, debugging, home_by, job_of}
+use Rattle.uxn_cli.specs.Verdict.{Work, Run, Loaded, Plan, planned, View, view_of, judged, work_of, first_unmade, made_by, made_for, blocked_seen, program_in, given_in, script_in, commands_in, debug_labels, debugging, home_by, job_of}
 use Rattle.uxn_cli.specs.Job.{Job, Debugging, outputs_in, trail_of, log_by}
 use Rattle.uxn_cli.specs.Outcome.{outcome_of, creating, filling_all, reporting, running}
 use Rattle.uxn_cli.specs.Answer.{HasOutcome, Judges, IsUntold, Answers}
-use Rattle.uxn_cli.specs.Causes.{IsEarly, verdict_on}
+use Rattle.uxn_cli.specs.Statuses.{IsEarly}
+use Rattle.uxn_cli.specs.Causes.{verdict_on}
 use Rattle.uxn_cli.specs.Observation.{unwatched, watched, with_log, played, HaveSameItems, ComeToOneRun, IsOutcomeButLog, ShowsWhatPlayDoes}
 use Rattle.uxn_cli.proofs.AfterLemmas.{IsOfAFile, quiet, creating-quiet, filling-quiet, out-after, err-after, files-after, if-some, parts-same}
 use Rattle.uxn_cli.proofs.CauseLemmas.{told_verdict, early_is}
 use Rattle.uxn_cli.proofs.ChangeLemmas.{creating-spares}
+use Rattle.uxn_cli.proofs.FreeLemmas.{are_free}
 use Rattle.uxn_cli.proofs.OthersLemmas.{log-spares}
 use Rattle.uxn_cli.proofs.RootLemmas.{outputs-outside}
 use Rattle.uxn_cli.proofs.RunLemmas.{debug-outputs, any-left}
@@ -92,10 +96,6 @@ is_apart task found e = elim (first_clash task) as (λ o. first_clash task ≡ o
   | Some path ↦ λ is h. absurd cc
 ] refl e
 
-halves : (a b : Bool) → (a || b) ≡ false → (a ≡ false) × (b ≡ false)
-halves true b e = absurd cc
-halves false b e = (refl, e)
-
 counted-fewer : (p : List ℕ → Bool) (root log runs : List (List ℕ)) → count_by p (root ++ runs) ≤ count_by p (root ++ (log ++ runs))
 counted-fewer p root log runs =
     let count : List ℕ → ℕ = λ x. cond (p x) 1 0 in
@@ -106,7 +106,7 @@ clashes-fewer : (inputs fewer places some : List (List ℕ)) (path : List ℕ) �
     → count_by (meets path) some ≤ count_by (meets path) places → clashes inputs places path ≡ false → clashes fewer some path ≡ false
 unfolding clashes
 clashes-fewer inputs fewer places some path within le e =
-    let both = halves (nat_lt 1 (count_by (meets path) places)) (list_any (bytes_eq path) inputs) e in
+    let both = or_parts (nat_lt 1 (count_by (meets path) places)) (list_any (bytes_eq path) inputs) e in
     let few : nat_lt 1 (count_by (meets path) places) ≡ false = both.0 in
     let less : nat_lt 1 (count_by (meets path) some) ≡ false = grind (arith, nat_tests) in
     rw (less, within both.1) refl
@@ -133,9 +133,9 @@ inputs-fewer task path e =
     let symbols = option_to_list task.symbols in
     let script = option_to_list task.script in
     let commands = option_to_list task.commands in
-    let file = halves (bytes_eq path task.file) (list_any (bytes_eq path) (symbols ++ script ++ commands)) e in
-    let rest = halves (list_any (bytes_eq path) (symbols ++ script)) (list_any (bytes_eq path) commands) (sym (list_any-append (bytes_eq path) (symbols ++ script) commands) ∙ file.1) in
-    let last = halves (list_any (bytes_eq path) symbols) (list_any (bytes_eq path) script) (sym (list_any-append (bytes_eq path) symbols script) ∙ rest.0) in
+    let file = or_parts (bytes_eq path task.file) (list_any (bytes_eq path) (symbols ++ script ++ commands)) e in
+    let rest = or_parts (list_any (bytes_eq path) (symbols ++ script)) (list_any (bytes_eq path) commands) (sym (list_any-append (bytes_eq path) (symbols ++ script) commands) ∙ file.1) in
+    let last = or_parts (list_any (bytes_eq path) symbols) (list_any (bytes_eq path) script) (sym (list_any-append (bytes_eq path) symbols script) ∙ rest.0) in
     rw (file.0, last.1) refl
 
 clash-fewer : (task : Task) → task.command ≡ Debug → first_clash task ≡ None → first_clash (played task) ≡ None
@@ -176,45 +176,71 @@ asks-both words others asked items e =
 -- ---- the inputs
 
 -- the same work, but that nobody watches
-work-played : (task : Task) (view : View) (rom : List ℕ) (script : ScriptView) → program_in task.rom task.file view.file ≡ Ok rom → script_in task.script view.script ≡ Ok script
-    → work_of Play (played task) view ≡ Ok (Run (job_of task (home_by task.root view.part view.parent) rom script None))
-work-played task view rom script a b = rw (a, b) refl
+work-played : (task : Task) (view : View) (program : Loaded) (script : ScriptView) → program_in task.rom task.file view.file ≡ Ok program → script_in task.script view.script ≡ Ok script
+    → work_of Play (played task) view ≡ Ok (planned (Run (job_of task (home_by task.root view.part view.parent) program.rom script None)) program.included)
+work-played task view program script a b = rw (a, b) refl
 
-plays-work : (task : Task) (view other : View) (work : Work) → other.file ≡ view.file → other.script ≡ view.script → other.part ≡ view.part → other.parent ≡ view.parent → work_of Debug task view ≡ Ok work
-    → (one : ComeToOneRun (Ok work) (work_of Play (played task) other)) × (one.debugging.log ≡ task.log)
-plays-work task view other work file script part parent e =
-    let rom = both_ok (program_in task.rom task.file view.file) _ work e in
-    let given = both_ok (given_in task.symbols view.symbols) _ work rom.2 in
-    let scripted = both_ok (script_in task.script view.script) _ work given.2 in
-    let commands = both_ok (commands_in (debug_labels given.0 task.rom view.file) task.commands view.commands) _ work scripted.2 in (
-      record {
-        job = job_of task (home_by task.root view.part view.parent) rom.0 scripted.0 None;
-        debugging = debugging task commands.0 (debug_labels given.0 task.rom view.file);
-        debugs = sym commands.2;
-        plays = work-played task other rom.0 scripted.0 (ap (program_in task.rom task.file) file ∙ rom.1) (ap (script_in task.script) script ∙ scripted.1)
-            ∙ ap (λ home. Ok (Run (job_of task home rom.0 scripted.0 None))) (ap (λ p. home_by task.root p other.parent) part ∙ ap (home_by task.root view.part) parent);
-      },
-      refl,
-    )
+-- `debug` plans a run under a debugger, and `play` the same run of a source that includes the same files
+record PlanOneRun (task : Task) (accepted : Plan) (other : Result Plan Refusal) : Type 0 where
+  job : Job
+  debugging : Debugging
+  log : debugging.log ≡ task.log
+  debugs : accepted.work ≡ Run (watched job debugging)
+  plays : other ≡ Ok (planned (Run (unwatched job)) accepted.included)
 
-pub made-all : (blocked : Option (List ℕ)) (work found : Work) → made_by blocked work ≡ Ok found → (blocked ≡ None) × (work ≡ found)
+plays-work : (task : Task) (view other : View) (accepted : Plan) → other.file ≡ view.file → other.script ≡ view.script → other.part ≡ view.part → other.parent ≡ view.parent → work_of Debug task view ≡ Ok accepted
+    → PlanOneRun task accepted (work_of Play (played task) other)
+plays-work task view other accepted file script part parent e =
+    let program = both_ok (program_in task.rom task.file view.file) _ accepted e in
+    let given = both_ok (given_in task.symbols view.symbols) _ accepted program.2 in
+    let scripted = both_ok (script_in task.script view.script) _ accepted given.2 in
+    let commands = both_ok (commands_in (debug_labels given.0 program.0) task.commands view.commands) _ accepted scripted.2 in
+    let is : planned (Run (job_of task (home_by task.root view.part view.parent) program.0.rom scripted.0 (Some (debugging task commands.0 (debug_labels given.0 program.0))))) program.0.included ≡ accepted =
+    same_ok _ accepted commands.2 in
+    record {
+      job = job_of task (home_by task.root view.part view.parent) program.0.rom scripted.0 None;
+      debugging = debugging task commands.0 (debug_labels given.0 program.0);
+      log = refl;
+      debugs = ap (λ (p : Plan). p.work) (sym is);
+      plays = work-played task other program.0 scripted.0 (ap (program_in task.rom task.file) file ∙ program.1) (ap (script_in task.script) script ∙ scripted.1)
+          ∙ ap (λ home. Ok (planned (Run (job_of task home program.0.rom scripted.0 None)) program.0.included)) (ap (λ p. home_by task.root p other.parent) part ∙ ap (home_by task.root view.part) parent)
+          ∙ ap (λ included. Ok (planned (Run (job_of task (home_by task.root view.part view.parent) program.0.rom scripted.0 None)) included)) (ap (λ (p : Plan). p.included) is);
+    }
+
+pub made-all : (first : Option (List ℕ)) (work found : Work) → made_by first work ≡ Ok found → (first ≡ None) × (work ≡ found)
 made-all None work found e = (refl, same_ok work found e)
 made-all (Some path) work found e = absurd cc
 
-accepted-all : (blocked : Option (List ℕ)) (said : Result Work Refusal) (work : Work) → blocked ≡ None → said ≡ Ok work → and_then said (made_by blocked) ≡ Ok work
-accepted-all blocked said work free is = ap (λ b. and_then said (made_by b)) free ∙ ap (λ s. and_then s (made_by None)) is
+-- no output is refused where more of them are not
+first-fewer : (blocked : Option (List ℕ)) (included first last : List (List ℕ)) → first_unmade blocked included (first ++ last) ≡ None → first_unmade blocked included last ≡ None
+first-fewer blocked included first last none = none_last (λ path. list_any (bytes_eq path) (option_to_list blocked ++ included)) first last none
+
+accepted-all : (task : Task) (blocked : Option (List ℕ)) (said : Result Plan Refusal) (accepted : Plan) → said ≡ Ok accepted → first_unmade blocked accepted.included (outputs_of task) ≡ None
+    → and_then said (made_for task blocked) ≡ Ok accepted.work
+accepted-all task blocked said accepted is free = ap (λ s. and_then s (made_for task blocked)) is ∙ ap (λ first. made_by first accepted.work) free
 
 pub plays-too : (nodes : Nodes) (task : Task) (work : Work) → task.command ≡ Debug → judged task (view_of nodes task) ≡ Ok work
     → (one : ComeToOneRun (Ok work) (judged (played task) (view_of nodes (played task)))) × (one.debugging.log ≡ task.log)
 plays-too nodes task work debug e =
     let view = view_of nodes task in
     let other = view_of nodes (played task) in
-    let said = both_ok (work_of task.command task view) (made_by view.blocked) work e in
-    let made = made-all view.blocked said.0 work said.2 in
-    let one = plays-work task view other work (rw debug refl) refl (ap (λ c. below (root_by c task) nodes) (sym debug)) (ap (λ c. parent_is_folder (root_by c task) nodes) (sym debug)) (ap (λ c. work_of c task view) (sym debug) ∙ said.1 ∙ ap Ok made.1) in
-    let none : find (λ path. not (can_create nodes path)) (option_to_list task.log ++ run_outputs task) ≡ None = rw debug at made.0 in
-    let free : blocked_seen nodes (played task) ≡ None = none_last (λ path. not (can_create nodes path)) (option_to_list task.log) (run_outputs task) none in
-    (record { job = one.0.job; debugging = one.0.debugging; debugs = one.0.debugs; plays = accepted-all (blocked_seen nodes (played task)) _ _ free one.0.plays }, one.1)
+    let said = both_ok (work_of task.command task view) (made_for task view.blocked) work e in
+    let made = made-all (first_unmade view.blocked said.0.included (outputs_of task)) said.0.work work said.2 in
+    let free = are_free (Some nodes) view.blocked said.0.included (outputs_of task) refl made.0 in
+    let one = plays-work task view other said.0 (rw debug refl) refl (ap (λ c. below (root_by c task) nodes) (sym debug)) (ap (λ c. parent_is_folder (root_by c task) nodes) (sym debug)) (ap (λ c. work_of c task view) (sym debug) ∙ said.1) in
+    let outputs = debug-outputs task debug in
+    let looked : find (λ path. not (can_create nodes path)) (option_to_list task.log ++ run_outputs task) ≡ None = ap (find (λ path. not (can_create nodes path))) (sym outputs) ∙ sym free.looked in
+    let none : blocked_seen nodes (played task) ≡ None = none_last (λ path. not (can_create nodes path)) (option_to_list task.log) (run_outputs task) looked in
+    let apart : first_unmade None said.0.included (run_outputs task) ≡ None = first-fewer None said.0.included (option_to_list task.log) (run_outputs task) (ap (first_unmade None said.0.included) (sym outputs) ∙ free.apart) in (
+      record {
+        job = one.job;
+        debugging = one.debugging;
+        debugs = ap Ok (sym made.1 ∙ one.debugs);
+        plays = accepted-all (played task) (blocked_seen nodes (played task)) _ (planned (Run (unwatched one.job)) said.0.included) one.plays
+            (ap (λ blocked. first_unmade blocked said.0.included (run_outputs task)) none ∙ apart);
+      },
+      one.log,
+    )
 
 -- ---- what is done
 

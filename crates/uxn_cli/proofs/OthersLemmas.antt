@@ -23,7 +23,7 @@ use Rattle.vector_loop.specs.declared.output.Outputs.{Outputs}
 use Rattle.vector_loop.specs.Trail.{Trail}
 use Rattle.vector_loop.specs.Touching.{IsOther, run-leaves}
 use Rattle.uxn_cli.specs.Job.{Debugging, Job, Home, log_in, outputs_in, outputs_by as run_outputs_by, trail_of, trail_by, devices_with, start_with, text_at, log_by}
-use Rattle.uxn_cli.specs.Verdict.{and_then, View, Work, Run, Write, Print, RunLine, line_in, source_in, rom_in, labels_in, program_in, script_in, given_in, debug_labels, commands_in, debugging, home_by, job_of, texts_of, summary_in, outputs_by, root_by, work_of, made_by, verdict}
+use Rattle.uxn_cli.specs.Verdict.{and_then, View, Work, Run, Write, Print, RunLine, line_in, source_in, rom_in, labels_in, program_in, script_in, given_in, debug_labels, commands_in, debugging, home_by, job_of, texts_of, summary_in, outputs_by, root_by, Plan, planned, plain, work_of, outputs_of, first_unmade, made_by, made_for, judged, verdict}
 use Rattle.uxn_cli.specs.Setup.{setup_in}
 use Rattle.uxn_cli.specs.Outcome.{outcome_of, creating, filling_all, reporting, running, line_bytes}
 use Rattle.uxn_cli.specs.Answer.{IsUntold, HasCut, IsCut, Answers}
@@ -33,10 +33,14 @@ use Rattle.uxn_cli.proofs.AssemblingLemmas.{paths-texts_of}
 
 -- ---- which files a verdict writes
 
-pub made_ok : (said : Result Work Refusal) (blocked : Option (List ℕ)) (work : Work) → and_then said (made_by blocked) ≡ Ok work → said ≡ Ok work
-made_ok (Err refusal) blocked work e = absurd cc
-made_ok (Ok found) None work e = e
-made_ok (Ok found) (Some path) work e = absurd cc
+pub made_ok : (task : Task) (said : Result Plan Refusal) (blocked : Option (List ℕ)) (work : Work) → and_then said (made_for task blocked) ≡ Ok work
+    → (accepted : Plan) × (said ≡ Ok accepted) × (accepted.work ≡ work)
+made_ok task (Err refusal) blocked work e = absurd cc
+made_ok task (Ok accepted) blocked work e = (accepted, refl, go (first_unmade blocked accepted.included (outputs_of task)) e)
+  where
+    go : (first : Option (List ℕ)) → made_by first accepted.work ≡ Ok work → accepted.work ≡ work
+    go None h = cc
+    go (Some path) h = absurd cc
 
 -- the files that work writes, and the root of a run
 abbrev pub paths_by : Work → List (List ℕ)
@@ -55,46 +59,62 @@ pub record Writes (command : Command) (task : Task) (work : Work) : Type 0 where
   pub paths : paths_by work ≡ outputs_by command task
   pub root : root_in work ≡ root_by command task
 
-written_by : {A : Type 0} (said : Result A Refusal) (next : A → Result Work Refusal) (P : Work → Type 0) (work : Work)
+written_by : {A W : Type 0} (said : Result A Refusal) (next : A → Result W Refusal) (P : W → Type 0) (work : W)
     → ((value : A) → next value ≡ Ok work → P work) → and_then said next ≡ Ok work → P work
 written_by (Err refusal) next P work all e = absurd cc
 written_by (Ok value) next P work all e = all value e
 
-same_work : (found work : Work) (P : Work → Type 0) → P found → ◌≡◌ {A = Result Work Refusal} (Ok found) (Ok work) → P work
+same_work : {W : Type 0} (found work : W) (P : W → Type 0) → P found → ◌≡◌ {A = Result W Refusal} (Ok found) (Ok work) → P work
 same_work found work P is e = (let same : found ≡ work = cc in subst P same is)
+
+plain_ok : (said : Result Work Refusal) (accepted : Plan) → plain said ≡ Ok accepted → said ≡ Ok accepted.work
+plain_ok (Ok work) accepted e = (let same : planned work [] ≡ accepted = cc in ap (λ (p : Plan). Ok p.work) same)
+plain_ok (Err refusal) accepted e = absurd cc
 
 home-root : (root : Option (List ℕ)) (part : Nodes) (parent : Bool) → (home_by root part parent).root ≡ root
 home-root None part parent = refl
 home-root (Some root) part parent = refl
 
-pub work-writes : (command : Command) (task : Task) (view : View) (work : Work) → work_of command task view ≡ Ok work → Writes command task work
-work-writes Play task view work e =
+-- what is planned writes the outputs of the task
+abbrev PlanWrites : Command → Task → Plan → Type 0
+PlanWrites command task accepted = Writes command task accepted.work
+
+pub work-writes : (command : Command) (task : Task) (view : View) (accepted : Plan) → work_of command task view ≡ Ok accepted → Writes command task accepted.work
+work-writes Play task view accepted e =
     let home = home_by task.root view.part view.parent in
-    written_by (program_in task.rom task.file view.file) _ (Writes Play task) work
-    (λ rom f. written_by (script_in task.script view.script) _ (Writes Play task) work
-    (λ script h. same_work (Run (job_of task home rom script None)) work (Writes Play task) (record { paths = refl; root = home-root task.root view.part view.parent }) h) f) e
-work-writes Debug task view work e =
+    written_by (program_in task.rom task.file view.file) _ (PlanWrites Play task) accepted
+    (λ program f. written_by (script_in task.script view.script) _ (PlanWrites Play task) accepted
+    (λ script h. same_work (planned (Run (job_of task home program.rom script None)) program.included) accepted (PlanWrites Play task)
+    (record { paths = refl; root = home-root task.root view.part view.parent }) h) f) e
+work-writes Debug task view accepted e =
     let home = home_by task.root view.part view.parent in
-    written_by (program_in task.rom task.file view.file) _ (Writes Debug task) work
-    (λ rom f. written_by (given_in task.symbols view.symbols) _ (Writes Debug task) work
-    (λ given p. written_by (script_in task.script view.script) _ (Writes Debug task) work
-    (λ script q. written_by (commands_in (debug_labels given task.rom view.file) task.commands view.commands) _ (Writes Debug task) work
-    (λ commands h. same_work (Run (job_of task home rom script (Some (debugging task commands (debug_labels given task.rom view.file))))) work (Writes Debug task)
+    written_by (program_in task.rom task.file view.file) _ (PlanWrites Debug task) accepted
+    (λ program f. written_by (given_in task.symbols view.symbols) _ (PlanWrites Debug task) accepted
+    (λ given p. written_by (script_in task.script view.script) _ (PlanWrites Debug task) accepted
+    (λ script q. written_by (commands_in (debug_labels given program) task.commands view.commands) _ (PlanWrites Debug task) accepted
+    (λ commands h. same_work (planned (Run (job_of task home program.rom script (Some (debugging task commands (debug_labels given program))))) program.included) accepted (PlanWrites Debug task)
     (record { paths = refl; root = home-root task.root view.part view.parent }) h) q) p) f) e
-work-writes Assemble task view work e =
-    written_by (source_in task.file view.file) (λ source. Ok (Write (texts_of task source))) (Writes Assemble task) work
-    (λ source h. same_work (Write (texts_of task source)) work (Writes Assemble task) (record { paths = paths-texts_of task source; root = refl }) h) e
-work-writes Disassemble task view work e =
-    written_by (rom_in task.file view.file) (λ rom. and_then (labels_in task.symbols view.symbols) (λ labels. Ok (Print (disassembly rom labels)))) (Writes Disassemble task) work
-    (λ rom f. written_by (labels_in task.symbols view.symbols) (λ labels. Ok (Print (disassembly rom labels))) (Writes Disassemble task) work
-    (λ labels h. same_work (Print (disassembly rom labels)) work (Writes Disassemble task) (record { paths = refl; root = refl }) h) f) e
-work-writes Generate task view work e =
-    written_by (summary_in task.count) (λ text. Ok (Print text)) (Writes Generate task) work
-    (λ text h. same_work (Print text) work (Writes Generate task) (record { paths = refl; root = refl }) h) e
-work-writes Line task view work e =
-    written_by (setup_in task.file view.file) _ (Writes Line task) work
-    (λ setup f. written_by (line_in setup view.named) (λ job. Ok (RunLine job)) (Writes Line task) work
-    (λ job h. same_work (RunLine job) work (Writes Line task) (record { paths = refl; root = refl }) h) f) e
+work-writes Assemble task view accepted e =
+    written_by (source_in task.file view.file) _ (PlanWrites Assemble task) accepted
+    (λ source h. same_work (planned (Write (texts_of task source.text)) source.paths) accepted (PlanWrites Assemble task)
+    (record { paths = paths-texts_of task source.text; root = refl }) h) e
+work-writes Disassemble task view accepted e =
+    written_by (rom_in task.file view.file.bytes) (λ rom. and_then (labels_in task.symbols view.symbols) (λ labels. Ok (Print (disassembly rom labels)))) (Writes Disassemble task) accepted.work
+    (λ rom f. written_by (labels_in task.symbols view.symbols) (λ labels. Ok (Print (disassembly rom labels))) (Writes Disassemble task) accepted.work
+    (λ labels h. same_work (Print (disassembly rom labels)) accepted.work (Writes Disassemble task) (record { paths = refl; root = refl }) h) f) (plain_ok _ accepted e)
+work-writes Generate task view accepted e =
+    written_by (summary_in task.count) (λ text. Ok (Print text)) (Writes Generate task) accepted.work
+    (λ text h. same_work (Print text) accepted.work (Writes Generate task) (record { paths = refl; root = refl }) h) (plain_ok _ accepted e)
+work-writes Line task view accepted e =
+    written_by (setup_in task.file view.file.bytes) _ (Writes Line task) accepted.work
+    (λ setup f. written_by (line_in setup view.named) (λ job. Ok (RunLine job)) (Writes Line task) accepted.work
+    (λ job h. same_work (RunLine job) accepted.work (Writes Line task) (record { paths = refl; root = refl }) h) f) (plain_ok _ accepted e)
+
+-- what is done writes them
+pub judged-writes : (task : Task) (view : View) (work : Work) → judged task view ≡ Ok work → Writes task.command task work
+judged-writes task view work e =
+    let accepted = made_ok task (work_of task.command task view) view.blocked work e in
+    subst (Writes task.command task) accepted.2 (work-writes task.command task view accepted.0 accepted.1)
 
 -- ---- which paths it leaves alone
 
@@ -153,7 +173,7 @@ pub found-spares : (asked : Result Task Refusal) (view : View) (path : List ℕ)
 found-spares asked view path (Err refusal) aside e = each-map (Spares path) (λ byte. ToErr byte) _ (λ byte. tt)
 found-spares (Err refusal) view path (Ok work) aside e = absurd cc
 found-spares (Ok task) view path (Ok work) aside e =
-    let writes = work-writes task.command task view work (made_ok (work_of task.command task view) view.blocked work e) in
+    let writes = judged-writes task view work e in
     work-spares path work (ap (list_any (bytes_eq path)) writes.paths ∙ aside.output) (ap (λ root. suits root (Some path)) writes.root ∙ aside.outside)
 
 -- ---- what stands there afterwards

@@ -3,6 +3,7 @@ use Rattle.std.proofs.Common.{◌≡◌, ℕ, ◌≤◌, Bool, true, false, true
 use Rattle.std.specs.Prelude.{Option, Some, None, IfSome, option_to_list, find, count_by, ◌||◌, nat_lt}
 use Rattle.std.specs.List.{list_any}
 use Rattle.std.specs.Str.{bytes_eq}
+use Rattle.std.proofs.lemmas.Bool.{or_parts}
 use Rattle.std.proofs.lemmas.Bool.Decides.{nat_tests}
 use Rattle.std.proofs.lemmas.List.Sums.{sum_by-cons}
 use Rattle.std.proofs.lemmas.Slice.Eq.{bytes_eq-Decides}
@@ -16,18 +17,13 @@ use Rattle.uxn_io.specs.PathText.{is_under, parent_of}
 use Rattle.varvara_bus.specs.Touching.{inserted-other}
 use Rattle.uxn_cli.specs.Job.{home_in}
 use Rattle.uxn_cli.specs.Outcome.{creating}
-use Rattle.uxn_cli.proofs.ApartLemmas.{parent_under}
+use Rattle.uxn_io.specs.PathLaws.{parent_under}
 use Rattle.uxn_words.specs.declared.task.Task.{Task}
 use Rattle.uxn_words.specs.Places.{inputs_by, outputs_of, root_by, meets, clashes, HasApartOutputs}
 
 -- one where a test holds
 abbrev one_if : Bool → ℕ
 one_if b = cond b 1 0
-
--- both halves of what is false
-halves : (a b : Bool) → (a || b) ≡ false → (a ≡ false) × (b ≡ false)
-halves true b e = absurd (true≢false e)
-halves false b e = (refl, e)
 
 -- none of which a test holds
 none_among : (p : List ℕ → Bool) (paths : List (List ℕ)) (path : List ℕ) → find p paths ≡ None → list_any (bytes_eq path) paths ≡ true → p path ≡ false
@@ -58,7 +54,7 @@ meets_one path (other ∷ paths) among =
 few : (inputs places : List (List ℕ)) (path : List ℕ) → clashes inputs places path ≡ false → count_by (meets path) places ≤ 1
 unfolding clashes
 few inputs places path e =
-    let less : nat_lt 1 (count_by (meets path) places) ≡ false = (halves (nat_lt 1 (count_by (meets path) places)) (list_any (bytes_eq path) inputs) e).0 in
+    let less : nat_lt 1 (count_by (meets path) places) ≡ false = (or_parts (nat_lt 1 (count_by (meets path) places)) (list_any (bytes_eq path) inputs) e).0 in
     grind (arith, nat_tests)
 
 -- an output does not meet the root
@@ -84,8 +80,8 @@ outputs-apart task path apart among = go (root_by task.command task) apart
     go : (root : Option (List ℕ)) → find (clashes (inputs_by task.command task) (option_to_list root ++ outputs_of task)) (outputs_of task) ≡ None → IfSome root (λ root. IsApartFrom root path)
     go None none = tt
     go (Some root) none =
-        let all = halves (bytes_eq path root || is_under path root) (is_under root path) (apart_from (inputs_by task.command task) (outputs_of task) root path none among) in
-        let some = halves (bytes_eq path root) (is_under path root) all.0 in
+        let all = or_parts (bytes_eq path root || is_under path root) (is_under root path) (apart_from (inputs_by task.command task) (outputs_of task) root path none among) in
+        let some = or_parts (bytes_eq path root) (is_under path root) all.0 in
         record { same = some.0; under = some.1; over = all.1 }
 
 pub apart-outside : (root path : List ℕ) → IsApartFrom root path → is_in root path ≡ false
@@ -105,7 +101,7 @@ outputs-outside task path apart among = go (root_by task.command task) (outputs-
 spared-node : (path : List ℕ) (nodes : Nodes) (paths : List (List ℕ)) → list_any (bytes_eq path) paths ≡ false → fin.get (files_by nodes (creating paths)) path ≡ fin.get nodes path
 spared-node path nodes [] none = refl
 spared-node path nodes (other ∷ paths) none =
-    let apart = halves (bytes_eq path other) (list_any (bytes_eq path) paths) none in
+    let apart = or_parts (bytes_eq path other) (list_any (bytes_eq path) paths) none in
     spared-node path (changed_files (Creates other) nodes) paths apart.1 ∙ inserted-other nodes path other (File []) apart.0
 
 -- a path that none of the others may be

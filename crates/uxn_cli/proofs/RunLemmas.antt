@@ -8,11 +8,14 @@ use Rattle.std.proofs.lemmas.Slice.Eq.{bytes_eq-Decides}
 use Rattle.tal_words.specs.declared.name.Label.{Label}
 use Rattle.uxn_io.specs.Changes.{can_create, with_appended, HasAppendedFront}
 use Rattle.uxn_io.specs.Files.{Nodes, file_at}
-use Rattle.uxn_io.specs.Outside.{Change, World, changed_by, files_by, IsCutOff, cut-first}
-use Rattle.uxn_io.specs.Appending.{cut-file}
+use Rattle.uxn_io.specs.Outside.{Change, World, changed_by, files_by, IsCutOff}
+use Rattle.uxn_io.specs.ChangeLaws.{cut-first}
+use Rattle.uxn_io.specs.AppendingLaws.{cut-file}
 use Rattle.uxn_io.specs.Room.{Room, Leaves}
 use Rattle.uxn_io.specs.Faults.{TheTree, ASink}
-use Rattle.uxn_io.specs.Taking.{TreeTakes, TreeLeft, SinkTakes, sure, WasNotSure, bytes_out, bytes_err, files-told, takes-first}
+use Rattle.uxn_io.specs.Taking.{TreeTakes, TreeLeft, SinkTakes, sure, WasNotSure, bytes_out, bytes_err}
+use Rattle.uxn_io.specs.ChangeLaws.{files-told}
+use Rattle.uxn_io.specs.TakingLaws.{takes-first}
 use Rattle.uxn_opcodes.specs.declared.Stop.{Stop}
 use Rattle.uxn_opcodes.specs.declared.Stop.TheVariants.{TreeFault, SinkFault, NoMemory}
 use Rattle.varvara_bus.specs.declared.bus.Bus.{Bus}
@@ -47,14 +50,15 @@ use Rattle.uxn_words.specs.Places.{root_by, run_outputs, HasApartOutputs}
 use Rattle.uxn_cli.specs.Lines.{line_of}
 use Rattle.uxn_cli.specs.Causes.{verdict_on}
 use Rattle.uxn_cli.specs.Room.{TakesFor, TreeSuffices, SinksSuffice}
-use Rattle.uxn_cli.specs.Verdict.{and_then, Work, Run, blocked_seen, job_of, inputs_by, outputs_of, made_by, work_of}
+use Rattle.uxn_cli.specs.Verdict.{and_then, Work, Run, blocked_seen, job_of, inputs_by, outputs_of, Plan, planned, first_unmade, made_by, made_for, work_of}
 use Rattle.vector_loop.specs.Folders.{TakesNames}
 use Rattle.uxn_cli.specs.Answer.{Judges, HasEnded, HasFront, HasCut, IsCut, IsUntold, ListsFolder, MayStop, Performs}
-use Rattle.uxn_cli.specs.Prepared.{AreNew, Around, around, WasDone, FellShort, TreeWasDone, AtHome, HasFinished, IsHomeOf, trail_for, SeesWork, IsReady, Unready, Made, HalfMade, Blocked, MakesOutputs, HasRun, WasShown, RunFiles, outputs_for}
+use Rattle.uxn_cli.specs.Prepared.{AreNew, Around, around, WasDone, FellShort, TreeWasDone, AtHome, HasFinished, IsHomeOf, trail_for, SeesWork, IsReady, Unready, AreFree, Made, HalfMade, Blocked, MakesOutputs, HasRun, WasShown, RunFiles, outputs_for}
 use Rattle.uxn_cli.proofs.ApartLemmas.{no_clash-fewer, makes_all, made_files}
 use Rattle.uxn_cli.proofs.AssemblingLemmas.{seen_paths}
 use Rattle.uxn_cli.proofs.CauseLemmas.{told_verdict}
 use Rattle.uxn_cli.proofs.ChangeLemmas.{paths_in, made-changes, filled-changes, made-cut}
+use Rattle.uxn_cli.proofs.FreeLemmas.{unmade_first}
 use Rattle.uxn_cli.proofs.DoneLemmas.{done-both, short-later, read-before, not-taken, files-made}
 use Rattle.uxn_cli.proofs.RootLemmas.{outputs-outside, home-made, all-apart}
 use Rattle.uxn_cli.proofs.VerdictLemmas.{unlooked}
@@ -189,22 +193,41 @@ module _ (task : Task) (tree : Option Nodes) (outputs : List Output) (paths : pa
   text_paths : paths_in (seen_texts outputs) ≡ outputs_of task
   text_paths = seen_paths outputs ∙ paths
 
-  -- one that cannot be made
-  pub is_blocked : (now : Option Nodes) (path : List ℕ) → IfSome tree (λ nodes. Some path ≡ find (λ p. not (can_create nodes p)) (paths_of outputs)) → now ≡ tree
-      → Blocked (outputs_of task) tree now (NoOutput path)
-  is_blocked now path looked same = record { path = path; names = refl; looked = rw paths at looked; same = same }
+  -- one that cannot be made, or is an included file
+  pub is_blocked : (now : Option Nodes) (included : List (List ℕ)) (blocked : Option (List ℕ)) (path : List ℕ)
+      → IfSome tree (λ nodes. blocked ≡ find (λ p. not (can_create nodes p)) (paths_of outputs)) → Some path ≡ first_unmade blocked included (paths_of outputs) → now ≡ tree
+      → Blocked included (outputs_of task) tree now (NoOutput path)
+  is_blocked now included blocked path looked is same = record {
+    path = path;
+    names = refl;
+    blocked = blocked;
+    looked = rw paths at looked;
+    first = ap (first_unmade blocked included) (sym paths) ∙ sym is;
+    same = same;
+  }
 
   -- one that a tree which tells nothing did not make
-  pub is_unmade : (now : Option Nodes) (path : List ℕ) → tree ≡ None → now ≡ None → Blocked (outputs_of task) tree now (NoOutput path)
-  is_unmade now path none gone = record { path = path; names = refl; looked = untold tree none; same = gone ∙ sym none }
+  pub is_unmade : (now : Option Nodes) (included : List (List ℕ)) (path : List ℕ) → AreFree tree included (paths_of outputs) → tree ≡ None → now ≡ None
+      → list_any (bytes_eq path) (paths_of outputs) ≡ true → Blocked included (outputs_of task) tree now (NoOutput path)
+  is_unmade now included path free none gone among = record {
+    path = path;
+    names = refl;
+    blocked = Some path;
+    looked = untold tree none;
+    first = ap (first_unmade (Some path) included) (sym paths) ∙ unmade_first included path (paths_of outputs) among free.apart;
+    same = gone ∙ sym none;
+  }
     where
       untold : (t : Option Nodes) → t ≡ None → IfSome t (λ nodes. Some path ≡ find (λ p. not (can_create nodes p)) (outputs_of task))
       untold None e = tt
       untold (Some nodes) e = absurd cc
 
-  module _ (apart : HasApartOutputs task) (looked : IfSome tree (λ nodes. None ≡ find (λ path. not (can_create nodes path)) (paths_of outputs))) where
+  module _ (apart : HasApartOutputs task) (included : List (List ℕ)) (free : AreFree tree included (paths_of outputs)) where
+    free_outputs : AreFree tree included (outputs_of task)
+    free_outputs = subst (AreFree tree included) paths free
+
     can : IfSome tree (CanMake (seen_texts outputs))
-    can = go tree (rw paths at looked)
+    can = go tree free_outputs.looked
       where
         go : (t : Option Nodes) → IfSome t (λ nodes. None ≡ find (λ path. not (can_create nodes path)) (outputs_of task)) → IfSome t (CanMake (seen_texts outputs))
         go None l = tt
@@ -215,15 +238,15 @@ module _ (task : Task) (tree : Option Nodes) (outputs : List Output) (paths : pa
     pub can_make : (told : Option Nodes) → told ≡ tree → IfSome told (CanMake (seen_texts outputs))
     can_make told same = rw same can
 
-    pub is_half_made : (now : Option Nodes) → HasMadeFront tree now (seen_texts outputs) → HalfMade (outputs_of task) tree now
+    pub is_half_made : (now : Option Nodes) → HasMadeFront tree now (seen_texts outputs) → HalfMade included (outputs_of task) tree now
     is_half_made now front = record {
-      looked = rw paths at looked;
+      free = free_outputs;
       cut = λ out err. rw (ap creating text_paths) at (made-cut out err (seen_texts outputs) tree now can front);
     }
 
-    pub is_made : (now : Option Nodes) → now ≡ option_map (with_empty (seen_texts outputs)) tree → Made (outputs_of task) tree now
+    pub is_made : (now : Option Nodes) → now ≡ option_map (with_empty (seen_texts outputs)) tree → Made included (outputs_of task) tree now
     is_made now made = record {
-      looked = rw paths at looked;
+      free = free_outputs;
       made = λ out err. ap (λ t. world t out err) made ∙ sym (made-changes out err (seen_texts outputs) tree can) ∙ ap (λ ps. changed_by (world tree out err) (creating ps)) text_paths;
       files = λ path among. go now (made_files (seen_texts outputs) tree now made can) path (rw text_paths among);
     }
@@ -236,12 +259,12 @@ module _ (task : Task) (tree : Option Nodes) (outputs : List Output) (paths : pa
 
 module _ (task : Task) (tree : Option Nodes) where
   -- what was seen of the inputs and of the outputs is a view, which the verdict is on
-  pub judges : (said : Result Work Refusal) (work : SeesWork tree task said) (blocked : Option (List ℕ)) → IfSome tree (λ nodes. blocked ≡ blocked_seen nodes task)
-      → Judges (Ok task) tree (and_then said (made_by blocked))
+  pub judges : (said : Result Plan Refusal) (work : SeesWork tree task said) (blocked : Option (List ℕ)) → IfSome tree (λ nodes. blocked ≡ blocked_seen nodes task)
+      → Judges (Ok task) tree (and_then said (made_for task blocked))
   judges said work blocked looked = record {
     view = record work.view { blocked = blocked };
     seen = record { file = work.file; symbols = work.symbols; script = work.script; commands = work.commands; part = work.part; parent = work.parent; named = work.named; blocked = looked };
-    judged = ap (λ s. and_then s (made_by blocked)) (same_work task.command ∙ work.work);
+    judged = ap (λ s. and_then s (made_for task blocked)) (same_work task.command ∙ work.work);
   }
     where
       same_work : (c : Rattle.uxn_words.specs.declared.words.Command.Command) → work_of c task (record work.view { blocked = blocked }) ≡ work_of c task work.view
@@ -263,12 +286,17 @@ module _ (task : Task) (tree : Option Nodes) where
   unprepared new out err (Stopped NoMemory) work same = inl (ap (λ t. world t out err) same)
   unprepared new out err (Stopped SinkFault) work same = absurd (work refl)
 
-  module _ (job : Job) (work : SeesWork tree task (Ok (Run job))) (outs : outputs_of task ≡ outputs_in job) where
-    judges_run : IfSome tree (λ nodes. None ≡ find (λ path. not (can_create nodes path)) (outputs_of task)) → Judges (Ok task) tree (Ok (Run job))
-    judges_run looked = judges (Ok (Run job)) work None looked
+  module _ (job : Job) (included : List (List ℕ)) (work : SeesWork tree task (Ok (planned (Run job) included))) (outs : outputs_of task ≡ outputs_in job) where
+    judges_first : (blocked first : Option (List ℕ)) → IfSome tree (λ nodes. blocked ≡ find (λ path. not (can_create nodes path)) (outputs_of task))
+        → first_unmade blocked included (outputs_of task) ≡ first → Judges (Ok task) tree (made_by first (Run job))
+    judges_first blocked first looked is =
+        subst (λ f. Judges (Ok task) tree (made_by f (Run job))) is (judges (Ok (planned (Run job) included)) work blocked looked)
+
+    judges_run : AreFree tree included (outputs_of task) → Judges (Ok task) tree (Ok (Run job))
+    judges_run free = judges_first None None free.looked free.apart
 
     -- where the tree suffices it surely takes what the run does to it
-    pub run-tree : (start : Room) (P : Type 0) → IfSome tree (λ nodes. None ≡ find (λ path. not (can_create nodes path)) (outputs_of task))
+    pub run-tree : (start : Room) (P : Type 0) → AreFree tree included (outputs_of task)
         → IfSome tree (λ nodes. TreeTakes start nodes (running job) → P) → IfSome tree (λ nodes. TreeSuffices (verdict_on nodes (Ok task)) start nodes → P)
     run-tree start P looked takes = go tree (judges_run looked) takes
       where
@@ -278,7 +306,7 @@ module _ (task : Task) (tree : Option Nodes) where
             let V : Result Work Refusal → Type 0 = λ v. TakesFor v start nodes in
             takes (subst V (sym (told_verdict nodes (Ok task) (Ok (Run job)) j)) s.takes)
 
-    pub run-sinks : (out err : ℕ) (P : Type 0) → IfSome tree (λ nodes. None ≡ find (λ path. not (can_create nodes path)) (outputs_of task))
+    pub run-sinks : (out err : ℕ) (P : Type 0) → AreFree tree included (outputs_of task)
         → (SinkTakes out (bytes_out (running job)) → SinkTakes err (bytes_err (running job)) → P) → IfSome tree (λ nodes. SinksSuffice (verdict_on nodes (Ok task)) out err → P)
     run-sinks out err P looked takes = go tree (judges_run looked)
       where
@@ -291,15 +319,15 @@ module _ (task : Task) (tree : Option Nodes) where
 
     -- where the tree suffices no fault comes before the outputs are made, or as they are made
     pub unmade-tree : (start here : Room) (P : Type 0) → Leaves start here 0 0
-        → (0 < here.files → P → IfSome tree (λ nodes. None ≡ find (λ path. not (can_create nodes path)) (outputs_of task)))
+        → (0 < here.files → P → AreFree tree included (outputs_of task))
         → (P → IfSome tree (λ nodes. TreeTakes here nodes (creating (outputs_of task)) → ⊥))
         → IfSome tree (λ nodes. TreeSuffices (verdict_on nodes (Ok task)) start nodes → P → ⊥)
     unfolding running
     unmade-tree start here P left sure takes = go tree (λ looked made. run-tree start ⊥ looked made) sure takes
       where
-        go : (t : Option Nodes) → (IfSome t (λ nodes. None ≡ find (λ path. not (can_create nodes path)) (outputs_of task)) → IfSome t (λ nodes. TreeTakes start nodes (running job) → ⊥)
+        go : (t : Option Nodes) → (AreFree t included (outputs_of task) → IfSome t (λ nodes. TreeTakes start nodes (running job) → ⊥)
             → IfSome t (λ nodes. TreeSuffices (verdict_on nodes (Ok task)) start nodes → ⊥))
-            → (0 < here.files → P → IfSome t (λ nodes. None ≡ find (λ path. not (can_create nodes path)) (outputs_of task)))
+            → (0 < here.files → P → AreFree t included (outputs_of task))
             → (P → IfSome t (λ nodes. TreeTakes here nodes (creating (outputs_of task)) → ⊥)) → IfSome t (λ nodes. TreeSuffices (verdict_on nodes (Ok task)) start nodes → P → ⊥)
         go None run sure takes = tt
         go (Some nodes) run sure takes = λ s p.
@@ -307,11 +335,11 @@ module _ (task : Task) (tree : Option Nodes) where
             (λ all. not-taken (Some nodes) start here (creating (outputs_of task)) left (takes p)
             (rw outs (takes-first start nodes (creating (outputs_in job)) (reporting job.report job.script.version (trail_of job) ++ filling_all (log_by job.debug (trail_of job))) all))) s
 
-    half_made : (new : Option Nodes) (out err : Option (List ℕ)) → HalfMade (outputs_of task) tree new → HasCut (Ok task) (world tree out err) (world new out err) TreeFault
+    half_made : (new : Option Nodes) (out err : Option (List ℕ)) → HalfMade included (outputs_of task) tree new → HasCut (Ok task) (world tree out err) (world new out err) TreeFault
     unfolding running
     half_made new out err half = record {
       found = Ok (Run job);
-      judges = judges_run half.looked;
+      judges = judges_run half.free;
       may = inl tt;
       front = inl (record {
         cut = cut-first (world tree out err) (world new out err) (creating (outputs_in job)) _ (rw (ap creating outs) at (half.cut out err));
@@ -320,10 +348,10 @@ module _ (task : Task) (tree : Option Nodes) where
     }
 
     -- the outputs were not made
-    pub unmade : (new : Option Nodes) (out err : Option (List ℕ)) (halt : Halt) → MakesOutputs (outputs_of task) tree new (Err halt)
+    pub unmade : (new : Option Nodes) (out err : Option (List ℕ)) (halt : Halt) → MakesOutputs included (outputs_of task) tree new (Err halt)
         → Performs (Ok task) (world tree out err) (world new out err) (Err halt)
     unmade new out err (Refused refusal) blocked = rw blocked.names (record {
-      judges = judges (Ok (Run job)) work (Some blocked.path) blocked.looked;
+      judges = judges_first blocked.blocked (Some blocked.path) blocked.looked blocked.first;
       same = ap (λ t. world t out err) blocked.same;
     })
     unmade new out err (Stopped TreeFault) (inl same) = inl (ap (λ t. world t out err) same)
@@ -331,7 +359,7 @@ module _ (task : Task) (tree : Option Nodes) where
     unmade new out err (Stopped NoMemory) same = inl (ap (λ t. world t out err) same)
     unmade new out err (Stopped SinkFault) none = absurd none
 
-    module _ (made : Option Nodes) (looked : IfSome tree (λ nodes. None ≡ find (λ path. not (can_create nodes path)) (outputs_of task)))
+    module _ (made : Option Nodes) (looked : AreFree tree included (outputs_of task))
         (start left : Room) (begins : TreeWasDone tree made start left (creating (outputs_of task))) (out err : Option (List ℕ)) (out_sure err_sure : ℕ) where
       abbrev entry : Around
       entry = around tree start out out_sure err err_sure
@@ -373,7 +401,7 @@ module _ (task : Task) (tree : Option Nodes) where
           cut_run NoMemory may front = inr (record { found = Ok (Run job); judges = judges_run looked; may = inl may; front = front })
 
     -- beneath a root in a tree that tells nothing no more is said
-    pub is_untold_run : IfSome tree (λ nodes. None ≡ find (λ path. not (can_create nodes path)) (outputs_of task)) → IsUntold tree (Ok (Run job)) → (before now : World) (answer : ℕ) → before.files ≡ tree
+    pub is_untold_run : AreFree tree included (outputs_of task) → IsUntold tree (Ok (Run job)) → (before now : World) (answer : ℕ) → before.files ≡ tree
         → answer ≤ 127 → HasEnded (Ok task) before now answer
     is_untold_run looked untold before now answer same small = record {
       found = Ok (Run job);
@@ -381,7 +409,7 @@ module _ (task : Task) (tree : Option Nodes) where
       has = inr (subst (λ t. IsUntold t (Ok (Run job))) (sym same) untold, small);
     }
 
-    pub is_untold_cut : IfSome tree (λ nodes. None ≡ find (λ path. not (can_create nodes path)) (outputs_of task)) → IsUntold tree (Ok (Run job)) → (before now : World) (stop : Stop) → before.files ≡ tree
+    pub is_untold_cut : AreFree tree included (outputs_of task) → IsUntold tree (Ok (Run job)) → (before now : World) (stop : Stop) → before.files ≡ tree
         → IsCut (Ok task) before now stop
     is_untold_cut looked untold before now stop same = go stop
       where
@@ -433,7 +461,7 @@ home-files (Some nodes) made task home out err at apart same is =
     inl (rw (now, at.told) (sym (ap (λ h. h.part) kept), sym (ap (λ h. h.parent) kept)))
 
 -- a machine that is ready runs the trail of its job
-module _ (tree : Option Nodes) (task : Task) (debug : Option Debugging) (machine : Machine) (ready : IsReady tree task debug machine) where
+module _ (tree : Option Nodes) (task : Task) (debug : Option Debugging) (included : List (List ℕ)) (machine : Machine) (ready : IsReady tree task debug included machine) where
   abbrev ready-job : Job
   ready-job = job_of task ready.home ready.rom machine.script debug
 
@@ -444,22 +472,22 @@ module _ (tree : Option Nodes) (task : Task) (debug : Option Debugging) (machine
   behind trail = reporting task.report machine.script.version trail ++ filling_all (log_by debug trail)
 
   module _ (outs : outputs_of task ≡ outputs_in ready-job) (told : Option Nodes) (same : told ≡ tree) (new : Option Nodes) where
-    pub ready-unmade : (out err : Option (List ℕ)) (halt : Halt) → MakesOutputs (outputs_of task) told new (Err halt) → Performs (Ok task) (world tree out err) (world new out err) (Err halt)
-    ready-unmade out err halt makes = unmade task tree ready-job ready.sees outs new out err halt (subst (λ t. MakesOutputs (outputs_of task) t new (Err halt)) same makes)
+    pub ready-unmade : (out err : Option (List ℕ)) (halt : Halt) → MakesOutputs included (outputs_of task) told new (Err halt) → Performs (Ok task) (world tree out err) (world new out err) (Err halt)
+    ready-unmade out err halt makes = unmade task tree ready-job included ready.sees outs new out err halt (subst (λ t. MakesOutputs included (outputs_of task) t new (Err halt)) same makes)
 
     pub ready-unmade-tree : (start here : Room) (P : Type 0) → Leaves start here 0 0
-        → (0 < here.files → P → IfSome told (λ nodes. None ≡ find (λ path. not (can_create nodes path)) (outputs_of task)))
+        → (0 < here.files → P → AreFree told included (outputs_of task))
         → (P → IfSome told (λ nodes. TreeTakes here nodes (creating (outputs_of task)) → ⊥))
         → IfSome tree (λ nodes. TreeSuffices (verdict_on nodes (Ok task)) start nodes → P → ⊥)
     ready-unmade-tree start here P left sure takes =
-        unmade-tree task tree ready-job ready.sees outs start here P left
-        (λ some p. subst (λ t. IfSome t (λ nodes. None ≡ find (λ path. not (can_create nodes path)) (outputs_of task))) same (sure some p))
+        unmade-tree task tree ready-job included ready.sees outs start here P left
+        (λ some p. subst (λ t. AreFree t included (outputs_of task)) same (sure some p))
         (λ p. subst (λ t. IfSome t (λ nodes. TreeTakes here nodes (creating (outputs_of task)) → ⊥)) same (takes p))
 
-    module _ (makes : Made (outputs_of task) told new) (apart : HasApartOutputs task) (root : root_by task.command task ≡ task.root) (start here left : Room) (read : Leaves start here 0 0)
+    module _ (makes : Made included (outputs_of task) told new) (apart : HasApartOutputs task) (root : root_by task.command task ≡ task.root) (start here left : Room) (read : Leaves start here 0 0)
         (takes : IfSome told (λ nodes. TreeTakes here nodes (creating (outputs_of task)) → TreeLeft here left nodes (creating (outputs_of task)))) where
-      ready-made : Made (outputs_of task) tree new
-      ready-made = subst (λ t. Made (outputs_of task) t new) same makes
+      ready-made : Made included (outputs_of task) tree new
+      ready-made = subst (λ t. Made included (outputs_of task) t new) same makes
 
       ready-begins : TreeWasDone tree new start left (creating (outputs_of task))
       ready-begins =
@@ -482,9 +510,9 @@ module _ (tree : Option Nodes) (task : Task) (debug : Option Debugging) (machine
             → HasEnded (Ok task) (world tree out err) now.world answer
         ready-run now answer small ran = elim home [
           | inl files ↦
-              is_run task tree ready-job ready.sees outs new ready-made.looked start left ready-begins out err out_sure err_sure now answer
+              is_run task tree ready-job included ready.sees outs new ready-made.free start left ready-begins out err out_sure err_sure now answer
               (subst (λ t. HasFinished from_ready now t (behind t) answer) ready-trail (ran ready.home ready.at_home.root files))
-          | inr none ↦ is_untold_run task tree ready-job ready.sees outs ready-made.looked (untold none) (world tree out err) now.world answer refl small
+          | inr none ↦ is_untold_run task tree ready-job included ready.sees outs ready-made.free (untold none) (world tree out err) now.world answer refl small
         ]
 
         memory-root : (stop : Stop) → (stop ≡ NoMemory → IsSome debug ⊎ IsSome task.root) → stop ≡ NoMemory → IsSome debug ⊎ IsSome ready.home.root
@@ -495,24 +523,24 @@ module _ (tree : Option Nodes) (task : Task) (debug : Option Debugging) (machine
             → AtHome task.root new (λ h. FellShort from_ready now (behind (trail_for task machine h)) stop) → IsCut (Ok task) (world tree out err) now.world stop
         ready-cut now stop memory names short = elim home [
           | inl files ↦
-              is_cut_run task tree ready-job ready.sees outs new ready-made.looked start left ready-begins out err out_sure err_sure now stop
+              is_cut_run task tree ready-job included ready.sees outs new ready-made.free start left ready-begins out err out_sure err_sure now stop
               (λ wanted. lists ready-job (memory-root stop memory wanted)
               (subst (λ t. IsSome debug ⊎ TakesNames t) ready-trail (names ready.home ready.at_home.root files wanted)))
               (subst (λ t. FellShort from_ready now (behind t) stop) ready-trail (short ready.home ready.at_home.root files))
-          | inr none ↦ is_untold_cut task tree ready-job ready.sees outs ready-made.looked (untold none) (world tree out err) now.world stop refl
+          | inr none ↦ is_untold_cut task tree ready-job included ready.sees outs ready-made.free (untold none) (world tree out err) now.world stop refl
         ]
 
         -- where the tree and the sinks suffice they are not to blame
         not-sure : (now : Around) (stop : Stop) → HasFiles new ready.home.root ready.home.part ready.home.parent → AtHome task.root new (λ h. FellShort from_ready now (behind (trail_for task machine h)) stop)
             → WasNotSure (blame_of stop) (sure start out_sure err_sure) tree (running ready-job)
         not-sure now stop files short =
-            (is_short task tree ready-job ready.sees outs new ready-made.looked start left ready-begins out err out_sure err_sure now stop
+            (is_short task tree ready-job included ready.sees outs new ready-made.free start left ready-begins out err out_sure err_sure now stop
             (subst (λ t. FellShort from_ready now (behind t) stop) ready-trail (short ready.home ready.at_home.root files))).not_sure
 
         pub ready-tree : (now : Around) (stop : Stop) → AtHome task.root new (λ h. FellShort from_ready now (behind (trail_for task machine h)) stop)
             → IfSome tree (λ nodes. TreeSuffices (verdict_on nodes (Ok task)) start nodes → blame_of stop ≡ TheTree → ⊥)
         ready-tree now stop short = elim home [
-          | inl files ↦ turned tree (λ blamed. run-tree task tree ready-job ready.sees outs start ⊥ ready-made.looked (subst (λ b. WasNotSure b (sure start out_sure err_sure) tree (running ready-job)) blamed (not-sure now stop files short)))
+          | inl files ↦ turned tree (λ blamed. run-tree task tree ready-job included ready.sees outs start ⊥ ready-made.free (subst (λ b. WasNotSure b (sure start out_sure err_sure) tree (running ready-job)) blamed (not-sure now stop files short)))
           | inr none ↦ rw none.0 tt
         ]
           where
@@ -524,7 +552,7 @@ module _ (tree : Option Nodes) (task : Task) (debug : Option Debugging) (machine
         pub ready-sinks : (now : Around) (stop : Stop) → AtHome task.root new (λ h. FellShort from_ready now (behind (trail_for task machine h)) stop)
             → IfSome tree (λ nodes. SinksSuffice (verdict_on nodes (Ok task)) out_sure err_sure → blame_of stop ≡ ASink → ⊥)
         ready-sinks now stop short = elim home [
-          | inl files ↦ turned tree (λ blamed. run-sinks task tree ready-job ready.sees outs out_sure err_sure ⊥ ready-made.looked (subst (λ b. WasNotSure b (sure start out_sure err_sure) tree (running ready-job)) blamed (not-sure now stop files short)))
+          | inl files ↦ turned tree (λ blamed. run-sinks task tree ready-job included ready.sees outs out_sure err_sure ⊥ ready-made.free (subst (λ b. WasNotSure b (sure start out_sure err_sure) tree (running ready-job)) blamed (not-sure now stop files short)))
           | inr none ↦ rw none.0 tt
         ]
           where
@@ -547,7 +575,7 @@ play-root task play = ap (λ c. root_by c task) play
 pub debug-root : (task : Task) → task.command ≡ Debug → root_by task.command task ≡ task.root
 debug-root task debug = ap (λ c. root_by c task) debug
 
-module _ (task : Task) (told new : Option Nodes) (makes : Made (outputs_of task) told new) (apart : HasApartOutputs task) where
+module _ (task : Task) (included : List (List ℕ)) (told new : Option Nodes) (makes : Made included (outputs_of task) told new) (apart : HasApartOutputs task) where
   output-at : root_by task.command task ≡ task.root → (path : List ℕ) → list_any (bytes_eq path) (outputs_of task) ≡ true → IsOutput task.root new path
   output-at root path among = record { file = makes.files path among; outside = rw root at (outputs-outside task path apart among) }
 

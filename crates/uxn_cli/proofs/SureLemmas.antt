@@ -7,7 +7,8 @@ use Rattle.uxn_io.specs.Changes.{makes_file, new_files, can_create, with_created
 use Rattle.uxn_io.specs.Files.{Nodes, File, bytes_at}
 use Rattle.uxn_io.specs.Outside.{Change, ToOut, ToErr, Creates, ToFile, Removes, changed_files}
 use Rattle.uxn_io.specs.Room.{Room, Leaves}
-use Rattle.uxn_io.specs.Taking.{TreeTakes, TreeLeft, makes_more, files_made, takes-later, left-both}
+use Rattle.uxn_io.specs.Taking.{TreeTakes, TreeLeft, makes_more, files_made}
+use Rattle.uxn_io.specs.TakingLaws.{takes-later, left-both}
 use Rattle.uxn_cli.specs.Outcome.{creating}
 use Rattle.uxn_cli.specs.declared.outputs.Output.{Output}
 use Rattle.uxn_cli.specs.World.{Text, with_empty, with_bytes, CanFill}

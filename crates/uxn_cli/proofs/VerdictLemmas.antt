@@ -1,6 +1,8 @@
-use Rattle.std.proofs.Common.{◌≡◌, ℕ, Bool, false, List, refl, ap, sym, ◌∙◌, subst, inl}
+use Rattle.std.proofs.Common.{◌≡◌, ℕ, Bool, false, List, [], ◌∷◌, refl, ap, sym, ◌∙◌, subst, inl}
 use Rattle.std.specs.Prelude.{Option, Some, None, Result, Ok, Err, IfSome, IfOk, IfErr, OnOk, OnErr, map}
 use Rattle.std.specs.FinMap as fin
+use Rattle.tal_include.specs.Answers.{told_reading}
+use Rattle.tal_include.specs.Splice.{Reading}
 use Rattle.tal_listing.specs.Disassembly.{disassembly}
 use Rattle.uxn_io.specs.declared.trees.FileBytes.{FileBytes}
 use Rattle.uxn_io.specs.declared.trees.FileBytes.TheVariants.{Missing as NoFile}
@@ -15,15 +17,17 @@ use Rattle.uxn_cli.specs.declared.refusal.Refusal.TheVariants.{NotUnderstood}
 use Rattle.uxn_cli.specs.declared.refusal.Halt.{Halt}
 use Rattle.uxn_cli.specs.declared.refusal.Halt.TheVariants.{Refused, Stopped}
 use Rattle.uxn_io.specs.Told.{extended, HasTakenFront}
-use Rattle.uxn_io.specs.Outside.{World, ToErr, changed_by, changed_by-err}
+use Rattle.uxn_io.specs.Outside.{World, ToErr, changed_by}
+use Rattle.uxn_io.specs.ChangeLaws.{changed_by-err}
 use Rattle.uxn_cli.proofs.ChangeLemmas.{IsCutText, printed, print-cut, line-cut}
-use Rattle.uxn_cli.specs.Lines.{status_of, line_of}
+use Rattle.uxn_cli.specs.Statuses.{status_of}
+use Rattle.uxn_cli.specs.Lines.{line_of}
 use Rattle.uxn_cli.specs.Blame.{Stops}
 use Rattle.uxn_words.specs.Words.{settings}
 use Rattle.uxn_cli.specs.World.{world}
 use Rattle.uxn_cli.specs.Request.{and_then, legal, paths_in, apart, request}
-use Rattle.uxn_cli.specs.Verdict.{View, Work, Print, rom_in, labels_in, symbols_by, symbols_seen, script_seen, commands_seen, part_seen, parent_seen, named_seen, blocked_seen, made_by, judged, verdict}
-use Rattle.uxn_cli.specs.Setup.{NamedFiles, no_files}
+use Rattle.uxn_cli.specs.Verdict.{View, Work, Print, input_file, rom_in, labels_in, symbols_by, symbols_seen, script_seen, commands_seen, part_seen, parent_seen, named_seen, blocked_seen, plain, work_of, outputs_of, first_unmade, made_by, made_for, judged, verdict}
+use Rattle.uxn_cli.specs.Setup.{InputFile, NamedFiles, no_files}
 use Rattle.uxn_cli.specs.Follows.{Follows}
 use Rattle.uxn_cli.specs.Answer.{IsViewOf, IsViewFor, IsRefused, Performs, Ends}
 
@@ -42,10 +46,14 @@ pub failed_then : {A B C : Type 0} (seen : A → B) (seen_last : A → C) (said 
 failed_then seen seen_last said next (Refused refusal) f = ap (λ s. and_then s next) f
 failed_then seen seen_last said next (Stopped stop) f = f
 
--- nothing more to do
-pub then_ok : (said : Result Work Refusal) → and_then said (made_by None) ≡ said
-then_ok (Ok work) = refl
-then_ok (Err refusal) = refl
+-- nothing more to do: no file is included, and none is blocked
+pub no_include : (outputs : List (List ℕ)) → first_unmade None [] outputs ≡ None
+no_include [] = refl
+no_include (path ∷ outputs) = no_include outputs
+
+pub then_ok : (task : Task) (said : Result Work Refusal) → and_then (plain said) (made_for task None) ≡ said
+then_ok task (Ok work) = ap (λ first. made_by first work) (no_include (outputs_of task))
+then_ok task (Err refusal) = refl
 
 -- a call that failed before anything was done: it is refused, or memory was wanting
 pub step_failed : {A : Type 0} (seen : A → Work) (asked : Result Task Refusal) (view : View) (tree new_tree : Option Nodes) (out err : Option (List ℕ)) (halt : Halt)
@@ -58,12 +66,26 @@ step_failed seen asked view tree new_tree out err (Stopped TreeFault) f is_view 
 step_failed seen asked view tree new_tree out err (Stopped NoMemory) f is_view same = inl (ap (λ t. world t out err) same)
 step_failed seen asked view tree new_tree out err (Stopped SinkFault) f is_view same = absurd cc
 
+-- what reading a file gives: what the tree tells, or nothing where it tells nothing
+abbrev pub reading_of : Option Nodes → Reading
+reading_of None = λ before path. NoFile
+reading_of (Some nodes) = told_reading nodes
+
+-- a file beside which nothing is read
+abbrev pub input_with : Option Nodes → FileBytes → InputFile
+input_with tree bytes = record { bytes = bytes; beside = reading_of tree }
+
+pub seen_with : (tree : Option Nodes) (bytes : FileBytes) (bytes_in : Nodes → FileBytes) → IfSome tree (λ nodes. bytes ≡ bytes_in nodes)
+    → IfSome tree (λ nodes. input_with tree bytes ≡ input_file nodes (bytes_in nodes))
+seen_with None bytes bytes_in seen = tt
+seen_with (Some nodes) bytes bytes_in seen = ap (input_file nodes) seen
+
 -- the words were refused, whatever the tree holds
 pub words_failed : (asked : Result Task Refusal) (tree : Option Nodes) (out err : Option (List ℕ)) (halt : Halt) → Follows (λ (task : Task). task) (Err halt) asked
     → Performs asked (world tree out err) (world tree out err) (Err halt)
 words_failed asked tree out err (Refused refusal) f = rw f (record {
   judges = record {
-    view = record { file = NoFile; symbols = NoFile; script = NoFile; commands = NoFile; part = fin.empty; parent = false; named = no_files; blocked = None };
+    view = record { file = input_with None NoFile; symbols = NoFile; script = NoFile; commands = NoFile; part = fin.empty; parent = false; named = no_files; blocked = None };
     seen = tt;
     judged = refl;
   };
@@ -109,7 +131,7 @@ unlooked (Some nodes) task = (blocked_seen nodes task, refl)
 -- the view of `dis`
 abbrev pub dis_view : (tree : Option Nodes) (task : Task) → FileBytes → FileBytes → View
 dis_view tree task file symbols = record {
-  file = file;
+  file = input_with tree file;
   symbols = symbols;
   script = (unread_script tree task).0;
   commands = (unread_commands tree task).0;
@@ -122,11 +144,14 @@ dis_view tree task file symbols = record {
 pub sees_dis : (tree : Option Nodes) (task : Task) (file symbols : FileBytes) → task.command ≡ Disassemble
     → IfSome tree (λ nodes. file ≡ whole_file (file_at nodes task.file) 65280) → IfSome tree (λ nodes. symbols ≡ symbols_by nodes task.symbols) → IsViewOf tree task (dis_view tree task file symbols)
 sees_dis None task file symbols dis found read = record { file = tt; symbols = tt; script = tt; commands = tt; part = tt; parent = tt; named = tt; blocked = tt }
-sees_dis (Some nodes) task file symbols dis found read = rw dis (record { file = found; symbols = read; script = refl; commands = refl; part = refl; parent = refl; named = refl; blocked = refl })
+sees_dis (Some nodes) task file symbols dis found read =
+    rw dis (record { file = ap (input_file nodes) found; symbols = read; script = refl; commands = refl; part = refl; parent = refl; named = refl; blocked = refl })
 
 pub judged-dis : (tree : Option Nodes) (task : Task) (file symbols : FileBytes) → task.command ≡ Disassemble
     → judged task (dis_view tree task file symbols) ≡ and_then (rom_in task.file file) (λ rom. and_then (labels_in task.symbols symbols) (λ labels. Ok (Print (disassembly rom labels))))
-judged-dis tree task file symbols dis = rw dis (then_ok (and_then (rom_in task.file file) (λ rom. and_then (labels_in task.symbols symbols) (λ labels. Ok (Print (disassembly rom labels))))))
+judged-dis tree task file symbols dis =
+    ap (λ c. and_then (work_of c task (dis_view tree task file symbols)) (made_for task None)) dis
+    ∙ then_ok task (and_then (rom_in task.file file) (λ rom. and_then (labels_in task.symbols symbols) (λ labels. Ok (Print (disassembly rom labels)))))
 
 -- a text that was printed, or was not
 pub print_done : (asked : Result Task Refusal) (view : View) (text : List ℕ) (tree new_tree : Option Nodes) (out err new_out : Option (List ℕ)) (result : Result ℕ Halt)

@@ -9,8 +9,8 @@ use Rattle.uxn_words.specs.declared.words.Command.TheVariants.{Generate}
 use Rattle.uxn_words.specs.declared.task.Task.{Task}
 use Rattle.uxn_cli.specs.declared.running.Ended.{Ended}
 use Rattle.uxn_cli.specs.Answer.{IsViewOf}
-use Rattle.uxn_cli.specs.Verdict.{and_then, View, Print, summary_in, judged}
-use Rattle.uxn_cli.proofs.VerdictLemmas.{then_ok, unread_script, unread_commands, unseen_part, unseen_parent, unread_named}
+use Rattle.uxn_cli.specs.Verdict.{and_then, View, Print, summary_in, work_of, made_for, judged}
+use Rattle.uxn_cli.proofs.VerdictLemmas.{then_ok, input_with, unread_script, unread_commands, unseen_part, unseen_parent, unread_named}
 use Rattle.uxn_cli.specs.Job.{exit_in}
 use Rattle.uxn_cli.specs.Ended.{told_by_run}
 use Rattle.uxn_cli.specs.Workload.{empty_world, console_of, told_of}
@@ -32,7 +32,7 @@ same-told source rom console ended trail exit tally is = rw (exit, tally, is) re
 -- a workload looks at nothing, whatever the tree holds
 abbrev pub own_view : (tree : Option Nodes) (task : Task) → View
 own_view tree task = record {
-  file = NoFile;
+  file = input_with tree NoFile;
   symbols = NoFile;
   script = (unread_script tree task).0;
   commands = (unread_commands tree task).0;
@@ -49,4 +49,5 @@ sees_own (Some nodes) task own =
 
 pub judged-own : (tree : Option Nodes) (task : Task) → task.command ≡ Generate
     → judged task (own_view tree task) ≡ and_then (summary_in task.count) (λ text. Ok (Print text))
-judged-own tree task own = rw own (then_ok (and_then (summary_in task.count) (λ text. Ok (Print text))))
+judged-own tree task own =
+    ap (λ c. and_then (work_of c task (own_view tree task)) (made_for task None)) own ∙ then_ok task (and_then (summary_in task.count) (λ text. Ok (Print text)))

@@ -9,7 +9,7 @@ use Rattle.uxn_words.specs.declared.task.Task.{Task}
 use Rattle.uxn_cli.specs.declared.refusal.Refusal.{Refusal}
 use Rattle.uxn_cli.specs.declared.refusal.Halt.{Halt}
 use Rattle.uxn_cli.specs.declared.refusal.Halt.TheVariants.{Refused, Stopped}
-use Rattle.uxn_cli.specs.Blame.{early_status}
+use Rattle.uxn_cli.specs.Statuses.{early_status}
 use Rattle.uxn_cli.specs.Verdict.{View, Work, Run, Write, Print, RunLine, verdict}
 use Rattle.uxn_cli.specs.Verdict.{file_seen, symbols_seen, script_seen, commands_seen, part_seen, parent_seen, named_seen, blocked_seen}
 use Rattle.uxn_cli.specs.Outcome.{Outcome, outcome_of}

@@ -4,6 +4,9 @@ use Rattle.uxn_io.specs.Told.{HasTakenFront}
 use Rattle.uxn_io.specs.Faults.{Blame, Nobody, TheTree, ASink}
 use Rattle.uxn_io.specs.declared.trees.ReadStop.{ReadStop}
 use Rattle.uxn_io.specs.declared.trees.ReadStop.TheVariants.{Failed, NoMemory as WantsMemory}
+use Rattle.tal_sources.specs.declared.fault.SourceStop.{SourceStop}
+use Rattle.tal_sources.specs.declared.fault.SourceStop.TheVariants.{Refused as BadSource, TreeFault as SourceTree, NoMemory as SourceMemory}
+use Rattle.uxn_cli.specs.declared.refusal.Refusal.TheVariants.{Faulty}
 use Rattle.uxn_opcodes.specs.declared.Stop.{Stop}
 use Rattle.uxn_opcodes.specs.declared.Stop.TheVariants.{TreeFault, SinkFault, NoMemory}
 use Rattle.uxn_cli.specs.declared.refusal.Halt.{Halt}
@@ -35,15 +38,16 @@ OnRefused (Ok value) P = Unit {0}
 OnRefused (Err (Refused refusal)) P = P
 OnRefused (Err (Stopped stop)) P = Unit {0}
 
-abbrev pub early_status : Stop → ℕ
-early_status TreeFault = 136
-early_status SinkFault = 137
-early_status NoMemory = 138
-
 -- a file that was not read
 abbrev pub halt_of_read : ReadStop → Halt
 halt_of_read Failed = Stopped TreeFault
 halt_of_read WantsMemory = Stopped NoMemory
+
+-- a source that was not assembled
+abbrev pub halt_of_source : SourceStop → Halt
+halt_of_source (BadSource fault) = Refused (Faulty fault)
+halt_of_source SourceTree = Stopped TreeFault
+halt_of_source SourceMemory = Stopped NoMemory
 
 -- a line that was not put: a sink failed, and has a front of it; or memory was wanting, and nothing was put
 abbrev pub Stops : Option (List ℕ) → Option (List ℕ) → List ℕ → Stop → Type 0

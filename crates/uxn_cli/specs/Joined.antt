@@ -1,9 +1,8 @@
 -- What a line has before it begins: the ROM of each machine, and the script of the first one.
-use Rattle.std.specs.Prelude.{◌≡◌, ◌≢◌, ℕ, ◌<◌, ◌≤◌, List, map, length, Option, Result, Ok, Err, IfSome}
+use Rattle.std.specs.Prelude.{◌≡◌, ◌≢◌, ℕ, ◌<◌, ◌≤◌, List, [], map, length, Option, Result, Ok, Err, IfSome}
 use Rattle.std.specs.List.{All}
 use Rattle.std.specs.Global.{Vec}
 use Rattle.uxn_io.specs.ByteList.{ByteList}
-use Rattle.uxn_io.specs.declared.trees.FileBytes.{FileBytes}
 use Rattle.uxn_io.specs.Files.{Nodes}
 use Rattle.uxn_io.specs.Told.{extended, HasTakenFront}
 use Rattle.uxn_memory.specs.Bytes.{largest_rom}
@@ -17,14 +16,14 @@ use Rattle.uxn_cli.specs.declared.refusal.Refusal.{Refusal}
 use Rattle.uxn_cli.specs.declared.refusal.Halt.{Halt}
 use Rattle.uxn_cli.specs.declared.refusal.Halt.TheVariants.{Refused, Stopped}
 use Rattle.uxn_cli.specs.declared.joining.Joined.{Joined}
-use Rattle.uxn_cli.specs.Setup.{line_job}
-use Rattle.uxn_cli.specs.Verdict.{RunLine, source_at, roms_in}
+use Rattle.uxn_cli.specs.Setup.{InputFile, line_job}
+use Rattle.uxn_cli.specs.Verdict.{RunLine, planned, source_at, roms_in}
 use Rattle.uxn_cli.specs.Outcome.{line_bytes, line_exit}
 use Rattle.uxn_cli.specs.Prepared.{SeesWork, Unready}
 
 -- what was seen of the sources of machines, and the ROMs that they are assembled to
 pub record SeesAll (tree : Option Nodes) (paths : List (List ℕ)) (says : Result (List (List ℕ)) Refusal) : Type 0 where
-  pub files : List FileBytes
+  pub files : List InputFile
   pub seen : IfSome tree (λ nodes. files ≡ map (source_at nodes) paths)
   pub said_so : roms_in paths files ≡ says
 
@@ -49,7 +48,7 @@ job_of_joined joined = line_job joined.setup (bytes_in joined.roms.items) joined
 pub record IsJoined (tree : Option Nodes) (task : Task) (joined : Joined) : Type 0 where
   pub machines : AreMachines joined.setup.sources joined.roms.items
   pub events : AreOfConsole joined.script.events
-  pub sees : SeesWork tree task (Ok (RunLine (job_of_joined joined)))
+  pub sees : SeesWork tree task (Ok (planned (RunLine (job_of_joined joined)) []))
 
 abbrev pub JoinsUp : Option Nodes → Task → Result Joined Halt → Type 0
 JoinsUp tree task (Ok joined) = IsJoined tree task joined

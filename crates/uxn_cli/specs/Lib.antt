@@ -1,4 +1,5 @@
 pub mod Lines
+pub mod Statuses
 pub mod World
 pub mod Outputs
 pub mod Request

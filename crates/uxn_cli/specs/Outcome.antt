@@ -3,7 +3,8 @@ use Rattle.std.specs.Prelude.{ℕ, List, ◌++◌, map, Option, Result, Ok, Err}
 use Rattle.std.specs.List.{flat_map}
 use Rattle.uxn_io.specs.Outside.{Change, ToOut, ToErr, Creates, ToFile}
 use Rattle.uxn_cli.specs.declared.refusal.Refusal.{Refusal}
-use Rattle.uxn_cli.specs.Lines.{status_of, line_of}
+use Rattle.uxn_cli.specs.Statuses.{status_of}
+use Rattle.uxn_cli.specs.Lines.{line_of}
 use Rattle.uxn_cli.specs.World.{Text}
 use Rattle.vector_loop.specs.Trail.{Trail}
 use Rattle.play_script.specs.declared.script.Version.{Version}

@@ -1,9 +1,8 @@
 -- What a run has before it begins: the inputs that were seen, and a new machine.
-use Rattle.std.specs.Prelude.{◌≡◌, ◌≢◌, ◌⊎◌, ℕ, Bool, true, not, find, unwrap_or, option_map, List, [], ◌++◌}
+use Rattle.std.specs.Prelude.{◌≡◌, ◌≢◌, ◌⊎◌, ℕ, Bool, true, not, find, unwrap_or, option_map, List, ◌++◌}
 use Rattle.std.specs.Prelude.{Option, None, Some, Result, Ok, Err, IfSome}
 use Rattle.std.specs.List.{list_any}
 use Rattle.std.specs.Str.{bytes_eq}
-use Rattle.uxn_io.specs.declared.trees.FileBytes.{FileBytes}
 use Rattle.uxn_io.specs.Files.{Nodes}
 use Rattle.uxn_io.specs.Outside.{Change, World, changed_by, IsCutOff}
 use Rattle.uxn_io.specs.Room.{Room}
@@ -13,6 +12,8 @@ use Rattle.uxn_opcodes.specs.declared.Core.{Core}
 use Rattle.uxn_opcodes.specs.declared.Stop.{Stop}
 use Rattle.uxn_opcodes.specs.declared.Stop.TheVariants.{TreeFault, SinkFault, NoMemory}
 use Rattle.uxn_opcodes.specs.Rule.{new_core}
+use Rattle.tal_sources.specs.Answers.{SourceView}
+use Rattle.tal_sources.specs.Sources.{Sourced}
 use Rattle.tal_words.specs.declared.name.Label.{Label}
 use Rattle.play_script.specs.Scripts.{ScriptView}
 use Rattle.varvara_bus.specs.State.{StandFor, HasFiles, new_state}
@@ -27,55 +28,47 @@ use Rattle.uxn_words.specs.declared.task.Task.{Task}
 use Rattle.uxn_cli.specs.declared.program.Program.{Program}
 use Rattle.uxn_cli.specs.declared.program.Program.TheVariants.{Rom, Source}
 use Rattle.uxn_cli.specs.declared.machine.Machine.{Machine}
+use Rattle.uxn_cli.specs.declared.playing.Prepared.{Prepared}
 use Rattle.uxn_cli.specs.declared.debugging.Session.{Session}
 use Rattle.uxn_cli.specs.declared.running.Ended.{Ended}
 use Rattle.uxn_cli.specs.declared.refusal.Refusal.{Refusal}
 use Rattle.uxn_cli.specs.declared.refusal.Refusal.TheVariants.{NoOutput}
 use Rattle.uxn_cli.specs.declared.refusal.Halt.{Halt}
 use Rattle.uxn_cli.specs.declared.refusal.Halt.TheVariants.{Refused, Stopped}
-use Rattle.uxn_cli.specs.Verdict.{View, Work, Run, file_seen, symbols_seen, script_seen, commands_seen, part_seen, parent_seen, named_seen}
-use Rattle.uxn_cli.specs.Verdict.{program_in, own_labels, debugging, job_of, work_of}
+use Rattle.uxn_cli.specs.Verdict.{View, Run, file_seen, symbols_seen, script_seen, commands_seen, part_seen, parent_seen, named_seen}
+use Rattle.uxn_cli.specs.Verdict.{Loaded, loaded_rom, program_in, debugging, job_of, Plan, planned, work_of, first_unmade}
 use Rattle.uxn_cli.specs.World.{world}
 use Rattle.uxn_cli.specs.Job.{Debugging, Home, no_home, home_in, clock_by, outputs_by, trail_by, exit_in, log_by}
 use Rattle.uxn_cli.specs.Outcome.{creating, filling_all, reporting}
 use Rattle.uxn_cli.specs.Blame.{blame_of}
 
 -- what was seen of an input, and what it says
-pub record Sees {A : Type 0} (tree : Option Nodes) (seen_in : Nodes → FileBytes) (said : FileBytes → Result A Refusal)
+pub record Sees {S A : Type 0} (tree : Option Nodes) (seen_in : Nodes → S) (said : S → Result A Refusal)
     (says : Result A Refusal) : Type 0 where
-  pub file : FileBytes
+  pub file : S
   pub seen : IfSome tree (λ nodes. file ≡ seen_in nodes)
   pub said_so : said file ≡ says
 
 -- an input that is accepted, and what it is accepted as; or why it is not
-abbrev pub Accepts : {A B : Type 0} → (B → A) → Option Nodes → (Nodes → FileBytes) → (FileBytes → Result A Refusal) → Result B Halt → Type 0
+abbrev pub Accepts : {S A B : Type 0} → (B → A) → Option Nodes → (Nodes → S) → (S → Result A Refusal) → Result B Halt → Type 0
 Accepts view tree seen_in said (Ok value) = Sees tree seen_in said (Ok (view value))
 Accepts view tree seen_in said (Err (Refused refusal)) = Sees tree seen_in said (Err refusal)
 Accepts view tree seen_in said (Err (Stopped stop)) = stop ≢ SinkFault
 
--- a program's ROM, and the labels of its source
-abbrev pub rom_in_program : Program → List ℕ
-rom_in_program (Rom rom) = rom.list
-rom_in_program (Source accepted) = accepted.assembly.rom
+-- a source that was read: the text that is assembled, and the paths of the files that it includes
+abbrev pub sourced_by : SourceView → Sourced
+sourced_by source = record { text = source.text; paths = source.paths }
 
-abbrev pub labels_in_program : Program → List Label
-labels_in_program (Rom rom) = []
-labels_in_program (Source accepted) = accepted.assembly.labels
-
--- a program that was loaded has the labels of its source
-pub record LoadsProgram (tree : Option Nodes) (task : Task) (program : Program) : Type 0 where
-  pub file : FileBytes
-  pub seen : IfSome tree (λ nodes. file ≡ file_seen nodes task)
-  pub rom : program_in task.rom task.file file ≡ Ok (rom_in_program program)
-  pub labels : labels_in_program program ≡ own_labels task.rom file
+-- a program that was loaded
+abbrev pub loaded_by : Program → Loaded
+loaded_by (Rom rom) = loaded_rom rom.list
+loaded_by (Source source) = record { rom = source.assembly.rom; labels = source.assembly.labels; included = source.paths }
 
 abbrev pub Loads : Option Nodes → Task → Result Program Halt → Type 0
-Loads tree task (Ok program) = LoadsProgram tree task program
-Loads tree task (Err (Refused refusal)) = Sees tree (λ nodes. file_seen nodes task) (program_in task.rom task.file) (Err refusal)
-Loads tree task (Err (Stopped stop)) = stop ≢ SinkFault
+Loads tree task result = Accepts loaded_by tree (λ nodes. file_seen nodes task) (program_in task.rom task.file) result
 
 -- what was seen of all inputs, and the work that they ask for; the outputs are not looked at yet
-pub record SeesWork (tree : Option Nodes) (task : Task) (said : Result Work Refusal) : Type 0 where
+pub record SeesWork (tree : Option Nodes) (task : Task) (said : Result Plan Refusal) : Type 0 where
   pub view : View
   pub file : IfSome tree (λ nodes. view.file ≡ file_seen nodes task)
   pub symbols : IfSome tree (λ nodes. view.symbols ≡ symbols_seen nodes task)
@@ -96,33 +89,35 @@ pub record IsHomeOf (tree : Option Nodes) (task : Task) (home : Home) : Type 0 w
   pub told : IfSome tree (λ nodes. home ≡ home_in task.root nodes)
   pub none : task.root ≡ None → home ≡ no_home
 
--- a machine that is ready: it is new, with the ROM, the script and the root that are asked for
-pub record IsReady (tree : Option Nodes) (task : Task) (debug : Option Debugging) (machine : Machine) : Type 0 where
+-- a machine that is ready: it is new, with the ROM, the script and the root that are asked for, out of a source that includes files
+pub record IsReady (tree : Option Nodes) (task : Task) (debug : Option Debugging) (included : List (List ℕ)) (machine : Machine)
+    : Type 0 where
   pub rom : List ℕ
   pub home : Home
   pub core : machine.core ≡ new_core rom
   pub devices : AreNew machine.devices machine.script task.root
   pub at_home : IsHomeOf tree task home
-  pub sees : SeesWork tree task (Ok (Run (job_of task home rom machine.script debug)))
+  pub sees : SeesWork tree task (Ok (planned (Run (job_of task home rom machine.script debug)) included))
 
 -- why there is none
 abbrev pub Unready : Option Nodes → Task → Halt → Type 0
 Unready tree task (Refused refusal) = SeesWork tree task (Err refusal)
 Unready tree task (Stopped stop) = stop ≢ SinkFault
 
-abbrev pub PreparesPlay : Option Nodes → Task → Result Machine Halt → Type 0
-PreparesPlay tree task (Ok machine) = IsReady tree task None machine
+abbrev pub PreparesPlay : Option Nodes → Task → Result Prepared Halt → Type 0
+PreparesPlay tree task (Ok prepared) = IsReady tree task None (loaded_by prepared.program).included prepared.machine
 PreparesPlay tree task (Err halt) = Unready tree task halt
 
 -- the labels of a session, and what its debugger does
 abbrev pub labels_in_session : Session → List Label
-labels_in_session session = unwrap_or (option_map (λ given. given.items) session.given) (labels_in_program session.program)
+labels_in_session session = unwrap_or (option_map (λ given. given.items) session.given) (loaded_by session.program).labels
 
 abbrev pub debugging_of : Task → Session → Debugging
 debugging_of task session = debugging task session.commands.items (labels_in_session session)
 
 abbrev pub PreparesDebug : Option Nodes → Task → Result Session Halt → Type 0
-PreparesDebug tree task (Ok session) = IsReady tree task (Some (debugging_of task session)) session.machine
+PreparesDebug tree task (Ok session) =
+    IsReady tree task (Some (debugging_of task session)) (loaded_by session.program).included session.machine
 PreparesDebug tree task (Err halt) = Unready tree task halt
 
 -- what a call can see and change, and what is sure of it
@@ -154,30 +149,37 @@ TreeFellShort tree now room left changes =
     (out err : Option (List ℕ)) (out_sure err_sure : ℕ)
     → FellShort (around tree room out out_sure err err_sure) (around now left out out_sure err err_sure) changes TreeFault
 
--- outputs that were made, and all of them are files now
-pub record Made (paths : List (List ℕ)) (tree now : Option Nodes) : Type 0 where
+-- each output can be made, as a tree tells it, and is no included file
+pub record AreFree (tree : Option Nodes) (included paths : List (List ℕ)) : Type 0 where
   pub looked : IfSome tree (λ nodes. None ≡ find (λ path. not (can_create nodes path)) paths)
+  pub apart : first_unmade None included paths ≡ None
+
+-- outputs that were made, and all of them are files now
+pub record Made (included paths : List (List ℕ)) (tree now : Option Nodes) : Type 0 where
+  pub free : AreFree tree included paths
   pub made : (out err : Option (List ℕ)) → world now out err ≡ changed_by (world tree out err) (creating paths)
   pub files : (path : List ℕ) → list_any (bytes_eq path) paths ≡ true → IsFileWhereTold now path
 
 -- some of them were made
-pub record HalfMade (paths : List (List ℕ)) (tree now : Option Nodes) : Type 0 where
-  pub looked : IfSome tree (λ nodes. None ≡ find (λ path. not (can_create nodes path)) paths)
+pub record HalfMade (included paths : List (List ℕ)) (tree now : Option Nodes) : Type 0 where
+  pub free : AreFree tree included paths
   pub cut : (out err : Option (List ℕ)) → IsCutOff (world tree out err) (world now out err) (creating paths)
 
--- the first that cannot be made
-pub record Blocked (paths : List (List ℕ)) (tree now : Option Nodes) (refusal : Refusal) : Type 0 where
+-- the first that cannot be made, or is an included file
+pub record Blocked (included paths : List (List ℕ)) (tree now : Option Nodes) (refusal : Refusal) : Type 0 where
   pub path : List ℕ
   pub names : refusal ≡ NoOutput path
-  pub looked : IfSome tree (λ nodes. Some path ≡ find (λ p. not (can_create nodes p)) paths)
+  pub blocked : Option (List ℕ)
+  pub looked : IfSome tree (λ nodes. blocked ≡ find (λ p. not (can_create nodes p)) paths)
+  pub first : first_unmade blocked included paths ≡ Some path
   pub same : now ≡ tree
 
-abbrev pub MakesOutputs : List (List ℕ) → Option Nodes → Option Nodes → Result (Unit {0}) Halt → Type 0
-MakesOutputs paths tree now (Ok _) = Made paths tree now
-MakesOutputs paths tree now (Err (Refused refusal)) = Blocked paths tree now refusal
-MakesOutputs paths tree now (Err (Stopped TreeFault)) = (now ≡ tree) ⊎ HalfMade paths tree now
-MakesOutputs paths tree now (Err (Stopped NoMemory)) = now ≡ tree
-MakesOutputs paths tree now (Err (Stopped SinkFault)) = ⊥
+abbrev pub MakesOutputs : List (List ℕ) → List (List ℕ) → Option Nodes → Option Nodes → Result (Unit {0}) Halt → Type 0
+MakesOutputs included paths tree now (Ok _) = Made included paths tree now
+MakesOutputs included paths tree now (Err (Refused refusal)) = Blocked included paths tree now refusal
+MakesOutputs included paths tree now (Err (Stopped TreeFault)) = (now ≡ tree) ⊎ HalfMade included paths tree now
+MakesOutputs included paths tree now (Err (Stopped NoMemory)) = now ≡ tree
+MakesOutputs included paths tree now (Err (Stopped SinkFault)) = ⊥
 
 -- all of a run was done
 pub record HasRun (before now : Around) (trail : Trail) (ended : Ended) : Type 0 where
@@ -213,7 +215,8 @@ reporting_for task machine home = reporting task.report machine.script.version (
 
 abbrev pub debugging_for : Task → Session → Home → List Change
 debugging_for task session home =
-    reporting_for task session.machine home ++ filling_all (log_by (Some (debugging_of task session)) (trail_for task session.machine home))
+    reporting_for task session.machine home
+    ++ filling_all (log_by (Some (debugging_of task session)) (trail_for task session.machine home))
 
 -- a run was done with all that is behind it, and its exit code is the status
 pub record HasFinished (before now : Around) (trail : Trail) (changes : List Change) (answer : ℕ) : Type 0 where

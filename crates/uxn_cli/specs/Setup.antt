@@ -5,6 +5,7 @@ use Rattle.std.specs.Option.{unwrap_or}
 use Rattle.play_script.specs.declared.script.Event.{Event}
 use Rattle.play_script.specs.declared.script.Event.TheVariants.{Input, EndInput}
 use Rattle.play_script.specs.Scripts.{ScriptView}
+use Rattle.tal_include.specs.Splice.{Reading}
 use Rattle.uxn_io.specs.declared.trees.FileBytes.{FileBytes}
 use Rattle.uxn_io.specs.declared.trees.FileBytes.TheVariants.{Found, Missing as NoFile, TooLong}
 use Rattle.uxn_line.specs.declared.setup.SetupKind.{SetupKind}
@@ -14,9 +15,14 @@ use Rattle.uxn_line.specs.Streams.{Job as LineJob}
 use Rattle.uxn_cli.specs.declared.refusal.Refusal.{Refusal}
 use Rattle.uxn_cli.specs.declared.refusal.Refusal.TheVariants.{Missing, BadSetup, OtherEvents}
 
+-- a file that was seen, and what reading each file beside it gives that it may include
+pub record InputFile : Type 0 where
+  pub bytes : FileBytes
+  pub beside : Reading
+
 -- the files that a setup names: the source of each machine, and the script
 pub record NamedFiles : Type 0 where
-  pub sources : List FileBytes
+  pub sources : List InputFile
   pub script : FileBytes
 
 abbrev pub no_files : NamedFiles

@@ -1,11 +1,18 @@
 -- What the words and the view of the tree determine before anything is done: a refusal, or the work.
 use Rattle.std.specs.Prelude.{ℕ, Bool, true, false, not, List, [], ◌∷◌, ◌++◌, map, codes}
 use Rattle.std.specs.Prelude.{find, Option, Some, None, Result, Ok, Err}
-use Rattle.std.specs.Prelude.{if◌then◌else◌, unwrap_or}
-use Rattle.tal_words.specs.declared.fault.Fault.{Fault}
-use Rattle.tal_words.specs.Faults.{fault_text}
+use Rattle.std.specs.Prelude.{if◌then◌else◌, unwrap_or, option_to_list}
+use Rattle.std.specs.List.{list_any}
+use Rattle.std.specs.Str.{bytes_eq}
 use Rattle.tal_words.specs.declared.name.Label.{Label}
-use Rattle.tal_rom.specs.Assembly.{first_fault, rom_of, layout, long_source}
+use Rattle.tal_include.specs.Answers.{told_reading}
+use Rattle.tal_include.specs.Splice.{Reading}
+use Rattle.tal_include.specs.declared.faults.IncludeKind.TheVariants.{Words}
+use Rattle.tal_rom.specs.Assembly.{first_fault, rom_of, layout}
+use Rattle.tal_sources.specs.declared.fault.SourceFault.{SourceFault}
+use Rattle.tal_sources.specs.Sources.{Sourced, own_by, sourced}
+use Rattle.tal_words.specs.declared.fault.FaultKind.TheVariants.{LongSource}
+use Rattle.uxn_io.specs.ByteList.{tight}
 use Rattle.tal_rom.specs.Program.{Program}
 use Rattle.tal_symbols.specs.declared.stop.SymbolKind.TheVariants.{Long}
 use Rattle.tal_symbols.specs.Reading.{Refusal as BadEntry, symbols_in}
@@ -22,7 +29,6 @@ use Rattle.uxn_debugger.specs.Reading.{commands_of_text}
 use Rattle.file_ports.specs.RootPart.{below, parent_is_folder}
 use Rattle.uxn_io.specs.declared.trees.FileBytes.{FileBytes}
 use Rattle.uxn_io.specs.declared.trees.FileBytes.TheVariants.{Found, Missing as NoFile, TooLong}
-use Rattle.uxn_io.specs.ByteList.{tight}
 use Rattle.uxn_io.specs.Changes.{can_create}
 use Rattle.uxn_io.specs.Files.{Nodes, file_at}
 use Rattle.uxn_io.specs.WholeFile.{whole_file}
@@ -36,17 +42,17 @@ use Rattle.uxn_cli.specs.declared.refusal.Refusal.TheVariants.{NoOutput, Missing
 use Rattle.uxn_cli.specs.Job.{Debugging, Job, Home, no_home, text_at}
 use Rattle.uxn_line.specs.Setups.{SetupView}
 use Rattle.uxn_line.specs.Streams.{Job as LineJob}
-use Rattle.uxn_cli.specs.Setup.{NamedFiles, no_files, setup_in, console_script, line_job}
+use Rattle.uxn_cli.specs.Setup.{InputFile, NamedFiles, no_files, setup_in, console_script, line_job}
 use Rattle.uxn_workload.specs.Source.{source_of}
 use Rattle.uxn_cli.specs.World.{Text}
 use Rattle.uxn_cli.specs.Workload.{workload_text}
 pub use Rattle.uxn_cli.specs.Request.{and_then}
 pub use Rattle.uxn_words.specs.Places.{inputs_by, outputs_by, outputs_of, root_by, clashes, HasApartOutputs}
 
--- what the tree shows a task: its file, its file of symbols, its script, its commands, what lies beneath its root and whether the
--- root's parent is a folder, the files that its setup names, and the first output that cannot be made
+-- what the tree shows a task: its file, with those that it may include, its file of symbols, its script, its commands, what lies
+-- beneath its root and whether the root's parent is a folder, the files that its setup names, and the first output that cannot be made
 pub record View : Type 0 where
-  pub file : FileBytes
+  pub file : InputFile
   pub symbols : FileBytes
   pub script : FileBytes
   pub commands : FileBytes
@@ -81,8 +87,12 @@ abbrev pub input_by : Nodes → Option (List ℕ) → ℕ → FileBytes
 input_by nodes None limit = NoFile
 input_by nodes (Some path) limit = whole_file (file_at nodes path) limit
 
-abbrev pub file_seen : Nodes → Task → FileBytes
-file_seen nodes task = input_by nodes (file_input task.command task) (file_limit task)
+-- a file in a tree, in which those stand that it may include
+abbrev pub input_file : Nodes → FileBytes → InputFile
+input_file nodes bytes = record { bytes = bytes; beside = told_reading nodes }
+
+abbrev pub file_seen : Nodes → Task → InputFile
+file_seen nodes task = input_file nodes (input_by nodes (file_input task.command task) (file_limit task))
 
 -- the file of symbols, where it is an input
 abbrev pub symbols_by : Nodes → Option (List ℕ) → FileBytes
@@ -120,8 +130,8 @@ abbrev pub parent_seen : Nodes → Task → Bool
 parent_seen nodes task = parent_is_folder (root_by task.command task) nodes
 
 -- the source of each machine that a setup gives, and its script; other commands have no setup
-abbrev pub source_at : Nodes → List ℕ → FileBytes
-source_at nodes path = whole_file (file_at nodes path) 4194304
+abbrev pub source_at : Nodes → List ℕ → InputFile
+source_at nodes path = input_file nodes (whole_file (file_at nodes path) 4194304)
 
 abbrev pub named_by : Nodes → Result SetupView Refusal → NamedFiles
 named_by nodes (Ok setup) = record { sources = map (source_at nodes) setup.sources; script = script_by nodes setup.script }
@@ -133,7 +143,7 @@ named_in Debug nodes task = no_files
 named_in Assemble nodes task = no_files
 named_in Disassemble nodes task = no_files
 named_in Generate nodes task = no_files
-named_in Line nodes task = named_by nodes (setup_in task.file (file_seen nodes task))
+named_in Line nodes task = named_by nodes (setup_in task.file (file_seen nodes task).bytes)
 
 abbrev pub named_seen : Nodes → Task → NamedFiles
 named_seen nodes task = named_in task.command nodes task
@@ -153,15 +163,23 @@ view_of nodes task = record {
   blocked = blocked_seen nodes task;
 }
 
--- a source that is there (130) and has no fault (131); one that is too long is refused at its first word, as the empty word
-abbrev pub source_by : List ℕ → Option Fault → Result (List ℕ) Refusal
-source_by source None = Ok source
-source_by source (Some fault) = Err (Faulty fault (tight (fault_text source fault)))
+-- a source that is too long has its fault at its first word, as the empty word
+abbrev pub too_long : SourceFault
+too_long = record { file = None; line = 1; column = 1; kind = Words LongSource; word = tight [] }
 
-abbrev pub source_in : List ℕ → FileBytes → Result (List ℕ) Refusal
-source_in path NoFile = Err (Missing path)
-source_in path (TooLong length) = Err (Faulty long_source (tight []))
-source_in path (Found source) = source_by source.list (first_fault source.list)
+-- a source that is there (130) and has no fault, nor has a file that it includes (131): the text that is assembled, and the paths of
+-- the files that it includes
+abbrev pub source_by : Result Sourced SourceFault → Result Sourced Refusal
+source_by (Ok source) = Ok source
+source_by (Err fault) = Err (Faulty fault)
+
+abbrev pub source_from : List ℕ → Reading → FileBytes → Result Sourced Refusal
+source_from path beside NoFile = Err (Missing path)
+source_from path beside (TooLong length) = Err (Faulty too_long)
+source_from path beside (Found source) = source_by (sourced beside path source.list)
+
+abbrev pub source_in : List ℕ → InputFile → Result Sourced Refusal
+source_in path file = source_from path file.beside file.bytes
 
 -- a ROM that is there (130) and not too long (134)
 abbrev pub rom_in : List ℕ → FileBytes → Result (List ℕ) Refusal
@@ -183,10 +201,23 @@ abbrev pub labels_in : Option (List ℕ) → FileBytes → Result (List Label) R
 labels_in None file = Ok []
 labels_in (Some path) file = labels_at path file
 
+-- what is run: the ROM, the labels of its source and the files that this includes
+pub record Loaded : Type 0 where
+  pub rom : List ℕ
+  pub labels : List Label
+  pub included : List (List ℕ)
+
+-- a ROM file has neither labels nor a source
+abbrev pub loaded_rom : List ℕ → Loaded
+loaded_rom rom = record { rom = rom; labels = []; included = [] }
+
+abbrev pub loaded_source : Sourced → Loaded
+loaded_source source = record { rom = rom_of source.text; labels = (layout source.text).labels; included = source.paths }
+
 -- the ROM that a file holds, or that of the source in it
-abbrev pub program_in : Bool → List ℕ → FileBytes → Result (List ℕ) Refusal
-program_in true path file = rom_in path file
-program_in false path file = and_then (source_in path file) (λ source. Ok (rom_of source))
+abbrev pub program_in : Bool → List ℕ → InputFile → Result Loaded Refusal
+program_in true path file = and_then (rom_in path file.bytes) (λ rom. Ok (loaded_rom rom))
+program_in false path file = and_then (source_in path file) (λ source. Ok (loaded_source source))
 
 -- a source's ROM, symbols and listing
 abbrev pub program_of : List ℕ → Program
@@ -211,19 +242,14 @@ abbrev pub script_in : Option (List ℕ) → FileBytes → Result ScriptView Ref
 script_in None file = script_from (script_of [])
 script_in (Some path) file = script_at path file
 
--- the labels of the source in a file
-abbrev pub own_labels : Bool → FileBytes → List Label
-own_labels false (Found source) = (layout source.list).labels
-own_labels _ _ = []
-
 -- the labels of a symbol file, where one is given
 abbrev pub given_in : Option (List ℕ) → FileBytes → Result (Option (List Label)) Refusal
 given_in None file = Ok None
 given_in (Some path) file = and_then (labels_at path file) (λ labels. Ok (Some labels))
 
 -- the labels of a debugger: those, else those of the source
-abbrev pub debug_labels : Option (List Label) → Bool → FileBytes → List Label
-debug_labels given rom file = unwrap_or given (own_labels rom file)
+abbrev pub debug_labels : Option (List Label) → Loaded → List Label
+debug_labels given program = unwrap_or given program.labels
 
 -- the commands in a file that is there (130) and not refused (133)
 abbrev pub commands_from : Result (List DebugCommand) (ℕ × CommandKind) → Result (List DebugCommand) Refusal
@@ -263,16 +289,20 @@ job_of task home rom script debug = record {
 -- the summary of a workload: its source has no fault, and is run over 60 frames
 abbrev pub summary_in : ℕ → Result (List ℕ) Refusal
 summary_in count =
-    and_then (source_by (source_of count) (first_fault (source_of count))) (λ source.
+    and_then (source_by (own_by (source_of count) (first_fault (source_of count)))) (λ source.
     and_then (script_from (script_of (codes "frame 60"))) (λ script.
-    Ok (workload_text source (rom_of source) script)))
+    Ok (workload_text source.text (rom_of source.text) script)))
 
--- the ROM of each machine's source, which is there (130) and has no fault (131); one after the other
-abbrev pub roms_in : List (List ℕ) → List FileBytes → Result (List (List ℕ)) Refusal
+-- the ROM of a machine's source, which is there (130) and has no fault (131)
+abbrev pub machine_rom : List ℕ → InputFile → Result (List ℕ) Refusal
+machine_rom path file = and_then (source_in path file) (λ source. Ok (rom_of source.text))
+
+-- those of all machines, one after the other
+abbrev pub roms_in : List (List ℕ) → List InputFile → Result (List (List ℕ)) Refusal
 roms_in [] files = Ok []
 roms_in (path ∷ paths) [] = Err (Missing path)
 roms_in (path ∷ paths) (file ∷ files) =
-    and_then (program_in false path file) (λ rom. and_then (roms_in paths files) (λ roms. Ok (rom ∷ roms)))
+    and_then (machine_rom path file) (λ rom. and_then (roms_in paths files) (λ roms. Ok (rom ∷ roms)))
 
 -- a line of the machines of a setup, once the files that it names are accepted
 abbrev pub line_in : SetupView → NamedFiles → Result LineJob Refusal
@@ -288,34 +318,53 @@ pub data Work : Type 0 where
   Print : (text : List ℕ) → Work
   RunLine : (job : LineJob) → Work
 
+-- the work, and the files that the source includes which it is about
+pub record Plan : Type 0 where
+  pub work : Work
+  pub included : List (List ℕ)
+
+abbrev pub planned : Work → List (List ℕ) → Plan
+planned work included = record { work = work; included = included }
+
+-- work that is about no source, or writes no file
+abbrev pub plain : Result Work Refusal → Result Plan Refusal
+plain said = and_then said (λ work. Ok (planned work []))
+
 -- the work of a command, once its inputs are accepted one after the other
-abbrev pub work_of : Command → Task → View → Result Work Refusal
+abbrev pub work_of : Command → Task → View → Result Plan Refusal
 work_of Play task view =
-    and_then (program_in task.rom task.file view.file) (λ rom.
+    and_then (program_in task.rom task.file view.file) (λ program.
     and_then (script_in task.script view.script) (λ script.
-    Ok (Run (job_of task (home_by task.root view.part view.parent) rom script None))))
+    Ok (planned (Run (job_of task (home_by task.root view.part view.parent) program.rom script None)) program.included)))
 work_of Debug task view =
-    and_then (program_in task.rom task.file view.file) (λ rom.
+    and_then (program_in task.rom task.file view.file) (λ program.
     and_then (given_in task.symbols view.symbols) (λ given.
     and_then (script_in task.script view.script) (λ script.
-    and_then (commands_in (debug_labels given task.rom view.file) task.commands view.commands) (λ commands.
-    Ok (Run (job_of task (home_by task.root view.part view.parent) rom script
-    (Some (debugging task commands (debug_labels given task.rom view.file)))))))))
-work_of Assemble task view = and_then (source_in task.file view.file) (λ source. Ok (Write (texts_of task source)))
+    and_then (commands_in (debug_labels given program) task.commands view.commands) (λ commands.
+    Ok (planned (Run (job_of task (home_by task.root view.part view.parent) program.rom script
+    (Some (debugging task commands (debug_labels given program))))) program.included)))))
+work_of Assemble task view =
+    and_then (source_in task.file view.file) (λ source. Ok (planned (Write (texts_of task source.text)) source.paths))
 work_of Disassemble task view =
-    and_then (rom_in task.file view.file) (λ rom.
-    and_then (labels_in task.symbols view.symbols) (λ labels. Ok (Print (disassembly rom labels))))
-work_of Generate task view = and_then (summary_in task.count) (λ text. Ok (Print text))
+    plain (and_then (rom_in task.file view.file.bytes) (λ rom.
+    and_then (labels_in task.symbols view.symbols) (λ labels. Ok (Print (disassembly rom labels)))))
+work_of Generate task view = plain (and_then (summary_in task.count) (λ text. Ok (Print text)))
 work_of Line task view =
-    and_then (setup_in task.file view.file) (λ setup. and_then (line_in setup view.named) (λ job. Ok (RunLine job)))
+    plain (and_then (setup_in task.file view.file.bytes) (λ setup. and_then (line_in setup view.named) (λ job. Ok (RunLine job))))
 
--- then each output can be made (135)
+-- then each output can be made and is no included file (135); the first one that is not so counts
+abbrev pub first_unmade : Option (List ℕ) → List (List ℕ) → List (List ℕ) → Option (List ℕ)
+first_unmade blocked included outputs = find (λ path. list_any (bytes_eq path) (option_to_list blocked ++ included)) outputs
+
 abbrev pub made_by : Option (List ℕ) → Work → Result Work Refusal
 made_by None work = Ok work
 made_by (Some path) work = Err (NoOutput path)
 
+abbrev pub made_for : Task → Option (List ℕ) → Plan → Result Work Refusal
+made_for task blocked accepted = made_by (first_unmade blocked accepted.included (outputs_of task)) accepted.work
+
 abbrev pub judged : Task → View → Result Work Refusal
-judged task view = and_then (work_of task.command task view) (made_by view.blocked)
+judged task view = and_then (work_of task.command task view) (made_for task view.blocked)
 
 abbrev pub verdict : Result Task Refusal → View → Result Work Refusal
 verdict asked view = and_then asked (λ task. judged task view)

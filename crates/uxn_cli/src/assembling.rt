@@ -14,14 +14,15 @@ ghost use Rattle.uxn_cli.specs.Blame.{blame_in};
 ghost use Rattle.uxn_cli.specs.Causes.{verdict_on};
 ghost use Rattle.uxn_cli.specs.Room.{TreeSuffices};
 
-use super::commands::{Accepted, SOURCE_LIMIT, accept_source};
-use super::outputs::{Output, first_blocked, write_all};
+use super::commands::accept_source;
+use super::outputs::{Output, first_blocked, first_unmade, write_all};
 use super::refusal::{Halt, Refusal};
 use std::alloc::{AllocError, Global};
 use tal_listing::listing;
 use tal_rom::Assembly;
+use tal_sources::AssembledSource;
 use tal_symbols::write_symbols;
-use uxn_io::{Path, Tree, read_file};
+use uxn_io::{Path, Tree};
 use uxn_words::{Command, Task};
 
 /// The file of a ROM, where it was asked for.
@@ -64,27 +65,31 @@ fn push_listing(
     alloc: Global,
     outputs: &mut Vec<Output>,
     path: &Option<Path>,
-    accepted: &Accepted,
+    source: &AssembledSource,
 ) -> Result<(), AllocError>
-    requires { IsAssembled accepted.now.source.list (Ok accepted.now.assembly) }
-    ensures { OnOk result (seen_texts outputs.new.items ≡ seen_texts outputs.old.items ++ text_at path.now (listing_of accepted.now.source.list accepted.now.assembly)) }
+    requires { IsAssembled source.now.text (Ok source.now.assembly) }
+    ensures { OnOk result (seen_texts outputs.new.items ≡ seen_texts outputs.old.items ++ text_at path.now (listing_of source.now.text source.now.assembly)) }
 {
     if let Some(path) = path {
-        let bytes = listing(alloc, accepted.source.as_slice(), &accepted.assembly)?;
+        let bytes = listing(alloc, source.text(), source.assembly())?;
         outputs.push(Output { path: *path, bytes })?;
     }
     Ok(())
 }
 
 /// The files that were asked for, with what they are to hold.
-fn outputs_of(alloc: Global, task: &Task, accepted: &Accepted) -> Result<Vec<Output>, AllocError>
-    requires { IsAssembled accepted.now.source.list (Ok accepted.now.assembly) }
-    ensures { IfOk result (λ outputs. seen_texts outputs.items ≡ texts_of task.now accepted.now.source.list) }
+fn outputs_of(
+    alloc: Global,
+    task: &Task,
+    source: &AssembledSource,
+) -> Result<Vec<Output>, AllocError>
+    requires { IsAssembled source.now.text (Ok source.now.assembly) }
+    ensures { IfOk result (λ outputs. seen_texts outputs.items ≡ texts_of task.now source.now.text) }
 {
     let mut outputs = Vec::new(alloc);
-    push_rom(alloc, &mut outputs, &task.out, &accepted.assembly)?;
-    push_symbols(alloc, &mut outputs, &task.symbols, &accepted.assembly)?;
-    push_listing(alloc, &mut outputs, &task.listing, accepted)?;
+    push_rom(alloc, &mut outputs, &task.out, source.assembly())?;
+    push_symbols(alloc, &mut outputs, &task.symbols, source.assembly())?;
+    push_listing(alloc, &mut outputs, &task.listing, source)?;
     Ok(outputs)
 }
 
@@ -98,10 +103,10 @@ pub fn assemble_files<T: Tree>(alloc: Global, task: &Task, tree: &mut T) -> Resu
     ensures no_sink { blame_in result ≡ ASink → ⊥ }
     ensures sure { IfSome (T.told tree.old) (λ nodes. TreeSuffices (verdict_on nodes (Ok task.now)) (T.sure tree.old) nodes → blame_in result ≡ TheTree → ⊥) }
 {
-    let file = read_file(alloc, tree, &task.file, SOURCE_LIMIT)?;
-    let accepted = accept_source(alloc, &task.file, file)?;
-    let outputs = outputs_of(alloc, task, &accepted)?;
-    match first_blocked(tree, &outputs)? {
+    let source = accept_source(alloc, &task.file, tree)?;
+    let outputs = outputs_of(alloc, task, &source)?;
+    let blocked = first_blocked(tree, &outputs)?;
+    match first_unmade(&blocked, source.paths(), &outputs) {
         Some(path) => Err(Halt::Refused(Refusal::NoOutput(path))),
         None => match write_all(tree, &outputs)? {
             Some(path) => Err(Halt::Refused(Refusal::NoOutput(path))),

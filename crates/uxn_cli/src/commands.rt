@@ -6,7 +6,8 @@ ghost use Rattle.uxn_io.specs.Room.{Leaves};
 ghost use Rattle.uxn_io.specs.WholeFile.{KeepsLimit, has_failed};
 ghost use Rattle.tal_rom.specs.Assembly.{IsAssembled};
 ghost use Rattle.uxn_cli.specs.World.{world};
-ghost use Rattle.uxn_cli.specs.Verdict.{source_in, rom_in, labels_at, labels_in, symbols_by};
+ghost use Rattle.uxn_cli.specs.Verdict.{too_long, source_at, source_in, rom_in, labels_at, labels_in, symbols_by};
+ghost use Rattle.uxn_cli.specs.Prepared.{Accepts, sourced_by};
 ghost use Rattle.uxn_cli.specs.Follows.{Follows};
 ghost use Rattle.uxn_cli.specs.Answer.{Performs};
 ghost use Rattle.uxn_cli.specs.Blame.{blame_in, OnRefused};
@@ -16,15 +17,15 @@ ghost use Rattle.uxn_cli.specs.Room.{SinksSuffice};
 use super::refusal::{Halt, Refusal};
 use std::alloc::Global;
 use tal_listing::disassemble;
-use tal_rom::{Assembly, assemble};
+use tal_sources::{AssembledSource, IncludeKind, SourceFault, read_source};
 use tal_symbols::{SymbolKind, SymbolStop, read_symbols};
-use tal_words::{AsmStop, Fault, FaultKind, Label, fault_word};
+use tal_words::{FaultKind, Label};
 use uxn_io::{Bytes, Failed, FileBytes, Path, ReadStop, Sink, Tree, put_all, read_file};
 use uxn_opcodes::Stop;
 use uxn_words::{Command, Task};
 
 /// The greatest length of a source in bytes.
-pub const SOURCE_LIMIT: u32 = 4_194_304;
+const SOURCE_LIMIT: u32 = 4_194_304;
 
 /// The greatest length of a ROM that is disassembled, in bytes: it ends with bank 0.
 const ROM_LIMIT: u32 = 65_280;
@@ -33,42 +34,35 @@ const ROM_LIMIT: u32 = 65_280;
 pub const SYMBOLS_LIMIT: u32 = 16_777_216;
 
 /// The fault of a source that is over its limit.
-const LONG_SOURCE: Fault = Fault {
-    at: 0,
-    line: 1,
-    column: 1,
-    kind: FaultKind::LongSource,
-};
-
-/// A source without a fault, and what it is assembled to.
-#[derive(Drop)]
-pub struct Accepted {
-    /// The source.
-    pub source: Bytes,
-    /// Its assembly.
-    pub assembly: Assembly,
+fn long_source(alloc: Global) -> SourceFault
+    ensures { result ≡ too_long }
+{
+    SourceFault {
+        file: None,
+        line: 1,
+        column: 1,
+        kind: IncludeKind::Words(FaultKind::LongSource),
+        word: Bytes::from(Vec::new(alloc)),
+    }
 }
 
-/// The source in a file, unless no file is there or the source has a fault.
-pub fn accept_source(alloc: Global, path: &Path, file: FileBytes) -> Result<Accepted, Halt>
-    ensures follows { Follows (λ accepted. accepted.source.list) result (source_in path.now file) }
-    ensures assembled { IfOk result (λ accepted. IsAssembled accepted.source.list (Ok accepted.assembly)) }
+/// The source at a path with the files that it includes, unless no file is there or there is a fault.
+pub fn accept_source<T: Tree>(
+    alloc: Global,
+    path: &Path,
+    tree: &mut T,
+) -> Result<AssembledSource, Halt>
+    ensures source { Accepts sourced_by (T.told tree.old) (λ nodes. source_at nodes path.now) (source_in path.now) result }
+    ensures assembled { IfOk result (λ source. IsAssembled source.text (Ok source.assembly)) }
+    ensures same { T.told tree.new ≡ T.told tree.old }
+    ensures ledger { Ledger (counts (T.faults tree.old) 0 0) (counts (T.faults tree.new) 0 0) (blame_in result) }
+    ensures sure { 0 < (T.sure tree.old).files → blame_in result ≡ TheTree → ⊥ }
+    ensures left { OnOk result (Leaves (T.sure tree.old) (T.sure tree.new) 0 0) }
 {
-    let source = match file {
-        FileBytes::Found(source) => source,
-        FileBytes::Missing => return Err(Halt::Refused(Refusal::Missing(*path))),
-        FileBytes::TooLong(_) => {
-            let word = Bytes::from(Vec::new(alloc));
-            return Err(Halt::Refused(Refusal::Faulty(LONG_SOURCE, word)));
-        }
-    };
-    match assemble(alloc, source.as_slice()) {
-        Ok(assembly) => Ok(Accepted { source, assembly }),
-        Err(AsmStop::Refused(fault)) => {
-            let word = Bytes::new(alloc, fault_word(source.as_slice(), &fault))?;
-            Err(Halt::Refused(Refusal::Faulty(fault, word)))
-        }
-        Err(AsmStop::NoMemory) => Err(Halt::Stopped(Stop::NoMemory)),
+    match read_file(alloc, tree, path, SOURCE_LIMIT)? {
+        FileBytes::Found(source) => Ok(read_source(alloc, tree, path, source)?),
+        FileBytes::Missing => Err(Halt::Refused(Refusal::Missing(*path))),
+        FileBytes::TooLong(_) => Err(Halt::Refused(Refusal::Faulty(long_source(alloc)))),
     }
 }
 

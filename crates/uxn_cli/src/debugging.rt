@@ -13,7 +13,7 @@ ghost use Rattle.uxn_debugger.specs.Reading.{commands_of_text};
 ghost use Rattle.uxn_cli.specs.Follows.{Follows};
 ghost use Rattle.uxn_cli.specs.Verdict.{script_by, symbols_by, commands_from, commands_at, commands_in, given_in};
 ghost use Rattle.vector_loop.specs.Outputs.{IsOutput};
-ghost use Rattle.uxn_cli.specs.Prepared.{around, Accepts, PreparesDebug, AreNew, AtHome, FellShort, HasFinished, RunFiles, trail_for, debugging_for, labels_in_session, labels_in_program};
+ghost use Rattle.uxn_cli.specs.Prepared.{around, Accepts, PreparesDebug, AreNew, AtHome, FellShort, HasFinished, RunFiles, trail_for, debugging_for, labels_in_session, loaded_by};
 
 use super::commands::{SYMBOLS_LIMIT, labels_at};
 use super::machine::{Machine, core_known, new_machine};
@@ -137,7 +137,7 @@ impl Session {
 
 /// The labels of a symbol file, else those of the source.
 fn labels_of<'a>(program: &'a Program, given: &'a Option<Vec<Label>>) -> &'a [Label]
-    ensures { result.now ≡ unwrap_or (option_map (λ labels. labels.items) given.now) (labels_in_program program.now) }
+    ensures { result.now ≡ unwrap_or (option_map (λ labels. labels.items) given.now) (loaded_by program.now).labels }
 {
     match given {
         Some(labels) => labels.as_slice(),
@@ -237,7 +237,7 @@ pub fn debug<T: Tree, O: Sink, E: Sink>(
         → blame_in result ≡ ASink → ⊥) }
 {
     let session = prepare(alloc, task, tree)?;
-    make_outputs(alloc, task, tree)?;
+    make_outputs(alloc, task, session.program.included(), tree)?;
     match debug_made(alloc, task, session, tree, out, err) {
         Ok(status) => Ok(status),
         Err(stop) => Err(Halt::Stopped(stop)),

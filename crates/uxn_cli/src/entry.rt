@@ -7,9 +7,10 @@ ghost use Rattle.uxn_words.specs.Places.{HasApartOutputs};
 ghost use Rattle.uxn_cli.specs.Verdict.{Work};
 ghost use Rattle.uxn_cli.specs.Follows.{Follows};
 ghost use Rattle.uxn_cli.specs.Answer.{Performs, Ends, MayStop, Answers};
-ghost use Rattle.uxn_cli.specs.Blame.{blame_in, blame_by, blame_at, early_status, OnRefused};
+ghost use Rattle.uxn_cli.specs.Blame.{blame_in, blame_by, blame_at, OnRefused};
+ghost use Rattle.uxn_cli.specs.Statuses.{Reason, Exits, Refuses, early_status, IsEarly, IsRefusing, IsRefusedFor, IsOfWords};
 ghost use Rattle.uxn_cli.specs.Room.{TreeSuffices, SinksSuffice};
-ghost use Rattle.uxn_cli.specs.Causes.{IsEarly, IsExactly, verdict_on, IsIllegal, IsPathless, IsMissing, IsFaulty, IsUnfit, IsBadScript, IsBadCommands, IsBlocked, IsBadSetup, IsRefusing, EndsWith, KeepsOthers, PutsLine};
+ghost use Rattle.uxn_cli.specs.Causes.{IsExactly, verdict_on, EndsWith, KeepsOthers, PutsLine};
 ghost use Rattle.uxn_cli.specs.Outcome.{outcome_of};
 ghost use Rattle.uxn_cli.specs.Observation.{HaveSameItems, IsOutcomeButLog};
 
@@ -166,18 +167,13 @@ pub fn uxn<T: Tree, O: Sink, E: Sink>(
     // Every path that is no output and lies outside the root has its old node.
     ensures others { KeepsOthers (request (map string_bytes words.now)) (T.told tree.old) (T.told tree.new) }
 
-    // When each refusal comes, and when the run ends with its exit code.
-    ensures illegal { IsExactly result 128 (IsIllegal (request (map string_bytes words.now))) }
-    ensures pathless { IsExactly result 129 (IsPathless (request (map string_bytes words.now))) }
-    ensures missing { IfSome (T.told tree.old) (λ nodes. IsExactly result 130 (IsMissing (verdict_on nodes (request (map string_bytes words.now))))) }
-    ensures faulty { IfSome (T.told tree.old) (λ nodes. IsExactly result 131 (IsFaulty (verdict_on nodes (request (map string_bytes words.now))))) }
-    ensures unfit { IfSome (T.told tree.old) (λ nodes. IsExactly result 134 (IsUnfit (verdict_on nodes (request (map string_bytes words.now))))) }
-    ensures bad_script { IfSome (T.told tree.old) (λ nodes. IsExactly result 132 (IsBadScript (verdict_on nodes (request (map string_bytes words.now))))) }
-    ensures bad_commands { IfSome (T.told tree.old) (λ nodes. IsExactly result 133 (IsBadCommands (verdict_on nodes (request (map string_bytes words.now))))) }
-    ensures blocked { IfSome (T.told tree.old) (λ nodes. IsExactly result 135 (IsBlocked (verdict_on nodes (request (map string_bytes words.now))))) }
-    ensures bad_setup { IfSome (T.told tree.old) (λ nodes. IsExactly result 139 (IsBadSetup (verdict_on nodes (request (map string_bytes words.now))))) }
+    // When the call is refused for each reason, of which two hang on the words alone, and when it ends with its exit code.
+    ensures asked { (reason : Reason) → IsOfWords reason
+        → IsExactly result (Refuses reason) (IsRefusedFor reason (request (map string_bytes words.now))) }
+    ensures refused { IfSome (T.told tree.old) (λ nodes. (reason : Reason)
+        → IsExactly result (Refuses reason) (IsRefusedFor reason (verdict_on nodes (request (map string_bytes words.now))))) }
     ensures accepted { IfSome (T.told tree.old) (λ nodes. (code : ℕ) → code ≤ 127
-        → IsExactly result code (EndsWith code (verdict_on nodes (request (map string_bytes words.now))))) }
+        → IsExactly result (Exits code) (EndsWith code (verdict_on nodes (request (map string_bytes words.now))))) }
 
     // A refusal changes nothing in the tree, and puts its one line on the error output and nothing on the standard output.
     ensures untouched { IsRefusing result → T.told tree.new ≡ T.told tree.old }

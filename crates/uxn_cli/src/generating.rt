@@ -1,26 +1,32 @@
 //! What `gen` does: a workload is made, run and summed up.
-ghost use Rattle.std.specs.Prelude.{◌≡◌, ◌≤◌, Ok, length, IfOk, IfSome};
+ghost use Rattle.std.specs.Prelude.{◌≡◌, ◌≤◌, [], Ok, length, IfOk, IfSome};
 ghost use Rattle.uxn_io.specs.Faults.{Ledger, TheTree, ASink, counts};
 ghost use Rattle.uxn_cli.specs.World.{world};
 ghost use Rattle.tal_rom.specs.Rom.{rom_limit};
 ghost use Rattle.uxn_workload.specs.Summary.{summary_text};
 ghost use Rattle.uxn_cli.specs.Ended.{told_by_run};
 ghost use Rattle.uxn_cli.specs.Workload.{workload_text};
-ghost use Rattle.uxn_cli.specs.Verdict.{summary_in};
+ghost use Rattle.tal_rom.specs.Assembly.{IsAssembled, first_fault};
+ghost use Rattle.tal_sources.specs.Sources.{own_by};
+ghost use Rattle.uxn_cli.specs.Verdict.{source_by, summary_in};
 ghost use Rattle.uxn_cli.specs.Follows.{Follows};
 ghost use Rattle.uxn_cli.specs.Answer.{Performs};
 ghost use Rattle.uxn_cli.specs.Blame.{blame_in, OnRefused};
 ghost use Rattle.uxn_cli.specs.Causes.{verdict_on};
 ghost use Rattle.uxn_cli.specs.Room.{SinksSuffice};
 
-use super::commands::{Accepted, accept_source, print};
+use super::commands::print;
 use super::machine::new_machine;
-use super::refusal::Halt;
+use super::refusal::{Halt, Refusal};
 use super::running::{Ended, Settings, run_machine};
 use super::scripts::script_of;
 use play_script::Script;
 use std::alloc::{AllocError, Global};
-use uxn_io::{Bytes, FileBytes, MemTree, Sink, Tree};
+use tal_rom::{Assembly, assemble};
+use tal_sources::SourceFault;
+use tal_words::AsmStop;
+use uxn_io::{MemTree, Sink, Tree};
+use uxn_opcodes::Stop;
 use uxn_words::{Command, Task};
 use uxn_workload::{GrowingSink, Ran, source};
 use vector_loop::{NoWatch, Outputs};
@@ -35,15 +41,16 @@ const BUDGET: u32 = 4_000_000;
 #[tactic(auto, unfolding(crate::specs::Workload::workload_text))]
 fn sum_up(
     alloc: Global,
-    accepted: &Accepted,
+    source: &[u8],
+    rom: &[u8],
     ended: &Ended,
     out: &GrowingSink,
 ) -> Result<Vec<u8>, AllocError>
-    ensures { IfOk result (λ text. text.items ≡ summary_text (told_by_run accepted.now.source.list accepted.now.assembly.rom ended.now out.now.taken)) }
+    ensures { IfOk result (λ text. text.items ≡ summary_text (told_by_run source.now rom.now ended.now out.now.taken)) }
 {
     let ran = Ran {
-        source: accepted.source.as_slice().len() as u64,
-        rom: accepted.assembly.rom().len() as u64,
+        source: source.len() as u64,
+        rom: rom.len() as u64,
         instructions: ended.tally.instructions,
         vectors: ended.tally.vectors,
         cuts: ended.tally.cuts,
@@ -55,11 +62,16 @@ fn sum_up(
 }
 
 /// Runs a workload on a machine of its own, with a tree and sinks of its own, and sums it up. A fault of these is want of memory.
-fn run_workload(alloc: Global, accepted: &Accepted, script: Script) -> Result<Vec<u8>, AllocError>
-    requires { length accepted.now.assembly.rom ≤ rom_limit }
-    ensures { IfOk result (λ text. text.items ≡ workload_text accepted.now.source.list accepted.now.assembly.rom script) }
+fn run_workload(
+    alloc: Global,
+    source: &[u8],
+    rom: &[u8],
+    script: Script,
+) -> Result<Vec<u8>, AllocError>
+    requires { length rom.now ≤ rom_limit }
+    ensures { IfOk result (λ text. text.items ≡ workload_text source.now rom.now script) }
 {
-    let mut machine = new_machine(alloc, None, accepted.assembly.rom(), script)?;
+    let mut machine = new_machine(alloc, None, rom, script)?;
     let settings = Settings {
         outputs: Outputs {
             frames: None,
@@ -80,8 +92,23 @@ fn run_workload(alloc: Global, accepted: &Accepted, script: Script) -> Result<Ve
         &mut err,
         &mut NoWatch,
     ) {
-        Ok(ended) => sum_up(alloc, accepted, &ended, &out),
+        Ok(ended) => sum_up(alloc, source, rom, &ended, &out),
         Err(_) => Err(AllocError),
+    }
+}
+
+/// The assembly of a workload.
+fn assembly_of(alloc: Global, source: &[u8]) -> Result<Assembly, Halt>
+    ensures follows { Follows (λ _. record { text = source.now; paths = [] }) result (source_by (own_by source.now (first_fault source.now))) }
+    ensures assembled { IfOk result (λ assembly. IsAssembled source.now (Ok assembly)) }
+{
+    match assemble(alloc, source) {
+        Ok(assembly) => Ok(assembly),
+        Err(AsmStop::Refused(fault)) => {
+            let own = SourceFault::own(alloc, source, &fault)?;
+            Err(Halt::Refused(Refusal::Faulty(own)))
+        }
+        Err(AsmStop::NoMemory) => Err(Halt::Stopped(Stop::NoMemory)),
     }
 }
 
@@ -90,9 +117,9 @@ fn summarize(alloc: Global, task: &Task) -> Result<Vec<u8>, Halt>
     ensures { Follows (λ text. text.items) result (summary_in task.now.count) }
 {
     let text = source(alloc, task.count)?;
-    let accepted = accept_source(alloc, &task.file, FileBytes::Found(Bytes::from(text)))?;
+    let assembly = assembly_of(alloc, &text)?;
     let script = script_of(alloc, SCRIPT)?;
-    Ok(run_workload(alloc, &accepted, script)?)
+    Ok(run_workload(alloc, &text, assembly.rom(), script)?)
 }
 
 /// Makes a workload, runs it, and prints its summary.

@@ -6,7 +6,7 @@ ghost use Rattle.uxn_io.specs.Room.{Leaves};
 ghost use Rattle.uxn_memory.specs.Bytes.{largest_rom};
 ghost use Rattle.uxn_cli.specs.World.{world};
 ghost use Rattle.uxn_cli.specs.Setup.{setup_in, is_of_console};
-ghost use Rattle.uxn_cli.specs.Verdict.{source_at, program_in};
+ghost use Rattle.uxn_cli.specs.Verdict.{source_at, machine_rom};
 ghost use Rattle.uxn_cli.specs.Prepared.{Accepts};
 ghost use Rattle.uxn_line.specs.Limits.{AreTurns};
 ghost use Rattle.uxn_line.specs.Moves.{sink_view};
@@ -17,7 +17,7 @@ ghost use Rattle.uxn_cli.specs.Blame.{blame_in, OnRefused};
 ghost use Rattle.uxn_cli.specs.Causes.{verdict_on};
 ghost use Rattle.uxn_cli.specs.Room.{SinksSuffice};
 
-use super::commands::{SOURCE_LIMIT, accept_source};
+use super::commands::accept_source;
 use super::refusal::{Halt, Refusal};
 use super::scripts::accept_script;
 use play_script::{Event, Script};
@@ -60,16 +60,15 @@ fn setup_at(alloc: Global, path: &Path, file: FileBytes) -> Result<Setup, Halt>
 
 /// The ROM of the source in a file, where it is accepted.
 fn accept_machine<T: Tree>(alloc: Global, path: &Path, tree: &mut T) -> Result<Bytes, Halt>
-    ensures rom { Accepts (λ rom. rom.list) (T.told tree.old) (λ nodes. source_at nodes path.now) (program_in false path.now) result }
+    ensures rom { Accepts (λ rom. rom.list) (T.told tree.old) (λ nodes. source_at nodes path.now) (machine_rom path.now) result }
     ensures fits { IfOk result (λ rom. length rom.list ≤ largest_rom) }
     ensures same { T.told tree.new ≡ T.told tree.old }
     ensures ledger { Ledger (counts (T.faults tree.old) 0 0) (counts (T.faults tree.new) 0 0) (blame_in result) }
     ensures sure { 0 < (T.sure tree.old).files → blame_in result ≡ TheTree → ⊥ }
     ensures left { OnOk result (Leaves (T.sure tree.old) (T.sure tree.new) 0 0) }
 {
-    let file = read_file(alloc, tree, path, SOURCE_LIMIT)?;
-    let accepted = accept_source(alloc, path, file)?;
-    Ok(Bytes::new(alloc, accepted.assembly.rom())?)
+    let source = accept_source(alloc, path, tree)?;
+    Ok(Bytes::new(alloc, source.assembly().rom())?)
 }
 
 /// The ROMs of all machines, one after the other.

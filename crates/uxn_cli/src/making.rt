@@ -1,15 +1,14 @@
 //! The outputs of a run, which are made before it.
-ghost use Rattle.std.specs.Prelude.{◌≡◌, ◌<◌, ◌++◌, IfOk, IfSome, OnOk, None, find, not, ◌∷◌, []};
-ghost use Rattle.uxn_io.specs.Changes.{can_create};
+ghost use Rattle.std.specs.Prelude.{◌≡◌, ◌<◌, ◌++◌, IfOk, IfSome, OnOk, ◌∷◌, []};
 ghost use Rattle.uxn_io.specs.Faults.{Ledger, TheTree, counts};
 ghost use Rattle.uxn_io.specs.Taking.{TreeTakes, TreeLeft};
 ghost use Rattle.uxn_cli.specs.Outcome.{creating};
 ghost use Rattle.uxn_cli.specs.Outputs.{paths_of};
 ghost use Rattle.uxn_words.specs.Places.{HasApartOutputs, outputs_of};
 ghost use Rattle.uxn_cli.specs.Blame.{blame_in};
-ghost use Rattle.uxn_cli.specs.Prepared.{MakesOutputs};
+ghost use Rattle.uxn_cli.specs.Prepared.{AreFree, MakesOutputs};
 
-use super::outputs::{Output, first_blocked, make_all};
+use super::outputs::{Output, first_blocked, first_unmade, make_all};
 use super::refusal::{Halt, Refusal};
 use std::alloc::{AllocError, Global};
 use uxn_io::{Path, Tree};
@@ -36,13 +35,17 @@ fn empty_outputs(alloc: Global, paths: &[Path]) -> Result<Vec<Output>, AllocErro
     Ok(outputs)
 }
 
-/// Makes the files that a run writes, unless one of them cannot be made: then it makes none.
-pub fn make_outputs<T: Tree>(alloc: Global, task: &Task, tree: &mut T) -> Result<(), Halt>
+/// Makes the files that a run writes, unless one of them cannot be made or is an included file: then it makes none.
+pub fn make_outputs<T: Tree>(
+    alloc: Global,
+    task: &Task,
+    included: &[Path],
+    tree: &mut T,
+) -> Result<(), Halt>
     requires apart { HasApartOutputs task.now }
-    ensures makes { MakesOutputs (outputs_of task.now) (T.told tree.old) (T.told tree.new) result }
+    ensures makes { MakesOutputs included.now (outputs_of task.now) (T.told tree.old) (T.told tree.new) result }
     ensures ledger { Ledger (counts (T.faults tree.old) 0 0) (counts (T.faults tree.new) 0 0) (blame_in result) }
-    ensures sure { 0 < (T.sure tree.old).files → blame_in result ≡ TheTree
-        → IfSome (T.told tree.old) (λ nodes. None ≡ find (λ path. not (can_create nodes path)) (outputs_of task.now)) }
+    ensures sure { 0 < (T.sure tree.old).files → blame_in result ≡ TheTree → AreFree (T.told tree.old) included.now (outputs_of task.now) }
     ensures takes { blame_in result ≡ TheTree
         → IfSome (T.told tree.old) (λ nodes. TreeTakes (T.sure tree.old) nodes (creating (outputs_of task.now)) → ⊥) }
     ensures left { OnOk result (IfSome (T.told tree.old) (λ nodes. TreeTakes (T.sure tree.old) nodes (creating (outputs_of task.now))
@@ -50,7 +53,8 @@ pub fn make_outputs<T: Tree>(alloc: Global, task: &Task, tree: &mut T) -> Result
 {
     let paths = task.outputs(alloc)?;
     let outputs = empty_outputs(alloc, &paths)?;
-    if let Some(path) = first_blocked(tree, &outputs)? {
+    let blocked = first_blocked(tree, &outputs)?;
+    if let Some(path) = first_unmade(&blocked, included, &outputs) {
         return Err(Halt::Refused(Refusal::NoOutput(path)));
     }
     match make_all(tree, &outputs)? {

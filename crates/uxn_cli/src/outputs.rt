@@ -1,6 +1,8 @@
 //! The files that a command writes.
-ghost use Rattle.std.specs.Prelude.{◌≡◌, ◌<◌, None, Some, not, find, length, IfOk, IsOk, IfSome, OnOk, OnErr, MatchOption, is_err};
-ghost use Rattle.std.specs.Option.{option_map};
+ghost use Rattle.std.specs.Prelude.{◌≡◌, ◌<◌, None, Some, true, not, ◌++◌, find, length, IfOk, IsOk, IfSome, OnOk, OnErr, MatchOption, is_err};
+ghost use Rattle.std.specs.List.{list_any};
+ghost use Rattle.std.specs.Option.{option_map, option_to_list};
+ghost use Rattle.std.specs.Str.{bytes_eq};
 ghost use Rattle.uxn_io.specs.Changes.{can_create};
 ghost use Rattle.uxn_io.specs.Faults.{Counted};
 ghost use Rattle.uxn_io.specs.Files.{is_folder_at, has_parent};
@@ -9,6 +11,7 @@ ghost use Rattle.uxn_io.specs.Taking.{TreeTakes, TreeLeft};
 ghost use Rattle.uxn_cli.specs.Outcome.{creating};
 ghost use Rattle.uxn_cli.specs.World.{with_empty, with_bytes, CanMake, AreFiles, HasMadeFront, HasFilledFront, HasWrittenFront, with_texts, CanFill};
 ghost use Rattle.uxn_cli.specs.Outputs.{seen_texts, paths_of};
+ghost use Rattle.uxn_cli.specs.Verdict.{first_unmade};
 
 use uxn_io::{Failed, Kind, Path, Tree, append_all};
 
@@ -79,12 +82,49 @@ pub fn first_blocked<T: Tree>(tree: &mut T, outputs: &[Output]) -> Result<Option
     Ok(None)
 }
 
+/// Whether two paths are the same.
+fn is_same(path: &Path, other: &Path) -> bool
+    ensures { result ≡ bytes_eq path.now other.now }
+{
+    path.bytes() == other.bytes()
+}
+
+/// Whether a path is among others.
+fn is_among(path: &Path, others: &[Path]) -> bool
+    ensures { result ≡ list_any (bytes_eq path.now) others.now }
+{
+    others.iter().any(|other| is_same(path, other))
+}
+
+/// Whether a path is the one that is blocked, or an included file.
+fn is_refused(path: &Path, blocked: &Option<Path>, included: &[Path]) -> bool
+    ensures { result ≡ list_any (bytes_eq path.now) (option_to_list blocked.now ++ included.now) }
+{
+    match blocked {
+        Some(other) => is_same(path, other) || is_among(path, included),
+        None => is_among(path, included),
+    }
+}
+
+/// The first output that cannot be made, or is an included file.
+pub fn first_unmade(blocked: &Option<Path>, included: &[Path], outputs: &[Output]) -> Option<Path>
+    ensures { result ≡ first_unmade blocked.now included.now (paths_of outputs.now) }
+{
+    for output in outputs {
+        if is_refused(&output.path, blocked, included) {
+            return Some(output.path);
+        }
+    }
+    None
+}
+
 /// Makes the files, empty and in order, or gives the first one that the tree does not make. On a tree
 /// that tells its contents each is made.
 pub fn make_all<T: Tree>(tree: &mut T, outputs: &[Output]) -> Result<Option<Path>, Failed>
     requires { IfSome (T.told tree.old) (CanMake (seen_texts outputs.now)) }
     ensures ok { IfOk result (λ refused. MatchOption refused
-        (T.told tree.new ≡ option_map (with_empty (seen_texts outputs.now)) (T.told tree.old)) (λ path. (T.told tree.old ≡ None) × (T.told tree.new ≡ None))) }
+        (T.told tree.new ≡ option_map (with_empty (seen_texts outputs.now)) (T.told tree.old))
+        (λ path. (T.told tree.old ≡ None) × (T.told tree.new ≡ None) × (list_any (bytes_eq path) (paths_of outputs.now) ≡ true))) }
     ensures err { OnErr result (HasMadeFront (T.told tree.old) (T.told tree.new) (seen_texts outputs.now)) }
     ensures ledger { Counted (T.faults tree.old) (T.faults tree.new) (is_err result) }
     ensures sure { IfSome (T.told tree.old) (λ nodes. TreeTakes (T.sure tree.old) nodes (creating (paths_of outputs.now)) → IsOk result) }
@@ -119,7 +159,8 @@ fn fill_all<T: Tree>(tree: &mut T, outputs: &[Output]) -> Result<(), Failed>
 pub fn write_all<T: Tree>(tree: &mut T, outputs: &[Output]) -> Result<Option<Path>, Failed>
     requires { IfSome (T.told tree.old) (CanMake (seen_texts outputs.now)) }
     ensures ok { IfOk result (λ refused. MatchOption refused
-        (T.told tree.new ≡ option_map (with_texts (seen_texts outputs.now)) (T.told tree.old)) (λ path. (T.told tree.old ≡ None) × (T.told tree.new ≡ None))) }
+        (T.told tree.new ≡ option_map (with_texts (seen_texts outputs.now)) (T.told tree.old))
+        (λ path. (T.told tree.old ≡ None) × (T.told tree.new ≡ None) × (list_any (bytes_eq path) (paths_of outputs.now) ≡ true))) }
     ensures err { OnErr result (HasWrittenFront (T.told tree.old) (T.told tree.new) (seen_texts outputs.now)) }
     ensures ledger { Counted (T.faults tree.old) (T.faults tree.new) (is_err result) }
     ensures sure { IfSome (T.told tree.old) (λ nodes. length outputs.now < (T.sure tree.old).files

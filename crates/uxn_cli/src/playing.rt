@@ -12,7 +12,7 @@ ghost use Rattle.uxn_cli.specs.Prepared.{PreparesPlay};
 
 use super::machine::{Machine, new_machine};
 use super::making::make_outputs;
-use super::program::load;
+use super::program::{Program, load};
 use super::refusal::Halt;
 use super::running::run_made;
 use super::scripts::accept_script;
@@ -21,8 +21,17 @@ use uxn_io::{Sink, Tree};
 use uxn_words::{Command, Task};
 use vector_loop::NoWatch;
 
+/// A machine, and the program that it has.
+#[derive(Drop)]
+pub struct Prepared {
+    /// The machine.
+    pub machine: Machine,
+    /// The program, whose source may include files.
+    pub program: Program,
+}
+
 /// The machine that is asked for.
-fn prepare<T: Tree>(alloc: Global, task: &Task, tree: &mut T) -> Result<Machine, Halt>
+fn prepare<T: Tree>(alloc: Global, task: &Task, tree: &mut T) -> Result<Prepared, Halt>
     requires { task.now.command ≡ Command.Play }
     ensures prepares { PreparesPlay (T.told tree.old) task.now result }
     ensures same { T.told tree.new ≡ T.told tree.old }
@@ -32,7 +41,8 @@ fn prepare<T: Tree>(alloc: Global, task: &Task, tree: &mut T) -> Result<Machine,
 {
     let program = load(alloc, task, tree)?;
     let script = accept_script(alloc, &task.script, tree)?;
-    Ok(new_machine(alloc, task.root, program.rom(), script)?)
+    let machine = new_machine(alloc, task.root, program.rom(), script)?;
+    Ok(Prepared { machine, program })
 }
 
 /// Runs a source, or a ROM file, with a script.
@@ -55,9 +65,9 @@ pub fn play<T: Tree, O: Sink, E: Sink>(
     ensures sure_sinks { IfSome (T.told tree.old) (λ nodes. SinksSuffice (verdict_on nodes (Ok task.now)) (O.sure out.old) (E.sure err.old)
         → blame_in result ≡ ASink → ⊥) }
 {
-    let machine = prepare(alloc, task, tree)?;
-    make_outputs(alloc, task, tree)?;
-    match run_made(task, machine, tree, out, err, &mut NoWatch) {
+    let prepared = prepare(alloc, task, tree)?;
+    make_outputs(alloc, task, prepared.program.included(), tree)?;
+    match run_made(task, prepared.machine, tree, out, err, &mut NoWatch) {
         Ok(status) => Ok(status),
         Err(stop) => Err(Halt::Stopped(stop)),
     }

@@ -5,13 +5,14 @@ ghost use Rattle.uxn_io.specs.Room.{Leaves};
 ghost use Rattle.uxn_memory.specs.Bytes.{largest_rom};
 ghost use Rattle.uxn_cli.specs.Blame.{blame_in};
 ghost use Rattle.uxn_cli.specs.Verdict.{limit_by, file_input};
-ghost use Rattle.uxn_cli.specs.Prepared.{Loads, rom_in_program, labels_in_program};
+ghost use Rattle.uxn_cli.specs.Prepared.{Loads, loaded_by};
 
-use super::commands::{Accepted, SOURCE_LIMIT, accept_rom, accept_source};
+use super::commands::{accept_rom, accept_source};
 use super::refusal::Halt;
 use std::alloc::Global;
+use tal_sources::AssembledSource;
 use tal_words::Label;
-use uxn_io::{Bytes, Tree, read_file};
+use uxn_io::{Bytes, Path, Tree, read_file};
 use uxn_memory::LARGEST_ROM;
 use uxn_words::Task;
 
@@ -21,27 +22,37 @@ pub enum Program {
     /// A ROM file.
     Rom(Bytes),
     /// A source without a fault, and its assembly.
-    Source(Accepted),
+    Source(AssembledSource),
 }
 
 impl Program {
     /// The ROM.
     pub fn rom(&self) -> &[u8]
-        ensures { result.now ≡ rom_in_program self.now }
+        ensures { result.now ≡ (loaded_by self.now).rom }
     {
         match self {
             Program::Rom(rom) => rom.as_slice(),
-            Program::Source(accepted) => accepted.assembly.rom(),
+            Program::Source(source) => source.assembly().rom(),
         }
     }
 
     /// The labels of the source.
     pub fn labels(&self) -> &[Label]
-        ensures { result.now ≡ labels_in_program self.now }
+        ensures { result.now ≡ (loaded_by self.now).labels }
     {
         match self {
             Program::Rom(_) => &[],
-            Program::Source(accepted) => accepted.assembly.labels(),
+            Program::Source(source) => source.assembly().labels(),
+        }
+    }
+
+    /// The files that the source includes.
+    pub fn included(&self) -> &[Path]
+        ensures { result.now ≡ (loaded_by self.now).included }
+    {
+        match self {
+            Program::Rom(_) => &[],
+            Program::Source(source) => source.paths(),
         }
     }
 }
@@ -52,14 +63,15 @@ fn load_rom<T: Tree>(alloc: Global, task: &Task, tree: &mut T) -> Result<Program
     requires file { file_input task.now.command task.now ≡ Some task.now.file }
     requires limit { limit_by task.now.command true ≡ largest_rom }
     ensures loads { Loads (T.told tree.old) task.now result }
-    ensures room { IfOk result (λ program. length (rom_in_program program) ≤ largest_rom) }
+    ensures room { IfOk result (λ program. length (loaded_by program).rom ≤ largest_rom) }
     ensures same { T.told tree.new ≡ T.told tree.old }
     ensures ledger { Ledger (counts (T.faults tree.old) 0 0) (counts (T.faults tree.new) 0 0) (blame_in result) }
     ensures sure { 0 < (T.sure tree.old).files → blame_in result ≡ TheTree → ⊥ }
     ensures left { OnOk result (Leaves (T.sure tree.old) (T.sure tree.new) 0 0) }
 {
     let file = read_file(alloc, tree, &task.file, LARGEST_ROM as u32)?;
-    Ok(Program::Rom(accept_rom(&task.file, file)?))
+    let rom = accept_rom(&task.file, file)?;
+    Ok(Program::Rom(rom))
 }
 
 /// The source that a task is about, where it is accepted.
@@ -68,14 +80,14 @@ fn load_source<T: Tree>(alloc: Global, task: &Task, tree: &mut T) -> Result<Prog
     requires file { file_input task.now.command task.now ≡ Some task.now.file }
     requires limit { limit_by task.now.command false ≡ 4194304 }
     ensures loads { Loads (T.told tree.old) task.now result }
-    ensures room { IfOk result (λ program. length (rom_in_program program) ≤ largest_rom) }
+    ensures room { IfOk result (λ program. length (loaded_by program).rom ≤ largest_rom) }
     ensures same { T.told tree.new ≡ T.told tree.old }
     ensures ledger { Ledger (counts (T.faults tree.old) 0 0) (counts (T.faults tree.new) 0 0) (blame_in result) }
     ensures sure { 0 < (T.sure tree.old).files → blame_in result ≡ TheTree → ⊥ }
     ensures left { OnOk result (Leaves (T.sure tree.old) (T.sure tree.new) 0 0) }
 {
-    let file = read_file(alloc, tree, &task.file, SOURCE_LIMIT)?;
-    Ok(Program::Source(accept_source(alloc, &task.file, file)?))
+    let source = accept_source(alloc, &task.file, tree)?;
+    Ok(Program::Source(source))
 }
 
 /// The program that a task is about, where it is accepted.
@@ -84,7 +96,7 @@ pub fn load<T: Tree>(alloc: Global, task: &Task, tree: &mut T) -> Result<Program
     requires rom { limit_by task.now.command true ≡ largest_rom }
     requires source { limit_by task.now.command false ≡ 4194304 }
     ensures loads { Loads (T.told tree.old) task.now result }
-    ensures room { IfOk result (λ program. length (rom_in_program program) ≤ largest_rom) }
+    ensures room { IfOk result (λ program. length (loaded_by program).rom ≤ largest_rom) }
     ensures same { T.told tree.new ≡ T.told tree.old }
     ensures ledger { Ledger (counts (T.faults tree.old) 0 0) (counts (T.faults tree.new) 0 0) (blame_in result) }
     ensures sure { 0 < (T.sure tree.old).files → blame_in result ≡ TheTree → ⊥ }

@@ -1,14 +1,16 @@
 //! Why a call ends before its work is done, and the line of a refusal.
-ghost use Rattle.std.specs.Prelude.{◌≡◌, ◌<◌, [], ◌∷◌, ◌++◌, length, IfOk, IfErr};
+ghost use Rattle.std.specs.Prelude.{◌≡◌, ◌<◌, [], ◌∷◌, ◌++◌, codes, decimal, length, IfOk, IfErr};
 ghost use Rattle.uxn_io.specs.Faults.{Ledger, ASink, counts};
 ghost use Rattle.uxn_io.specs.Told.{extended};
-ghost use Rattle.uxn_cli.specs.Lines.{line, fault_text, line_of, status_of};
+ghost use Rattle.tal_sources.specs.Lines.{message_of};
+ghost use Rattle.uxn_cli.specs.Lines.{line, line_of};
+ghost use Rattle.uxn_cli.specs.Statuses.{status_of};
 ghost use Rattle.uxn_cli.specs.Blame.{blame_by, Stops};
 
 use play_script::ScriptKind;
 use std::alloc::{AllocError, AllocFailed, Global};
+use tal_sources::{SourceFault, SourceStop};
 use tal_symbols::SymbolKind;
-use tal_words::Fault;
 use uxn_debugger::CommandKind;
 use uxn_io::{Bytes, Failed, Path, ReadStop, Sink, decimal, put_all};
 use uxn_line::SetupKind;
@@ -25,8 +27,8 @@ pub enum Refusal {
     NoOutput(Path),
     /// An input, which is no file.
     Missing(Path),
-    /// The first fault of a source, and the word that has it.
-    Faulty(Fault, Bytes),
+    /// The first fault of a source, or of a file that it includes.
+    Faulty(SourceFault),
     /// A ROM file has so many bytes, over 65,280.
     LongRom(u64),
     /// The first faulty entry of a symbol file, counted from 0, and what is wrong with it.
@@ -86,6 +88,21 @@ impl From<Failed> for Halt {
     }
 }
 
+impl From<SourceStop> for Halt {
+    ghost use Rattle.std.specs.Prelude.{◌≡◌};
+    ghost use Rattle.uxn_cli.specs.Blame.{halt_of_source};
+
+    ghost from_gives = { λ stop halt. halt ≡ halt_of_source stop };
+
+    fn from(stop: SourceStop) -> Halt {
+        match stop {
+            SourceStop::Refused(fault) => Halt::Refused(Refusal::Faulty(fault)),
+            SourceStop::TreeFault => Halt::Stopped(Stop::TreeFault),
+            SourceStop::NoMemory => Halt::Stopped(Stop::NoMemory),
+        }
+    }
+}
+
 impl From<ReadStop> for Halt {
     ghost use Rattle.std.specs.Prelude.{◌≡◌};
     ghost use Rattle.uxn_cli.specs.Blame.{halt_of_read};
@@ -110,7 +127,7 @@ impl Refusal {
             Refusal::NoPath(_) => 129,
             Refusal::NoOutput(_) => 135,
             Refusal::Missing(_) => 130,
-            Refusal::Faulty(..) => 131,
+            Refusal::Faulty(_) => 131,
             Refusal::LongRom(_) | Refusal::BadSymbols(..) => 134,
             Refusal::BadScript(..) => 132,
             Refusal::BadCommands(..) => 133,
@@ -127,12 +144,12 @@ impl Refusal {
             Refusal::NoPath(word) => labelled(alloc, b"path: ", word.as_slice()),
             Refusal::NoOutput(path) => labelled(alloc, b"output: ", path.bytes()),
             Refusal::Missing(path) => labelled(alloc, b"missing: ", path.bytes()),
-            Refusal::Faulty(fault, word) => fault_line(alloc, fault, word.as_slice()),
+            Refusal::Faulty(fault) => fault_line(alloc, fault),
             Refusal::LongRom(length) => rom_line(alloc, *length),
-            Refusal::BadSymbols(entry, kind) => symbols_line(alloc, *entry, *kind),
-            Refusal::BadScript(line, kind) => script_line(alloc, *line, *kind),
-            Refusal::BadCommands(line, kind) => commands_line(alloc, *line, *kind),
-            Refusal::BadSetup(line, kind) => setup_line(alloc, *line, *kind),
+            Refusal::BadSymbols(entry, kind) => numbered(alloc, b"symbols ", *entry, kind.name()),
+            Refusal::BadScript(line, kind) => numbered(alloc, b"script ", *line, kind.name()),
+            Refusal::BadCommands(line, kind) => numbered(alloc, b"commands ", *line, kind.name()),
+            Refusal::BadSetup(line, kind) => numbered(alloc, b"setup ", *line, kind.name()),
             Refusal::OtherEvents => Vec::from_slice(alloc, b"setup 0: Events\n"),
         }
     }
@@ -164,18 +181,23 @@ fn labelled(alloc: Global, label: &[u8], text: &[u8]) -> Result<Vec<u8>, AllocEr
     Ok(line)
 }
 
-/// Names the first fault of a source: its line, column, kind and word.
-fn fault_line(alloc: Global, fault: &Fault, word: &[u8]) -> Result<Vec<u8>, AllocError>
-    ensures { IfOk result (λ made. made.items ≡ line (fault_text fault.now word.now)) }
+/// What an input is, its faulty line or entry, what is wrong with it, and a newline.
+fn numbered(alloc: Global, label: &[u8], number: u32, kind: &str) -> Result<Vec<u8>, AllocError>
+    ensures { IfOk result (λ made. made.items ≡ line (label.now ++ decimal number ++ codes ": " ++ kind.now)) }
 {
-    let mut line = Vec::from_slice(alloc, b"source ")?;
-    line.extend_from_slice(&decimal(u64::from(fault.line)))?;
-    line.push(b':')?;
-    line.extend_from_slice(&decimal(u64::from(fault.column)))?;
+    let mut line = Vec::from_slice(alloc, label)?;
+    line.extend_from_slice(&decimal(u64::from(number)))?;
     line.extend_from_slice(b": ")?;
-    line.extend_from_slice(fault.kind.name().as_bytes())?;
-    line.extend_from_slice(b": ")?;
-    line.extend_from_slice(word)?;
+    line.extend_from_slice(kind.as_bytes())?;
+    line.push(b'\n')?;
+    Ok(line)
+}
+
+/// Names the first fault of a source.
+fn fault_line(alloc: Global, fault: &SourceFault) -> Result<Vec<u8>, AllocError>
+    ensures { IfOk result (λ made. made.items ≡ line (message_of fault.now)) }
+{
+    let mut line = fault.message(alloc)?;
     line.push(b'\n')?;
     Ok(line)
 }
@@ -187,54 +209,6 @@ fn rom_line(alloc: Global, length: u64) -> Result<Vec<u8>, AllocError>
     let mut line = Vec::from_slice(alloc, b"rom: ")?;
     line.extend_from_slice(&decimal(length))?;
     line.extend_from_slice(b" bytes")?;
-    line.push(b'\n')?;
-    Ok(line)
-}
-
-/// Names the first faulty entry of a symbol file, and what is wrong with it.
-fn symbols_line(alloc: Global, entry: u32, kind: SymbolKind) -> Result<Vec<u8>, AllocError>
-    ensures { IfOk result (λ made. made.items ≡ line_of (Refusal.BadSymbols entry kind)) }
-{
-    let mut line = Vec::from_slice(alloc, b"symbols ")?;
-    line.extend_from_slice(&decimal(u64::from(entry)))?;
-    line.extend_from_slice(b": ")?;
-    line.extend_from_slice(kind.name().as_bytes())?;
-    line.push(b'\n')?;
-    Ok(line)
-}
-
-/// Names the first faulty line of a script, and what is wrong with it.
-fn script_line(alloc: Global, number: u32, kind: ScriptKind) -> Result<Vec<u8>, AllocError>
-    ensures { IfOk result (λ made. made.items ≡ line_of (Refusal.BadScript number kind)) }
-{
-    let mut line = Vec::from_slice(alloc, b"script ")?;
-    line.extend_from_slice(&decimal(u64::from(number)))?;
-    line.extend_from_slice(b": ")?;
-    line.extend_from_slice(kind.name().as_bytes())?;
-    line.push(b'\n')?;
-    Ok(line)
-}
-
-/// Names the first faulty line of a debugger's commands, and what is wrong with it.
-fn commands_line(alloc: Global, number: u32, kind: CommandKind) -> Result<Vec<u8>, AllocError>
-    ensures { IfOk result (λ made. made.items ≡ line_of (Refusal.BadCommands number kind)) }
-{
-    let mut line = Vec::from_slice(alloc, b"commands ")?;
-    line.extend_from_slice(&decimal(u64::from(number)))?;
-    line.extend_from_slice(b": ")?;
-    line.extend_from_slice(kind.name().as_bytes())?;
-    line.push(b'\n')?;
-    Ok(line)
-}
-
-/// Names the first faulty line of a setup, and what is wrong with it.
-fn setup_line(alloc: Global, number: u32, kind: SetupKind) -> Result<Vec<u8>, AllocError>
-    ensures { IfOk result (λ made. made.items ≡ line_of (Refusal.BadSetup number kind)) }
-{
-    let mut line = Vec::from_slice(alloc, b"setup ")?;
-    line.extend_from_slice(&decimal(u64::from(number)))?;
-    line.extend_from_slice(b": ")?;
-    line.extend_from_slice(kind.name().as_bytes())?;
     line.push(b'\n')?;
     Ok(line)
 }

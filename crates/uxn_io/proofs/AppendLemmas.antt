@@ -6,7 +6,8 @@ use Rattle.std.proofs.Math.Seq.{take-add}
 use Rattle.uxn_io.specs.Files.{Node, File, Nodes, file_at, bytes_at, bytes_of}
 use Rattle.uxn_io.specs.Changes.{with_appended, HasAppendedFront}
 use Rattle.uxn_io.specs.Room.{Room, Leaves}
-use Rattle.uxn_io.specs.Appending.{get_put, bytes_put, appended_told}
+use Rattle.uxn_io.specs.NodeLaws.{get_put, bytes_put}
+use Rattle.uxn_io.specs.AppendingLaws.{appended_told}
 
 -- a front of the piece was appended, and then a front of the rest
 pub append_on : (first told now : Option Nodes) (path piece rest : List ℕ) (at n : ℕ) → rest ≡ drop at piece → told ≡ option_map (with_appended path (take at piece)) first → now ≡ option_map (with_appended path (take n rest)) told → now ≡ option_map (with_appended path (take (at + n) piece)) first

@@ -1,55 +1,28 @@
 -- The components of two texts with a slash between, and which such texts are paths.
-use Rattle.std.proofs.Common.{◌≡◌, ℕ, ◌+◌, ◌<◌, ◌≤◌, ◌↔◌, Bool, true, false, cond, ◌&&◌, ◌||◌, eqb, List, [], ◌∷◌, ◌++◌, take, drop, length, get_or, Option, Some, None, IfSome, Result, Ok, refl, ap, sym, subst, ◌∙◌, inl, inr, arith, Decides, All}
+use Rattle.std.proofs.Common.{◌≡◌, ℕ, ◌+◌, ◌<◌, ◌≤◌, ◌↔◌, Bool, true, false, ◌&&◌, ◌||◌, eqb, List, [], ◌∷◌, ◌++◌, take, drop, length, get_or, Option, Some, None, IfSome, Result, Ok, refl, ap, sym, subst, ◌∙◌, inl, inr, arith, All}
 use Rattle.std.specs.Result.{result_ok}
-use Rattle.std.specs.List.{onto_first, list_all, starts_with, join_with_byte}
+use Rattle.std.specs.List.{list_all, starts_with, join_with_byte}
 use Rattle.std.specs.Option.{option_eq}
 use Rattle.std.specs.Str.{is_utf8, IsUtf8, bytes_eq}
 use Rattle.std.specs.Prelude.{if◌then◌else◌, nat_eq}
-use Rattle.std.proofs.lemmas.Bool.{lt-ltb, le-ltb, ltb-false}
-use Rattle.std.proofs.lemmas.Bool.Decides.{eqb_tells, Decides-ltb, Decides-and, Decides-like, Decides-eqb, same_from_decides}
-use Rattle.std.proofs.lemmas.List.{length-append, length-take-le, length-drop, length_push, take-append-drop, take_at, drop_more, get_or-drop, append_assoc}
+use Rattle.std.proofs.lemmas.Bool.{lt-ltb, le-ltb, ltb-false, and_from, and_parts, or_parts}
+use Rattle.std.proofs.lemmas.Bool.Decides.{eqb_tells, Decides-eqb, same_from_decides}
+use Rattle.std.proofs.lemmas.List.{length-append, length-take-le, length-drop, length_push, take-append-drop, take_at, drop_more, get_or-drop}
 use Rattle.std.proofs.lemmas.List.Elements.{All-from_get_or}
 use Rattle.std.proofs.lemmas.List.Folds.{list_all-append}
-use Rattle.std.proofs.lemmas.List.Splits.{length-slice_split, slice_split_none, join_with_byte-slice_split}
+use Rattle.std.proofs.lemmas.List.Splits.{slice_split_none, join_with_byte-slice_split}
 use Rattle.std.proofs.lemmas.Slice.Eq.{slice_eq-Decides, bytes_eq-Decides}
 use Rattle.std.proofs.lemmas.Str.{encode_ascii, IsUtf8-append, IsUtf8-from_is_utf8, is_utf8-from_IsUtf8, IsUtf8-take, IsUtf8-drop, IsCharBoundary-before_ascii, IsCharBoundary-after_ascii}
 use Rattle.uxn_io.specs.declared.paths.PathFault.{PathFault}
 use Rattle.uxn_io.specs.PathText.{path_of, components, is_component, is_too_long, joined, parent_from, parent_of, child_name, is_under, HasNoSlashFrom, IsLastSlash, ContinuesAfter}
+use Rattle.uxn_io.specs.PathLaws.{length-components, components-append, is_under-Decides}
 use Rattle.uxn_io.proofs.PathLemmas.{answer_of, path_of-tests}
-
-and_left : (a b : Bool) → (a && b) ≡ true → a ≡ true
-and_left true b e = refl
-and_left false b e = e
-
-and_right : (a b : Bool) → (a && b) ≡ true → b ≡ true
-and_right true b e = e
-and_right false b e = cc
-
-and_both : (a b : Bool) → a ≡ true → b ≡ true → (a && b) ≡ true
-and_both a b e f i = e i && f i
 
 above_zero : (n : ℕ) → 0 < n → false ≡ eqb n 0
 above_zero n some = elim (eqb_tells n 0) [ inl h ↦ absurd (omega (arith, h.1)) | inr h ↦ sym h.0 ]
 
 other_byte : (b : ℕ) → (b ≡ 47 → ⊥) → eqb b 47 ≡ false
 other_byte b other = elim (eqb_tells b 47) [ inl h ↦ absurd (other h.1) | inr h ↦ h.0 ]
-
--- a text has a component
-pub length-components : (text : List ℕ) → 0 < length (components text)
-length-components text = omega (arith, length-slice_split (λ b. eqb b 47) text)
-
-onto_first-append : (x : ℕ) (front tail : List (List ℕ)) → 0 < length front → onto_first x (front ++ tail) ≡ onto_first x front ++ tail
-onto_first-append x [] tail some = absurd (omega (arith, some))
-onto_first-append x (name ∷ front) tail some = refl
-
-split_step : (b : Bool) (x : ℕ) (whole front tail : List (List ℕ)) → 0 < length front → whole ≡ front ++ tail → cond b ([] ∷ whole) (onto_first x whole) ≡ cond b ([] ∷ front) (onto_first x front) ++ tail
-split_step true x whole front tail some is = ap (λ (z : List (List ℕ)). [] ∷ z) is
-split_step false x whole front tail some is = ap (onto_first x) is ∙ onto_first-append x front tail some
-
--- a slash parts the components before it from those after it
-pub components-append : (text tail : List ℕ) → components (text ++ 47 ∷ tail) ≡ components text ++ components tail
-components-append [] tail = refl
-components-append (x ∷ text) tail = split_step (eqb x 47) x _ _ _ (length-components text) (components-append text tail)
 
 good_of : (text : List ℕ) (empty good long : Bool) → answer_of text empty good long ≡ Ok text → good ≡ true
 good_of text true good long e = cc
@@ -62,28 +35,20 @@ short_of text false false long e = cc
 short_of text false true true e = cc
 short_of text false true false e = refl
 
-path_is_good : (text : List ℕ) → path_of text ≡ Ok text → (is_utf8 text && list_all is_component (components text)) ≡ true
+path_is_good : (text : List ℕ) → path_of text ≡ Ok text → (is_utf8 text ≡ true) × (list_all is_component (components text) ≡ true)
 unfolding path_of
-path_is_good text e = good_of text _ _ _ e
+path_is_good text e = and_parts (is_utf8 text) (list_all is_component (components text)) (good_of text _ _ _ e)
 
 path_is_short : (text : List ℕ) → path_of text ≡ Ok text → is_too_long text ≡ false
 unfolding path_of
 path_is_short text e = short_of text _ _ _ e
 
-or_left : (a b : Bool) → (a || b) ≡ false → a ≡ false
-or_left true b e = e
-or_left false b e = refl
-
-or_right : (a b : Bool) → (a || b) ≡ false → b ≡ false
-or_right true b e = cc
-or_right false b e = e
-
 -- a path has at most 255 bytes, and at most 16 components
 pub path_bytes : (text : List ℕ) → path_of text ≡ Ok text → length text ≤ 255
-path_bytes text e = ltb-false 255 (length text) (or_right _ _ (path_is_short text e))
+path_bytes text e = ltb-false 255 (length text) (or_parts _ _ (path_is_short text e)).1
 
 pub path_components : (text : List ℕ) → path_of text ≡ Ok text → length (components text) ≤ 16
-path_components text e = ltb-false 16 (length (components text)) (or_left _ _ (path_is_short text e))
+path_components text e = ltb-false 16 (length (components text)) (or_parts _ _ (path_is_short text e)).0
 
 not_long : (text : List ℕ) → length (components text) ≤ 16 → length text ≤ 255 → is_too_long text ≡ false
 not_long text few short i = le-ltb 16 (length (components text)) few i || le-ltb 255 (length text) short i
@@ -94,15 +59,12 @@ IsUtf8-slash = (47 ∷ [], (refl, ap (λ (z : List ℕ). z ++ []) (encode_ascii 
 -- two paths with a slash between are well formed
 good_joined : (text tail : List ℕ) → path_of text ≡ Ok text → path_of tail ≡ Ok tail → (is_utf8 (text ++ 47 ∷ tail) && list_all is_component (components (text ++ 47 ∷ tail))) ≡ true
 good_joined text tail a b =
-    let text_good : (is_utf8 text && list_all is_component (components text)) ≡ true = path_is_good text a in
-    let tail_good : (is_utf8 tail && list_all is_component (components tail)) ≡ true = path_is_good tail b in
-    let text_utf8 = IsUtf8-from_is_utf8 text (and_left (is_utf8 text) (list_all is_component (components text)) text_good) in
-    let tail_utf8 = IsUtf8-from_is_utf8 tail (and_left (is_utf8 tail) (list_all is_component (components tail)) tail_good) in
-    let text_names = and_right (is_utf8 text) (list_all is_component (components text)) text_good in
-    let tail_names = and_right (is_utf8 tail) (list_all is_component (components tail)) tail_good in
-    and_both _ _
-    (is_utf8-from_IsUtf8 _ (IsUtf8-append text (47 ∷ tail) text_utf8 (IsUtf8-append (47 ∷ []) tail IsUtf8-slash tail_utf8)))
-    (ap (list_all is_component) (components-append text tail) ∙ list_all-append is_component (components text) (components tail) ∙ and_both _ _ text_names tail_names)
+    let first = path_is_good text a in
+    let rest = path_is_good tail b in
+    and_from _ _
+    (is_utf8-from_IsUtf8 _
+    (IsUtf8-append text (47 ∷ tail) (IsUtf8-from_is_utf8 text first.0) (IsUtf8-append (47 ∷ []) tail IsUtf8-slash (IsUtf8-from_is_utf8 tail rest.0))))
+    (ap (list_all is_component) (components-append text tail) ∙ list_all-append is_component (components text) (components tail) ∙ and_from _ _ first.1 rest.1)
 
 chosen : (whole : List ℕ) (long : Bool) → result_ok (answer_of whole false true long) ≡ (if long then None else Some whole)
 chosen whole true = refl
@@ -154,10 +116,10 @@ front_is_path text at path is =
     let names = names_at_slash text at is in
     let count = ap length names ∙ length_push (components (take at text)) (drop (at + 1) text) in
     let size = length-take-le at text (omega (arith, is.within)) in
-    let all : list_all is_component (components (take at text)) ≡ true = and_left (list_all is_component (components (take at text))) (list_all is_component (drop (at + 1) text ∷ [])) (sym (list_all-append is_component (components (take at text)) (drop (at + 1) text ∷ [])) ∙ ap (list_all is_component) (sym names) ∙ and_right (is_utf8 text) (list_all is_component (components text)) good) in
+    let all = (and_parts (list_all is_component (components (take at text))) (list_all is_component (drop (at + 1) text ∷ [])) (sym (list_all-append is_component (components (take at text)) (drop (at + 1) text ∷ [])) ∙ ap (list_all is_component) (sym names) ∙ good.1)).0 in
     path_of-tests (take at text) false true false
     (above_zero _ (some_byte _ all))
-    (sym (and_both _ _ (is_utf8-from_IsUtf8 _ (IsUtf8-take text at (IsUtf8-from_is_utf8 text (and_left (is_utf8 text) (list_all is_component (components text)) good)) (IsCharBoundary-before_ascii text at is.within (omega (arith, is.slash))))) all))
+    (sym (and_from _ _ (is_utf8-from_IsUtf8 _ (IsUtf8-take text at (IsUtf8-from_is_utf8 text good.0) (IsCharBoundary-before_ascii text at is.within (omega (arith, is.slash))))) all))
     (sym (not_long (take at text) (omega (arith, path_components text path)) (omega (arith, path_bytes text path, is.within))))
 
 -- reading what stands before the last slash gives the parent
@@ -166,39 +128,6 @@ unfolding parent_of
 parent_answer text at path is =
     ap (λ (r : Result (List ℕ) PathFault). result_ok r) (front_is_path text at path is)
     ∙ sym (ap parent_from (names_at_slash text at is) ∙ parent_push (components (take at text)) _ (length-components (take at text)) ∙ ap (λ (z : List ℕ). Some z) (join_with_byte-slice_split 47 (take at text)))
-
-join-append : (xs ys : List (List ℕ)) → 0 < length xs → 0 < length ys → join_with_byte 47 (xs ++ ys) ≡ join_with_byte 47 xs ++ 47 ∷ join_with_byte 47 ys
-join-append [] ys some more = absurd (omega (arith, some))
-join-append (x ∷ []) [] some more = absurd (omega (arith, more))
-join-append (x ∷ []) (y ∷ ys) some more = refl
-join-append (x ∷ w ∷ xs) ys some more =
-    ap (λ (z : List ℕ). x ++ (47 ∷ z)) (join-append (w ∷ xs) ys (omega arith) more)
-    ∙ sym (append_assoc x (47 ∷ join_with_byte 47 (w ∷ xs)) (47 ∷ join_with_byte 47 ys))
-
-under_from : (text other : List ℕ) → (length (components other) < length (components text)) × (components other ≡ take (length (components other)) (components text)) → ContinuesAfter text other
-under_from text other h =
-    let n = length (components other) in
-    let rest = drop n (components text) in
-    let some : 0 < length rest = omega (arith, h.0, length-drop n (components text)) in (
-      join_with_byte 47 rest,
-      sym (join_with_byte-slice_split 47 text)
-          ∙ ap (join_with_byte 47) (sym (take-append-drop n (components text)) ∙ ap (λ (z : List (List ℕ)). z ++ rest) (sym h.1))
-          ∙ join-append (components other) rest (length-components other) some
-          ∙ ap (λ (z : List ℕ). z ++ 47 ∷ join_with_byte 47 rest) (join_with_byte-slice_split 47 other),
-    )
-
-under_to : (text other : List ℕ) → ContinuesAfter text other → (length (components other) < length (components text)) × (components other ≡ take (length (components other)) (components text))
-under_to text other h =
-    let names : components text ≡ components other ++ components h.0 = ap components h.1 ∙ components-append other h.0 in (
-      omega (arith, ap length names, length-append (components other) (components h.0), length-components h.0),
-      sym (ap (take (length (components other))) names ∙ take_at (components other) (components h.0) _ refl),
-    )
-
-is_under-Decides : (text other : List ℕ) → Decides (is_under text other) (ContinuesAfter text other)
-unfolding is_under
-is_under-Decides text other =
-    Decides-like _ (under_from text other) (under_to text other)
-    (Decides-and _ _ (Decides-ltb _ _) (slice_eq-Decides bytes_eq-Decides (components other) (take (length (components other)) (components text)) _ refl))
 
 -- a test of the text decides whether the components are a proper prefix
 pub under_answer : (text other : List ℕ) (b : Bool) → ((b ≡ true) ↔ ContinuesAfter text other) → b ≡ is_under text other
@@ -223,11 +152,11 @@ tail_is_path text at path is =
     let good = path_is_good text path in
     let names = names_at_slash text at is in
     let one : components (drop (at + 1) text) ≡ drop (at + 1) text ∷ [] = slice_split_none (λ b. eqb b 47) (drop (at + 1) text) (no_slash_all text (at + 1) is.last) in
-    let all : list_all is_component (components (drop (at + 1) text)) ≡ true = ap (list_all is_component) one ∙ and_right (list_all is_component (components (take at text))) (list_all is_component (drop (at + 1) text ∷ [])) (sym (list_all-append is_component (components (take at text)) (drop (at + 1) text ∷ [])) ∙ ap (list_all is_component) (sym names) ∙ and_right (is_utf8 text) (list_all is_component (components text)) good) in
-    let utf8 = IsUtf8-from_is_utf8 text (and_left (is_utf8 text) (list_all is_component (components text)) good) in
+    let all : list_all is_component (components (drop (at + 1) text)) ≡ true = ap (list_all is_component) one ∙ (and_parts (list_all is_component (components (take at text))) (list_all is_component (drop (at + 1) text ∷ [])) (sym (list_all-append is_component (components (take at text)) (drop (at + 1) text ∷ [])) ∙ ap (list_all is_component) (sym names) ∙ good.1)).1 in
+    let utf8 = IsUtf8-from_is_utf8 text good.0 in
     path_of-tests (drop (at + 1) text) false true false
     (above_zero _ (some_byte _ all))
-    (sym (and_both _ _ (is_utf8-from_IsUtf8 _ (IsUtf8-drop text (at + 1) utf8 (IsCharBoundary-after_ascii text at utf8 is.within (omega (arith, is.slash))))) all))
+    (sym (and_from _ _ (is_utf8-from_IsUtf8 _ (IsUtf8-drop text (at + 1) utf8 (IsCharBoundary-after_ascii text at utf8 is.within (omega (arith, is.slash))))) all))
     (sym (not_long (drop (at + 1) text) (omega (arith, ap length one)) (omega (arith, path_bytes text path, length-drop (at + 1) text))))
 
 parent_at : (text : List ℕ) (at : ℕ) → path_of text ≡ Ok text → IsLastSlash text at → parent_of text ≡ Some (take at text)

@@ -1,13 +1,6 @@
 pub mod AppendLemmas
 pub mod ComponentLemmas
-pub mod LookupLemmas
 pub mod PathLemmas
-pub mod PlaceLemmas
 pub mod PutLemmas
 pub mod ReadLemmas
-pub mod SureLemmas
-pub mod TreeLemmas
-pub mod HeldLemmas
-pub mod ChangeLemmas
-pub mod ChildLemmas
-pub mod SoundLemmas
+pub mod InMemory

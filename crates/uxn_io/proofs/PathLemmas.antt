@@ -1,8 +1,8 @@
 -- What `path_of` answers, test by test, and how a path is kept.
-use Rattle.std.proofs.Common.{◌≡◌, ℕ, ◌-◌, ◌≤◌, Bool, true, false, cond, not, ◌||◌, ◌&&◌, List, ◌++◌, take, drop, length, replicate, Result, Ok, Err, is_ok, refl, ap, sym, ◌∙◌, arith, eqb}
+use Rattle.std.proofs.Common.{◌≡◌, ℕ, ◌-◌, ◌≤◌, Bool, true, false, cond, not, ◌&&◌, List, ◌++◌, take, drop, length, replicate, Result, Ok, Err, is_ok, refl, ap, sym, ◌∙◌, arith, eqb}
 use Rattle.std.specs.List.{list_all}
 use Rattle.std.specs.Str.{is_utf8}
-use Rattle.std.proofs.lemmas.Bool.{ltb-false}
+use Rattle.std.proofs.lemmas.Bool.{ltb-false, or_parts}
 use Rattle.std.proofs.lemmas.List.{length-append, take_at, drop_at, drop-replicate}
 use Rattle.uxn_io.specs.declared.paths.PathFault.{PathFault}
 use Rattle.uxn_io.specs.declared.paths.PathFault.TheVariants.{Empty, BadComponent, TooLong}
@@ -46,10 +46,6 @@ kept_text text bytes zeros is = ap (take (length text)) is ∙ take_at text zero
 pub padded_text : (text front zeros : List ℕ) → front ≡ text → zeros ≡ replicate 255 0 → length text ≤ 255 → front ++ drop (length text) zeros ≡ text ++ replicate (255 - length text) 0
 padded_text text front zeros is_text is_zeros short i = is_text i ++ (ap (drop (length text)) is_zeros ∙ drop-replicate (length text) 255 0) i
 
-or_false : (a b : Bool) → false ≡ (a || b) → b ≡ false
-or_false true b e = cc
-or_false false b e = sym e
-
 -- a text that is not too long has at most 255 bytes
 pub fits_from_short : (text : List ℕ) → false ≡ is_too_long text → length text ≤ 255
-fits_from_short text e = ltb-false 255 (length text) (or_false _ _ e)
+fits_from_short text e = ltb-false 255 (length text) (or_parts _ _ (sym e)).1

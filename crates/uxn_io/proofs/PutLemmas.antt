@@ -1,13 +1,8 @@
 -- What is told after one more put.
-use Rattle.std.proofs.Common.{◌≡◌, ℕ, ◌+◌, List, ◌++◌, take, drop, Option, Some, None, refl, ap, sym, ◌∙◌}
-use Rattle.std.proofs.lemmas.List.{append_assoc}
+use Rattle.std.proofs.Common.{◌≡◌, ℕ, ◌+◌, List, take, drop, Option, ap, sym, ◌∙◌}
 use Rattle.std.proofs.Math.Seq.{take-add}
 use Rattle.uxn_io.specs.Told.{extended}
-
--- to append twice is to append both
-pub extended-extended : (told : Option (List ℕ)) (xs ys : List ℕ) → extended (extended told xs) ys ≡ extended told (xs ++ ys)
-extended-extended None xs ys = refl
-extended-extended (Some bytes) xs ys = ap (λ (z : List ℕ). Some z) (append_assoc bytes xs ys)
+use Rattle.uxn_io.specs.ChangeLaws.{extended-extended}
 
 -- a front of the piece was put, and then a front of the rest
 pub extended_more : (first told now : Option (List ℕ)) (piece rest : List ℕ) (at n : ℕ) → rest ≡ drop at piece → told ≡ extended first (take at piece) → now ≡ extended told (take n rest) → now ≡ extended first (take (at + n) piece)

@@ -10,9 +10,11 @@ pub mod Outside
 pub mod Children
 pub mod Room
 pub mod WholeFile
-pub mod SinkInMemory
-pub mod Places
-pub mod TreeInMemory
-pub mod Appending
+pub mod InMemory
+pub mod PathLaws
+pub mod NodeLaws
+pub mod ChangeLaws
+pub mod AppendingLaws
 pub mod Taking
+pub mod TakingLaws
 pub mod Nothing

@@ -3,18 +3,15 @@
 #![tactic(auto)]
 
 mod bytes;
-mod memory_sinks;
-mod memory_trees;
+mod memory;
 mod nothing;
 mod paths;
-mod places;
 mod sinks;
 mod texts;
 mod trees;
 
 pub use bytes::Bytes;
-pub use memory_sinks::MemSink;
-pub use memory_trees::{MemTree, Node, TreeCall};
+pub use memory::{MemSink, MemTree, Node, TreeCall};
 pub use nothing::{NoSink, NoTree};
 pub use paths::{Path, PathFault};
 pub use sinks::{Failed, Sink, put_all};

@@ -1,55 +1,98 @@
 -- What comes next to a machine behind another: the bytes of the ring, those that are still to be written, and the end.
-use Rattle.std.proofs.Common.{◌≡◌, ◌≢◌, ℕ, zero, suc, ◌+◌, ◌-◌, ◌≤◌, ◌↔◌, Bool, true, false, cond, List, [], ◌∷◌, ◌++◌, take, drop, map, length, refl, sym, ap, ◌∙◌, arith, append_assoc, length-append}
+use Rattle.std.proofs.Common.{◌≡◌, ◌≢◌, ℕ, zero, suc, ◌+◌, ◌-◌, ◌≤◌, ◌↔◌, true, false, cond, List, [], ◌∷◌, ◌++◌, take, drop, map, length, Some, None, refl, sym, ap, subst, ◌∙◌, arith, append_assoc, length-append}
 use Rattle.std.proofs.Math.Seq.{drop-append_seam}
 use Rattle.std.proofs.lemmas.List.{length-take-le}
-use Rattle.play_script.specs.declared.script.Event.TheVariants.{Input, EndInput}
-use Rattle.vector_loop.specs.State.{State, is_over}
-use Rattle.vector_loop.specs.Run.{arguments_given}
-use Rattle.uxn_line.specs.Places.{Gift, OfEvent, Place, place, HasEnded, instruction_turn, giving_turn, turn_of, turn, after_turns}
-use Rattle.uxn_line.specs.Streams.{Job, IsJob, first_place, rom_at, gifts_of, script_at, stream, after}
+use Rattle.std.specs.Prelude.{Option}
+use Rattle.play_script.specs.declared.script.Event.{Event}
+use Rattle.play_script.specs.declared.script.Event.TheVariants.{Input, EndInput, Frame, Device, Shot, Expect}
+use Rattle.vector_loop.specs.declared.gift.Gift.{Gift}
+use Rattle.vector_loop.specs.declared.gift.Gift.TheVariants.{OfEvent}
+use Rattle.vector_loop.specs.State.{is_over}
+use Rattle.vector_loop.specs.Trail.{Trail}
+use Rattle.vector_loop.specs.Run.{ConsoleByte, arguments_given}
+use Rattle.vector_loop.specs.Gifts.{of_argument, gifts_of, console_of, counted_by}
+use Rattle.vector_loop.specs.Places.{Place, place, HasEnded, holding, instruction_step, giving_by, step_of, step, after_steps}
+use Rattle.uxn_line.specs.Places.{no_outputs, turn, IsForConsole, put_in}
+use Rattle.uxn_line.specs.Streams.{Job, IsJob, IsOfConsole, AreOfConsole, first_place, rom_at, script_at, stream, after}
 use Rattle.uxn_line.specs.Members.{next_gift}
 use Rattle.uxn_line.specs.Standing.{given_after}
-use Rattle.uxn_line.proofs.Turning.{follows}
+use Rattle.uxn_line.proofs.Turned.{begins-gifts}
+use Rattle.uxn_line.proofs.Turning.{script-is, follows}
 
 -- a front of a list, and the rest of it
 record Parted (all left : List Gift) : Type 0 where
   front : List Gift
   parts : all ≡ front ++ left
 
-two-ways : (b : Bool) (x y : Place) (gifts : List Gift) → x.gifts ≡ gifts → y.gifts ≡ gifts → (cond b x y).gifts ≡ gifts
-two-ways true x y gifts one other = one
-two-ways false x y gifts one other = other
+giving-rest : (budget : ℕ) (gift : Gift) (byte : Option ConsoleByte) (done : Trail) (gifts : List Gift)
+    → (giving_by budget no_outputs gift byte done gifts).gifts ≡ gifts
+giving-rest budget gift (Some byte) done gifts = begins-gifts budget (holding byte (counted_by gift done.last)) done gifts
+giving-rest budget gift None done gifts = refl
 
-giving-rest : (budget : ℕ) (gift : Gift) (state : State) (gifts : List Gift) (put : List ℕ) → (giving_turn budget gift state gifts put).gifts ≡ gifts
-unfolding giving_turn
-giving-rest budget gift state gifts put = two-ways _ _ _ gifts refl refl
-
-turn-parts : (budget left : ℕ) (state : State) (gifts : List Gift) (put : List ℕ) → Parted gifts (turn_of budget left state gifts put).gifts
-unfolding instruction_turn
-turn-parts budget (suc less) state gifts put = record { front = []; parts = refl }
-turn-parts budget zero state [] put = record { front = []; parts = refl }
-turn-parts budget zero state (gift ∷ gifts) put =
-    elim (is_over state) as (λ b. Parted (gift ∷ gifts) (cond b (place state 0 (gift ∷ gifts) put) (giving_turn budget gift state gifts put)).gifts) [
+turn-parts : (budget left : ℕ) (done : Trail) (gifts : List Gift) → Parted gifts (step_of budget no_outputs left done gifts).gifts
+unfolding instruction_step
+turn-parts budget (suc less) done gifts = record { front = []; parts = refl }
+turn-parts budget zero done [] = record { front = []; parts = refl }
+turn-parts budget zero done (gift ∷ gifts) =
+    let next = giving_by budget no_outputs gift (console_of gift) done gifts in
+    elim (is_over done.last) as (λ b. Parted (gift ∷ gifts) (cond b (place done 0 (gift ∷ gifts)) next).gifts) [
       | true ↦ record { front = []; parts = refl }
-      | false ↦ record { front = gift ∷ []; parts = ap (λ rest. gift ∷ rest) (sym (giving-rest budget gift state gifts put)) }
+      | false ↦ record { front = gift ∷ []; parts = ap (λ rest. gift ∷ rest) (sym (giving-rest budget gift (console_of gift) done gifts)) }
     ]
 
 -- what is left after some turns is the rest of what there was
-turns-parts : (budget : ℕ) (begun : Place) (count : ℕ) → Parted begun.gifts (after_turns budget count begun).gifts
-unfolding turn
+turns-parts : (budget : ℕ) (begun : Place) (count : ℕ) → Parted begun.gifts (after_steps budget no_outputs count begun).gifts
+unfolding step
 turns-parts budget begun zero = record { front = []; parts = refl }
 turns-parts budget begun (suc count) =
-    let now = after_turns budget count begun in
+    let now = after_steps budget no_outputs count begun in
     let before = turns-parts budget begun count in
-    let last = turn-parts budget now.left now.state now.gifts now.put in
+    let last = turn-parts budget now.left now.done now.gifts in
     record {
       front = before.front ++ last.front;
       parts = before.parts ∙ ap (λ rest. before.front ++ rest) last.parts ∙ sym (append_assoc before.front last.front (turn budget now).gifts);
     }
 
+-- all that a machine of a line is given is for the console
+AreForConsole : List Gift → Type 0
+AreForConsole [] = Unit {0}
+AreForConsole (gift ∷ gifts) = IsForConsole gift × AreForConsole gifts
+
+event-is : (event : Event) → IsOfConsole event → IsForConsole (OfEvent event)
+event-is (Input byte) is = refl
+event-is EndInput is = refl
+event-is Frame is = absurd is
+event-is (Device input) is = absurd is
+event-is Shot is = absurd is
+event-is (Expect port byte) is = absurd is
+
+events-are : (events : List Event) → AreOfConsole events → AreForConsole (map OfEvent events)
+unfolding AreForConsole
+events-are [] are = tt
+events-are (event ∷ events) are = (event-is event are.0, events-are events are.1)
+
+gifts-are : (bytes : List ConsoleByte) (events : List Event) → AreOfConsole events → AreForConsole (map of_argument bytes ++ map OfEvent events)
+unfolding AreForConsole
+gifts-are [] events are = events-are events are
+gifts-are (byte ∷ bytes) events are = (refl, gifts-are bytes events are)
+
+first-is-for : (front : List Gift) (gift : Gift) (gifts : List Gift) → AreForConsole (front ++ gift ∷ gifts) → IsForConsole gift
+unfolding AreForConsole
+first-is-for [] gift gifts are = are.0
+first-is-for (first ∷ front) gift gifts are = first-is-for front gift gifts are.1
+
+pub next-is-for : (job : Job) → IsJob job → (machine count : ℕ) (gift : Gift) (gifts : List Gift) → (after job machine count).gifts ≡ gift ∷ gifts
+    → IsForConsole gift
+next-is-for job is machine count gift gifts next =
+    let script = script_at job machine in
+    let parts = turns-parts job.budget (first_place job.budget (rom_at job machine) script) count in
+    let all : gifts_of script ≡ parts.front ++ gift ∷ gifts = parts.parts ∙ ap (λ left. parts.front ++ left) next in
+    let P : List Gift → Type 0 = λ g. AreForConsole g in
+    first-is-for parts.front gift gifts (subst P all (gifts-are (arguments_given script.arguments) script.events (script-is job is machine)))
+
 -- bytes, and then the end
 pub inputs : List ℕ → List Gift
-inputs bytes = map (λ event. OfEvent event) (map (λ byte. Input byte) bytes ++ EndInput ∷ [])
+inputs bytes = map OfEvent (map (λ byte. Input byte) bytes ++ EndInput ∷ [])
 
 pub all-inputs : (job : Job) (before : ℕ) → gifts_of (script_at job (suc before)) ≡ inputs (stream job before)
 unfolding arguments_given inputs
@@ -113,11 +156,11 @@ pub record Comes (job : Job) (before count next : ℕ) (ring : List ℕ) : Type 
   pub gifts : List Gift
   pub are : (after job (suc before) next).gifts ≡ next_gift ring ∷ gifts
   pub last : (ring ≡ []) ↔ (gifts ≡ [])
-  pub written : (after job before count).put ≡ take (suc (given_after job (suc before) next)) (stream job before) ++ drop 1 ring
+  pub written : put_in (after job before count) ≡ take (suc (given_after job (suc before) next)) (stream job before) ++ drop 1 ring
   pub given : length (gifts_of (script_at job (suc before))) - length gifts ≡ suc (given_after job (suc before) next)
 
 pub comes : (job : Job) (before count next : ℕ) (ring : List ℕ) → IsJob job
-    → (after job before count).put ≡ take (given_after job (suc before) next) (stream job before) ++ ring
+    → put_in (after job before count) ≡ take (given_after job (suc before) next) (stream job before) ++ ring
     → (after job (suc before) next).gifts ≢ [] → (ring ≡ [] → HasEnded (after job before count)) → Comes job before count next ring
 comes job before count next ring is put some ended =
     let bytes = stream job before in

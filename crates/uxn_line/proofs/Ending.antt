@@ -3,12 +3,12 @@ use Rattle.std.proofs.Common.{◌≡◌, ℕ, zero, suc, ◌+◌, ◌<◌, ◌�
 use Rattle.std.specs.Prelude.{Some, Option, Result, Ok, Err, OnOk, OnErr, IsOk, slice_get}
 use Rattle.std.proofs.Math.Seq.{take-append_seam}
 use Rattle.uxn_io.specs.Told.{extended, HasTakenFront}
-use Rattle.uxn_io.specs.Outside.{extended-extended}
+use Rattle.uxn_io.specs.ChangeLaws.{extended-extended}
 use Rattle.uxn_io.specs.declared.sinks.Failed.{Failed}
 use Rattle.uxn_line.specs.declared.line.Line.{Line}
 use Rattle.uxn_line.specs.declared.line.Moved.{Moved}
 use Rattle.uxn_line.specs.declared.line.Moved.TheVariants.{Ran, Gave, Waits, Held, Ended}
-use Rattle.uxn_line.specs.Places.{turn}
+use Rattle.uxn_line.specs.Places.{turn, put_in}
 use Rattle.uxn_line.specs.Machines.{handed_on}
 use Rattle.uxn_line.specs.Streams.{Job, IsJob, stream, after}
 use Rattle.uxn_line.specs.Standing.{Turned, place_in, Stands}
@@ -51,7 +51,7 @@ way-on job begun out out_now line line_now way now stands adds = record {
 }
 
 -- what was written is a front of the stream
-pub stream-is : (job : Job) → IsJob job → (machine count : ℕ) → (rest : List ℕ) × (stream job machine ≡ (after job machine count).put ++ rest)
+pub stream-is : (job : Job) → IsJob job → (machine count : ℕ) → (rest : List ℕ) × (stream job machine ≡ put_in (after job machine count) ++ rest)
 stream-is job is machine count = let run = follows job is machine count in (run.rest, run.front)
 
 pub front-of : (job : Job) (turned : Turned) (before now : Option (List ℕ)) → IsJob job → now ≡ extended before (written_in job turned)
@@ -78,18 +78,23 @@ fails-short job line turned machine out stands fails =
     let put = run-put job.budget there.0.machine place (omega (arith, left, vector)) at in
     let rest = stream-is job stands.job_is machine (suc (turned machine)) in
     let bytes = ap (λ c. handed_on c) at.core ∙ fails.writes in
-    let long : length (stream job machine) ≡ length (place.put ++ handed_on there.0.machine.core) + length rest.0
-    = ap length rest.1 ∙ length-append (turn job.budget place).put rest.0 ∙ ap (λ p. length p + length rest.0) put in
-    let one = length-append place.put (handed_on there.0.machine.core) in
+    let long : length (stream job machine) ≡ length (put_in place ++ handed_on there.0.machine.core) + length rest.0
+    = ap length rest.1 ∙ length-append (put_in (turn job.budget place)) rest.0 ∙ ap (λ p. length p + length rest.0) put in
+    let one = length-append (put_in place) (handed_on there.0.machine.core) in
     let byte : length (handed_on there.0.machine.core) ≡ 1 = ap length bytes in
     let same : machine ≡ last_of job = omega (arith, last) in
-    let P : ℕ → Type 0 = λ m. length (place_in job turned m).put < length (stream job m) in
+    let P : ℕ → Type 0 = λ m. length (put_in (place_in job turned m)) < length (stream job m) in
     subst P same (omega (arith, long, one, byte))
 
 -- a turn of a line that is under way
 module _ (line line_now : Line) (machine : ℕ) (out out_now : SinkView) where
   abbrev pub Turns : Result Moved Failed → Type 0
   Turns result = (job : Job) (turned : Turned) → Stands job line turned → Came job turned machine line line_now out out_now result
+
+  pub came-failed : (result : Result Moved Failed) → Turns result
+      → OnErr result ((job : Job) (turned : Turned) → Stands job line turned → Fails job turned machine out)
+  came-failed (Ok moved) came = tt
+  came-failed (Err failed) came = λ job turned stands. (came job turned stands).cause
 
   pub came-on : (result : Result Moved Failed) → Turns result
       → OnOk result ((job : Job) (begun : SinkView) → IsUnderWay job begun line out → IsUnderWay job begun line_now out_now)

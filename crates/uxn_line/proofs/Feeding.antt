@@ -8,8 +8,11 @@ use Rattle.vector_loop.specs.State.{is_over}
 use Rattle.uxn_line.specs.declared.line.Line.{Line}
 use Rattle.uxn_line.specs.declared.line.Moved.TheVariants.{Gave, Waits}
 use Rattle.uxn_line.specs.declared.member.Member.{Member}
-use Rattle.uxn_line.specs.Places.{Place, Gift, HasEnded, turn}
-use Rattle.uxn_line.specs.Streams.{Job, script_at, stream, gifts_of, after}
+use Rattle.vector_loop.specs.declared.gift.Gift.{Gift}
+use Rattle.vector_loop.specs.Places.{Place, HasEnded}
+use Rattle.uxn_line.specs.Places.{turn, IsForConsole, put_in}
+use Rattle.vector_loop.specs.Gifts.{gifts_of}
+use Rattle.uxn_line.specs.Streams.{Job, script_at, stream, after}
 use Rattle.uxn_line.specs.Members.{MemberAt, has_ended, IsOpen, next_gift}
 use Rattle.uxn_line.specs.Standing.{Turned, one_more, place_in, given_after, Between, InLine, Stands}
 use Rattle.uxn_line.specs.Moves.{SinkView, IsWaiting, ring_of, Came}
@@ -35,7 +38,7 @@ found-open line machine found is read =
 -- where it stands
 pub record IdleAt (place : Place) : Type 0 where
   pub idle : place.left ≡ 0
-  pub goes_on : is_over place.state ≡ false
+  pub goes_on : is_over place.done.last ≡ false
   pub some : place.gifts ≢ []
 
 pub idle-at : (member : Member) (place : Place) → MemberAt member place → member.machine.left ≡ 0 → has_ended member ≡ false → IdleAt place
@@ -55,7 +58,7 @@ pub record GivesIn (job : Job) (turned : Turned) (line line_now : Line) (machine
   pub budget : line_now.budget ≡ line.budget
   pub script : line_now.giver ≡ (place_in job (one_more machine turned) 0).gifts
   pub own : InLine job (one_more machine turned) machine now
-  pub put : (turn job.budget (place_in job turned machine)).put ≡ (place_in job turned machine).put
+  pub put : put_in (turn job.budget (place_in job turned machine)) ≡ put_in (place_in job turned machine)
 
 pub give-stands : (job : Job) (line line_now : Line) (turned : Turned) (machine : ℕ) (member now : Member) → Stands job line turned
     → GivesIn job turned line line_now machine member now → Stands job line_now (one_more machine turned)
@@ -102,9 +105,13 @@ script-apart job line turned before stands =
 -- a machine behind another that was given the first of its ring, or the end
 pub record NextGiven (budget : ℕ) (member now : Member) : Type 0 where
   pub stands : (place : Place) (gifts : List Gift) → MemberAt member place → place.gifts ≡ next_gift member.ring.items ∷ gifts
-      → (member.ring.items ≡ []) ↔ (gifts ≡ []) → is_over place.state ≡ false → MemberAt now (turn budget place)
+      → (member.ring.items ≡ []) ↔ (gifts ≡ []) → is_over place.done.last ≡ false → MemberAt now (turn budget place)
   pub kept : has_ended now ≡ false → now.ring ≡ buffer (drop 1 member.ring.items) member.ring.capacity
   pub dropped : has_ended now ≡ true → now.ring ≡ buffer [] member.ring.capacity
+
+ring-is-for : (ring : List ℕ) → IsForConsole (next_gift ring)
+ring-is-for [] = refl
+ring-is-for (byte ∷ ring) = refl
 
 shorter : (ring : List ℕ) → length (drop 1 ring) ≤ length ring
 shorter [] = omega arith
@@ -118,7 +125,7 @@ next-own job turned before member now given inline idle next =
     let here = more-here (suc before) turned in
     let there = more-apart (suc before) turned before (λ same. omega (arith, same)) in
     let at : MemberAt now (turn job.budget place) = given.stands place next.gifts inline.stands next.are next.last idle.goes_on in
-    let gifts = give-gifts job.budget place (next_gift member.ring.items) next.gifts idle.idle next.are idle.goes_on in
+    let gifts = give-gifts job.budget place (next_gift member.ring.items) next.gifts idle.idle next.are idle.goes_on (ring-is-for member.ring.items) in
     let total = length (gifts_of (script_at job (suc before))) in
     let count = ap (λ g. total - length g) gifts ∙ next.given in
     let room_ring : (has_ended now ≡ false → now.ring.items ≡ drop 1 member.ring.items) = λ goes. ap (λ (r : Buffer ℕ). r.items) (given.kept goes) in
@@ -168,7 +175,7 @@ next-came job line turned before member now last out stands found given there en
       budget = refl;
       script = script-apart job line turned before stands;
       own = next-own job turned before member now (subst P stands.budget given) inline idle next;
-      put = give-put job.budget place (next_gift member.ring.items) next.gifts idle.idle next.are idle.goes_on;
+      put = give-put job.budget place (next_gift member.ring.items) next.gifts idle.idle next.are idle.goes_on (ring-is-for member.ring.items);
     }) found.idle found.goes_on
     (λ waits. waits.comes (over (ap ring_of (sym found.there) ∙ waits.nothing)))
 

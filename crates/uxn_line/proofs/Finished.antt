@@ -5,7 +5,8 @@ use Rattle.uxn_io.specs.Told.{extended, HasTakenFront}
 use Rattle.uxn_line.specs.declared.line.Line.{Line}
 use Rattle.uxn_line.specs.declared.member.Member.{Member}
 use Rattle.uxn_line.proofs.Running.{with_member}
-use Rattle.uxn_line.specs.Places.{HasEnded}
+use Rattle.vector_loop.specs.Places.{HasEnded}
+use Rattle.uxn_line.specs.Places.{put_in}
 use Rattle.uxn_line.specs.Streams.{Job, stream, exit_code_at}
 use Rattle.uxn_line.specs.Standing.{Turned, place_in, Stands}
 use Rattle.uxn_line.specs.Moves.{last_of, written_in, ring_before, IsHeld, IsStill, SinkView, sink_view, IsUnderWay, Reaches, Finishes, Stops}
@@ -46,7 +47,7 @@ module _ (job : Job) (line : Line) (turned : Turned) (still : (machine : ℕ) �
 
 pub finished : (job : Job) (turned : Turned) (line still_line : Line) (out out_now : SinkView) (code : ℕ) → (reached : Reaches job turned line out out_now)
     → ((machine : ℕ) → machine < length job.roms → IsStill job still_line reached.last machine)
-    → code ≡ exit_code_at (place_in job reached.last (last_of job)).state → Finishes job turned line out out_now code
+    → code ≡ exit_code_at (place_in job reached.last (last_of job)).done.last → Finishes job turned line out out_now code
 finished job turned line still_line out out_now code reached still code_is =
     let is = reached.stands.job_is in
     let over = all-over job still_line reached.last still in
@@ -68,7 +69,7 @@ pub rounds-finish : (first line line_now line_end : Line) (begun out out_now : S
     → ((job : Job) (turned : Turned) → Stands job line turned → Reaches job turned line_now out out_now) → line_now ≡ line
     → ((job : Job) (turned : Turned) → Stands job line turned → (machine : ℕ) → machine < length line.members.items → IsStill job line turned machine)
     → ((job : Job) (turned : Turned) → Stands job line_now turned → Stands job line_end turned)
-    → ((job : Job) (turned : Turned) → Stands job line_now turned → code ≡ exit_code_at (place_in job turned (last_of job)).state)
+    → ((job : Job) (turned : Turned) → Stands job line_now turned → code ≡ exit_code_at (place_in job turned (last_of job)).done.last)
     → (job : Job) (turned : Turned) → Stands job first turned → Finishes job turned line_end begun out_now code
 rounds-finish first line line_now line_end begun out out_now code went round same still ends codes job turned stands =
     let before = went job turned stands in
@@ -127,12 +128,12 @@ stands-again job line turned place found now there same stands =
 
 -- the streams of a line after any turns
 pub fronts : (job : Job) (line : Line) (turned : Turned) → Stands job line turned → (machine : ℕ)
-    → (rest : List ℕ) × (stream job machine ≡ (place_in job turned machine).put ++ rest)
+    → (rest : List ℕ) × (stream job machine ≡ put_in (place_in job turned machine) ++ rest)
 fronts job line turned stands machine = stream-is job stands.job_is machine (turned machine)
 
 pub wholes : (job : Job) (line : Line) (turned : Turned) → Stands job line turned → (machine : ℕ) → HasEnded (place_in job turned machine)
-    → (place_in job turned machine).put ≡ stream job machine
+    → put_in (place_in job turned machine) ≡ stream job machine
 wholes job line turned stands machine ended =
     let run = follows job stands.job_is machine (turned machine) in
-    let put = (place_in job turned machine).put in
+    let put = put_in (place_in job turned machine) in
     sym (run.front ∙ ap (λ rest. put ++ rest) (run.end ended).0 ∙ append-nil put)

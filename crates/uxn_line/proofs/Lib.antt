@@ -8,7 +8,6 @@ pub mod Writing
 pub mod Turned
 pub mod Working
 pub mod Rings
-pub mod Giving
 pub mod Standings
 pub mod Running
 pub mod Passing

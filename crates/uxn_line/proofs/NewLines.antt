@@ -9,7 +9,8 @@ use Rattle.play_script.specs.Held.{bytes_in}
 use Rattle.play_script.specs.Scripts.{ScriptView}
 use Rattle.play_script.specs.declared.script.Clock.{Clock}
 use Rattle.uxn_line.specs.declared.member.Member.{Member}
-use Rattle.uxn_line.specs.Streams.{Job, gifts_of, script_at, rom_at, first_place, stream}
+use Rattle.vector_loop.specs.Gifts.{gifts_of}
+use Rattle.uxn_line.specs.Streams.{Job, script_at, rom_at, first_place, stream}
 use Rattle.uxn_line.specs.Members.{MemberAt}
 use Rattle.uxn_line.specs.Standing.{none_turned, Between, RingBefore, InLine}
 use Rattle.uxn_line.proofs.Coming.{all-inputs, length-inputs}

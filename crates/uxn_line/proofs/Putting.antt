@@ -14,6 +14,7 @@ use Rattle.uxn_line.specs.Standing.{Turned, place_in, Stands}
 use Rattle.uxn_line.specs.Moves.{SinkView, Takes, Came}
 use Rattle.uxn_line.proofs.Standings.{set-here, set-apart}
 use Rattle.uxn_line.proofs.Running.{RanFrom, RunsIn, with_member, Found, run-puts, run-came, adds-here}
+use Rattle.uxn_line.specs.Places.{put_in}
 
 pub last-runs : (byte : ℕ) (line : Line) (machine : ℕ) (member now : Member) → Found (byte ∷ []) line machine member → RanFrom member now
     → machine + 1 ≡ length line.members.items → RunsIn line (with_member line machine now) machine member now
@@ -44,7 +45,7 @@ put-came job byte line turned machine member now out out_now stands found ran la
     run-came job line (with_member line machine now) turned machine member now out out_now stands runs
     (λ held. (let there = held.there in omega (arith, there, last, count)))
     (adds-here job turned machine (byte ∷ []) out out_now (omega (arith, last, count))
-    (puts ∙ ap (λ bytes. (place_in job turned machine).put ++ bytes) found.writes) takes)
+    (puts ∙ ap (λ bytes. put_in (place_in job turned machine) ++ bytes) found.writes) takes)
 
 -- the byte was not put
 pub fail-came : (job : Job) (byte : ℕ) (line : Line) (turned : Turned) (machine : ℕ) (out out_now : SinkView) (failed : Failed) → Stands job line turned

@@ -5,13 +5,15 @@ use Rattle.std.specs.Vec.{with_item}
 use Rattle.std.proofs.lemmas.List.{length-set}
 use Rattle.std.proofs.lemmas.Option.{get_or_from_slice_get, slice_get_within}
 use Rattle.circular_buffer.specs.Buffer.{Buffer, buffer}
-use Rattle.uxn_io.specs.Outside.{extended-nothing}
+use Rattle.uxn_io.specs.ChangeLaws.{extended-nothing}
 use Rattle.uxn_line.specs.declared.line.Line.{Line}
 use Rattle.uxn_line.specs.declared.line.Moved.TheVariants.{Ran}
 use Rattle.uxn_line.specs.declared.member.Member.{Member}
-use Rattle.uxn_line.specs.Places.{Place, HasEnded, turn}
+use Rattle.vector_loop.specs.Places.{Place, HasEnded}
+use Rattle.uxn_line.specs.Places.{turn, put_in}
 use Rattle.uxn_line.specs.Machines.{handed_on}
-use Rattle.uxn_line.specs.Streams.{Job, script_at, stream, gifts_of, after}
+use Rattle.vector_loop.specs.Gifts.{gifts_of}
+use Rattle.uxn_line.specs.Streams.{Job, script_at, stream, after}
 use Rattle.uxn_line.specs.Members.{MemberAt, has_ended, IsRunning}
 use Rattle.uxn_line.specs.Standing.{Turned, one_more, place_in, given_after, Between, RingBefore, InLine, Stands}
 use Rattle.uxn_line.specs.Moves.{last_of, written_in, SinkView, Takes, Adds, IsHeld, Came}
@@ -28,7 +30,7 @@ found-is items place found item read there = read ∙ get_or_from_slice_get item
 pub record RanFrom (member now : Member) : Type 0 where
   pub some : 0 < member.machine.left
   pub stands : (budget : ℕ) (place : Place) → MemberAt member place → MemberAt now (turn budget place)
-  pub put : (budget : ℕ) (place : Place) → MemberAt member place → (turn budget place).put ≡ place.put ++ handed_on member.machine.core
+  pub put : (budget : ℕ) (place : Place) → MemberAt member place → put_in (turn budget place) ≡ put_in place ++ handed_on member.machine.core
   pub kept : has_ended now ≡ false → now.ring ≡ member.ring
   pub dropped : has_ended now ≡ true → now.ring ≡ buffer [] member.ring.capacity
 
@@ -118,7 +120,7 @@ run-own job turned machine member now ran inline =
 
 -- the next one is in line where it was handed the bytes that were written
 pub put-behind : (job : Job) (turned : Turned) (machine : ℕ) (bytes : List ℕ) (next now : Member) → Handed bytes next now
-    → (turn job.budget (place_in job turned machine)).put ≡ (place_in job turned machine).put ++ bytes
+    → put_in (turn job.budget (place_in job turned machine)) ≡ put_in (place_in job turned machine) ++ bytes
     → InLine job turned (suc machine) next → InLine job (one_more machine turned) (suc machine) now
 put-behind job turned machine bytes next now handed put inline =
     let here = more-here machine turned in
@@ -148,22 +150,22 @@ adds-nothing job turned now out same =
 
 pub adds-apart : (job : Job) (turned : Turned) (machine : ℕ) (out : SinkView) → last_of job ≢ machine → Adds job turned (one_more machine turned) out out
 adds-apart job turned machine out apart =
-    adds-nothing job turned (one_more machine turned) out (ap (λ (p : Place). p.put) (place-apart job machine turned (last_of job) apart))
+    adds-nothing job turned (one_more machine turned) out (ap put_in (place-apart job machine turned (last_of job) apart))
 
 -- what is put where a machine wrote these bytes more
 pub adds-here : (job : Job) (turned : Turned) (machine : ℕ) (bytes : List ℕ) (out now : SinkView) → last_of job ≡ machine
-    → (turn job.budget (place_in job turned machine)).put ≡ (place_in job turned machine).put ++ bytes → Takes out now bytes
+    → put_in (turn job.budget (place_in job turned machine)) ≡ put_in (place_in job turned machine) ++ bytes → Takes out now bytes
     → Adds job turned (one_more machine turned) out now
 adds-here job turned machine bytes out now last put takes =
-    let P : ℕ → Type 0 = λ m. (place_in job (one_more machine turned) m).put ≡ (place_in job turned m).put ++ bytes in
+    let P : ℕ → Type 0 = λ m. put_in (place_in job (one_more machine turned) m) ≡ put_in (place_in job turned m) ++ bytes in
     record {
       more = bytes;
-      written = subst P (sym last) (ap (λ (p : Place). p.put) (place-more job machine turned) ∙ put);
+      written = subst P (sym last) (ap put_in (place-more job machine turned) ∙ put);
       added = takes;
     }
 
 pub adds-none : (job : Job) (turned : Turned) (machine : ℕ) (out : SinkView)
-    → (turn job.budget (place_in job turned machine)).put ≡ (place_in job turned machine).put → Adds job turned (one_more machine turned) out out
+    → put_in (turn job.budget (place_in job turned machine)) ≡ put_in (place_in job turned machine) → Adds job turned (one_more machine turned) out out
 adds-none job turned machine out same = elim (same-or-not (last_of job) machine) [
   | inl last ↦ adds-here job turned machine [] out out last (same ∙ sym (append-nil _)) (takes-nothing out)
   | inr apart ↦ adds-apart job turned machine out apart
@@ -184,7 +186,7 @@ pub record RunsIn (line line_now : Line) (machine : ℕ) (member now : Member) :
 
 pub run-puts : (job : Job) (line line_now : Line) (turned : Turned) (machine : ℕ) (member now : Member) → Stands job line turned
     → RunsIn line line_now machine member now
-    → (turn job.budget (place_in job turned machine)).put ≡ (place_in job turned machine).put ++ handed_on member.machine.core
+    → put_in (turn job.budget (place_in job turned machine)) ≡ put_in (place_in job turned machine) ++ handed_on member.machine.core
 run-puts job line line_now turned machine member now stands runs =
     runs.ran.put job.budget (place_in job turned machine) (stands.each machine member runs.at).stands
 
@@ -273,4 +275,4 @@ quiet-came job line turned machine member now out stands found ran =
     let core = (stands.each machine member found.there).stands.stands.core in
     run-came job line (with_member line machine now) turned machine member now out out stands runs
     (λ held. held.writes (ap handed_on (sym core) ∙ found.writes))
-    (adds-none job turned machine out (puts ∙ ap (λ bytes. (place_in job turned machine).put ++ bytes) found.writes ∙ append-nil _))
+    (adds-none job turned machine out (puts ∙ ap (λ bytes. put_in (place_in job turned machine) ++ bytes) found.writes ∙ append-nil _))

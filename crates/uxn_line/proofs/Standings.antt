@@ -4,7 +4,8 @@ use Rattle.std.specs.Prelude.{Some, slice_get, slice_set}
 use Rattle.std.proofs.lemmas.Bool.Decides.{nat_tests}
 use Rattle.uxn_line.specs.declared.line.Line.{Line}
 use Rattle.uxn_line.specs.declared.member.Member.{Member}
-use Rattle.uxn_line.specs.Places.{Place, HasEnded, turn}
+use Rattle.vector_loop.specs.Places.{Place, HasEnded}
+use Rattle.uxn_line.specs.Places.{turn, put_in}
 use Rattle.uxn_line.specs.Streams.{Job, stream, after}
 use Rattle.uxn_line.specs.Members.{MemberAt, has_ended}
 use Rattle.uxn_line.specs.Standing.{Turned, one_more, place_in, given_after, Between, InLine, Stands}
@@ -110,7 +111,7 @@ in-line-same job turned now (suc machine) member same before inline =
 -- the ring behind a machine that wrote so many bytes more, which the next one keeps or drops
 pub ring-grows : (job : Job) (machine count count_now next : ℕ) (ring ring_now bytes : List ℕ)
     → (HasEnded (after job (suc machine) next) → ring_now ≡ []) → ((HasEnded (after job (suc machine) next) → ⊥) → ring_now ≡ ring ++ bytes)
-    → (after job machine count_now).put ≡ (after job machine count).put ++ bytes
+    → put_in (after job machine count_now) ≡ put_in (after job machine count) ++ bytes
     → Between job machine count next ring → Between job machine count_now next ring_now
 ring-grows job machine count count_now next ring ring_now bytes drops keeps put between = record {
   dropped = drops;

@@ -4,7 +4,6 @@ pub mod Setups
 pub mod Limits
 pub mod Gathered
 pub mod Places
-pub mod Gifts
 pub mod Streams
 pub mod Machines
 pub mod Members

@@ -7,7 +7,7 @@ use Rattle.varvara_bus.specs.declared.devices.Devices.{Devices}
 use Rattle.varvara_bus.specs.State.{DeviceState, StandFor, HasFiles}
 use Rattle.varvara_bus.specs.Effect.{Effect}
 use Rattle.uxn_line.specs.declared.machine.Machine.{Machine}
-use Rattle.uxn_line.specs.Places.{Place}
+use Rattle.vector_loop.specs.Places.{Place}
 
 -- of bytes written to ports those written to port 18
 abbrev pub handed_in : List (ℕ × ℕ) → List ℕ
@@ -30,6 +30,6 @@ pub record HasDone (new : Core) (held : Devices) (done : Effect) : Type 0 where
 
 -- a machine stands at a place of a run
 pub record StandsAt (machine : Machine) (now : Place) : Type 0 where
-  pub core : machine.core ≡ now.state.core
-  pub devices : Rests machine.devices now.state.devices
+  pub core : machine.core ≡ now.done.last.core
+  pub devices : Rests machine.devices now.done.last.devices
   pub left : machine.left ≡ now.left

@@ -3,7 +3,9 @@ use Rattle.std.specs.Prelude.{◌≡◌, ◌↔◌, ℕ, ◌==◌, ◌&&◌, ◌
 use Rattle.play_script.specs.declared.script.Event.TheVariants.{Input, EndInput}
 use Rattle.vector_loop.specs.State.{is_over}
 use Rattle.uxn_line.specs.declared.member.Member.{Member}
-use Rattle.uxn_line.specs.Places.{Gift, OfEvent, Place}
+use Rattle.vector_loop.specs.declared.gift.Gift.{Gift}
+use Rattle.vector_loop.specs.declared.gift.Gift.TheVariants.{OfEvent}
+use Rattle.vector_loop.specs.Places.{Place}
 use Rattle.uxn_line.specs.Machines.{StandsAt, handed_on}
 use Rattle.uxn_line.specs.declared.line.Line.{Line}
 
@@ -11,7 +13,7 @@ use Rattle.uxn_line.specs.declared.line.Line.{Line}
 pub record MemberAt (member : Member) (now : Place) : Type 0 where
   pub stands : StandsAt member.machine now
   pub given : (member.all_given ≡ true) ↔ (now.gifts ≡ [])
-  pub stopped : now.left ≡ 0 → member.stopped ≡ is_over now.state
+  pub stopped : now.left ≡ 0 → member.stopped ≡ is_over now.done.last
 
 -- its run is over
 abbrev pub has_ended : Member → Bool

@@ -7,7 +7,8 @@ use Rattle.uxn_line.specs.declared.line.Line.{Line}
 use Rattle.uxn_line.specs.declared.line.Moved.{Moved}
 use Rattle.uxn_line.specs.declared.line.Moved.TheVariants.{Ran, Gave, Waits, Held, Ended}
 use Rattle.uxn_line.specs.declared.member.Member.{Member}
-use Rattle.uxn_line.specs.Places.{HasEnded}
+use Rattle.vector_loop.specs.Places.{HasEnded}
+use Rattle.uxn_line.specs.Places.{put_in}
 use Rattle.uxn_line.specs.Streams.{Job, stream, run_at, exit_code_at}
 use Rattle.uxn_line.specs.Machines.{handed_on}
 use Rattle.uxn_line.specs.Standing.{Turned, one_more, place_in, Stands}
@@ -35,7 +36,7 @@ IsWaiting job line turned (suc before) = WaitsBehind job line turned before
 -- and the ring between them holds 256 bytes
 pub record IsHeld (job : Job) (line : Line) (turned : Turned) (machine : ℕ) : Type 0 where
   pub vector : 1 ≤ (place_in job turned machine).left
-  pub writes : handed_on (place_in job turned machine).state.core ≢ []
+  pub writes : handed_on (place_in job turned machine).done.last.core ≢ []
   pub there : suc machine < length job.roms
   pub goes_on : HasEnded (place_in job turned (suc machine)) → ⊥
   pub full : length (ring_before line (suc machine)) ≡ 256
@@ -61,7 +62,7 @@ abbrev pub last_of : Job → ℕ
 last_of job = length job.roms - 1
 
 abbrev pub written_in : Job → Turned → List ℕ
-written_in job turned = (place_in job turned (last_of job)).put
+written_in job turned = put_in (place_in job turned (last_of job))
 
 -- what contracts see of a sink: what it tells, and what it surely takes
 pub record SinkView : Type 0 where
@@ -103,7 +104,7 @@ pub record Fails (job : Job) (turned : Turned) (machine : ℕ) (out : SinkView) 
   pub vector : 1 ≤ (place_in job turned machine).left
   pub last : suc machine ≡ length job.roms
   pub byte : ℕ
-  pub writes : handed_on (place_in job turned machine).state.core ≡ byte ∷ []
+  pub writes : handed_on (place_in job turned machine).done.last.core ≡ byte ∷ []
   pub unsure : out.sure ≤ 1
 
 -- why a turn came to this
@@ -142,7 +143,7 @@ pub record Reaches (job : Job) (turned : Turned) (line : Line) (out_before out_n
 -- every machine stands at the end of its run
 abbrev pub AllEnded : Job → Turned → Type 0
 AllEnded job turned = (machine : ℕ) → machine < length job.roms
-    → HasEnded (place_in job turned machine) × ((place_in job turned machine).state ≡ (run_at job machine).last)
+    → HasEnded (place_in job turned machine) × ((place_in job turned machine).done.last ≡ (run_at job machine).last)
 
 -- a line was brought to the end of all its runs: what was left of the stream of its last machine was added
 pub record Finishes (job : Job) (turned : Turned) (line : Line) (out_before out_now : SinkView) (code : ℕ) : Type 0 where
@@ -170,6 +171,6 @@ Went job turned line out out_now (Err failed) = Stops job turned line out out_no
 -- whatever turns were given to a line: what each machine has written to port 18 is a front of its stream, and all of it where its run is over
 pub record StreamLaw : Type 0 where
   pub front : (job : Job) (line : Line) (turned : Turned) → Stands job line turned → (machine : ℕ)
-      → (rest : List ℕ) × (stream job machine ≡ (place_in job turned machine).put ++ rest)
+      → (rest : List ℕ) × (stream job machine ≡ put_in (place_in job turned machine) ++ rest)
   pub whole : (job : Job) (line : Line) (turned : Turned) → Stands job line turned → (machine : ℕ)
-      → HasEnded (place_in job turned machine) → (place_in job turned machine).put ≡ stream job machine
+      → HasEnded (place_in job turned machine) → put_in (place_in job turned machine) ≡ stream job machine

@@ -5,8 +5,10 @@ use Rattle.play_script.specs.Scripts.{ScriptView}
 use Rattle.uxn_io.specs.ByteList.{ByteList}
 use Rattle.uxn_line.specs.declared.line.Line.{Line}
 use Rattle.uxn_line.specs.declared.member.Member.{Member}
-use Rattle.uxn_line.specs.Places.{Place, HasEnded}
-use Rattle.uxn_line.specs.Streams.{Job, IsJob, gifts_of, script_at, stream, after}
+use Rattle.vector_loop.specs.Places.{Place, HasEnded}
+use Rattle.uxn_line.specs.Places.{put_in}
+use Rattle.vector_loop.specs.Gifts.{gifts_of}
+use Rattle.uxn_line.specs.Streams.{Job, IsJob, script_at, stream, after}
 use Rattle.uxn_line.specs.Members.{MemberAt}
 
 -- how many turns each machine was given; machines are counted from 0
@@ -32,7 +34,7 @@ given_after job machine count = length (gifts_of (script_at job machine)) - leng
 pub record Between (job : Job) (machine count next : ℕ) (ring : List ℕ) : Type 0 where
   pub dropped : HasEnded (after job (suc machine) next) → ring ≡ []
   pub written : (HasEnded (after job (suc machine) next) → ⊥)
-      → (after job machine count).put ≡ take (given_after job (suc machine) next) (stream job machine) ++ ring
+      → put_in (after job machine count) ≡ take (given_after job (suc machine) next) (stream job machine) ++ ring
 
 -- the ring before a machine; before the first one there is nothing
 abbrev pub RingBefore : Job → Turned → ℕ → List ℕ → Type 0

@@ -12,12 +12,11 @@ use Rattle.system_port.specs.DebugText.{exit_code_of}
 use Rattle.varvara_bus.specs.History.{stored}
 use Rattle.varvara_bus.specs.declared.time.Clock.{Clock as BusClock}
 use Rattle.varvara_bus.specs.State.{new_state}
-use Rattle.vector_loop.specs.declared.output.Outputs.{Outputs}
-use Rattle.vector_loop.specs.State.{State, new_tally, with_stored}
+use Rattle.vector_loop.specs.State.{State, new_tally}
 use Rattle.vector_loop.specs.Trail.{Trail}
-use Rattle.vector_loop.specs.Vector.{begun_at}
-use Rattle.vector_loop.specs.Run.{ConsoleByte, arguments_given, made_ready, run}
-use Rattle.uxn_line.specs.Places.{Gift, OfArgument, OfEvent, Place, place, HasEnded, after_turns, put_by}
+use Rattle.vector_loop.specs.Run.{run}
+use Rattle.vector_loop.specs.Places.{Place, HasEnded, after_steps, run_begun}
+use Rattle.uxn_line.specs.Places.{no_outputs, put_by, put_in}
 
 -- what a line is made of: a ROM for each machine, the script of the first one, and the budget of every vector
 pub record Job : Type 0 where
@@ -37,10 +36,6 @@ IsOfConsole (Expect port byte) = ⊥
 abbrev pub AreOfConsole : List Event → Type 0
 AreOfConsole [] = Unit {0}
 AreOfConsole (event ∷ events) = IsOfConsole event × AreOfConsole events
-
--- a machine of a line keeps no pictures and no samples
-abbrev pub no_outputs : Outputs
-no_outputs = record { frames = None; samples = None }
 
 -- the clock of a script
 abbrev pub clock_by : Clock → BusClock
@@ -79,18 +74,13 @@ stream job machine = put_by (run_at job machine).changes
 abbrev pub exit_code_at : State → ℕ
 exit_code_at state = exit_code_of (stored state.devices.history 0x0f)
 
--- where a run stands before its first turn: in the reset vector
-abbrev pub gifts_of : ScriptView → List Gift
-gifts_of script = map (λ (given : ConsoleByte). OfArgument given.0 given.1) (arguments_given script.arguments)
-    ++ map (λ event. OfEvent event) script.events
-
+-- where the run of a machine begins
 abbrev pub first_place : ℕ → List ℕ → ScriptView → Place
-first_place budget rom script =
-    place (begun_at 0x0100 (with_stored (made_ready script.arguments) (new_machine rom script.clock))) budget (gifts_of script) []
+first_place budget rom script = run_begun budget script (new_machine rom script.clock)
 
 -- where a machine of a line stands after so many turns
 abbrev pub after : Job → ℕ → ℕ → Place
-after job machine count = after_turns job.budget count (first_place job.budget (rom_at job machine) (script_at job machine))
+after job machine count = after_steps job.budget no_outputs count (first_place job.budget (rom_at job machine) (script_at job machine))
 
 -- the events of the first script are of the console, and a vector may run an instruction
 pub record IsJob (job : Job) : Type 0 where
@@ -100,5 +90,5 @@ pub record IsJob (job : Job) : Type 0 where
 -- turns follow a run: what was written so far is a front of its stream, and at the end all of it, in the last state of the run
 pub record FollowsRun (now : Place) (whole : Trail) : Type 0 where
   pub rest : List ℕ
-  pub front : put_by whole.changes ≡ now.put ++ rest
-  pub end : HasEnded now → (rest ≡ []) × (whole.last ≡ now.state)
+  pub front : put_by whole.changes ≡ put_in now ++ rest
+  pub end : HasEnded now → (rest ≡ []) × (whole.last ≡ now.done.last)

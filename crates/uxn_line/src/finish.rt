@@ -76,7 +76,7 @@ impl<'a> Line<'a> {
     fn exit_code(&mut self) -> u8
         ensures stands { (job : Job) (turned : Turned) → Stands job self.old turned → Stands job self.new turned }
         ensures code { (job : Job) (turned : Turned) → Stands job self.old turned
-            → result ≡ exit_code_at (place_in job turned (last_of job)).state }
+            → result ≡ exit_code_at (place_in job turned (last_of job)).done.last }
     {
         let count = self.members.len();
         if count == 0 {

@@ -3,27 +3,17 @@
 
 mod events;
 mod finish;
-mod giver;
 mod keyword;
 mod law;
 mod line;
-#[cfg(test)]
-mod line_tests;
 mod machine;
-#[cfg(test)]
-mod machine_tests;
 mod member;
 mod output;
-#[cfg(test)]
-mod output_tests;
 mod reading;
 mod setup;
 mod setup_line;
-#[cfg(test)]
-mod tests;
 
 pub use events::are_of_console;
-pub use giver::Giver;
 pub use law::{every_order_gives_the_streams, turns_are_the_run};
 pub use line::{Line, Moved};
 pub use machine::Machine;

@@ -4,8 +4,9 @@ ghost use Rattle.std.specs.List.{All};
 ghost use Rattle.uxn_io.specs.Faults.{Counted};
 ghost use Rattle.uxn_io.specs.Told.{HasTakenFront};
 ghost use Rattle.uxn_memory.specs.Bytes.{largest_rom};
-ghost use Rattle.uxn_line.specs.Places.{HasEnded};
-ghost use Rattle.uxn_line.specs.Streams.{Job, AreOfConsole, gifts_of, rom_at, stream};
+ghost use Rattle.vector_loop.specs.Places.{HasEnded};
+ghost use Rattle.vector_loop.specs.Gifts.{gifts_of};
+ghost use Rattle.uxn_line.specs.Streams.{Job, AreOfConsole, rom_at, stream};
 ghost use Rattle.uxn_line.specs.Members.{IsOpen, IsRunning};
 ghost use Rattle.uxn_line.specs.Work.{MovesOn};
 ghost use Rattle.uxn_line.specs.Standing.{Turned, none_turned, place_in, InLine, Stands, job_of};
@@ -14,6 +15,7 @@ ghost use Rattle.uxn_line.specs.Moves.{
   sink_view,
   Adds,
   Came,
+  Fails,
   IsHeld,
   IsUnderWay,
   IsWaiting,
@@ -22,13 +24,13 @@ ghost use Rattle.uxn_line.specs.Moves.{
   turned_by,
 };
 
-use crate::giver::Giver;
 use crate::member::Member;
 use crate::output::next_byte;
 use console_port::{Output, console_write};
 use play_script::{Clock, Script};
 use std::alloc::{AllocError, Global};
 use uxn_io::{Bytes, Failed, NoSink, Sink};
+use vector_loop::Giver;
 
 /// What a turn came to.
 #[derive(Clone, Copy, Debug, PartialEq, Eq)]
@@ -130,6 +132,11 @@ impl<'a> Line<'a> {
             → (result ≡ Ok Moved.Held) ↔ IsHeld job self.old turned (machine - 1) }
         ensures ended { (job : Job) (turned : Turned) → Stands job self.old turned
             → (result ≡ Ok Moved.Ended) ↔ HasEnded (place_in job turned (machine - 1)) }
+
+        // A failure comes only where the last machine is in a vector, and its next instruction writes a byte to port 18 that `out`
+        // does not surely take.
+        ensures failed { OnErr result ((job : Job) (turned : Turned) → Stands job self.old turned
+            → Fails job turned (machine - 1) (sink_view (O.told out.old) (O.sure out.old))) }
 
         // The other three change nothing, nor does a failure, which comes only where the count of `out` rose.
         ensures same { IfOk result (λ moved. is_move moved ≡ false → self.new ≡ self.old) }
@@ -245,11 +252,11 @@ impl<'a> Line<'a> {
         ensures moves { MovesOn result self.old self.new }
         ensures machines { length self.new.members.items ≡ length self.old.members.items }
     {
-        let Some((byte, kind)) = self.giver.take() else {
+        let Some(gift) = self.giver.take() else {
             return Moved::Ended;
         };
         let last = self.giver.is_empty();
-        self.members[0].give(byte, kind, last, self.budget);
+        self.members[0].give(gift, last, self.budget);
         Moved::Gave
     }
 

@@ -12,7 +12,9 @@ ghost use Rattle.varvara_bus.specs.History.{stored, stored_short};
 ghost use Rattle.varvara_bus.specs.State.{DeviceState, storing};
 ghost use Rattle.varvara_bus.specs.Model.{instruction_effect};
 ghost use Rattle.vector_loop.specs.State.{is_over};
-ghost use Rattle.uxn_line.specs.Places.{Place, Gift, console_of, turn};
+ghost use Rattle.vector_loop.specs.declared.gift.Gift.{Gift};
+ghost use Rattle.vector_loop.specs.Places.{Place};
+ghost use Rattle.uxn_line.specs.Places.{turn, put_in, IsForConsole};
 ghost use Rattle.uxn_line.specs.Machines.{Rests, HasDone, StandsAt, handed_on};
 
 use console_port::{EventKind, KIND};
@@ -22,6 +24,7 @@ use system_port::exit_code;
 use uxn_io::{Bytes, NoSink, NoTree};
 use uxn_opcodes::{Core, Turn, step};
 use varvara_bus::{Bus, Clock, Devices};
+use vector_loop::Gift;
 
 /// The port of the state, which ends a run where it is not 0.
 const STATE: u8 = 0x0f;
@@ -137,7 +140,7 @@ impl Machine {
         ensures left { self.new.left < self.old.left }
         ensures stands { (budget : ℕ) (now : Place) → StandsAt self.old now → StandsAt self.new (turn budget now) }
         ensures put { (budget : ℕ) (now : Place) → StandsAt self.old now
-            → (turn budget now).put ≡ now.put ++ handed_on self.old.core }
+            → put_in (turn budget now) ≡ put_in now ++ handed_on self.old.core }
     {
         self.left = match run_instruction(&mut self.core, &mut self.devices) {
             Turn::Ran => self.left - 1,
@@ -145,13 +148,16 @@ impl Machine {
         };
     }
 
-    /// Gives an idle machine whose run is not over its next byte, with its kind.
-    pub fn give(&mut self, byte: u8, kind: EventKind, budget: u32)
+    /// Gives an idle machine whose run is not over what comes next. What is not for the console does nothing.
+    pub fn give(&mut self, gift: Gift, budget: u32)
         requires { self.old.left ≡ 0 }
         ensures left { self.new.left ≤ budget }
-        ensures stands { (now : Place) (gift : Gift) (gifts : List Gift) → StandsAt self.old now → now.gifts ≡ gift ∷ gifts
-            → console_of gift ≡ (byte, kind) → is_over now.state ≡ false → StandsAt self.new (turn budget now) }
+        ensures stands { (now : Place) (gifts : List Gift) → StandsAt self.old now → now.gifts ≡ gift ∷ gifts
+            → IsForConsole gift → is_over now.done.last ≡ false → StandsAt self.new (turn budget now) }
     {
+        let Some((byte, kind)) = gift.console_byte() else {
+            return;
+        };
         let address = hold(&mut self.devices, byte, kind);
         if address != 0 {
             self.core.at = address;
@@ -161,7 +167,7 @@ impl Machine {
 
     /// Whether the state is not 0, which ends the run of an idle machine.
     pub fn is_over(&mut self) -> bool
-        ensures over { (now : Place) → StandsAt self.old now → result ≡ is_over now.state }
+        ensures over { (now : Place) → StandsAt self.old now → result ≡ is_over now.done.last }
         ensures same { self.new ≡ self.old }
     {
         state_of(&mut self.devices) != 0
@@ -169,7 +175,7 @@ impl Machine {
 
     /// The exit code of a run that ended in this state.
     pub fn exit_code(&mut self) -> u8
-        ensures code { (now : Place) → StandsAt self.old now → result ≡ exit_code_at now.state }
+        ensures code { (now : Place) → StandsAt self.old now → result ≡ exit_code_at now.done.last }
         ensures same { self.new ≡ self.old }
     {
         exit_code(state_of(&mut self.devices))

@@ -6,18 +6,21 @@ ghost use Rattle.play_script.specs.Held.{bytes_in};
 ghost use Rattle.play_script.specs.Limits.{IsTime};
 ghost use Rattle.play_script.specs.Scripts.{ScriptView};
 ghost use Rattle.vector_loop.specs.State.{is_over};
-ghost use Rattle.uxn_line.specs.Places.{Place, Gift, HasEnded, console_of, turn};
-ghost use Rattle.uxn_line.specs.Streams.{first_place, gifts_of};
+ghost use Rattle.vector_loop.specs.declared.gift.Gift.{Gift};
+ghost use Rattle.vector_loop.specs.Places.{Place, HasEnded};
+ghost use Rattle.uxn_line.specs.Places.{turn, put_in, IsForConsole};
+ghost use Rattle.vector_loop.specs.Gifts.{gifts_of};
+ghost use Rattle.uxn_line.specs.Streams.{first_place};
 ghost use Rattle.uxn_line.specs.Machines.{StandsAt, handed_on};
 ghost use Rattle.uxn_line.specs.Members.{MemberAt, has_ended, next_gift};
 ghost use Rattle.uxn_line.specs.Work.{work};
 
 use crate::machine::Machine;
 use circular_buffer::HeapCircularBuffer;
-use console_port::EventKind;
-use play_script::Clock;
+use play_script::{Clock, Event};
 use std::alloc::{AllocError, Global};
 use uxn_io::Bytes;
+use vector_loop::Gift;
 
 /// How many bytes the ring before a machine has room for.
 const ROOM: usize = 256;
@@ -91,7 +94,7 @@ impl Member {
         requires { 0 < self.old.machine.left }
         ensures stands { (budget : ℕ) (now : Place) → MemberAt self.old now → MemberAt self.new (turn budget now) }
         ensures put { (budget : ℕ) (now : Place) → MemberAt self.old now
-            → (turn budget now).put ≡ now.put ++ handed_on self.old.machine.core }
+            → put_in (turn budget now) ≡ put_in now ++ handed_on self.old.machine.core }
         ensures kept { has_ended self.new ≡ false → self.new.ring ≡ self.old.ring }
         ensures dropped { has_ended self.new ≡ true → self.new.ring ≡ buffer [] self.old.ring.capacity }
         ensures work { (budget before : ℕ) → work budget before self.new < work budget before self.old }
@@ -100,18 +103,18 @@ impl Member {
         self.settle();
     }
 
-    /// Gives an idle machine whose run is not over its next byte, with its kind, and says whether it is the last one.
-    pub fn give(&mut self, byte: u8, kind: EventKind, last: bool, budget: u32)
+    /// Gives an idle machine whose run is not over what comes next, and says whether that is the last.
+    pub fn give(&mut self, gift: Gift, last: bool, budget: u32)
         requires { self.old.machine.left ≡ 0 }
-        ensures stands { (now : Place) (gift : Gift) (gifts : List Gift) → MemberAt self.old now → now.gifts ≡ gift ∷ gifts
-            → console_of gift ≡ (byte, kind) → (last ≡ true) ↔ (gifts ≡ []) → is_over now.state ≡ false
+        ensures stands { (now : Place) (gifts : List Gift) → MemberAt self.old now → now.gifts ≡ gift ∷ gifts
+            → IsForConsole gift → (last ≡ true) ↔ (gifts ≡ []) → is_over now.done.last ≡ false
             → MemberAt self.new (turn budget now) }
         ensures kept { has_ended self.new ≡ false → self.new.ring ≡ self.old.ring }
         ensures dropped { has_ended self.new ≡ true → self.new.ring ≡ buffer [] self.old.ring.capacity }
         ensures left { self.new.machine.left ≤ budget }
         ensures given { self.new.all_given ≡ last }
     {
-        self.machine.give(byte, kind, budget);
+        self.machine.give(gift, budget);
         self.all_given = last;
         self.settle();
     }
@@ -128,14 +131,14 @@ impl Member {
         requires idle { self.old.machine.left ≡ 0 }
         requires goes_on { has_ended self.old ≡ false }
         ensures stands { (now : Place) (gifts : List Gift) → MemberAt self.old now → now.gifts ≡ next_gift self.old.ring.items ∷ gifts
-            → (self.old.ring.items ≡ []) ↔ (gifts ≡ []) → is_over now.state ≡ false → MemberAt self.new (turn budget now) }
+            → (self.old.ring.items ≡ []) ↔ (gifts ≡ []) → is_over now.done.last ≡ false → MemberAt self.new (turn budget now) }
         ensures kept { has_ended self.new ≡ false → self.new.ring ≡ buffer (drop 1 self.old.ring.items) self.old.ring.capacity }
         ensures dropped { has_ended self.new ≡ true → self.new.ring ≡ buffer [] self.old.ring.capacity }
         ensures work { (before : ℕ) → work budget before self.new < work budget before self.old }
     {
         match self.ring.pop_front() {
-            Some(byte) => self.give(byte, EventKind::Input, false, budget),
-            None => self.give(0, EventKind::End, true, budget),
+            Some(byte) => self.give(Gift::OfEvent(Event::Input(byte)), false, budget),
+            None => self.give(Gift::OfEvent(Event::EndInput), true, budget),
         }
     }
 

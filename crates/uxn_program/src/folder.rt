@@ -18,7 +18,7 @@ const CHUNK: usize = 4096;
 const MOST_ENTRIES: usize = 65_536;
 
 /// What a file was opened for.
-#[derive(Clone, Copy, Debug, PartialEq, Eq)]
+#[derive(Clone, Copy, PartialEq, Eq)]
 enum Way {
     Reads,
     Appends,

@@ -7,7 +7,7 @@ use std::{env, io};
 use uxn_io::{Failed, Sink, put_all};
 
 /// Why the words cannot be had.
-#[derive(Clone, Copy, Debug, PartialEq, Eq)]
+#[derive(Clone, Copy)]
 pub enum WordsStop {
     /// A word is not UTF-8.
     NotText,

@@ -14,7 +14,8 @@ use Rattle.file_ports.specs.declared.mode.Mode.{Mode}
 use Rattle.file_ports.specs.declared.mode.Mode.TheVariants.{Idle, ReadingFile, ReadingListing, Writing}
 use Rattle.file_ports.specs.Signs.{signs, hex_digits}
 use Rattle.file_ports.specs.Device.{FileState}
-use Rattle.file_ports.specs.Actions.{Seen, given, reading, reads, stats, quiet, count_from, seen_in, bytes_on}
+use Rattle.file_ports.specs.Actions.{Seen, given, reading, reads, stats, quiet, count_from, seen_in}
+use Rattle.file_ports.specs.Place.{last_place, bytes_on}
 use Rattle.system_port.specs.Expansion.{byte_in, short_in, record_at, expanded}
 use Rattle.varvara_bus.specs.History.{stored, stored_short}
 use Rattle.varvara_bus.specs.State.{DeviceState}
@@ -57,7 +58,7 @@ length-signs count Folder = length-replicate count 45
 
 -- so are the bytes of a read, at most
 length-on : (bytes : List ℕ) (place count : ℕ) → length (bytes_on bytes place count) ≤ count
-length-on bytes place count = omega (arith, length-take (min count (2 ^ 64 - 1 - place)) (drop place bytes))
+length-on bytes place count = omega (arith, length-take (min count (last_place - place)) (drop place bytes))
 
 length-given : (mode : Mode) (seen : Seen) (count : ℕ) → length (given mode seen count) ≤ count
 length-given Idle seen count = omega arith

@@ -1,4 +1,4 @@
-use Rattle.std.proofs.Common.{◌≡◌, true, false, ℕ, ◌+◌, ◌<◌, ◌≤◌, List, [], ◌∷◌, length, slice_index, slice_set, map, refl, ap, sym, ◌∙◌, arith}
+use Rattle.std.proofs.Common.{◌≡◌, Bool, true, false, ℕ, ◌+◌, ◌<◌, ◌≤◌, List, [], ◌∷◌, length, slice_index, slice_set, map, refl, ap, sym, ◌∙◌, arith}
 use Rattle.std.specs.Prelude.{◌==◌, if◌then◌else◌, Option, Some, None, IfSome, Result, Ok, Err, IsOk, OnOk, OnErr, IfErr, is_err}
 use Rattle.std.specs.Borrow.{MutBor}
 use Rattle.uxn_io.specs.declared.sinks.Failed.{Failed}
@@ -7,25 +7,27 @@ use Rattle.varvara_bus.specs.declared.ports.Action.TheVariants.{PutsDebugText}
 use Rattle.varvara_bus.specs.declared.devices.Devices.{Devices}
 use Rattle.uxn_io.specs.Files.{Nodes}
 use Rattle.uxn_io.specs.Told.{extended, HasTakenFront}
-use Rattle.uxn_io.specs.Outside.{Change, ToErr, World, changed_by, files_by, changed_by-err, cut-err}
+use Rattle.uxn_io.specs.Outside.{Change, ToErr, World, changed_by, files_by}
+use Rattle.uxn_io.specs.ChangeLaws.{changed_by-err, cut-err}
 use Rattle.uxn_io.specs.Room.{Room}
 use Rattle.uxn_opcodes.specs.declared.Core.{Core}
 use Rattle.uxn_opcodes.specs.declared.Stop.{Stop}
 use Rattle.varvara_bus.specs.declared.ports.Action.{Action}
 use Rattle.varvara_bus.specs.declared.bus.Bus.{Bus}
 use Rattle.varvara_bus.specs.State.{DeviceState, StandFor, HasFiles, clock_of, storing}
-use Rattle.varvara_bus.specs.Effect.{debug_bytes, action_of, no_effect, act, effect}
-use Rattle.uxn_io.specs.Taking.{files_made, files_gone, bytes_out, bytes_err, TreeTakes, TreeLeft, remains-all}
+use Rattle.varvara_bus.specs.Effect.{debug_bytes, action_of, asks_tree, no_effect, act, effect}
+use Rattle.uxn_io.specs.Taking.{files_made, files_gone, bytes_out, bytes_err, TreeTakes, TreeLeft}
+use Rattle.uxn_io.specs.TakingLaws.{remains-all}
 use Rattle.varvara_bus.specs.InstructionLaws.{same-again, makes-both, stops-later}
 use Rattle.file_ports.specs.Actions.{Outcome}
 use Rattle.varvara_bus.specs.declared.ports.Action.TheVariants.{ActsOnFile}
 use Rattle.varvara_bus.specs.declared.ports.FileAct.{FileAct}
 use Rattle.varvara_bus.specs.declared.ports.FileAct.TheVariants.{Read}
-use Rattle.varvara_bus.specs.FileActs.{file_outcome, file_acted}
+use Rattle.varvara_bus.specs.FileActs.{file_outcome, file_acted, PortLeft}
 use Rattle.varvara_bus.specs.FileCalls.{FileActed, FileStopped}
 use Rattle.varvara_bus.specs.declared.ports.FileNumber.{FileNumber}
 use Rattle.varvara_bus.specs.declared.ports.FileNumber.TheVariants.{First, Second}
-use Rattle.varvara_bus.specs.Bus.{Meaning, SameBus, BusStandsFor, HasRoot, WantsFolder, file_held, held, world_of, sure_of, Makes, Wrote, Stopped, Acted, ActStopped}
+use Rattle.varvara_bus.specs.Bus.{Meaning, SameBus, Becomes, HasRoot, WantsFolder, StandsTo, ComesTo, Keeps, file_held, held, world_of, sure_of, Makes, Wrote, Stopped, Acted, ActStopped}
 
 -- the debug text put whole
 pub debug_made : (world : World) (byte : ℕ) (core : Core) (now : Option (List ℕ)) → now ≡ extended world.err (debug_bytes byte core)
@@ -47,15 +49,48 @@ same-file First devices port byte = refl
 same-file Second devices port byte = refl
 
 module _ {T O E : Type 0} (meaning : Meaning T O E) where
+  -- nothing but what the devices stand for changed
+  devices-same : (before : Bus T O E) (devices : MutBor Devices) → devices.ghost_name ≡ before.devices.ghost_name
+      → devices.now.time.frames ≡ before.devices.now.time.frames → clock_of devices.now ≡ clock_of before.devices.now
+      → devices.now.root ≡ before.devices.now.root
+      → SameBus meaning.tree before (record { devices = devices; tree = before.tree; out = before.out; err = before.err })
+  devices-same before devices lent frames clock root = record {
+    lent = record { devices = lent; tree = refl; out = refl; err = refl };
+    files = record { stays = λ path outside there. there };
+    frames = frames;
+    clock = clock;
+    root = root;
+  }
+
   -- a byte was stored in the port, and nothing else was done
   pub record Stored (before now : Bus T O E) (port byte : ℕ) : Type 0 where
-    pub devices : (state : DeviceState) → BusStandsFor meaning.tree before state → BusStandsFor meaning.tree now (storing ((port, byte) ∷ []) state)
+    pub devices : Becomes meaning.tree (λ state. storing ((port, byte) ∷ []) state) before now
     pub held : (other : ℕ) → held now other ≡ (if other == port then byte else held before other)
     pub files : (number : FileNumber) → file_held number now.devices.now ≡ file_held number before.devices.now
     pub tree : now.tree.now ≡ before.tree.now
     pub out : now.out.now ≡ before.out.now
     pub err : now.err.now ≡ before.err.now
     pub same : SameBus meaning.tree before now
+
+  pub byte_stored : (before : Bus T O E) (devices : MutBor Devices) (port byte : ℕ) → devices.ghost_name ≡ before.devices.ghost_name
+      → devices.now ≡ record before.devices.now { page = slice_set before.devices.now.page port byte }
+      → ((state : DeviceState) → StandFor before.devices.now state → StandFor devices.now (storing ((port, byte) ∷ []) state))
+      → ((other : ℕ) → slice_index devices.now.page other ≡ (if other == port then byte else slice_index before.devices.now.page other))
+      → devices.now.time.frames ≡ before.devices.now.time.frames → clock_of devices.now ≡ clock_of before.devices.now
+      → devices.now.root ≡ before.devices.now.root
+      → Stored before (record { devices = devices; tree = before.tree; out = before.out; err = before.err }) port byte
+  byte_stored before devices port byte lent is stands holds frames clock root = record {
+    devices = record {
+      devices = stands;
+      bus = λ state stood. record { devices = stands state stood.devices; files = stood.files };
+    };
+    held = holds;
+    files = λ number. ap (file_held number) is ∙ same-file number before.devices.now port byte;
+    tree = refl;
+    out = refl;
+    err = refl;
+    same = devices-same before devices lent frames clock root;
+  }
 
   -- that made no change outside
   stored-makes : (before now : Bus T O E) (port byte : ℕ) → Stored before now port byte → Makes meaning before now []
@@ -68,7 +103,7 @@ module _ {T O E : Type 0} (meaning : Meaning T O E) where
   pub debug_stopped : (before : Bus T O E) (err : MutBor E) (core : Core) (byte : ℕ) (answer : Result (Unit {0}) Stop) (put : Result (Unit {0}) Failed)
       → is_err answer ≡ is_err put → OnErr answer (answer ≡ Err SinkFault) → OnErr put (HasTakenFront (meaning.err before.err.now) (meaning.err err.now) (debug_bytes byte core))
       → (length (debug_bytes byte core) < meaning.err_room before.err.now → IsOk put) → err.ghost_name ≡ before.err.ghost_name
-      → IfErr answer (λ stop. ActStopped meaning before core PutsDebugText byte stop (record { devices = before.devices; tree = before.tree; out = before.out; err = err }))
+      → IfErr answer (λ stop. ActStopped meaning before core PutsDebugText byte stop (record { devices = before.devices; tree = before.tree; out = before.out; err = err }) core)
   debug_stopped before err core byte (Ok done) put same sink front sure lent = tt
   debug_stopped before err core byte (Err TreeFault) (Err failed) same sink front sure lent = cc
   debug_stopped before err core byte (Err NoMemory) (Err failed) same sink front sure lent = cc
@@ -80,6 +115,8 @@ module _ {T O E : Type 0} (meaning : Meaning T O E) where
           let no : false ≡ true = sure (let whole = takes_err (omega (arith, front.within, err-bytes (debug_bytes byte core))) in omega (arith, whole, err-bytes (debug_bytes byte core))) in
           cc;
     };
+    leaves = λ state stands. stands;
+    keeps = (refl, refl);
     page = refl;
     memory = λ wanted. cc;
     names = λ wanted. cc;
@@ -126,7 +163,7 @@ module _ {T O E : Type 0} (meaning : Meaning T O E) where
   debug_done before err core byte (Ok done) (Ok put) same told left lent = record {
     does = λ state stands. record {
       core = refl;
-      devices = record { devices = stands.devices; files = stands.files };
+      devices = (stands, refl);
       makes = record {
         world = debug_made (world_of meaning before) byte core (meaning.err err.now) told;
         remains = record {
@@ -140,34 +177,19 @@ module _ {T O E : Type 0} (meaning : Meaning T O E) where
     same = sinks-same before before.out err refl lent;
   }
 
-  -- nothing but what the devices stand for changed
-  devices-same : (before : Bus T O E) (devices : MutBor Devices) → devices.ghost_name ≡ before.devices.ghost_name
-      → devices.now.time.frames ≡ before.devices.now.time.frames → clock_of devices.now ≡ clock_of before.devices.now
-      → devices.now.root ≡ before.devices.now.root
-      → SameBus meaning.tree before (record { devices = devices; tree = before.tree; out = before.out; err = before.err })
-  devices-same before devices lent frames clock root = record {
-    lent = record { devices = lent; tree = refl; out = refl; err = refl };
-    files = record { stays = λ path outside there. there };
-    frames = frames;
-    clock = clock;
-    root = root;
-  }
-
   pub devices_done : (before : Bus T O E) (devices : MutBor Devices) (core : Core) (action : Action) (byte : ℕ) (done : DeviceState → DeviceState)
       → ((state : DeviceState) → act action byte state core ≡ no_effect (done state) core)
       → ((state : DeviceState) → StandFor before.devices.now state → StandFor devices.now (done state))
-      → ((state : DeviceState) → HasFiles (meaning.tree before.tree.now) state.root state.part state.parent
-      → HasFiles (meaning.tree before.tree.now) (done state).root (done state).part (done state).parent)
-      → devices.ghost_name ≡ before.devices.ghost_name
+      → asks_tree action ≡ false → devices.ghost_name ≡ before.devices.ghost_name
       → devices.now.time.frames ≡ before.devices.now.time.frames → clock_of devices.now ≡ clock_of before.devices.now
       → devices.now.root ≡ before.devices.now.root
       → Acted meaning before core action byte (record { devices = devices; tree = before.tree; out = before.out; err = before.err }) core
-  devices_done before devices core action byte done is stands files lent frames clock root = record {
-    does = λ state stood. rw (is state) (record {
+  devices_done before devices core action byte done is stands none lent frames clock root = record {
+    does = rw none (λ state stood. rw (is state) (record {
       core = refl;
-      devices = record { devices = stands state stood.devices; files = files state stood.files };
+      devices = (stands state stood, refl);
       makes = record { world = refl; remains = remains-all (sure_of meaning before) (meaning.tree before.tree.now) };
-    });
+    }));
     same = devices-same before devices lent frames clock root;
   }
 
@@ -207,23 +229,27 @@ module _ {T O E : Type 0} (meaning : Meaning T O E) where
     same = same;
   }
 
-  pub file_stopped : (before : Bus T O E) (devices : MutBor Devices) (tree : MutBor T) (core : Core) (number : FileNumber) (part : FileAct)
+  pub file_stopped : (before : Bus T O E) (devices : MutBor Devices) (tree : MutBor T) (core : Core) (memory : List ℕ) (number : FileNumber) (part : FileAct)
       (byte : ℕ) (answer : Result (Unit {0}) Stop)
       → IfErr answer (λ stop. (state : DeviceState) → StandFor before.devices.now state → HasFiles (meaning.tree before.tree.now) state.root state.part state.parent
       → FileStopped (file_outcome number part state core.memory).changes (meaning.tree before.tree.now) (meaning.tree tree.now) (meaning.tree_room before.tree.now) stop)
+      → OnErr answer ((state : DeviceState) → StandFor before.devices.now state
+      → PortLeft number part state core.memory (meaning.tree before.tree.now) devices.now memory)
       → OnErr answer (devices.now.page ≡ before.devices.now.page) → (answer ≡ Err NoMemory → part ≡ Read)
       → (answer ≡ Err NoMemory → WantsFolder (file_held number before.devices.now) (meaning.tree before.tree.now))
       → (answer ≡ Err NoMemory → HasRoot before.devices.now)
       → SameBus meaning.tree before (record { devices = devices; tree = tree; out = before.out; err = before.err })
-      → IfErr answer (λ stop. ActStopped meaning before core (ActsOnFile number part) byte stop (record { devices = devices; tree = tree; out = before.out; err = before.err }))
-  file_stopped before devices tree core number part byte (Ok done) stopped page reads wants has_root same = tt
-  file_stopped before devices tree core number part byte (Err stop) stopped page reads wants has_root same = record {
+      → IfErr answer (λ stop. ActStopped meaning before core (ActsOnFile number part) byte stop (record { devices = devices; tree = tree; out = before.out; err = before.err }) (record core { memory = memory }))
+  file_stopped before devices tree core memory number part byte (Ok done) stopped left page reads wants has_root same = tt
+  file_stopped before devices tree core memory number part byte (Err stop) stopped left page reads wants has_root same = record {
     cut = λ state stands.
         let short = stopped state stands.devices stands.files in
         record {
           cut = short.cut (world_of meaning before) refl;
           not_sure = short.not_sure (meaning.out_room before.out.now) (meaning.err_room before.err.now);
         };
+    leaves = left;
+    keeps = refl;
     page = page;
     memory = λ wanting. has_root (ap (λ s. Err s) wanting);
     names = λ wanting. record {
@@ -238,26 +264,50 @@ module _ {T O E : Type 0} (meaning : Meaning T O E) where
   unfolding effect
   effect-of action port byte state core is = ap (λ a. act a byte (storing ((port, byte) ∷ []) state) core) is
 
+  -- a byte stored takes a state to act from to the state with one more store
+  stands-stored : (asks : Bool) (before middle : Bus T O E) (port byte : ℕ) → Stored before middle port byte → (state : DeviceState)
+      → StandsTo meaning asks before state → StandsTo meaning asks middle (storing ((port, byte) ∷ []) state)
+  stands-stored true before middle port byte stored state stands = stored.devices.bus state stands
+  stands-stored false before middle port byte stored state stands = stored.devices.devices state stands
+
+  comes-stored : (asks : Bool) (before middle now : Bus T O E) (port byte : ℕ) → Stored before middle port byte → (state : DeviceState)
+      → ComesTo meaning asks middle now state → ComesTo meaning asks before now state
+  comes-stored true before middle now port byte stored state come = come
+  comes-stored false before middle now port byte stored state come = (come.0, come.1 ∙ stored.tree)
+
+  keeps-stored : (asks : Bool) (before middle now : Bus T O E) (port byte : ℕ) (old new : Core) → Stored before middle port byte
+      → Keeps meaning asks middle old now new → Keeps meaning asks before old now new
+  keeps-stored true before middle now port byte old new stored keeps = keeps
+  keeps-stored false before middle now port byte old new stored keeps = (keeps.0, keeps.1 ∙ stored.tree)
+
   -- a write is a byte stored, and then the action of its port
-  pub wrote_by_act : (before middle now : Bus T O E) (old new : Core) (port byte : ℕ) (action : Action) → action ≡ action_of port → Stored before middle port byte
-      → Acted meaning middle old action byte now new → Wrote meaning before old port byte now new
-  wrote_by_act before middle now old new port byte action is stored acted = record {
+  pub wrote_by_act : (before middle now : Bus T O E) (old new : Core) (port byte : ℕ) (action : Action) (answer : Result (Unit {0}) Stop)
+      → action ≡ action_of port → Stored before middle port byte
+      → OnOk answer (Acted meaning middle old action byte now new) → OnOk answer (Wrote meaning before old port byte now new)
+  wrote_by_act before middle now old new port byte action (Err stop) is stored acted = tt
+  wrote_by_act before middle now old new port byte action (Ok done) is stored acted = record {
     does = λ state stands.
-        let done = rw (effect-of action port byte state old is) at (acted.does (storing ((port, byte) ∷ []) state) (stored.devices state stands)) in
-        record {
-          core = done.core;
-          devices = done.devices;
-          makes = makes-both meaning before middle now [] (effect state old port byte).changes (stored-makes before middle port byte stored) done.makes;
-        };
+        let asks = asks_tree action in
+        let does = rw (effect-of action port byte state old is) at (acted.does (storing ((port, byte) ∷ []) state) (stands-stored asks before middle port byte stored state (rw (ap asks_tree is) stands))) in
+        rw (sym (ap asks_tree is)) (record {
+          core = does.core;
+          devices = comes-stored asks before middle now port byte stored (effect state old port byte).devices does.devices;
+          makes = makes-both meaning before middle now [] (effect state old port byte).changes (stored-makes before middle port byte stored) does.makes;
+        });
     same = same-again meaning.tree before middle now stored.same acted.same;
   }
 
-  pub stopped_by_act : (before middle now : Bus T O E) (old new : Core) (port byte : ℕ) (action : Action) (stop : Stop) → action ≡ action_of port → Stored before middle port byte
-      → ActStopped meaning middle old action byte stop now → Stopped meaning before old port byte stop now new
-  stopped_by_act before middle now old new port byte action stop is stored acted = record {
+  pub stopped_by_act : (before middle now : Bus T O E) (old new : Core) (port byte : ℕ) (action : Action) (answer : Result (Unit {0}) Stop)
+      → action ≡ action_of port → Stored before middle port byte
+      → IfErr answer (λ stop. ActStopped meaning middle old action byte stop now new) → IfErr answer (λ stop. Stopped meaning before old port byte stop now new)
+  stopped_by_act before middle now old new port byte action (Ok done) is stored acted = tt
+  stopped_by_act before middle now old new port byte action (Err stop) is stored acted = record {
     cut = λ state stands.
-        let short = rw (effect-of action port byte state old is) at (acted.cut (storing ((port, byte) ∷ []) state) (stored.devices state stands)) in
+        let short = rw (effect-of action port byte state old is) at (acted.cut (storing ((port, byte) ∷ []) state)
+        (stands-stored (asks_tree action) before middle port byte stored state (rw (ap asks_tree is) stands))) in
         stops-later meaning before middle now stop [] (effect state old port byte).changes (stored-makes before middle port byte stored) short;
+    leaves = λ state stands. rw (sym is, sym stored.tree) (acted.leaves (storing ((port, byte) ∷ []) state) (stored.devices.devices state stands));
+    keeps = rw (sym is) (keeps-stored (asks_tree action) before middle now port byte old new stored acted.keeps);
     stored = λ other. ap (λ page. slice_index page other) acted.page ∙ stored.held other;
     memory = λ wanted. rw stored.same.root at (acted.memory wanted);
     names = λ wanted.

@@ -1,19 +1,29 @@
 use Rattle.std.proofs.Common.{◌≡◌, ℕ, ◌+◌, ◌<◌, ◌≤◌, Bool, true, false, cond, List, [], ◌∷◌, ◌++◌, length, take, map, refl, ap, sym, ◌∙◌, arith}
-use Rattle.std.specs.Prelude.{Option, Some, None, IfSome, IsSome}
-use Rattle.std.specs.Option.{option_map}
+use Rattle.std.specs.Prelude.{Option, Some, None, IfSome, IsSome, if◌then◌else◌}
+use Rattle.std.specs.Option.{option_map, unwrap_or}
 use Rattle.std.specs.Ordering.{nat_cmp, eq_by_cmp}
 use Rattle.std.specs.Cmp.Lexicographic.{slice_cmp, nat_list_cmp_total}
 use Rattle.std.specs.FinMap as nodes_map
 use Rattle.std.proofs.lemmas.List.{length-append}
 use Rattle.uxn_io.specs.Files.{Node, File, Nodes, bytes_of, bytes_at}
 use Rattle.uxn_io.specs.Changes.{with_appended, HasAppendedFront}
-use Rattle.uxn_io.specs.Outside.{ToFile, World, changed_by, changed_files}
-use Rattle.uxn_io.specs.Appending.{changed_by-file, bytes_put}
+use Rattle.uxn_io.specs.Outside.{ToFile, World, changed_by, changed_files, files_by}
+use Rattle.uxn_io.specs.AppendingLaws.{changed_by-file}
+use Rattle.uxn_io.specs.NodeLaws.{bytes_put}
 use Rattle.uxn_io.specs.Room.{Room, Leaves}
-use Rattle.uxn_io.specs.Taking.{TreeTakes, TreeLeft, takes-later, files_made, files_gone, bytes_out, bytes_err}
+use Rattle.uxn_io.specs.Taking.{TreeTakes, TreeLeft, files_made, files_gone, bytes_out, bytes_err}
+use Rattle.uxn_io.specs.TakingLaws.{takes-later}
+use Rattle.uxn_io.specs.ChangeLaws.{files-told}
+use Rattle.file_ports.specs.Device.{suits}
+use Rattle.file_ports.specs.RootPart.{below}
+use Rattle.file_ports.specs.PartLaws.{below-files_by}
+use Rattle.file_ports.specs.ActLaws.{pieces_lie}
 use Rattle.file_ports.specs.OutsideLaws.{below-appended, parent-appended}
-use Rattle.varvara_bus.specs.State.{HasFiles}
-use Rattle.varvara_bus.specs.Bus.{IsFileWhereTold, IsOutside, FilesStay}
+use Rattle.varvara_bus.specs.declared.bus.Bus.{Bus}
+use Rattle.varvara_bus.specs.State.{DeviceState, StandFor, HasFiles}
+use Rattle.varvara_bus.specs.FileActs.{piece_appended}
+use Rattle.varvara_bus.specs.Bus.{BusStandsFor, IsFileWhereTold, FilesStay}
+use Rattle.varvara_bus.specs.Laws.{stand-part}
 
 -- a text appended to a file
 pub file_made : (world : World) (path text : List ℕ) (now : Option Nodes) → now ≡ option_map (with_appended path text) world.files
@@ -39,13 +49,40 @@ pub front-stays : (root : Option (List ℕ)) (before now : Option Nodes) (path p
     → FilesStay root before now
 front-stays root before now path piece front = rw front.told (appended-stays root before path (take front.count piece))
 
--- a state has the same files where bytes are appended to a file outside the root part
-pub appended-files : (told now : Option Nodes) (path text : List ℕ) (own root : Option (List ℕ)) (part : Nodes) (parent : Bool)
-    → now ≡ option_map (with_appended path text) told → IsFileWhereTold told path → IsOutside own path → own ≡ root
-    → HasFiles told root part parent → HasFiles now root part parent
-appended-files None now path text own root part parent is there outside same has = rw is has
-appended-files (Some nodes) now path text own root part parent is there outside same has =
-    rw is (has.0 ∙ sym (below-appended root path text nodes (rw same at outside)), has.1 ∙ sym (parent-appended root path text nodes there))
+-- to a file of the root part they are appended there too, and else the root part stays
+made-file : (nodes : Nodes) (path text : List ℕ) → files_by nodes (map (λ byte. ToFile path byte) text) ≡ with_appended path text nodes
+made-file nodes path text =
+    let world : World = record { out = None; err = None; files = Some nodes } in
+    ap (λ told. unwrap_or told nodes) (sym (files-told world (map (λ byte. ToFile path byte) text)) ∙ ap (λ (w : World). w.files) (changed_by-file world path text))
+
+part-appended : (told now : Option Nodes) (path text : List ℕ) (inside : Bool) (root : Option (List ℕ)) (part : Nodes) (parent : Bool)
+    → now ≡ option_map (with_appended path text) told → IsFileWhereTold told path → suits root (Some path) ≡ inside
+    → HasFiles told root part parent → HasFiles now root (if inside then files_by part (map (λ byte. ToFile path byte) text) else part) parent
+part-appended None now path text false root part parent is there lies has = rw is has
+part-appended None now path text true root part parent is there lies has =
+    let no : false ≡ true = ap (λ (r : Option (List ℕ)). suits r (Some path)) (sym has.0) ∙ lies in cc
+part-appended (Some nodes) now path text false root part parent is there lies has =
+    rw is (has.0 ∙ sym (below-appended root path text nodes lies), has.1 ∙ sym (parent-appended root path text nodes there))
+part-appended (Some nodes) now path text true root part parent is there lies has =
+    let changes = map (λ byte. ToFile path byte) text in
+    rw is (
+      ap (λ files. files_by files changes) has.0 ∙ sym (below-files_by root changes nodes (pieces_lie root path text lies)) ∙ ap (below root) (made-file nodes path text),
+      has.1 ∙ sym (parent-appended root path text nodes there),
+    )
+
+module _ {T O E : Type 0} (told_tree : T → Option Nodes) where
+  after-append : (now : Bus T O E) (inside : Bool) (state : DeviceState) (part : Nodes) → StandFor now.devices.now state
+      → HasFiles (told_tree now.tree.now) state.root (if inside then part else state.part) state.parent
+      → BusStandsFor told_tree now (if inside then record state { part = part } else state)
+  after-append now true state part stands has = record { devices = stand-part now.devices.now state part stands; files = has }
+  after-append now false state part stands has = record { devices = stands; files = has }
+
+  pub bus-appended : (before now : Bus T O E) (path text : List ℕ) → now.devices.now ≡ before.devices.now
+      → told_tree now.tree.now ≡ option_map (with_appended path text) (told_tree before.tree.now) → IsFileWhereTold (told_tree before.tree.now) path
+      → (state : DeviceState) → BusStandsFor told_tree before state → BusStandsFor told_tree now (piece_appended path text state)
+  bus-appended before now path text same is there state stands =
+      after-append now (suits state.root (Some path)) state (files_by state.part (map (λ byte. ToFile path byte) text)) (rw same stands.devices)
+      (part-appended (told_tree before.tree.now) (told_tree now.tree.now) path text (suits state.root (Some path)) state.root state.part state.parent is there refl stands.files)
 
 -- ---- what is sure
 

@@ -23,7 +23,7 @@ use Rattle.varvara_bus.specs.declared.ports.FileAct.{FileAct}
 use Rattle.varvara_bus.specs.declared.ports.FileNumber.{FileNumber}
 use Rattle.varvara_bus.specs.declared.ports.FileNumber.TheVariants.{First, Second}
 use Rattle.varvara_bus.specs.State.{DeviceState, StandFor, HasFiles, storing}
-use Rattle.varvara_bus.specs.FileActs.{file_base, file_in, with_file, file_action, file_outcome}
+use Rattle.varvara_bus.specs.FileActs.{file_base, file_in, with_file, file_action, file_outcome, device_left, MemoryLeft, FileLeft, PortLeft}
 use Rattle.varvara_bus.specs.Bus.{FilesStay, file_held}
 use Rattle.varvara_bus.specs.Laws.{stand-part, held-file}
 use Rattle.varvara_bus.specs.FileCalls.{action_asked, Performed, FilesDone, FilesCut, FileActed, FileStopped}
@@ -342,3 +342,25 @@ file_stopped request number part devices state memory before now room stop is st
     cut_stopped (file_outcome number part state memory).changes before now room stop
     (cut_at request number part devices.root (file_held number devices) state memory before now room (has_failed {T = ℕ} (Err stop))
     stands.root (held-file number devices state stands) is has cut)
+
+-- ---- what is left after a stop
+
+pub on_stop : {A : Type 0} (result : Result A FileStop) (P : Type 0) → P → OnErr result P
+on_stop (Ok value) P holds = tt
+on_stop (Err stop) P holds = holds
+
+pub left_by : (action : FileAction) (device : FileState) (memory : List ℕ) (told : Option Nodes) (result : Result ℕ FileStop) (device_now : FileState) (memory_now : List ℕ)
+    → OnErr result (device_now ≡ device_left action device) → OnErr result (MemoryLeft action device memory told memory_now)
+    → OnErr result (FileLeft action device memory told device_now memory_now)
+left_by action device memory told (Ok value) device_now memory_now left kept = tt
+left_by action device memory told (Err stop) device_now memory_now left kept = record { device = left; memory = kept }
+
+pub port_left : (request : Request) (number : FileNumber) (part : FileAct) (devices middle : Devices) (state : DeviceState)
+    (memory : List ℕ) (told : Option Nodes) (memory_now : List ℕ)
+    → action_asked request ≡ file_action part state.history (file_base number) → StandFor devices state
+    → FileLeft (action_asked request) (file_held number devices) memory told (file_held number middle) memory_now
+    → StandFor middle (with_file number (file_held number middle) state)
+    → PortLeft number part state memory told middle memory_now
+port_left request number part devices middle state memory told memory_now is stands left held =
+    let now = rw (is, held-file number devices state stands) at left in
+    record { devices = rw now.device at held; memory = now.memory }

@@ -1,5 +1,5 @@
 -- A bus: devices, a tree and two sinks that are lent to it, and its ports.
-use Rattle.std.specs.Prelude.{◌≡◌, ℕ, ◌==◌, false, List, Option, Some, IfSome, IsSome, Err, slice_index, if◌then◌else◌}
+use Rattle.std.specs.Prelude.{◌≡◌, ℕ, ◌==◌, Bool, true, false, List, [], ◌∷◌, Option, Some, IfSome, IsSome, Err, slice_index, if◌then◌else◌}
 use Rattle.uxn_io.specs.Files.{Nodes, file_at}
 use Rattle.uxn_io.specs.Faults.{Counts, counts}
 use Rattle.uxn_io.specs.Outside.{Change, World, changed_by, IsCutOff}
@@ -14,14 +14,15 @@ use Rattle.uxn_opcodes.specs.Ports.{Rules, blame_of}
 use Rattle.screen_layers.specs.Layers.{Layers}
 use Rattle.varvara_bus.specs.declared.bus.Bus.{Bus}
 use Rattle.varvara_bus.specs.declared.devices.Devices.{Devices}
-use Rattle.varvara_bus.specs.State.{DeviceState, StandFor, HasFiles, clock_of}
+use Rattle.varvara_bus.specs.State.{DeviceState, StandFor, HasFiles, clock_of, storing}
 use Rattle.varvara_bus.specs.Reads.{read_of}
 use Rattle.varvara_bus.specs.declared.ports.Action.{Action}
 use Rattle.varvara_bus.specs.declared.ports.Action.TheVariants.{ActsOnFile}
 use Rattle.varvara_bus.specs.declared.ports.FileNumber.{FileNumber}
 use Rattle.varvara_bus.specs.declared.ports.FileNumber.TheVariants.{First, Second}
 use Rattle.varvara_bus.specs.declared.ports.FileAct.TheVariants.{Read}
-use Rattle.varvara_bus.specs.Effect.{Effect, action_of, act, effect}
+use Rattle.varvara_bus.specs.FileActs.{PortLeft}
+use Rattle.varvara_bus.specs.Effect.{Effect, action_of, asks_tree, act, effect}
 
 -- the same four are lent
 pub record SameLent {T O E : Type 0} (before now : Bus T O E) : Type 0 where
@@ -97,9 +98,15 @@ pub record ChangesDevices {T O E : Type 0} (before now : Bus T O E) : Type 0 whe
   pub clock : clock_of now.devices.now ≡ clock_of before.devices.now
   pub root : now.devices.now.root ≡ before.devices.now.root
 
--- a read gives what the port reads in each state that the bus stands for
-abbrev pub Reads : {T O E : Type 0} → (T → Option Nodes) → Bus T O E → Core → ℕ → ℕ → Type 0
-Reads told_tree bus core port value = (state : DeviceState) → BusStandsFor told_tree bus state → value ≡ read_of state core port
+-- each state that the devices stood for, whatever the tree tells, becomes what is given of it; so does each that the bus stood for
+pub record Becomes {T O E : Type 0} (told_tree : T → Option Nodes) (given : DeviceState → DeviceState) (before now : Bus T O E)
+    : Type 0 where
+  pub devices : (state : DeviceState) → StandFor before.devices.now state → StandFor now.devices.now (given state)
+  pub bus : (state : DeviceState) → BusStandsFor told_tree before state → BusStandsFor told_tree now (given state)
+
+-- a read gives what the port reads in each state that the devices stand for, whatever the tree tells
+abbrev pub Reads : {T O E : Type 0} → Bus T O E → Core → ℕ → ℕ → Type 0
+Reads bus core port value = (state : DeviceState) → StandFor bus.devices.now state → value ≡ read_of state core port
 
 -- the faults counted of what is lent
 abbrev pub bus_faults : {T O E : Type 0} → (T → ℕ) → (O → ℕ) → (E → ℕ) → Bus T O E → Counts
@@ -149,15 +156,45 @@ module _ {T O E : Type 0} (meaning : Meaning T O E) where
     pub devices : BusStandsFor meaning.tree now done.devices
     pub makes : Makes before now done.changes
 
-  -- a write has its effect, from each state that the bus stood for
+  -- a state to act from: what the bus stands for where the tree is asked, and else what the devices stand for, whatever the tree tells
+  abbrev pub StandsTo : Bool → Bus T O E → DeviceState → Type 0
+  StandsTo true bus state = BusStandsFor meaning.tree bus state
+  StandsTo false bus state = StandFor bus.devices.now state
+
+  -- the state that was come to; a tree that is not asked stays as it was
+  abbrev pub ComesTo : Bool → Bus T O E → Bus T O E → DeviceState → Type 0
+  ComesTo true before now state = BusStandsFor meaning.tree now state
+  ComesTo false before now state = StandFor now.devices.now state × (now.tree.now ≡ before.tree.now)
+
+  -- what an action does that asks the tree, or does not
+  pub record Does (asks : Bool) (before now : Bus T O E) (new : Core) (done : Effect) : Type 0 where
+    pub core : new ≡ done.core
+    pub devices : ComesTo asks before now done.devices
+    pub makes : Makes before now done.changes
+
+  -- a stop leaves the core as it was, but for what the tree was asked to put in memory; a tree that is not asked stays
+  abbrev pub Keeps : Bool → Bus T O E → Core → Bus T O E → Core → Type 0
+  Keeps true before old now new = new ≡ record old { memory = new.memory }
+  Keeps false before old now new = (new ≡ old) × (now.tree.now ≡ before.tree.now)
+
+  -- and the devices as they were, but for a file device that was to act
+  abbrev pub Leaves : Action → DeviceState → Option Nodes → Core → Bus T O E → Core → Type 0
+  Leaves (ActsOnFile number part) state told old now new = PortLeft number part state old.memory told now.devices.now new.memory
+  Leaves _ state told old now new = StandFor now.devices.now state
+
+  -- a write has its effect, from each state to act from
   pub record Wrote (before : Bus T O E) (old : Core) (port byte : ℕ) (now : Bus T O E) (new : Core) : Type 0 where
-    pub does : (state : DeviceState) → BusStandsFor meaning.tree before state → HasEffect before now new (effect state old port byte)
+    pub does : (state : DeviceState) → StandsTo (asks_tree (action_of port)) before state
+        → Does (asks_tree (action_of port)) before now new (effect state old port byte)
     pub same : SameBus meaning.tree before now
 
   -- a write that stops has stored its byte and nothing else, and made a front of its changes; memory is wanting only where there is a root
   pub record Stopped (before : Bus T O E) (old : Core) (port byte : ℕ) (stop : Stop) (now : Bus T O E) (new : Core) : Type 0 where
-    pub cut : (state : DeviceState) → BusStandsFor meaning.tree before state
+    pub cut : (state : DeviceState) → StandsTo (asks_tree (action_of port)) before state
         → StopsShort before now stop (effect state old port byte).changes
+    pub leaves : (state : DeviceState) → StandFor before.devices.now state
+        → Leaves (action_of port) (storing ((port, byte) ∷ []) state) (meaning.tree before.tree.now) old now new
+    pub keeps : Keeps (asks_tree (action_of port)) before old now new
     pub stored : (other : ℕ) → held now other ≡ (if other == port then byte else held before other)
     pub memory : stop ≡ NoMemory → HasRoot before.devices.now
     pub names : stop ≡ NoMemory → WantsNames (action_of port) before.devices.now (meaning.tree before.tree.now)
@@ -165,17 +202,22 @@ module _ {T O E : Type 0} (meaning : Meaning T O E) where
 
   -- the rules of a bus's ports
   abbrev pub bus_rules : Rules (Bus T O E)
-  bus_rules = record { reads = Reads meaning.tree; wrote = Wrote; stopped = Stopped }
+  bus_rules = record { reads = Reads; wrote = Wrote; stopped = Stopped }
 
   -- what an action does once the byte is stored
   pub record Acted (before : Bus T O E) (old : Core) (action : Action) (byte : ℕ) (now : Bus T O E) (new : Core) : Type 0 where
-    pub does : (state : DeviceState) → BusStandsFor meaning.tree before state → HasEffect before now new (act action byte state old)
+    pub does : (state : DeviceState) → StandsTo (asks_tree action) before state
+        → Does (asks_tree action) before now new (act action byte state old)
     pub same : SameBus meaning.tree before now
 
   -- what an action leaves that stops
-  pub record ActStopped (before : Bus T O E) (old : Core) (action : Action) (byte : ℕ) (stop : Stop) (now : Bus T O E) : Type 0 where
-    pub cut : (state : DeviceState) → BusStandsFor meaning.tree before state
+  pub record ActStopped (before : Bus T O E) (old : Core) (action : Action) (byte : ℕ) (stop : Stop) (now : Bus T O E) (new : Core)
+      : Type 0 where
+    pub cut : (state : DeviceState) → StandsTo (asks_tree action) before state
         → StopsShort before now stop (act action byte state old).changes
+    pub leaves : (state : DeviceState) → StandFor before.devices.now state
+        → Leaves action state (meaning.tree before.tree.now) old now new
+    pub keeps : Keeps (asks_tree action) before old now new
     pub page : now.devices.now.page ≡ before.devices.now.page
     pub memory : stop ≡ NoMemory → HasRoot before.devices.now
     pub names : stop ≡ NoMemory → WantsNames action before.devices.now (meaning.tree before.tree.now)

@@ -1,5 +1,5 @@
 -- What a write to a port does (Varvara device reference).
-use Rattle.std.specs.Prelude.{ℕ, ◌==◌, List, [], ◌∷◌, ◌++◌, map, if◌then◌else◌}
+use Rattle.std.specs.Prelude.{ℕ, ◌==◌, Bool, true, false, List, [], ◌∷◌, ◌++◌, map, if◌then◌else◌}
 use Rattle.uxn_io.specs.Outside.{Change, ToOut, ToErr}
 use Rattle.uxn_opcodes.specs.declared.Core.{Core}
 use Rattle.system_port.specs.Expansion.{expanded}
@@ -59,6 +59,11 @@ action_in (row ∷ rows) port = if port == row.0 then row.1 else action_in rows 
 
 abbrev pub action_of : ℕ → Action
 action_of port = action_in actions port
+
+-- whether an action asks something of the tree: that of a file device
+abbrev pub asks_tree : Action → Bool
+asks_tree (ActsOnFile number part) = true
+asks_tree _ = false
 
 -- the machine and its devices after something was done, and the changes that it made outside, in order
 pub record Effect : Type 0 where

@@ -1,7 +1,9 @@
 -- What the file devices do by their ports (Varvara device reference: File).
-use Rattle.std.specs.Prelude.{ℕ, ◌+◌, ◌%◌, ◌==◌, Bool, List}
-use Rattle.uxn_io.specs.Outside.{files_by}
-use Rattle.file_ports.specs.Device.{FileState}
+use Rattle.std.specs.Prelude.{◌≡◌, ℕ, ◌+◌, ◌%◌, ◌==◌, Bool, List, map, Option, Some, if◌then◌else◌}
+use Rattle.uxn_io.specs.Files.{Nodes}
+use Rattle.uxn_io.specs.Outside.{ToFile, files_by}
+use Rattle.file_ports.specs.Device.{FileState, idle_at, suits}
+use Rattle.file_ports.specs.Answers.{HasReadFront}
 use Rattle.file_ports.specs.Actions as file
 use Rattle.file_ports.specs.Actions.{FileAction, Outcome}
 use Rattle.input_ports.specs.Page.{short_stores}
@@ -10,7 +12,8 @@ use Rattle.varvara_bus.specs.declared.ports.FileNumber.TheVariants.{First, Secon
 use Rattle.varvara_bus.specs.declared.ports.FileAct.{FileAct}
 use Rattle.varvara_bus.specs.declared.ports.FileAct.TheVariants.{Stat, Delete, Name, Read, Write}
 use Rattle.varvara_bus.specs.History.{History, stored, stored_short}
-use Rattle.varvara_bus.specs.State.{DeviceState, storing}
+use Rattle.varvara_bus.specs.declared.devices.Devices.{Devices}
+use Rattle.varvara_bus.specs.State.{DeviceState, StandFor, storing}
 
 -- the first of a device's ports, and the device
 abbrev pub file_base : FileNumber → ℕ
@@ -50,3 +53,30 @@ abbrev pub file_acted : FileNumber → Outcome → DeviceState → DeviceState
 file_acted number outcome state =
     storing (short_stores (file_base number + 0x02) outcome.success)
     (with_file number outcome.device (record state { part = files_by state.part outcome.changes }))
+
+-- an action that stops leaves a device that does nothing, but for a stat, which leaves it as it is
+abbrev pub device_left : FileAction → FileState → FileState
+device_left (file.Stat at length) device = device
+device_left _ device = idle_at device.path
+
+-- and memory as it was, but for a front of what a read gives
+abbrev pub MemoryLeft : FileAction → FileState → List ℕ → Option Nodes → List ℕ → Type 0
+MemoryLeft (file.Read at length) device memory told memory_now = HasReadFront at length device memory told memory_now
+MemoryLeft _ device memory told memory_now = memory_now ≡ memory
+
+pub record FileLeft (action : FileAction) (was : FileState) (before : List ℕ) (told : Option Nodes) (device_now : FileState)
+    (memory_now : List ℕ) : Type 0 where
+  pub device : device_now ≡ device_left action was
+  pub memory : MemoryLeft action was before told memory_now
+
+-- so it is by the ports of a file device, and all other devices are as before
+pub record PortLeft (number : FileNumber) (act : FileAct) (state : DeviceState) (before : List ℕ) (told : Option Nodes)
+    (held : Devices) (memory_now : List ℕ) : Type 0 where
+  pub devices : StandFor held (with_file number
+      (device_left (file_action act state.history (file_base number)) (file_in number state)) state)
+  pub memory : MemoryLeft (file_action act state.history (file_base number)) (file_in number state) before told memory_now
+
+-- bytes were added to a file: to one of the root part there too
+abbrev pub piece_appended : List ℕ → List ℕ → DeviceState → DeviceState
+piece_appended path bytes state =
+    if suits state.root (Some path) then record state { part = files_by state.part (map (λ byte. ToFile path byte) bytes) } else state

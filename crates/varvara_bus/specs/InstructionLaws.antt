@@ -1,13 +1,15 @@
 -- The laws that tie an instruction over a bus to what it does to the devices and outside.
-use Rattle.std.specs.Prelude.{◌≡◌, ◌≢◌, ℕ, ◌==◌, false, List, [], ◌∷◌, ◌++◌, Option, Result, Ok}
+use Rattle.std.specs.Prelude.{◌≡◌, ◌≢◌, ℕ, ◌==◌, Bool, true, false, List, [], ◌∷◌, ◌++◌, Option, Result, Ok}
 use Rattle.std.specs.Prelude.{Err, refl}
 use Rattle.std.proofs.Common.{ap, sym, ◌∙◌, append_assoc, inl, inr, arith}
 use Rattle.std.proofs.lemmas.Bool.Decides.{nat_tests}
 use Rattle.std.proofs.lemmas.List.{append-nil}
 use Rattle.uxn_io.specs.Files.{Nodes}
 use Rattle.std.specs.Option.{option_map}
-use Rattle.uxn_io.specs.Outside.{Change, World, changed_by, files_by, changed_by-append, cut-first, cut-later}
-use Rattle.uxn_io.specs.Taking.{files-told, remains-all, remains-both, not-sure-first, not-sure-later}
+use Rattle.uxn_io.specs.Outside.{Change, World, changed_by, files_by}
+use Rattle.uxn_io.specs.ChangeLaws.{changed_by-append, cut-first, cut-later}
+use Rattle.uxn_io.specs.ChangeLaws.{files-told}
+use Rattle.uxn_io.specs.TakingLaws.{remains-all, remains-both, not-sure-first, not-sure-later}
 use Rattle.uxn_opcodes.specs.declared.Core.{Core}
 use Rattle.uxn_opcodes.specs.declared.Stop.{Stop}
 use Rattle.uxn_opcodes.specs.declared.Stop.TheVariants.{NoMemory}
@@ -21,9 +23,14 @@ use Rattle.uxn_opcodes.specs.Instruction.{Written, WriteStops, writes_of, Finish
 use Rattle.uxn_opcodes.specs.Model.{Machine, Carries, StandsAt, StopsAt, after_instruction, access_done, written_by}
 use Rattle.uxn_opcodes.specs.Model.{writes_in, carried-ran, carried-broke, carried-stopped}
 use Rattle.varvara_bus.specs.declared.bus.Bus.{Bus}
-use Rattle.varvara_bus.specs.State.{DeviceState}
-use Rattle.varvara_bus.specs.Effect.{effect}
-use Rattle.varvara_bus.specs.Bus.{SameBus, BusStandsFor, HasRoot, Meaning, world_of, sure_of, Makes, StopsShort, HasEffect, bus_rules}
+use Rattle.varvara_bus.specs.declared.ports.Action.{Action}
+use Rattle.varvara_bus.specs.declared.ports.Action.TheVariants.{Stores, Expands, SetsWorkingPointer, SetsReturnPointer}
+use Rattle.varvara_bus.specs.declared.ports.Action.TheVariants.{PutsDebugText, PutsOut, PutsErr}
+use Rattle.varvara_bus.specs.declared.ports.Action.TheVariants.{AsksWidth, AsksHeight, DrawsPixel, DrawsSprite, StartsNote, ActsOnFile}
+use Rattle.varvara_bus.specs.State.{DeviceState, HasFiles, storing}
+use Rattle.varvara_bus.specs.Effect.{action_of, asks_tree, act, effect}
+use Rattle.varvara_bus.specs.Bus.{SameBus, BusStandsFor, HasRoot, Meaning, world_of, sure_of, Makes, StopsShort, HasEffect}
+use Rattle.varvara_bus.specs.Bus.{StandsTo, ComesTo, Wrote, bus_rules}
 use Rattle.varvara_bus.specs.Model.{Devised, varvara, instruction_effect}
 
 -- writes only add to the changes made so far
@@ -153,6 +160,48 @@ module _ {T O E : Type 0} (meaning : Meaning T O E) where
         (meaning.tree before.tree.now) first more p.remains (rw (told-now before middle first p) at short.not_sure);
   }
 
+  -- a bus stands to act from what it stands for, and then it stands for what is left
+  stands-to : (asks : Bool) (bus : Bus T O E) (state : DeviceState) → BusStandsFor meaning.tree bus state → StandsTo meaning asks bus state
+  stands-to true bus state stands = stands
+  stands-to false bus state stands = stands.devices
+
+  -- what asks nothing of the tree leaves the root part of a state
+  files-left : (action : Action) (byte : ℕ) (state : DeviceState) (core : Core) (told : Option Nodes) → asks_tree action ≡ false
+      → HasFiles told state.root state.part state.parent
+      → HasFiles told (act action byte state core).devices.root (act action byte state core).devices.part (act action byte state core).devices.parent
+  files-left Stores byte state core told none has = has
+  files-left Expands byte state core told none has = has
+  files-left SetsWorkingPointer byte state core told none has = has
+  files-left SetsReturnPointer byte state core told none has = has
+  files-left PutsDebugText byte state core told none has = has
+  files-left PutsOut byte state core told none has = has
+  files-left PutsErr byte state core told none has = has
+  files-left AsksWidth byte state core told none has = has
+  files-left AsksHeight byte state core told none has = has
+  files-left DrawsPixel byte state core told none has = has
+  files-left DrawsSprite byte state core told none has = has
+  files-left (StartsNote voice) byte state core told none has = has
+  files-left (ActsOnFile number part) byte state core told none has = cc
+
+  comes-to : (asks : Bool) (before now : Bus T O E) (state : DeviceState) → ComesTo meaning asks before now state
+      → (asks ≡ false → HasFiles (meaning.tree before.tree.now) state.root state.part state.parent) → BusStandsFor meaning.tree now state
+  comes-to true before now state come files = come
+  comes-to false before now state come files = record { devices = come.0; files = rw come.1 (files refl) }
+
+  -- so a write has its effect, from each state that the bus stood for
+  pub wrote-effect : (before now : Bus T O E) (core core_new : Core) (port byte : ℕ) → Wrote meaning before core port byte now core_new
+      → (state : DeviceState) → BusStandsFor meaning.tree before state → HasEffect meaning before now core_new (effect state core port byte)
+  unfolding effect
+  wrote-effect before now core core_new port byte wrote state stands =
+      let asks = asks_tree (action_of port) in
+      let done = wrote.does state (stands-to asks before state stands) in
+      record {
+        core = done.core;
+        devices = comes-to asks before now (effect state core port byte).devices done.devices
+            (λ none. files-left (action_of port) byte (storing ((port, byte) ∷ []) state) core (meaning.tree before.tree.now) none stands.files);
+        makes = done.makes;
+      }
+
   -- since a bus stood so, its devices became these, and these changes were made
   pub record StandsSince (start now : Bus T O E) (so_far : Devised) : Type 0 where
     pub devices : BusStandsFor meaning.tree now so_far.devices
@@ -160,9 +209,9 @@ module _ {T O E : Type 0} (meaning : Meaning T O E) where
 
   pub carries : (start : Bus T O E) → Carries (bus_rules meaning) (StandsSince start) varvara
   carries start = record {
-    reading = λ now so_far core port value stands reads. reads so_far.devices stands.devices;
+    reading = λ now so_far core port value stands reads. reads so_far.devices stands.devices.devices;
     writing = λ now so_far core port byte after core_after stands wrote.
-        let done = wrote.does so_far.devices stands.devices in
+        let done = wrote-effect now after core core_after port byte wrote so_far.devices stands.devices in
         record {
           same_core = done.core;
           same_ports = record {
@@ -214,7 +263,8 @@ module _ {T O E : Type 0} (meaning : Meaning T O E) where
       (stops-later before at.ports now stop (reached_by devices core at.before).ports.changes
       (effect (reached_by devices core at.before).ports.devices (reached_by devices core at.before).core at.port at.byte).changes
       at.same_ports.makes
-      (at.stops.cut (reached_by devices core at.before).ports.devices at.same_ports.devices)))
+      (at.stops.cut (reached_by devices core at.before).ports.devices
+      (stands-to (asks_tree (action_of at.port)) at.ports (reached_by devices core at.before).ports.devices at.same_ports.devices))))
 
   pub instruction-cut : (core core_new : Core) (before now : Bus T O E) (stop : Stop) (devices : DeviceState)
       → BusStandsFor meaning.tree before devices → Instruction (bus_rules meaning) core before (Err stop) core_new now

@@ -1,14 +1,11 @@
 -- Which paths changes leave alone, and what stands there then.
 use Rattle.std.specs.Prelude.{◌≡◌, ℕ, Bool, true, false, List, [], ◌∷◌, ◌++◌, map, Option, Some, None, IfSome, option_map, refl}
 use Rattle.std.specs.Str.{bytes_eq}
-use Rattle.std.specs.Ordering.{nat_cmp, eq_by_cmp, is_eq}
-use Rattle.std.specs.declared.cmp.Ordering.{Ordering}
-use Rattle.std.specs.declared.cmp.Ordering.TheVariants.{Less, Equal, Greater}
-use Rattle.std.specs.Cmp.Lexicographic.{slice_cmp, nat_list_cmp_total}
 use Rattle.std.specs.FinMap as nodes_map
 use Rattle.std.proofs.Common.{cond, ap, sym, ◌∙◌, true≢false}
 use Rattle.std.proofs.lemmas.Slice.Eq.{bytes_eq-Decides}
 use Rattle.uxn_io.specs.Files.{Nodes, Node, File, bytes_at}
+use Rattle.uxn_io.specs.NodeLaws.{put_elsewhere, taken_elsewhere}
 use Rattle.std.specs.Prelude.{◌==◌}
 use Rattle.uxn_opcodes.specs.declared.Core.{Core}
 use Rattle.uxn_opcodes.specs.declared.rows.Access.{Access}
@@ -26,7 +23,8 @@ use Rattle.file_ports.specs.Device.{FileState, Suits}
 use Rattle.file_ports.specs.Actions as file
 use Rattle.file_ports.specs.Actions.{FileAction, Outcome}
 use Rattle.file_ports.specs.ActLaws.{act-lies, act-suits}
-use Rattle.file_ports.specs.OutsideLaws.{AreElsewhere, elsewhere}
+use Rattle.file_ports.specs.RootPart.{AreElsewhere}
+use Rattle.file_ports.specs.OutsideLaws.{elsewhere}
 use Rattle.varvara_bus.specs.Bus.{IsOutside}
 use Rattle.varvara_bus.specs.State.{DeviceState, storing}
 use Rattle.varvara_bus.specs.FileActs.{file_base, file_in, file_action, file_outcome, file_acted}
@@ -59,37 +57,17 @@ pub each-map : {A B : Type 0} (P : B → Type 0) (f : A → B) (xs : List A) →
 each-map P f [] all = tt
 each-map P f (x ∷ xs) all = (all x, each-map P f xs all)
 
-equal_keys : (r : Ordering) → is_eq r ≡ true → r ≡ Equal
-equal_keys Less e = absurd (true≢false (sym e))
-equal_keys Equal e = refl
-equal_keys Greater e = absurd (true≢false (sym e))
-
-pub same_path : (path other : List ℕ) → eq_by_cmp (slice_cmp nat_cmp) path other ≡ true → path ≡ other
-same_path path other e =
-    nodes_map.slice_cmp-IsAntisymmetric nodes_map.nat_cmp-IsAntisymmetric path other (equal_keys (slice_cmp nat_cmp path other) e)
-
 pub differs : (path other : List ℕ) → bytes_eq path other ≡ false → path ≡ other → ⊥
 differs path other e same = true≢false (sym ((bytes_eq-Decides path other).1 same) ∙ e)
-
-pub differs_by : (path other : List ℕ) → bytes_eq path other ≡ false → eq_by_cmp (slice_cmp nat_cmp) path other ≡ false
-differs_by path other e = elim (eq_by_cmp (slice_cmp nat_cmp) path other)
-    as (λ b. eq_by_cmp (slice_cmp nat_cmp) path other ≡ b → b ≡ false) [
-      | true ↦ λ t. absurd (differs path other e (same_path path other t))
-      | false ↦ λ t. refl
-    ] refl
 
 -- another path keeps its node
 pub inserted-other : (nodes : Nodes) (path other : List ℕ) (node : Node) → bytes_eq path other ≡ false
     → nodes_map.get (nodes_map.insert nodes other node) path ≡ nodes_map.get nodes path
-inserted-other nodes path other node apart =
-    nodes_map.get-insert nat_list_cmp_total nodes other node path
-    ∙ ap (λ b. cond b (Some node) (nodes_map.get nodes path)) (differs_by path other apart)
+inserted-other nodes path other node apart = put_elsewhere nodes other path node (differs path other apart)
 
 pub removed-other : (nodes : Nodes) (path other : List ℕ) → bytes_eq path other ≡ false
     → nodes_map.get (nodes_map.remove nodes other) path ≡ nodes_map.get nodes path
-removed-other nodes path other apart =
-    nodes_map.get-remove nat_list_cmp_total nodes other path
-    ∙ ap (λ b. cond b None (nodes_map.get nodes path)) (differs_by path other apart)
+removed-other nodes path other apart = taken_elsewhere nodes other path (differs path other apart)
 
 -- a path that a change leaves alone keeps its node
 pub spared-one : (nodes : Nodes) (path : List ℕ) (change : Change) → Spares path change

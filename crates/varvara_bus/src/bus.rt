@@ -1,6 +1,6 @@
 //! The bus: what the machine's ports are.
 ghost use Rattle.std.specs.Prelude.{◌≡◌, ℕ, slice_index, ◌+◌, ◌<◌, ◌≤◌, true, false, [], ◌∷◌, map, length, Err, IsOk, OnOk, OnErr, IfErr, is_err};
-ghost use Rattle.varvara_bus.specs.State.{DeviceState, storing, next_frame, rendered};
+ghost use Rattle.varvara_bus.specs.State.{DeviceState, StandFor, storing, next_frame, rendered};
 ghost use Rattle.console_port.specs.Console.{event_byte};
 ghost use Rattle.screen_frame.specs.Colours.{colours_of};
 ghost use Rattle.screen_layers.specs.Layers as layers;
@@ -13,12 +13,13 @@ ghost use Rattle.uxn_opcodes.specs.Ports.{blame_of};
 ghost use Rattle.uxn_io.specs.Told.{extended, HasTakenFront};
 ghost use Rattle.uxn_io.specs.Outside.{ToFile};
 ghost use Rattle.varvara_bus.specs.Effect.{debug_bytes};
+ghost use Rattle.varvara_bus.specs.FileActs.{piece_appended};
 ghost use Rattle.varvara_bus.specs.Bus.{
   BusStandsFor,
   SameBus,
   ChangesDevices,
+  Becomes,
   IsFileWhereTold,
-  IsOutside,
   held,
   held_page,
   frames_begun,
@@ -112,7 +113,7 @@ impl<'a, T: Tree, O: Sink, E: Sink> Bus<'a, T, O, E> {
     /// The byte last stored in a port.
     pub fn stored(&self, port: u8) -> u8
         ensures held { result ≡ held self.now port }
-        ensures stored { (state : DeviceState) → BusStandsFor T.told self.now state → result ≡ stored state.history port }
+        ensures stored { (state : DeviceState) → StandFor self.now.devices.now state → result ≡ stored state.history port }
     {
         stored(self.devices, port)
     }
@@ -120,15 +121,14 @@ impl<'a, T: Tree, O: Sink, E: Sink> Bus<'a, T, O, E> {
     /// The short in a port and the next one, its high byte first.
     pub fn stored_short(&self, port: u8) -> u16
         requires { port < 255 }
-        ensures { (state : DeviceState) → BusStandsFor T.told self.now state → result ≡ stored_short state.history port }
+        ensures { (state : DeviceState) → StandFor self.now.devices.now state → result ≡ stored_short state.history port }
     {
         stored_short(self.devices, port)
     }
 
     /// Stores a byte in a port, without acting.
     pub fn store(&mut self, port: u8, value: u8)
-        ensures devices { (state : DeviceState) → BusStandsFor T.told self.old state
-            → BusStandsFor T.told self.new (storing ((port, value) ∷ []) state) }
+        ensures devices { Becomes T.told (λ state. storing ((port, value) ∷ []) state) self.old self.new }
         ensures others { ChangesDevices self.old self.new }
         ensures frames { frames_begun self.new ≡ frames_begun self.old }
     {
@@ -137,8 +137,7 @@ impl<'a, T: Tree, O: Sink, E: Sink> Bus<'a, T, O, E> {
 
     /// Stores an event of the console: its byte in port 12 and its kind in port 17.
     pub fn give(&mut self, value: u8, kind: EventKind)
-        ensures devices { (state : DeviceState) → BusStandsFor T.told self.old state
-            → BusStandsFor T.told self.new (storing ((0x12, value) ∷ (0x17, event_byte kind) ∷ []) state) }
+        ensures devices { Becomes T.told (λ state. storing ((0x12, value) ∷ (0x17, event_byte kind) ∷ []) state) self.old self.new }
         ensures others { ChangesDevices self.old self.new }
         ensures frames { frames_begun self.new ≡ frames_begun self.old }
     {
@@ -147,8 +146,7 @@ impl<'a, T: Tree, O: Sink, E: Sink> Bus<'a, T, O, E> {
 
     /// Stores an input at its ports, as its vector finds them.
     pub fn apply(&mut self, input: &Input)
-        ensures devices { (state : DeviceState) → BusStandsFor T.told self.old state
-            → BusStandsFor T.told self.new (storing (stores_of (stored state.history) input.now) state) }
+        ensures devices { Becomes T.told (λ state. storing (stores_of (stored state.history) input.now) state) self.old self.new }
         ensures others { ChangesDevices self.old self.new }
         ensures frames { frames_begun self.new ≡ frames_begun self.old }
     {
@@ -157,8 +155,7 @@ impl<'a, T: Tree, O: Sink, E: Sink> Bus<'a, T, O, E> {
 
     /// Stores 0 at the ports of an input that are 0 again after its vector.
     pub fn settle(&mut self, input: &Input)
-        ensures devices { (state : DeviceState) → BusStandsFor T.told self.old state
-            → BusStandsFor T.told self.new (storing (stores_after input.now) state) }
+        ensures devices { Becomes T.told (λ state. storing (stores_after input.now) state) self.old self.new }
         ensures others { ChangesDevices self.old self.new }
         ensures frames { frames_begun self.new ≡ frames_begun self.old }
     {
@@ -168,7 +165,7 @@ impl<'a, T: Tree, O: Sink, E: Sink> Bus<'a, T, O, E> {
     /// Counts a frame that begins.
     pub fn frame_begins(&mut self)
         requires { frames_begun self.old < 1000000 }
-        ensures devices { (state : DeviceState) → BusStandsFor T.told self.old state → BusStandsFor T.told self.new (next_frame state) }
+        ensures devices { Becomes T.told (λ state. next_frame state) self.old self.new }
         ensures others { ChangesDevices self.old self.new }
         ensures frames { frames_begun self.new ≡ frames_begun self.old + 1 }
     {
@@ -178,7 +175,7 @@ impl<'a, T: Tree, O: Sink, E: Sink> Bus<'a, T, O, E> {
     /// How many frames have begun.
     pub fn frames(&self) -> u32
         ensures begun { result ≡ frames_begun self.now }
-        ensures frames { (state : DeviceState) → BusStandsFor T.told self.now state → result ≡ state.frames }
+        ensures frames { (state : DeviceState) → StandFor self.now.devices.now state → result ≡ state.frames }
     {
         self.devices.time.frames
     }
@@ -186,7 +183,7 @@ impl<'a, T: Tree, O: Sink, E: Sink> Bus<'a, T, O, E> {
     /// The screen.
     pub fn screen(&self) -> &Screen
         ensures held { result.now ≡ screen_of self.now }
-        ensures screen { (state : DeviceState) → BusStandsFor T.told self.now state → layers.StandsFor result.now state.picture }
+        ensures screen { (state : DeviceState) → StandFor self.now.devices.now state → layers.StandsFor result.now state.picture }
     {
         &self.devices.screen
     }
@@ -194,7 +191,7 @@ impl<'a, T: Tree, O: Sink, E: Sink> Bus<'a, T, O, E> {
     /// Composes the marked rows of the screen, takes their marks away, and says how many rows there were. It changes no pixel.
     pub fn refresh(&mut self) -> u16
         ensures screen { layers.Refreshes (screen_of self.old) (screen_of self.new) result }
-        ensures devices { (state : DeviceState) → BusStandsFor T.told self.old state → BusStandsFor T.told self.new state }
+        ensures devices { Becomes T.told (λ state. state) self.old self.new }
         ensures held { (port : ℕ) → held self.new port ≡ held self.old port }
         ensures others { ChangesDevices self.old self.new }
         ensures frames { frames_begun self.new ≡ frames_begun self.old }
@@ -204,16 +201,16 @@ impl<'a, T: Tree, O: Sink, E: Sink> Bus<'a, T, O, E> {
 
     /// The four colours that ports 08 to 0d hold.
     pub fn palette(&self) -> Palette
-        ensures { (state : DeviceState) → BusStandsFor T.told self.now state → result.colours ≡ colours_of (colour_bytes state.history) }
+        ensures { (state : DeviceState) → StandFor self.now.devices.now state → result.colours ≡ colours_of (colour_bytes state.history) }
     {
         palette(self.devices)
     }
 
     /// Renders a frame: 735 pairs of samples, left then right, and true for each voice whose note ended in it.
     pub fn audio_frame(&mut self, memory: &Memory, into: &mut [i16; 1470]) -> [bool; 4]
-        ensures frame { (state : DeviceState) → BusStandsFor T.told self.old state → into.new ≡ frame_of memory.now state.sounds }
-        ensures ends { (state : DeviceState) → BusStandsFor T.told self.old state → result ≡ endings 735 state.sounds }
-        ensures devices { (state : DeviceState) → BusStandsFor T.told self.old state → BusStandsFor T.told self.new (rendered state) }
+        ensures frame { (state : DeviceState) → StandFor self.old.devices.now state → into.new ≡ frame_of memory.now state.sounds }
+        ensures ends { (state : DeviceState) → StandFor self.old.devices.now state → result ≡ endings 735 state.sounds }
+        ensures devices { Becomes T.told (λ state. rendered state) self.old self.new }
         ensures others { ChangesDevices self.old self.new }
         ensures frames { frames_begun self.new ≡ frames_begun self.old }
     {
@@ -230,9 +227,9 @@ impl<'a, T: Tree, O: Sink, E: Sink> Bus<'a, T, O, E> {
     /// Lets a frame pass of which no samples are asked for and in which no note can end.
     pub fn pass_frame(&mut self)
         requires { all_play_on self.old.devices.now.mixer ≡ true }
-        ensures ends { (state : DeviceState) → BusStandsFor T.told self.old state
+        ensures ends { (state : DeviceState) → StandFor self.old.devices.now state
             → endings 735 state.sounds ≡ false ∷ false ∷ false ∷ false ∷ [] }
-        ensures devices { (state : DeviceState) → BusStandsFor T.told self.old state → BusStandsFor T.told self.new (rendered state) }
+        ensures devices { Becomes T.told (λ state. rendered state) self.old self.new }
         ensures others { ChangesDevices self.old self.new }
         ensures frames { frames_begun self.new ≡ frames_begun self.old }
     {
@@ -241,8 +238,7 @@ impl<'a, T: Tree, O: Sink, E: Sink> Bus<'a, T, O, E> {
 
     /// Appends the whole piece to the file at the path. After `TreeFault` a front of it was appended.
     pub fn append(&mut self, path: &Path, piece: &[u8]) -> Result<(), Stop>
-        requires file { IsFileWhereTold (T.told self.old.tree.now) path.now }
-        requires outside { IsOutside self.old.devices.now.root path.now }
+        requires { IsFileWhereTold (T.told self.old.tree.now) path.now }
         ensures ok { OnOk result (Makes (meaning_of T.told O.told E.told T.sure O.sure E.sure) self.old self.new
             (map (λ byte. ToFile path.now byte) piece.now)) }
         ensures err { OnErr result (result ≡ Err Stop.TreeFault) }
@@ -252,7 +248,8 @@ impl<'a, T: Tree, O: Sink, E: Sink> Bus<'a, T, O, E> {
 
         // The devices stay as they are, and each file that was there is there still.
         ensures devices { self.new.devices.now ≡ self.old.devices.now }
-        ensures stands { OnOk result ((state : DeviceState) → BusStandsFor T.told self.old state → BusStandsFor T.told self.new state) }
+        ensures stands { OnOk result ((state : DeviceState) → BusStandsFor T.told self.old state
+            → BusStandsFor T.told self.new (piece_appended path.now piece.now state)) }
         ensures same { SameBus T.told self.old self.new }
     {
         match append_all(self.tree, path, piece) {
@@ -286,15 +283,12 @@ impl<'a, T: Tree, O: Sink, E: Sink> Ports for Bus<'a, T, O, E> {
 
     fn deo(&mut self, core: &mut Core, port: u8, value: u8) -> Result<(), Stop> {
         store(self.devices, port, value);
-        match self.act(core, Action::of(port), value) {
-            Ok(()) => Ok(()),
-            Err(stop) => Err(stop),
-        }
+        self.act(core, Action::of(port), value)
     }
 
     fn stored_page(&self) -> &[u8; 256]
         ensures held { result.now ≡ held_page self.now }
-        ensures stored { (state : DeviceState) → BusStandsFor T.told self.now state
+        ensures stored { (state : DeviceState) → StandFor self.now.devices.now state
             → (port : ℕ) → slice_index result.now port ≡ stored state.history port }
     {
         &self.devices.page
@@ -307,7 +301,7 @@ impl<'a, T: Tree, O: Sink, E: Sink> Bus<'a, T, O, E> {
     #[tactic(auto, using(crate::proofs::Acts::debug_made))]
     fn act(&mut self, core: &mut Core, action: Action, value: u8) -> Result<(), Stop>
         ensures ok { OnOk result (Acted (meaning_of T.told O.told E.told T.sure O.sure E.sure) self.old core.old action value self.new core.new) }
-        ensures err { IfErr result (λ stop. ActStopped (meaning_of T.told O.told E.told T.sure O.sure E.sure) self.old core.old action value stop self.new) }
+        ensures err { IfErr result (λ stop. ActStopped (meaning_of T.told O.told E.told T.sure O.sure E.sure) self.old core.old action value stop self.new core.new) }
         ensures ledger { Ledger (bus_faults T.faults O.faults E.faults self.old) (bus_faults T.faults O.faults E.faults self.new) (blame_of result) }
     {
         match action {

@@ -7,7 +7,7 @@ ghost use Rattle.file_ports.specs.Device.{Suits};
 ghost use Rattle.file_ports.specs.Actions as file;
 ghost use Rattle.file_ports.specs.Answers.{has_failed};
 ghost use Rattle.varvara_bus.specs.State.{DeviceState, StandFor, HasFiles, clock_of};
-ghost use Rattle.varvara_bus.specs.FileActs.{with_file, file_action, file_outcome};
+ghost use Rattle.varvara_bus.specs.FileActs.{with_file, file_action, file_outcome, FileLeft, PortLeft};
 ghost use Rattle.varvara_bus.specs.FileCalls.{
   action_asked,
   act_asked,
@@ -70,6 +70,7 @@ fn perform<T: Tree>(
     ensures err { OnErr result ((part : Nodes) → (parent : Bool) → HasFiles (T.told tree.old) root part parent
         → FilesCut (file.act (action_asked request) root part parent device.old memory.old).changes
         (T.told tree.old) (T.told tree.new) (T.sure tree.old) (has_failed result)) }
+    ensures left { OnErr result (FileLeft (action_asked request) device.old memory.old (T.told tree.old) device.new memory.new) }
     ensures suits { Suits root device.new }
     ensures stay { FilesStay root (T.told tree.old) (T.told tree.new) }
     ensures reads { result ≡ Err FileStop.NoMemory → act_asked request ≡ FileAct.Read }
@@ -103,6 +104,8 @@ fn perform_on<T: Tree>(
     ensures err { OnErr result ((part : Nodes) → (parent : Bool) → HasFiles (T.told tree.old) devices.old.root part parent
         → FilesCut (file.act (action_asked request) devices.old.root part parent (file_held number devices.old) memory.old).changes
         (T.told tree.old) (T.told tree.new) (T.sure tree.old) (has_failed result)) }
+    ensures left { OnErr result (FileLeft (action_asked request) (file_held number devices.old) memory.old (T.told tree.old)
+        (file_held number devices.new) memory.new) }
     ensures stands { (state : DeviceState) → StandFor devices.old state
         → StandFor devices.new (with_file number (file_held number devices.new) state) }
     ensures stay { FilesStay devices.old.root (T.told tree.old) (T.told tree.new) }
@@ -135,6 +138,8 @@ pub(crate) fn act_on_file<T: Tree>(
         → FileActed number act state memory.old (T.told tree.old) (T.told tree.new) (T.sure tree.old) (T.sure tree.new) devices.new memory.new) }
     ensures err { IfErr result (λ stop. (state : DeviceState) → StandFor devices.old state → HasFiles (T.told tree.old) state.root state.part state.parent
         → FileStopped (file_outcome number act state memory.old).changes (T.told tree.old) (T.told tree.new) (T.sure tree.old) stop) }
+    ensures left { OnErr result ((state : DeviceState) → StandFor devices.old state
+        → PortLeft number act state memory.old (T.told tree.old) devices.new memory.new) }
     ensures page { OnErr result (devices.new.page ≡ devices.old.page) }
     ensures stay { FilesStay devices.old.root (T.told tree.old) (T.told tree.new) }
     ensures reads { result ≡ Err Stop.NoMemory → act ≡ FileAct.Read }

@@ -2,7 +2,8 @@ use Rattle.std.proofs.Common.{◌≡◌, ◌≢◌, List, [], ◌++◌, ◌⊎�
 use Rattle.std.proofs.lemmas.List.FromFn.{get_or-map-range_with_len, length-map-range_with_len}
 use Rattle.std.specs.Prelude.{Option, Ok, Err}
 use Rattle.uxn_io.specs.Files.{Nodes}
-use Rattle.uxn_io.specs.Outside.{Change, cut-here}
+use Rattle.uxn_io.specs.Outside.{Change}
+use Rattle.uxn_io.specs.ChangeLaws.{cut-here}
 use Rattle.uxn_opcodes.specs.declared.Core.{Core}
 use Rattle.uxn_opcodes.specs.declared.Stop.{Stop}
 use Rattle.uxn_opcodes.specs.declared.Stop.TheVariants.{NoMemory}
@@ -29,12 +30,12 @@ use Rattle.vector_loop.proofs.Trails.{shown_all-append}
 
 -- what the ports of a bus read, and what was last stored in them
 pub is_page : {T O E : Type 0} (told_tree : T → Option Nodes) (bus : Bus T O E) (state : State) → BusStandsFor told_tree bus state.devices
-    → IsPage (Reads told_tree bus state.core) (held_page bus) (page_in state)
+    → IsPage (Reads bus state.core) (held_page bus) (page_in state)
 unfolding ports_read ports_stored
 is_page told_tree bus state stands = record {
   size = length-map-range_with_len (read_of state.devices state.core) 0 256;
   shows = λ port byte within reads.
-      reads state.devices stands
+      reads state.devices stands.devices
       ∙ sym (get_or-map-range_with_len (read_of state.devices state.core) 0 256 port port 0 within (omega arith));
   stored_size = length-map-range_with_len (stored state.devices.history) 0 256;
   holds = λ port within.
@@ -122,7 +123,7 @@ module _ {T O E W H : Type 0} (meaning : Meaning T O E) (held : W → H) (shown 
 
   -- one instruction, before which the watcher was shown the machine
   pub follows-instruction : (now : Running T O E W) (core_new : Core) (bus_new : Bus T O E) (watcher_new : W) (turn : Turn)
-      → ((page : Page) → IsPage (Reads meaning.tree now.bus now.core) (held_page now.bus) page
+      → ((page : Page) → IsPage (Reads now.bus now.core) (held_page now.bus) page
       → held watcher_new ≡ shown (held now.watcher) now.core page (record { instructions = now.tally.instructions; address = now.core.at }))
       → Instruction (bus_rules meaning) now.core now.bus (Ok turn) core_new bus_new
       → FollowsFrom meaning held shown now (running core_new bus_new (counting_instruction now.tally) watcher_new) instruction

@@ -20,11 +20,10 @@ use Rattle.vector_loop.specs.declared.output.Outputs.{Outputs}
 use Rattle.vector_loop.specs.Outputs.{IsOutput, OutputsThere}
 use Rattle.vector_loop.specs.Making.{MadeOrCut, MadeBy}
 use Rattle.vector_loop.specs.Follows.{Running, running, state_of, FollowsFrom, FallsShortFrom, HasGrown}
-use Rattle.vector_loop.specs.Answers.{Telling, Count, none, HasRoom, running_of, HasOutputs, SameRunner, faults_of, Reaches, Answers}
-use Rattle.vector_loop.proofs.Trails.{followed_by-again, followed_by-at}
+use Rattle.vector_loop.specs.Answers.{Telling, Count, none, both, HasRoom, running_of, HasOutputs, SameRunner, faults_of, Reaches, Answers}
+use Rattle.vector_loop.specs.TrailLaws.{followed_by-again, followed_by-at, stays-after}
 use Rattle.vector_loop.proofs.Along.{follows-nothing, follows-both, short-first, short-later}
-use Rattle.vector_loop.proofs.Counting.{both, grown-both, grown-none, grown-within, room-left}
-use Rattle.vector_loop.proofs.Giving.{stays-after}
+use Rattle.vector_loop.proofs.Counting.{grown-both, grown-none, grown-within, room-left}
 use Rattle.vector_loop.proofs.Makings.{makes-nothing, files-kept, same_faults, no-memory}
 
 -- where the run is over nothing more is done, and else all

@@ -6,11 +6,7 @@ use Rattle.play_script.specs.declared.script.Event.TheVariants.{Input, EndInput,
 use Rattle.vector_loop.specs.declared.tally.Tally.{Tally}
 use Rattle.vector_loop.specs.State.{new_tally, counting_event}
 use Rattle.vector_loop.specs.Follows.{HasGrown, IsCompared}
-use Rattle.vector_loop.specs.Answers.{Count, of_events, HasRoom}
-
--- one count and then another
-abbrev pub both : Count → Count → Count
-both m n = record { vectors = m.vectors + n.vectors; events = m.events + n.events }
+use Rattle.vector_loop.specs.Answers.{Count, both, of_events, HasRoom}
 
 -- one event more
 pub one_more : (number : ℕ) → of_events (number + 1) ≡ both (of_events number) (of_events 1)

@@ -16,8 +16,8 @@ use Rattle.vector_loop.specs.State.{State, with_stored, with_next_frame, with_co
 use Rattle.vector_loop.specs.Trail.{Trail, stays, followed_by}
 use Rattle.vector_loop.specs.Vector.{vector}
 use Rattle.vector_loop.specs.Event.{vector_at, vector_in, unless_over, shown_and_heard, frame, expected, happens, give}
-use Rattle.vector_loop.specs.Answers.{Telling, Count, of_vectors, of_events, Answers}
-use Rattle.vector_loop.proofs.Counting.{both, grown-counted}
+use Rattle.vector_loop.specs.Answers.{Telling, Count, both, of_vectors, of_events, Answers}
+use Rattle.vector_loop.proofs.Counting.{grown-counted}
 use Rattle.vector_loop.proofs.Answering.{answers-change, answers-then, answers-as, answers-within}
 
 is_zero : (n : ℕ) → n ≡ 0 → (n == 0) ≡ true

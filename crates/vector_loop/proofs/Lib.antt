@@ -9,3 +9,5 @@ pub mod Runs
 pub mod Makings
 pub mod Frames
 pub mod CountedRuns
+pub mod Taking
+pub mod Gifts

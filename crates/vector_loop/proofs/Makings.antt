@@ -10,7 +10,7 @@ use Rattle.std.specs.Int.{w16, cast_unsigned}
 use Rattle.audio_mixer.specs.Laws.{short_of}
 use Rattle.uxn_io.specs.Outside.{Change, ToFile}
 use Rattle.uxn_io.specs.Files.{Nodes}
-use Rattle.uxn_io.specs.Taking.{remains-all}
+use Rattle.uxn_io.specs.TakingLaws.{remains-all}
 use Rattle.uxn_opcodes.specs.declared.Stop.{Stop}
 use Rattle.uxn_opcodes.specs.declared.Stop.TheVariants.{NoMemory, TreeFault}
 use Rattle.screen_frame.specs.Colours.{colours_of}
@@ -19,7 +19,9 @@ use Rattle.screen_layers.specs.Pictures.{picture_row_of}
 use Rattle.varvara_bus.specs.declared.bus.Bus.{Bus}
 use Rattle.varvara_bus.specs.History.{colour_bytes}
 use Rattle.varvara_bus.specs.State.{DeviceState}
-use Rattle.varvara_bus.specs.Bus.{ChangesDevices, FilesStay, BusStandsFor, Meaning, Makes, StopsShort, bus_faults, frames_begun, screen_of, sure_of}
+use Rattle.varvara_bus.specs.Bus.{ChangesDevices, FilesStay, IsOutside, BusStandsFor, Meaning, Makes, StopsShort, bus_faults, frames_begun, screen_of, sure_of}
+use Rattle.varvara_bus.specs.FileActs.{piece_appended}
+use Rattle.varvara_bus.specs.Laws.{appended-outside}
 use Rattle.varvara_bus.specs.InstructionLaws.{same-itself, same-again, makes-none, makes-both, stops-first, stops-later}
 use Rattle.vector_loop.specs.Making.{MadeBy, MadeOrCut}
 use Rattle.vector_loop.specs.Outputs.{picture_bytes, sample_bytes, samples_bytes}
@@ -87,6 +89,15 @@ files-kept told_tree before now changes = record { stays = λ path outside there
 pub same_faults : {T O E : Type 0} (of_tree : T → ℕ) (of_out : O → ℕ) (of_err : E → ℕ) (a b : Bus T O E) → ChangesDevices a b
     → bus_faults of_tree of_out of_err b ≡ bus_faults of_tree of_out of_err a
 same_faults of_tree of_out of_err a b others = rw (others.tree, others.out, others.err) refl
+
+-- a piece appended outside the root part leaves each state that the bus stood for
+pub appended-still : {T O E : Type 0} (told_tree : T → Option Nodes) (a b : Bus T O E) (path piece : List ℕ) (r : Result (Unit {0}) Stop)
+    → IsOutside a.devices.now.root path
+    → OnOk r ((s : DeviceState) → BusStandsFor told_tree a s → BusStandsFor told_tree b (piece_appended path piece s))
+    → OnOk r ((s : DeviceState) → BusStandsFor told_tree a s → BusStandsFor told_tree b s)
+appended-still told_tree a b path piece (Ok x) outside stands = λ s stood.
+    rw (appended-outside path piece s (rw stood.devices.root at outside)) at (stands s stood)
+appended-still told_tree a b path piece (Err stop) outside stands = tt
 
 module _ {T O E : Type 0} (meaning : Meaning T O E) where
   -- where nothing but what the devices stand for changes nothing is made

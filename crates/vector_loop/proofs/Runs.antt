@@ -17,7 +17,7 @@ use Rattle.vector_loop.proofs.Along.{is_page, reached}
 module _ {T O E W H : Type 0} (telling : Telling T O E W H) where
   -- the end was shown, or not
   ends-run : (ended : H → Core → Page → Moment → H) (before now : Running T O E W) (part : State → Trail) (watcher_new : W) → FollowsFrom telling.meaning telling.held telling.shown before now part
-      → ((page : Page) → IsPage (Reads telling.meaning.tree now.bus now.core) (held_page now.bus) page → telling.held watcher_new ≡ ended (telling.held now.watcher) now.core page (record { instructions = now.tally.instructions; address = now.core.at }))
+      → ((page : Page) → IsPage (Reads now.bus now.core) (held_page now.bus) page → telling.held watcher_new ≡ ended (telling.held now.watcher) now.core page (record { instructions = now.tally.instructions; address = now.core.at }))
       → EndsFrom telling.meaning telling.held telling.shown ended before (running now.core now.bus now.tally watcher_new) part
   ends-run ended before now part watcher_new follows shown_end = record {
     from = λ devices stands.
@@ -38,7 +38,7 @@ module _ {T O E W H : Type 0} (telling : Telling T O E W H) where
   -- the same of a runner that was asked to finish
   pub ends-handed : {X : Type 0} (ended : H → Core → Page → Moment → H) (a b c : Runner T O E W) (core : Core) (bus : Bus T O E) (tally : Tally) (watcher : W)
       (part : State → Trail) (m : Count) (x : X) → Answers telling a b part m (Ok x)
-      → ((page : Page) → IsPage (Reads telling.meaning.tree b.bus.now b.core.now) (held_page b.bus.now) page
+      → ((page : Page) → IsPage (Reads b.bus.now b.core.now) (held_page b.bus.now) page
       → telling.held c.watcher.now ≡ ended (telling.held b.watcher.now) b.core.now page (moment_in b))
       → record b { watcher = c.watcher } ≡ c → core ≡ c.core.now → bus ≡ c.bus.now → tally ≡ c.tally → watcher ≡ c.watcher.now
       → EndsFrom telling.meaning telling.held telling.shown ended (running_of a) (running core bus tally watcher) part

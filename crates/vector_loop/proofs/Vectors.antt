@@ -20,7 +20,7 @@ use Rattle.vector_loop.specs.Trail.{Trail, stays, followed_by}
 use Rattle.vector_loop.specs.Vector.{instruction, at_break, instructions, breaks, vector, vector_end}
 use Rattle.vector_loop.specs.Watch.{Page, IsPage}
 use Rattle.vector_loop.specs.Follows.{Running, running, state_of, Follows, FollowsFrom, FallsShortFrom}
-use Rattle.vector_loop.proofs.Trails.{followed_by-again, followed_by-at}
+use Rattle.vector_loop.specs.TrailLaws.{followed_by-again, followed_by-at}
 use Rattle.vector_loop.proofs.Along.{follows-nothing, follows-both, short-later, short-first, stops-here, follows-instruction, short-instruction}
 
 instructions-break : (left : ℕ) (state : State) → at_break state ≡ true → instructions (suc left) state ≡ instruction state
@@ -75,7 +75,7 @@ module _ {T O E W H : Type 0} (meaning : Meaning T O E) (held : W → H) (shown 
 
   -- the watcher was shown the machine
   abbrev pub Watched : Running T O E W → W → Type 0
-  Watched now watcher_new = (page : Page) → IsPage (Reads meaning.tree now.bus now.core) (held_page now.bus) page
+  Watched now watcher_new = (page : Page) → IsPage (Reads now.bus now.core) (held_page now.bus) page
       → held watcher_new ≡ shown (held now.watcher) now.core page (record { instructions = now.tally.instructions; address = now.core.at })
 
   pub along-start : (now : Running T O E W) (budget : ℕ) → Along now now budget budget
@@ -174,6 +174,12 @@ module _ {T O E W H : Type 0} (meaning : Meaning T O E) (held : W → H) (shown 
           names = λ wanted. inl refused;
         });
   }
+
+  -- the same with the count of instructions written otherwise
+  pub follows-counted : (before : Running T O E W) (core : Core) (bus : Bus T O E) (tally : Tally) (watcher : W) (count other : ℕ) (part : State → Trail) → count ≡ other
+      → FollowsFrom meaning held shown before (running core bus (record tally { instructions = count }) watcher) part
+      → FollowsFrom meaning held shown before (running core bus (record tally { instructions = other }) watcher) part
+  follows-counted before core bus tally watcher count other part same follows = rw (← same) follows
 
   -- what begins at an address is a vector
   pub vector-follows : (core core_new : Core) (bus bus_new : Bus T O E) (tally tally_new : Tally) (watcher watcher_new : W) (budget at count other : ℕ) → count ≡ other

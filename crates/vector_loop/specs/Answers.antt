@@ -55,6 +55,10 @@ of_vectors number = record { vectors = number; events = 0 }
 abbrev pub of_events : ℕ → Count
 of_events number = record { vectors = number * 5; events = number }
 
+-- one count and then another
+abbrev pub both : Count → Count → Count
+both m n = record { vectors = m.vectors + n.vectors; events = m.events + n.events }
+
 -- there is a budget, and so much more can be counted, where anything is to be
 pub record HasRoom (tally : Tally) (budget : ℕ) (most : Count) : Type 0 where
   pub runs : 1 ≤ budget

@@ -1,7 +1,9 @@
 pub mod State
 pub mod Trail
+pub mod TrailLaws
 pub mod Folders
 pub mod Vector
+pub mod Budget
 pub mod Watch
 pub mod Follows
 pub mod Answers
@@ -9,5 +11,8 @@ pub mod Making
 pub mod Outputs
 pub mod Event
 pub mod Run
+pub mod Gifts
+pub mod Places
+pub mod StepLaws
 pub mod Touching
 pub mod Counted

@@ -3,6 +3,8 @@
 
 mod event;
 mod frame;
+mod gift;
+mod giver;
 mod laws;
 mod output;
 mod run;
@@ -12,7 +14,9 @@ mod vector;
 mod watch;
 
 pub use event::run_event;
-pub use laws::the_moments_of_a_run_are_counted;
+pub use gift::Gift;
+pub use giver::Giver;
+pub use laws::{steps_are_the_run, the_moments_of_a_run_are_counted};
 pub use output::Outputs;
 pub use run::run_script;
 pub use tally::{Tally, VectorEnd};

@@ -1,5 +1,5 @@
 //! Whole runs.
-ghost use Rattle.std.specs.Prelude.{◌≡◌, ◌+◌, ◌*◌, ◌^◌, ◌<◌, ◌≤◌, ◌++◌, [], ◌∷◌, ◌⊎◌, ℕ, List, length, OnOk, IfOk, IfErr};
+ghost use Rattle.std.specs.Prelude.{◌≡◌, ◌+◌, ◌≤◌, ◌⊎◌, length, OnOk, IfOk, IfErr};
 ghost use Rattle.uxn_io.specs.Faults.{Ledger};
 ghost use Rattle.uxn_opcodes.specs.Ports.{blame_of};
 ghost use Rattle.play_script.specs.Held.{bytes_in};
@@ -19,25 +19,20 @@ ghost use Rattle.varvara_bus.specs.Bus.{
 ghost use Rattle.vector_loop.specs.State.{new_tally};
 ghost use Rattle.vector_loop.specs.Outputs.{OutputsThere};
 ghost use Rattle.vector_loop.specs.Watch.{Page, IsPage};
-ghost use Rattle.vector_loop.specs.Event.{unless_over, give_each, console, give};
-ghost use Rattle.vector_loop.specs.Run.{
-  console_byte,
-  argument_bytes,
-  arguments_given,
-  kind_before,
-  made_ready,
-  most_of,
-  run,
-};
+ghost use Rattle.vector_loop.specs.Event.{unless_over, give_each};
+ghost use Rattle.vector_loop.specs.Run.{made_ready, most_of, run};
+ghost use Rattle.vector_loop.specs.Gifts.{given, count_of, counts_of};
 ghost use Rattle.vector_loop.specs.Follows.{running, FallsShortFrom, EndsFrom};
-ghost use Rattle.vector_loop.specs.Answers.{telling_of, of_vectors, of_events, HasRoom, HasOutputs, moment_in, Answers};
+ghost use Rattle.vector_loop.specs.Answers.{telling_of, HasRoom, HasOutputs, moment_in, Answers};
 
+use crate::gift::Gift;
+use crate::giver::Giver;
 use crate::output::Outputs;
 use crate::runner::Runner;
 use crate::tally::Tally;
 use crate::watch::{Moment, Watcher};
 use console_port::{EventKind, KIND};
-use play_script::{Event, Script};
+use play_script::Script;
 use uxn_io::{Bytes, Sink, Tree};
 use uxn_opcodes::{Core, Stop};
 use varvara_bus::Bus;
@@ -46,75 +41,35 @@ use varvara_bus::Bus;
 const RESET: u16 = 0x0100;
 
 impl<'r, 'a, T: Tree, O: Sink, E: Sink, W: Watcher> Runner<'r, 'a, T, O, E, W> {
-    /// Gives the console a byte of a kind, unless the run is over.
-    fn give_byte(&mut self, byte: u8, kind: EventKind) -> Result<(), Stop>
-        requires { HasRoom self.old.tally self.old.budget (of_vectors 1) }
+    /// Gives one thing, unless the run is over.
+    fn give_gift(&mut self, gift: Gift, outputs: &Outputs) -> Result<(), Stop>
+        requires outputs { HasOutputs T.told outputs.now self.old }
+        requires frames { frames_begun self.old.bus.now + (count_of gift).events ≤ 1000000 }
+        requires room { HasRoom self.old.tally self.old.budget (count_of gift) }
         ensures { Answers (telling_of (meaning_of T.told O.told E.told T.sure O.sure E.sure)
             T.faults O.faults E.faults W.held W.shown W.may_refuse) self.old self.new
-            (unless_over (console self.old.budget byte kind)) (of_vectors 1) result }
+            (unless_over (given self.old.budget outputs.now gift)) (count_of gift) result }
     {
         if self.is_over() {
             return Ok(());
         }
-        self.give_console(byte, kind)
-    }
-
-    /// Gives the bytes of an argument and the newline behind it, each unless the run is over.
-    fn give_argument(&mut self, text: &[u8], kind: EventKind) -> Result<(), Stop>
-        requires { HasRoom self.old.tally self.old.budget (of_vectors (length text.now + 1)) }
-        ensures { Answers (telling_of (meaning_of T.told O.told E.told T.sure O.sure E.sure)
-            T.faults O.faults E.faults W.held W.shown W.may_refuse) self.old self.new
-            (give_each (console_byte self.old.budget) (argument_bytes text.now ++ (10, kind) ∷ []))
-            (of_vectors (length text.now + 1)) result }
-    {
-        for byte in text {
-            self.give_byte(*byte, EventKind::Argument)?;
+        match gift {
+            Gift::OfArgument(byte, kind) => self.give_console(byte, kind),
+            Gift::OfEvent(event) => self.give_event(&event, outputs),
         }
-        self.give_byte(b'\n', kind)
     }
 
-    /// Gives the arguments, each byte unless the run is over.
-    fn give_arguments(&mut self, arguments: &[Bytes]) -> Result<(), Stop>
-        requires { HasRoom self.old.tally self.old.budget (of_vectors (length (arguments_given (bytes_in arguments.now)))) }
-        ensures { Answers (telling_of (meaning_of T.told O.told E.told T.sure O.sure E.sure)
-            T.faults O.faults E.faults W.held W.shown W.may_refuse) self.old self.new
-            (give_each (console_byte self.old.budget) (arguments_given (bytes_in arguments.now)))
-            (of_vectors (length (arguments_given (bytes_in arguments.now)))) result }
-    {
-        let mut following = arguments.len();
-        for text in arguments {
-            following -= 1;
-            self.give_argument(text.as_slice(), kind_before(following))?;
-        }
-        Ok(())
-    }
-
-    /// Gives an event, unless the run is over.
-    fn give_next(&mut self, event: &Event, outputs: &Outputs) -> Result<(), Stop>
+    /// Gives all that is left of a script, one thing after the other, each unless the run is over.
+    fn give_all(&mut self, mut giver: Giver<'_>, outputs: &Outputs) -> Result<(), Stop>
         requires outputs { HasOutputs T.told outputs.now self.old }
-        requires frames { frames_begun self.old.bus.now < 1000000 }
-        requires room { HasRoom self.old.tally self.old.budget (of_events 1) }
+        requires frames { frames_begun self.old.bus.now + (counts_of giver).events ≤ 1000000 }
+        requires room { HasRoom self.old.tally self.old.budget (counts_of giver) }
         ensures { Answers (telling_of (meaning_of T.told O.told E.told T.sure O.sure E.sure)
             T.faults O.faults E.faults W.held W.shown W.may_refuse) self.old self.new
-            (unless_over (give self.old.budget outputs.now event.now)) (of_events 1) result }
+            (give_each (given self.old.budget outputs.now) giver.entry) (counts_of giver.entry) result }
     {
-        if self.is_over() {
-            return Ok(());
-        }
-        self.give_event(event, outputs)
-    }
-
-    /// Gives the events, each unless the run is over.
-    fn give_events(&mut self, events: &[Event], outputs: &Outputs) -> Result<(), Stop>
-        requires outputs { HasOutputs T.told outputs.now self.old }
-        requires frames { frames_begun self.old.bus.now + length events.now ≤ 1000000 }
-        requires room { HasRoom self.old.tally self.old.budget (of_events (length events.now)) }
-        ensures { Answers (telling_of (meaning_of T.told O.told E.told T.sure O.sure E.sure)
-            T.faults O.faults E.faults W.held W.shown W.may_refuse) self.old self.new
-            (give_each (give self.old.budget outputs.now) events.now) (of_events (length events.now)) result }
-    {
-        for event in events {
-            self.give_next(event, outputs)?;
+        while let Some(gift) = giver.take() {
+            self.give_gift(gift, outputs)?;
         }
         Ok(())
     }
@@ -130,13 +85,12 @@ impl<'r, 'a, T: Tree, O: Sink, E: Sink, W: Watcher> Runner<'r, 'a, T, O, E, W> {
     {
         make_ready(self.bus, script.args());
         self.run_vector(RESET)?;
-        self.give_arguments(script.args())?;
-        self.give_events(script.events(), outputs)
+        self.give_all(Giver::new(script), outputs)
     }
 
     /// Shows the watcher the end of the run.
     fn finish(&mut self) -> Result<(), Stop>
-        ensures ok { OnOk result ((page : Page) → IsPage (Reads T.told self.old.bus.now self.old.core.now) (held_page self.old.bus.now) page
+        ensures ok { OnOk result ((page : Page) → IsPage (Reads self.old.bus.now self.old.core.now) (held_page self.old.bus.now) page
             → W.held self.new.watcher.now ≡ W.ended (W.held self.old.watcher.now) self.old.core.now page (moment_in self.old)) }
         ensures err { IfErr result (λ stop. stop ≡ Stop.NoMemory) }
         ensures refused { IfErr result (λ stop. W.may_refuse) }
@@ -147,21 +101,11 @@ impl<'r, 'a, T: Tree, O: Sink, E: Sink, W: Watcher> Runner<'r, 'a, T, O, E, W> {
             instructions: self.tally.instructions,
             address: self.core.at,
         };
+        // Written out, since a watcher's want of memory has to become a `Stop`, which no conversion does.
         match self.watcher.finish(self.core, self.bus, moment) {
             Ok(()) => Ok(()),
             Err(_) => Err(Stop::NoMemory),
         }
-    }
-}
-
-/// The kind of the newline behind an argument that so many follow.
-fn kind_before(following: usize) -> EventKind
-    ensures { result ≡ kind_before following }
-{
-    if following == 0 {
-        EventKind::End
-    } else {
-        EventKind::Spacer
     }
 }
 

@@ -1,11 +1,12 @@
 //! The run of a vector.
-ghost use Rattle.std.specs.Prelude.{◌≡◌, ◌≢◌, ◌+◌, ◌*◌, ◌^◌, ◌<◌, ◌≤◌, ◌-◌, ◌⊎◌, true, false, Ok, None, IfOk, OnOk, IfErr, IfSome};
+ghost use Rattle.std.specs.Prelude.{◌≡◌, ◌≢◌, ◌+◌, ◌*◌, ◌^◌, ◌<◌, ◌≤◌, ◌-◌, ◌⊎◌, true, false, Ok, IfOk, OnOk, IfErr};
 ghost use Rattle.uxn_io.specs.Faults.{Ledger};
 ghost use Rattle.uxn_opcodes.specs.Ports.{blame_of};
 ghost use Rattle.varvara_bus.specs.State.{DeviceState};
-ghost use Rattle.varvara_bus.specs.Bus.{BusStandsFor, SameBus, HasRoot, meaning_of, bus_faults};
+ghost use Rattle.varvara_bus.specs.Bus.{BusStandsFor, SameBus, HasRoot, meaning_of, bus_faults, bus_rules};
 ghost use Rattle.vector_loop.specs.Vector.{instructions, breaks, vector, vector_end};
-ghost use Rattle.vector_loop.specs.Follows.{running, state_of, FollowsFrom, FallsShortFrom, HasGrown};
+ghost use Rattle.vector_loop.specs.Follows.{running, state_of, FollowsFrom, FallsShortFrom};
+ghost use Rattle.vector_loop.specs.Budget.{RanWhole, CountsWhole};
 ghost use Rattle.vector_loop.specs.Answers.{telling_of, of_vectors, HasRoom, running_of, Answers};
 
 use crate::runner::Runner;
@@ -15,9 +16,15 @@ use uxn_io::{Sink, Tree};
 use uxn_opcodes::{Core, Stop, Turn, step};
 use varvara_bus::Bus;
 
-/// Runs instructions from `core.at` on, up to and with the first BRK, or exactly `budget` of them: what was left of the
-/// budget before the BRK, if there was one. `start` instructions were run before. The loop counts nothing else, since
-/// it is here that a run spends its time.
+/// How a run of instructions ended, and how many of them ran whole.
+#[derive(Drop)]
+struct Ran {
+    end: Result<VectorEnd, Stop>,
+    whole: u64,
+}
+
+/// Runs instructions from `core.at` on, up to and with the first BRK, or exactly `budget` of them. `start` instructions were run
+/// before. The loop counts nothing else, since it is here that a run spends its time.
 #[inline(never)]
 fn run_instructions<'a, T: Tree, O: Sink, E: Sink, W: Watcher>(
     core: &mut Core,
@@ -25,28 +32,29 @@ fn run_instructions<'a, T: Tree, O: Sink, E: Sink, W: Watcher>(
     start: u64,
     budget: u64,
     watcher: &mut W,
-) -> Result<Option<u64>, Stop>
+) -> Ran
     requires budget { 1 ≤ budget }
     requires room { start + budget < 2 ^ 64 }
-    ensures within { IfOk result (λ broke. IfSome broke (λ left. left ≤ budget)) }
-    ensures some { IfOk result (λ broke. IfSome broke (λ left. 1 ≤ left)) }
-    ensures broke { IfOk result (λ broke. IfSome broke (λ left. (before : Tally) → before.instructions ≡ start
+    ensures whole { RanWhole (bus_rules (meaning_of T.told O.told E.told T.sure O.sure E.sure)) W.may_refuse budget core.old bus.old
+        result.end core.new bus.new result.whole }
+    ensures broke { result.end ≡ Ok VectorEnd.Broke → (before : Tally) → before.instructions ≡ start
         → FollowsFrom (meaning_of T.told O.told E.told T.sure O.sure E.sure) W.held W.shown (running core.old bus.old before watcher.old)
-        (running core.new bus.new (record before { instructions = start + (budget - left) + 1 }) watcher.new) (instructions budget))) }
-    ensures broke_end { IfOk result (λ broke. IfSome broke (λ left. (before : Tally) → before.instructions ≡ start
+        (running core.new bus.new (record before { instructions = start + result.whole }) watcher.new) (instructions budget) }
+    ensures broke_end { result.end ≡ Ok VectorEnd.Broke → (before : Tally) → before.instructions ≡ start
         → (devices : DeviceState) → BusStandsFor T.told bus.old devices
-        → breaks budget (state_of (running core.old bus.old before watcher.old) devices) ≡ true)) }
-    ensures cut { result ≡ Ok None → (before : Tally) → before.instructions ≡ start
+        → breaks budget (state_of (running core.old bus.old before watcher.old) devices) ≡ true }
+    ensures cut { result.end ≡ Ok VectorEnd.Cut → (before : Tally) → before.instructions ≡ start
         → FollowsFrom (meaning_of T.told O.told E.told T.sure O.sure E.sure) W.held W.shown (running core.old bus.old before watcher.old)
-        (running core.new bus.new (record before { instructions = start + budget; cuts = before.cuts + 1 }) watcher.new) (instructions budget) }
-    ensures cut_end { result ≡ Ok None → (before : Tally) → before.instructions ≡ start
+        (running core.new bus.new (record before { instructions = start + result.whole; cuts = before.cuts + 1 }) watcher.new)
+        (instructions budget) }
+    ensures cut_end { result.end ≡ Ok VectorEnd.Cut → (before : Tally) → before.instructions ≡ start
         → (devices : DeviceState) → BusStandsFor T.told bus.old devices
         → breaks budget (state_of (running core.old bus.old before watcher.old) devices) ≡ false }
-    ensures err { IfErr result (λ stop. (before : Tally) → before.instructions ≡ start
-        → FallsShortFrom (meaning_of T.told O.told E.told T.sure O.sure E.sure) W.may_refuse (running core.old bus.old before watcher.old)
-        (running core.new bus.new before watcher.new) stop (instructions budget)) }
-    ensures ledger { Ledger (bus_faults T.faults O.faults E.faults bus.old) (bus_faults T.faults O.faults E.faults bus.new) (blame_of result) }
-    ensures memory { IfErr result (λ stop. stop ≡ Stop.NoMemory → W.may_refuse ⊎ HasRoot bus.old.devices.now) }
+    ensures err { IfErr result.end (λ stop. (before : Tally) → before.instructions ≡ start
+        → (now : Tally) → FallsShortFrom (meaning_of T.told O.told E.told T.sure O.sure E.sure) W.may_refuse
+        (running core.old bus.old before watcher.old) (running core.new bus.new now watcher.new) stop (instructions budget)) }
+    ensures ledger { Ledger (bus_faults T.faults O.faults E.faults bus.old) (bus_faults T.faults O.faults E.faults bus.new) (blame_of result.end) }
+    ensures memory { IfErr result.end (λ stop. stop ≡ Stop.NoMemory → W.may_refuse ⊎ HasRoot bus.old.devices.now) }
     ensures same { SameBus T.told bus.old bus.new }
 {
     let mut left = budget;
@@ -56,16 +64,33 @@ fn run_instructions<'a, T: Tree, O: Sink, E: Sink, W: Watcher>(
             address: core.at,
         };
         let Ok(()) = watcher.before(core, bus, moment) else {
-            return Err(Stop::NoMemory);
+            return Ran {
+                end: Err(Stop::NoMemory),
+                whole: budget - left,
+            };
         };
+        // Written out: `?` leaves one goal more for each clause, over what was converted, in the dearest proof of the crate.
         match step(core, bus) {
             Ok(Turn::Ran) => {}
-            Ok(Turn::Broke) => return Ok(Some(left)),
-            Err(stop) => return Err(stop),
+            Ok(Turn::Broke) => {
+                return Ran {
+                    end: Ok(VectorEnd::Broke),
+                    whole: budget - left + 1,
+                };
+            }
+            Err(stop) => {
+                return Ran {
+                    end: Err(stop),
+                    whole: budget - left,
+                };
+            }
         }
         left -= 1;
         if left == 0 {
-            return Ok(None);
+            return Ran {
+                end: Ok(VectorEnd::Cut),
+                whole: budget,
+            };
         }
     }
 }
@@ -79,28 +104,23 @@ impl<'r, 'a, T: Tree, O: Sink, E: Sink, W: Watcher> Runner<'r, 'a, T, O, E, W> {
             (vector self.old.budget at) (of_vectors 1) result }
         ensures end { IfOk result (λ end. (devices : DeviceState) → BusStandsFor T.told self.old.bus.now devices
             → end ≡ vector_end self.old.budget at (state_of (running_of self.old) devices)) }
+        ensures counted { CountsWhole (bus_rules (meaning_of T.told O.told E.told T.sure O.sure E.sure)) W.may_refuse self.old.budget
+            (record self.old.core.now { at = at }) self.old.bus.now result self.new.core.now self.new.bus.now self.old.tally self.new.tally }
         ensures same { SameBus T.told self.old.bus.now self.new.bus.now }
     {
         self.core.at = at;
         self.tally.vectors += 1;
         let budget = u64::from(self.budget);
-        let broke = run_instructions(
-            self.core,
-            self.bus,
-            self.tally.instructions,
-            budget,
-            self.watcher,
-        )?;
-        match broke {
-            Some(left) => {
-                self.tally.instructions += budget - left + 1;
-                Ok(VectorEnd::Broke)
-            }
-            None => {
-                self.tally.instructions += budget;
+        let start = self.tally.instructions;
+        let ran = run_instructions(self.core, self.bus, start, budget, self.watcher);
+        self.tally.instructions += ran.whole;
+        match ran.end {
+            Ok(VectorEnd::Broke) => Ok(VectorEnd::Broke),
+            Ok(VectorEnd::Cut) => {
                 self.tally.cuts += 1;
                 Ok(VectorEnd::Cut)
             }
+            Err(stop) => Err(stop),
         }
     }
 }
@@ -126,7 +146,10 @@ pub fn run_vector<'a, T: Tree, O: Sink, E: Sink, W: Watcher>(
         → end ≡ vector_end budget at (state_of (running core.old bus.old tally.old watcher.old) devices)) }
     ensures err { IfErr result (λ stop. FallsShortFrom (meaning_of T.told O.told E.told T.sure O.sure E.sure) W.may_refuse
         (running core.old bus.old tally.old watcher.old) (running core.new bus.new tally.new watcher.new) stop (vector budget at)) }
-    ensures grown { HasGrown tally.old tally.new 1 0 budget }
+
+    // Whatever the ports are and whatever is answered, at most `budget` instructions ran whole, and exactly so many are counted.
+    ensures counted { CountsWhole (bus_rules (meaning_of T.told O.told E.told T.sure O.sure E.sure)) W.may_refuse budget
+        (record core.old { at = at }) bus.old result core.new bus.new tally.old tally.new }
 
     // Memory is wanting only to the watcher or where there is a root, and a fault comes only where its count rose.
     ensures ledger { Ledger (bus_faults T.faults O.faults E.faults bus.old) (bus_faults T.faults O.faults E.faults bus.new) (blame_of result) }

@@ -1,6 +1,6 @@
-use Rattle.std.proofs.Common.{◌∙◌, ◌+◌, ◌++◌, ℕ, ap, take, drop, arith}
-use Rattle.std.proofs.lemmas.List.{length-take, take-append-le}
-use Rattle.file_ports.proofs.ReadLemmas.{told_more, told_end}
+use Rattle.std.proofs.Common.{◌≡◌, ◌∙◌, ◌+◌, Err, rules, ◌++◌, ℕ, ap, take, drop, arith}
+use Rattle.std.proofs.lemmas.List.{length-take, length-append, take-append-le}
+use Rattle.file_ports.proofs.ReadLemmas.{told_more, told_end, put_more, front_put}
 use Rattle.file_ports.proofs.reading.put_file.Goals as goal
 
 pub loop-done-preserved : goal.loop-done-preserved
@@ -15,6 +15,9 @@ loop-done-preserved g c =
           told_more _ _ c.args.path.now c.args.memory.now c.loop-done.memory c.put.new.self (take taken (into ++ drop c.min-wanted.result chunk)) (take c.min-wanted.result chunk) into c.args.place c.args.at c.loop-done.done taken _
           (omega arith) (ap (λ (n : ℕ). c.args.place + n) c.from-in-loop-done.ensures) c.loop-done.invariant.same c.loop-done.invariant.told c.in_ok-taken.ensures.ok
           (take-append-le taken into (drop c.min-wanted.result chunk) (omega (arith, c.in_ok-taken.ensures.count, size))) c.put.ensures;
+      put =
+          put_more c.args.memory.now c.loop-done.memory c.put.new.self (take taken (into ++ drop c.min-wanted.result chunk)) c.args.at c.loop-done.done taken
+          (omega arith) c.loop-done.invariant.put (omega (arith, c.in_ok-taken.ensures.count, size, length-take taken (into ++ drop c.min-wanted.result chunk), length-append into (drop c.min-wanted.result chunk))) c.put.ensures;
       same = c.in_ok-taken.ensures.same ∙ c.loop-done.invariant.same;
       faults = c.in_ok-taken.ensures.ledger ∙ c.loop-done.invariant.faults;
       left = record {
@@ -28,3 +31,8 @@ returns-then-taken-eq0-clause-piece g c =
     let size = length-take c.min-wanted.result c.loop-done.chunk in
     told_end _ _ c.args.path.now c.args.memory.now c.loop-done.memory (take c.min-wanted.result c.loop-done.chunk) c.read.new.into c.args.place c.args.at c.loop-done.done c.in_ok-taken.taken c.args.count _
     (ap (λ (n : ℕ). c.args.place + n) c.from-in-loop-done.ensures) c.loop-done.invariant.same c.loop-done.invariant.told c.in_ok-taken.ensures.ok c.if-taken-eq0.true (omega (arith, size)) c.loop-done.invariant.within
+
+pub returns-in_err-taken-clause-stopped : goal.returns-in_err-taken-clause-stopped
+returns-in_err-taken-clause-stopped g c =
+    let result : c.from_residual.result ≡ Err c.in_err-taken.field-0.0 = search rules in
+    rw result (front_put _ c.args.path.now c.args.memory.now c.loop-done.memory c.args.place c.args.at c.loop-done.done c.args.count c.loop-done.invariant.within c.loop-done.invariant.put c.loop-done.invariant.told)

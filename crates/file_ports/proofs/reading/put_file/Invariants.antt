@@ -3,12 +3,14 @@ use Rattle.std.proofs.Common.{◌≡◌, ◌≤◌, ◌-◌, IfSome, take}
 use Rattle.uxn_io.specs.Files.{bytes_from}
 use Rattle.uxn_io.specs.Room.{Leaves}
 use Rattle.file_ports.specs.Answers.{GivesPiece}
+use Rattle.file_ports.proofs.ReadLemmas.{HasPut}
 use Rattle.file_ports.proofs.reading.put_file.Given as goal
 
 abbrev pub invariant-loop-done : goal.invariant-loop-done
 invariant-loop-done g l = record {
   within : l.done ≤ l.count;
   told : IfSome (g.T.Tree.told l.fn.tree) (λ nodes. GivesPiece (take l.done (bytes_from nodes l.path l.place)) l.fn.memory l.at l.done l.memory);
+  put : HasPut l.fn.memory l.at l.done l.memory;
   same : g.T.Tree.told l.tree ≡ g.T.Tree.told l.fn.tree;
   faults : g.T.Tree.faults l.tree ≡ g.T.Tree.faults l.fn.tree;
   left : Leaves (g.T.Tree.sure l.fn.tree) (g.T.Tree.sure l.tree) 0 0;

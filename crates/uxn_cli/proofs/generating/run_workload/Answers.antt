@@ -26,13 +26,13 @@ returns-in-Ok c =
     let root : c.in_ok-machine.machine.devices.root ≡ None = (c.in_ok-machine.ensures.devices fin.empty false).root in
     let ran = c.in-Ok.ensures.ok no_home (sym root) (refl, refl) in
     let trail : trail_by 4000000 (outputs_by None None) c.in_ok-machine.machine.script no_home c.in_ok-machine.machine.core
-    ≡ workload_trail c.args.accepted.now.assembly.rom c.args.script =
-    rw (c.in_ok-machine.ensures.script, c.in_ok-machine.ensures.core, c.rom.ensures.value) refl in
+    ≡ workload_trail c.args.rom.now c.args.script =
+    rw (c.in_ok-machine.ensures.script, c.in_ok-machine.ensures.core) refl in
     let changes = ap (λ t. t.changes) trail in
     let before = world_now c.in_ok-tree.tree.held.nodes c.new-out.result.taken c.new-err.result.taken in
     let begun : before ≡ empty_world =
     rw (c.in_ok-tree.ensures, c.new-out.ensures, c.new-err.ensures) refl in
-    let told = same-told c.args.accepted.now.source.list c.args.accepted.now.assembly.rom c.run_machine.new.out.taken c.in-Ok.ended
-    (workload_trail c.args.accepted.now.assembly.rom c.args.script) (ran.exit ∙ ap (λ t. exit_in t.last) trail) (ran.tally ∙ ap (λ t. t.last.tally) trail)
-    (has-console (workload_trail c.args.accepted.now.assembly.rom c.args.script) _ before _ (ran.done.world ∙ ap (λ all. changed_by before all) changes) begun refl) in
+    let told = same-told c.args.source.now c.args.rom.now c.run_machine.new.out.taken c.in-Ok.ended
+    (workload_trail c.args.rom.now c.args.script) (ran.exit ∙ ap (λ t. exit_in t.last) trail) (ran.tally ∙ ap (λ t. t.last.tally) trail)
+    (has-console (workload_trail c.args.rom.now c.args.script) _ before _ (ran.done.world ∙ ap (λ all. changed_by before all) changes) begun refl) in
     IfOk-weaker c.sum_up.result _ _ (λ text is. is ∙ ap summary_text told) c.sum_up.ensures

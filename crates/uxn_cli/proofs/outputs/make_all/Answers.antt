@@ -3,6 +3,7 @@ use Rattle.std.specs.Prelude.{Err, option_map}
 use Rattle.uxn_io.specs.Changes.{with_created}
 use Rattle.uxn_cli.specs.Outcome.{creating}
 use Rattle.uxn_cli.specs.Outputs.{paths_of}
+use Rattle.uxn_cli.proofs.FreeLemmas.{output_among}
 use Rattle.uxn_cli.proofs.OutputLemmas.{map_at, made_more, can_next, can_rest, untold, made_front}
 use Rattle.uxn_cli.proofs.SureLemmas.{continues-more, continues-sure, continues-all}
 use Rattle.uxn_cli.proofs.outputs.make_all.Goals as goal
@@ -15,8 +16,11 @@ returns-in_err-create-clause-err g c =
 pub returns-then-not-branch-clause-ok : goal.returns-then-not-branch-clause-ok
 returns-then-not-branch-clause-ok g c =
     let none = untold c.args.outputs.now c.loop-output.output-index c.output-item.result c.loop-output-test.true c.output-item.is _ _ c.in_ok-create.field-0
-    c.loop-output.invariant.made c.loop-output.invariant.can c.in_ok-create.ensures.answer c.if-not-branch.true in
-    (none.0, c.in_ok-create.ensures.ok ∙ ap (option_map (with_created c.output-item.result.path)) none.1)
+    c.loop-output.invariant.made c.loop-output.invariant.can c.in_ok-create.ensures.answer c.if-not-branch.true in (
+      none.0,
+      c.in_ok-create.ensures.ok ∙ ap (option_map (with_created c.output-item.result.path)) none.1,
+      output_among c.args.outputs.now c.loop-output.output-index c.output-item.result c.loop-output-test.true c.output-item.is,
+    )
 
 pub loop-output-preserved : goal.loop-output-preserved
 loop-output-preserved g c = record {

@@ -22,7 +22,7 @@ returns-in-Ok-clause-ok g c = λ home root files.
     let err = c.new-bus.ensures.err_now in
     record {
       done = record { world = (let w = makes.world in search (rules, w)); remains = (let r = makes.remains in search (rules, r)) };
-      exit = c.exit_code.ensures ∙ ap exit_code_of (c.stored.ensures.stored _ ends.devices);
+      exit = c.exit_code.ensures ∙ ap exit_code_of (c.stored.ensures.stored _ ends.devices.devices);
       tally = ends.tally;
     }
 

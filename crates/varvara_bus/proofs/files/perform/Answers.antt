@@ -1,5 +1,6 @@
-use Rattle.file_ports.specs.Actions.{Read, Write, Stat}
-use Rattle.varvara_bus.proofs.FileCalls.{acting, deleting, naming, untold_same, cut_same, performs, performed, cuts, stays_acting}
+use Rattle.std.proofs.Common.{refl}
+use Rattle.file_ports.specs.Actions.{Read, Write, Stat, Delete}
+use Rattle.varvara_bus.proofs.FileCalls.{on_stop, left_by, acting, deleting, naming, untold_same, cut_same, performs, performed, cuts, stays_acting}
 use Rattle.varvara_bus.proofs.files.perform.Goals as goal
 
 pub returns-in-Delete-clause-ok : goal.returns-in-Delete-clause-ok
@@ -66,3 +67,15 @@ pub returns-in-Name-clause-ok : goal.returns-in-Name-clause-ok
 returns-in-Name-clause-ok g c part parent has =
     rw c.in-Name.is (performed _ _ part parent _ _ _ _ _ _ 0 _ _
     (naming c.in-Name.at c.args.root c.args.device.now c.args.memory.now _ _ _ c.requires (rw c.as_ref.ensures.value at c.name.ensures.named)) has)
+
+pub returns-in-Delete-clause-left : goal.returns-in-Delete-clause-left
+returns-in-Delete-clause-left g c = rw c.in-Delete.is (left_by Delete c.args.device.now c.args.memory.now _ c.delete.result _ _ c.delete.ensures.stopped (on_stop c.delete.result _ refl))
+
+pub returns-in-Write-clause-left : goal.returns-in-Write-clause-left
+returns-in-Write-clause-left g c = rw c.in-Write.is (left_by (Write c.in-Write.at c.in-Write.length c.in-Write.keep) c.args.device.now c.args.memory.now _ c.write.result _ _ c.write.ensures.stopped (on_stop c.write.result _ refl))
+
+pub returns-in-Stat-clause-left : goal.returns-in-Stat-clause-left
+returns-in-Stat-clause-left g c = rw c.in-Stat.is (left_by (Stat c.in-Stat.at c.in-Stat.length) c.args.device.now c.args.memory.now _ c.stat.result _ _ (on_stop c.stat.result _ c.stat.ensures.device) c.stat.ensures.stopped)
+
+pub returns-in-Read-clause-left : goal.returns-in-Read-clause-left
+returns-in-Read-clause-left g c = rw c.in-Read.is (left_by (Read c.in-Read.at c.in-Read.length) c.args.device.now c.args.memory.now _ c.read.result _ _ c.read.ensures.stopped c.read.ensures.front)

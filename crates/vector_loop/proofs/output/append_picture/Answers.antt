@@ -11,8 +11,8 @@ returns-in_err-append_to g c =
     let result : c.from_residual.result ≡ Err c.in_err-append_to.field-0.0 = search rules in
     rw result (putting-cut _ _ _ _ _ _ _ c.args.path.now picture_bytes picture_bytes (λ s. c.as_slice.result.now)
     (λ s. flat_map (picture_row_of c.palette-palette.result.colours s.picture) (range_with_len 0 (c.height-height.result - 0))) _
-    (λ s stands. picture-parts s c.width-width.result c.height-height.result c.palette-palette.result.colours c.as_slice.result.now (c.width-width.ensures ∙ (c.screen.ensures.screen s stands).width)
-    (c.height-height.ensures ∙ (c.screen-2.ensures.screen s stands).height) (c.palette-palette.ensures s stands) (◌∙◌ {c = head_bytes c.width-width.result c.height-height.result} c.as_slice.ensures.value c.ppm_head-head.ensures))
+    (λ s stands. picture-parts s c.width-width.result c.height-height.result c.palette-palette.result.colours c.as_slice.result.now (c.width-width.ensures ∙ (c.screen.ensures.screen s stands.devices).width)
+    (c.height-height.ensures ∙ (c.screen-2.ensures.screen s stands.devices).height) (c.palette-palette.ensures s stands.devices) (◌∙◌ {c = head_bytes c.width-width.result c.height-height.result} c.as_slice.ensures.value c.ppm_head-head.ensures))
     (putting-start _ _ _ _ _ c.args.path.now picture_bytes) c.in_err-append_to.ensures)
 
 pub loop-y-init : goal.loop-y-init
@@ -20,8 +20,8 @@ loop-y-init g c = record {
   putting =
       putting-more _ _ _ _ _ _ _ c.args.path.now picture_bytes picture_bytes (λ s. c.as_slice.result.now)
       (λ s. flat_map (picture_row_of c.palette-palette.result.colours s.picture) (range_with_len 0 (c.height-height.result - 0)))
-      (λ s stands. picture-parts s c.width-width.result c.height-height.result c.palette-palette.result.colours c.as_slice.result.now (c.width-width.ensures ∙ (c.screen.ensures.screen s stands).width)
-      (c.height-height.ensures ∙ (c.screen-2.ensures.screen s stands).height) (c.palette-palette.ensures s stands) (◌∙◌ {c = head_bytes c.width-width.result c.height-height.result} c.as_slice.ensures.value c.ppm_head-head.ensures))
+      (λ s stands. picture-parts s c.width-width.result c.height-height.result c.palette-palette.result.colours c.as_slice.result.now (c.width-width.ensures ∙ (c.screen.ensures.screen s stands.devices).width)
+      (c.height-height.ensures ∙ (c.screen-2.ensures.screen s stands.devices).height) (c.palette-palette.ensures s stands.devices) (◌∙◌ {c = head_bytes c.width-width.result c.height-height.result} c.as_slice.ensures.value c.ppm_head-head.ensures))
       (putting-start _ _ _ _ _ c.args.path.now picture_bytes) c.in_ok-append_to.ensures;
 }
 

@@ -6,4 +6,4 @@ returns-in-None g c = rw c.in-None.is (made-nothing _ _ _ _ _)
 
 pub returns-in-Some : goal.returns-in-Some
 returns-in-Some g c = rw c.in-Some.is
-    (made-then _ _ _ _ _ _ _ _ _ _ (made-kept _ _ _ _ _ _ c.refresh.ensures.others c.refresh.ensures.devices c.refresh.ensures.frames c.refresh.ensures.screen.pixels.height) c.append_picture.ensures)
+    (made-then _ _ _ _ _ _ _ _ _ _ (made-kept _ _ _ _ _ _ c.refresh.ensures.others c.refresh.ensures.devices.bus c.refresh.ensures.frames c.refresh.ensures.screen.pixels.height) c.append_picture.ensures)

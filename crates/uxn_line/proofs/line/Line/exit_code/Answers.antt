@@ -29,4 +29,4 @@ returns-clause-code c job turned stands =
     let there = slice_get_read line.members.items (length line.members.items) _ found refl
     (omega (arith, c.if-count-eq0.false, c.len-count.ensures, line.members.ok.0)) c.index_mut.ensures.value in
     let is : c.len-count.result - 1 ≡ last_of job = omega (arith, count, c.len-count.ensures, line.members.ok.0) in
-    c.exit_code.ensures.code _ (stands.each _ found there).stands.stands ∙ ap (λ m. exit_code_at (place_in job turned m).state) is
+    c.exit_code.ensures.code _ (stands.each _ found there).stands.stands ∙ ap (λ m. exit_code_at (place_in job turned m).done.last) is

@@ -6,8 +6,8 @@ use Rattle.uxn_line.proofs.machine.Machine.run.Goals as goal
 
 pub returns-clause-stands : goal.returns-clause-stands
 returns-clause-stands c budget now stands =
-    let done = c.run_instruction.ensures.done now.state.devices stands.devices in
-    let broke = c.run_instruction.ensures.broke now.state.devices stands.devices in
+    let done = c.run_instruction.ensures.done now.done.last.devices stands.devices in
+    let broke = c.run_instruction.ensures.broke now.done.last.devices stands.devices in
     run-stands budget c.args.self.now now c.run_instruction.new.core c.run_instruction.new.devices c.match-run_instruction.self c.requires stands done
     (elim c.match-run_instruction.branch [
       | in-Ran w ↦

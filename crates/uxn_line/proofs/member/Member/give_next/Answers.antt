@@ -1,7 +1,5 @@
 use Rattle.std.proofs.Common.{◌≡◌, true, false, ◌∷◌, drop, length, refl, sym, ap, ◌∙◌, arith}
 use Rattle.std.proofs.lemmas.Bool.{false≢true}
-use Rattle.play_script.specs.declared.script.Event.TheVariants.{Input, EndInput}
-use Rattle.uxn_line.specs.Places.{OfEvent}
 use Rattle.uxn_line.specs.Members.{next_gift}
 use Rattle.uxn_line.proofs.Rings.{first-is, none-is, first-longer}
 use Rattle.uxn_line.proofs.Working.{ring-within, next-less}
@@ -11,7 +9,7 @@ pub returns-in-Some-clause-stands : goal.returns-in-Some-clause-stands
 returns-in-Some-clause-stands c now gifts member are end goes_on =
     let items = c.args.self.now.ring.items in
     let first = first-is items c.in-Some.byte (sym c.pop_front.ensures.value ∙ c.in-Some.is) in
-    c.give.ensures.stands now (OfEvent (Input c.in-Some.byte)) gifts
+    c.give.ensures.stands now gifts
     (record { stands = member.stands; given = member.given; stopped = member.stopped })
     (are ∙ ap (λ ring. next_gift ring ∷ gifts) first) refl
     (λ e. absurd (false≢true e), λ none. (let empty = end.1 none in cc)) goes_on
@@ -29,7 +27,7 @@ pub returns-in-None-clause-stands : goal.returns-in-None-clause-stands
 returns-in-None-clause-stands c now gifts member are end goes_on =
     let items = c.args.self.now.ring.items in
     let none = none-is items (sym c.pop_front.ensures.value ∙ c.in-None.is) in
-    c.give-in-None.ensures.stands now (OfEvent EndInput) gifts
+    c.give-in-None.ensures.stands now gifts
     (record { stands = member.stands; given = member.given; stopped = member.stopped })
     (are ∙ ap (λ ring. next_gift ring ∷ gifts) none) refl (λ e. end.0 none, λ e. refl) goes_on
 

@@ -1,7 +1,7 @@
 use Rattle.std.proofs.Common.{refl}
-use Rattle.uxn_io.specs.Appending.{cut-file}
+use Rattle.uxn_io.specs.AppendingLaws.{cut-file}
 use Rattle.varvara_bus.specs.Bus.{meaning_of, world_of}
-use Rattle.varvara_bus.proofs.Appends.{file_made, appended-stays, front-stays, appended-files, text-left, text-not-sure, text-out, text-err}
+use Rattle.varvara_bus.proofs.Appends.{file_made, appended-stays, front-stays, bus-appended, text-left, text-not-sure, text-out, text-err}
 use Rattle.varvara_bus.proofs.bus.Bus.append.Goals as goal
 
 pub returns-in-Ok-clause-ok : goal.returns-in-Ok-clause-ok
@@ -17,10 +17,7 @@ returns-in-Ok-clause-ok g c =
     }
 
 pub returns-in-Ok-clause-stands : goal.returns-in-Ok-clause-stands
-returns-in-Ok-clause-stands g c = λ state stands. record {
-  devices = stands.devices;
-  files = appended-files _ _ c.args.path.now c.args.piece.now _ _ _ _ c.in-Ok.ensures.ok c.requires.file c.requires.outside stands.devices.root stands.files;
-}
+returns-in-Ok-clause-stands g c = bus-appended _ c.args.self.now _ c.args.path.now c.args.piece.now refl c.in-Ok.ensures.ok c.requires
 
 pub returns-in-Ok-clause-same : goal.returns-in-Ok-clause-same
 returns-in-Ok-clause-same g c = record {

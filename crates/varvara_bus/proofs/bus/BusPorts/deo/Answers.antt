@@ -1,16 +1,15 @@
-use Rattle.std.proofs.Common.{refl, ap, ◌∙◌}
-use Rattle.varvara_bus.specs.Bus.{file_held}
-use Rattle.varvara_bus.proofs.Acts.{wrote_by_act, stopped_by_act, same-file}
+use Rattle.std.proofs.Common.{refl}
+use Rattle.varvara_bus.proofs.Acts.{wrote_by_act, stopped_by_act, byte_stored}
 use Rattle.varvara_bus.proofs.bus.BusPorts.deo.Goals as goal
 
-pub returns-in-Ok-clause-ok : goal.returns-in-Ok-clause-ok
-returns-in-Ok-clause-ok g c =
-    wrote_by_act _ _ _ _ _ _ _ _ _ c.of.ensures
-    (record { devices = λ state stands. record { devices = c.store.ensures.stands state stands.devices; files = stands.files }; held = c.store.ensures.held; files = λ number. ap (file_held number) c.store.ensures.devices ∙ same-file number c.args.self.now.devices.now _ _; tree = refl; out = refl; err = refl; same = record { lent = record { devices = refl; tree = refl; out = refl; err = refl }; files = record { stays = λ path outside there. there }; frames = c.store.ensures.frames; clock = c.store.ensures.clock; root = c.store.ensures.root } })
-    c.in-Ok.ensures.ok
+pub returns-clause-ok : goal.returns-clause-ok
+returns-clause-ok g c =
+    wrote_by_act _ _ _ _ _ _ _ _ _ _ c.of.ensures
+    (byte_stored _ c.args.self.now _ c.args.port c.args.value refl c.store.ensures.devices c.store.ensures.stands c.store.ensures.held c.store.ensures.frames c.store.ensures.clock c.store.ensures.root)
+    c.act.ensures.ok
 
-pub returns-in-Err-clause-err : goal.returns-in-Err-clause-err
-returns-in-Err-clause-err g c =
+pub returns-clause-err : goal.returns-clause-err
+returns-clause-err g c =
     stopped_by_act _ _ _ _ _ _ _ _ _ _ c.of.ensures
-    (record { devices = λ state stands. record { devices = c.store.ensures.stands state stands.devices; files = stands.files }; held = c.store.ensures.held; files = λ number. ap (file_held number) c.store.ensures.devices ∙ same-file number c.args.self.now.devices.now _ _; tree = refl; out = refl; err = refl; same = record { lent = record { devices = refl; tree = refl; out = refl; err = refl }; files = record { stays = λ path outside there. there }; frames = c.store.ensures.frames; clock = c.store.ensures.clock; root = c.store.ensures.root } })
-    c.in-Err.ensures.err
+    (byte_stored _ c.args.self.now _ c.args.port c.args.value refl c.store.ensures.devices c.store.ensures.stands c.store.ensures.held c.store.ensures.frames c.store.ensures.clock c.store.ensures.root)
+    c.act.ensures.err

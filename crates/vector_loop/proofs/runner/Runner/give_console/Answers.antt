@@ -12,5 +12,5 @@ pub returns : goal.returns
 unfolding console
 returns g c =
     answers-then _ _ _ _ (λ s. stays (with_stored ((0x12, c.args.byte) ∷ (0x17, event_byte c.args.kind) ∷ []) s)) (vector_in c.args.self.now.budget 0x10) none (of_vectors 1) (tt {0}) _
-    (answers-stored _ _ _ (storing ((0x12, c.args.byte) ∷ (0x17, event_byte c.args.kind) ∷ [])) (tt {0}) refl refl refl c.give.ensures.others c.give.ensures.frames c.give.ensures.devices)
+    (answers-stored _ _ _ (storing ((0x12, c.args.byte) ∷ (0x17, event_byte c.args.kind) ∷ [])) (tt {0}) refl refl refl c.give.ensures.others c.give.ensures.frames c.give.ensures.devices.bus)
     c.run_vector_in.ensures

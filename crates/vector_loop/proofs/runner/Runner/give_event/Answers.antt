@@ -31,7 +31,7 @@ returns-in-Frame g c = rw c.in-Frame.is
     (frame-given c.args.self.now.budget c.args.outputs.now)
     (answers-then _ _ _ _ (λ s. stays (with_next_frame (with_counted Frame s))) (shown_and_heard c.args.self.now.budget c.args.outputs.now) one_event (of_vectors 5) (tt {0}) _
     (answers-change _ _ _ (λ s. with_next_frame (with_counted Frame s)) one_event (tt {0}) refl refl c.frame_begins.ensures.others (omega (arith, c.frame_begins.ensures.frames))
-    (grown-counted Frame c.args.self.now.tally c.args.self.now.budget) c.frame_begins.ensures.devices (λ devices stands. refl))
+    (grown-counted Frame c.args.self.now.tally c.args.self.now.budget) c.frame_begins.ensures.devices.bus (λ devices stands. refl))
     c.show_and_sound.ensures))
 
 pub returns-in-Expect : goal.returns-in-Expect

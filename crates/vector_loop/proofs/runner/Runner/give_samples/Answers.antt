@@ -16,19 +16,19 @@ returns-in_err-keep_samples g c =
     rw result (answers-within _ _ _ _ none (of_vectors 4) _ (omega arith) (omega arith)
     (answers-where _ _ _ (λ s. followed_by (kept c.args.outputs.now c.audio_frame-ended.new.into (with_rendered s)) (ended_vectors c.args.self.now.budget c.audio_frame-ended.result))
     (heard c.args.self.now.budget c.args.outputs.now) none _
-    (λ devices stands. heard-as c.args.self.now.budget c.args.outputs.now _ c.audio_frame-ended.new.into c.audio_frame-ended.result (c.audio_frame-ended.ensures.frame devices stands) (c.audio_frame-ended.ensures.ends devices stands))
+    (λ devices stands. heard-as c.args.self.now.budget c.args.outputs.now _ c.audio_frame-ended.new.into c.audio_frame-ended.result (c.audio_frame-ended.ensures.frame devices stands.devices) (c.audio_frame-ended.ensures.ends devices stands.devices))
     (answers-first _ _ _ (λ s. kept c.args.outputs.now c.audio_frame-ended.new.into (with_rendered s)) (ended_vectors c.args.self.now.budget c.audio_frame-ended.result) none c.in_err-keep_samples.field-0.0
     (answers-then _ _ (record c.args.self.now { bus = record c.args.self.now.bus { now = c.audio_frame-ended.new.self } }) _ (λ s. stays (with_rendered s)) (kept c.args.outputs.now c.audio_frame-ended.new.into) none none (tt {0}) (Err c.in_err-keep_samples.field-0.0)
-    (answers-stored _ _ _ rendered (tt {0}) refl refl refl c.audio_frame-ended.ensures.others c.audio_frame-ended.ensures.frames c.audio_frame-ended.ensures.devices)
+    (answers-stored _ _ _ rendered (tt {0}) refl refl refl c.audio_frame-ended.ensures.others c.audio_frame-ended.ensures.frames c.audio_frame-ended.ensures.devices.bus)
     (answers-made _ _ _ (λ d. appended_to c.args.outputs.now.samples (samples_bytes (map short_of c.audio_frame-ended.new.into))) (Err c.in_err-keep_samples.field-0.0) refl refl c.in_err-keep_samples.ensures)))))
 
 pub returns : goal.returns
 returns g c =
     answers-where _ _ _ (λ s. followed_by (kept c.args.outputs.now c.audio_frame-ended.new.into (with_rendered s)) (ended_vectors c.args.self.now.budget c.audio_frame-ended.result))
     (heard c.args.self.now.budget c.args.outputs.now) (of_vectors 4) _
-    (λ devices stands. heard-as c.args.self.now.budget c.args.outputs.now _ c.audio_frame-ended.new.into c.audio_frame-ended.result (c.audio_frame-ended.ensures.frame devices stands) (c.audio_frame-ended.ensures.ends devices stands))
+    (λ devices stands. heard-as c.args.self.now.budget c.args.outputs.now _ c.audio_frame-ended.new.into c.audio_frame-ended.result (c.audio_frame-ended.ensures.frame devices stands.devices) (c.audio_frame-ended.ensures.ends devices stands.devices))
     (answers-then _ _ _ _ (λ s. kept c.args.outputs.now c.audio_frame-ended.new.into (with_rendered s)) (ended_vectors c.args.self.now.budget c.audio_frame-ended.result) none (of_vectors 4) (tt {0}) _
     (answers-then _ _ (record c.args.self.now { bus = record c.args.self.now.bus { now = c.audio_frame-ended.new.self } }) _ (λ s. stays (with_rendered s)) (kept c.args.outputs.now c.audio_frame-ended.new.into) none none (tt {0}) (Ok (tt {0}))
-    (answers-stored _ _ _ rendered (tt {0}) refl refl refl c.audio_frame-ended.ensures.others c.audio_frame-ended.ensures.frames c.audio_frame-ended.ensures.devices)
+    (answers-stored _ _ _ rendered (tt {0}) refl refl refl c.audio_frame-ended.ensures.others c.audio_frame-ended.ensures.frames c.audio_frame-ended.ensures.devices.bus)
     (answers-made _ _ _ (λ d. appended_to c.args.outputs.now.samples (samples_bytes (map short_of c.audio_frame-ended.new.into))) (Ok (tt {0})) refl refl c.in_ok-keep_samples.ensures))
     c.run_all_ended.ensures)

@@ -12,5 +12,5 @@ pub returns-then-is_endless : goal.returns-then-is_endless
 returns-then-is_endless g c =
     answers-within _ _ _ (heard c.args.self.now.budget c.args.outputs.now) none (of_vectors 4) _ (omega arith) (omega arith)
     (answers-where _ _ _ (λ s. stays (with_rendered s)) (heard c.args.self.now.budget c.args.outputs.now) none _
-    (λ devices stands. passed-as c.args.self.now.budget c.args.outputs.now _ (none-is _ c.if-is_none.ensures) (c.pass_frame.ensures.ends devices stands))
-    (answers-stored _ _ _ rendered (tt {0}) refl refl refl c.pass_frame.ensures.others c.pass_frame.ensures.frames c.pass_frame.ensures.devices))
+    (λ devices stands. passed-as c.args.self.now.budget c.args.outputs.now _ (none-is _ c.if-is_none.ensures) (c.pass_frame.ensures.ends devices stands.devices))
+    (answers-stored _ _ _ rendered (tt {0}) refl refl refl c.pass_frame.ensures.others c.pass_frame.ensures.frames c.pass_frame.ensures.devices.bus))

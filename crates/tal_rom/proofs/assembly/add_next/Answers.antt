@@ -1,0 +1,32 @@
+use Rattle.std.proofs.Common.{◌≡◌, sym, ap, ◌∙◌, arith}
+use Rattle.tal_macros.specs.Expansion.{expanded_of}
+use Rattle.tal_macros.specs.Steps.{Progress, given, words_left, advanced}
+use Rattle.tal_macros.proofs.GivenLemmas.{given-whole, next-visited}
+use Rattle.tal_rom.proofs.OnePass.{was_given, further}
+use Rattle.tal_rom.proofs.assembly.add_next.Goals as goal
+
+pub add-requires-in-Some-clause-given : goal.add-requires-in-Some-clause-given
+add-requires-in-Some-clause-given c =
+    let next = rw c.in-Ok-Some.field-0-is at c.in-Ok-Some.ensures.answer in (
+      given c.args.expander.now,
+      was_given _ _ _ _ c.requires.so c.in-Ok-Some.word next c.in-Some.placed
+          (λ words few added. sym c.in-Some.is ∙ c.in_ok-placed-in-Ok-Some.ensures.value words few added),
+    )
+
+pub returns-in_ok-add-in-Some : goal.returns-in_ok-add-in-Some
+returns-in_ok-add-in-Some c =
+    let next = rw c.in-Ok-Some.field-0-is at c.in-Ok-Some.ensures.answer in
+    let moved : c.next.new.self ≡ advanced c.args.expander.now = c.in-Ok-Some.ensures.progress in (
+      omega (arith, next-visited (words_left c.args.expander.now) c.in-Ok-Some.word next, ap (λ (p : Progress). p.visited) moved),
+      rw moved (further _ _ _ _ c.requires.so c.in-Ok-Some.word next c.in-Some.placed
+          (λ words few added. sym c.in-Some.is ∙ c.in_ok-placed-in-Ok-Some.ensures.value words few added) _ _
+          (rw moved at c.in-Ok-Some.ensures.bound) c.in_ok-placed-in-Ok-Some.ensures.added c.in_ok-add-in-Some.ensures.added),
+    )
+
+pub returns-in-Ok-None : goal.returns-in-Ok-None
+returns-in-Ok-None c =
+    let so = c.requires.so in
+    let next = rw c.in-Ok-None.field-0-is at c.in-Ok-None.ensures.answer in
+    let faultless = rw so.reads at next.1 in
+    let whole = given-whole c.args.expander.now next.0 next.1 ∙ ap expanded_of so.reads in
+    record { faultless = faultless; added = rw whole at so.added; patched = rw whole at so.patched }

@@ -1,0 +1,2 @@
+pub mod FaultWordLemmas
+pub mod SourceLemmas

@@ -1,0 +1,49 @@
+-- Laws of bytes appended to files.
+use Rattle.std.specs.Prelude.{◌≡◌, ℕ, List, [], ◌∷◌, ◌++◌, take, drop, map, Option, Some, None, refl}
+use Rattle.std.specs.Option.{option_map}
+use Rattle.std.specs.FinMap as nodes_map
+use Rattle.std.proofs.Common.{ap, sym, ◌∙◌, append_assoc}
+use Rattle.std.proofs.lemmas.List.{append-nil, take-append-drop, map-append}
+use Rattle.uxn_io.specs.Files.{File, Nodes, bytes_at}
+use Rattle.uxn_io.specs.Changes.{with_appended, HasAppendedFront}
+use Rattle.uxn_io.specs.Outside.{ToFile, World, changed, changed_by, IsCutOff}
+use Rattle.uxn_io.specs.NodeLaws.{bytes_put, put_again}
+
+-- to append twice is to append both
+pub appended_both : (nodes : Nodes) (path xs ys : List ℕ)
+    → with_appended path ys (with_appended path xs nodes) ≡ with_appended path (xs ++ ys) nodes
+appended_both nodes path [] ys = refl
+appended_both nodes path (x ∷ xs) [] = ap (λ (z : List ℕ). with_appended path z nodes) (sym (append-nil (x ∷ xs)))
+appended_both nodes path (x ∷ xs) (y ∷ ys) =
+    ap (λ (z : List ℕ). nodes_map.insert (nodes_map.insert nodes path (File (bytes_at nodes path ++ x ∷ xs))) path (File (z ++ y ∷ ys)))
+    (bytes_put nodes path (bytes_at nodes path ++ x ∷ xs))
+    ∙ put_again nodes path _ _
+    ∙ ap (λ (z : List ℕ). nodes_map.insert nodes path (File z)) (append_assoc (bytes_at nodes path) (x ∷ xs) (y ∷ ys))
+
+pub appended_told : (told : Option Nodes) (path xs ys : List ℕ)
+    → option_map (with_appended path ys) (option_map (with_appended path xs) told) ≡ option_map (with_appended path (xs ++ ys)) told
+appended_told None path xs ys = refl
+appended_told (Some nodes) path xs ys = ap (λ (z : Nodes). Some z) (appended_both nodes path xs ys)
+
+appended-nothing : (path : List ℕ) (told : Option Nodes) → option_map (with_appended path []) told ≡ told
+appended-nothing path None = refl
+appended-nothing path (Some nodes) = refl
+
+-- a text appended to a file, byte after byte
+pub changed_by-file : (world : World) (path text : List ℕ) → changed_by world (map (λ byte. ToFile path byte) text)
+    ≡ record world { files = option_map (with_appended path text) world.files }
+changed_by-file world path [] = ap (λ told. record world { files = told }) (sym (appended-nothing path world.files))
+changed_by-file world path (byte ∷ text) =
+    changed_by-file (changed world (ToFile path byte)) path text
+    ∙ ap (λ told. record world { files = told }) (appended_told world.files path (byte ∷ []) text)
+
+-- a front of a text was appended to a file
+pub cut-file : (world : World) (now : Option Nodes) (path text : List ℕ) → HasAppendedFront path world.files now text
+    → IsCutOff world (record world { files = now }) (map (λ byte. ToFile path byte) text)
+cut-file world now path text front = record {
+  made = map (λ byte. ToFile path byte) (take front.count text);
+  rest = map (λ byte. ToFile path byte) (drop front.count text);
+  parts = ap (λ bytes. map (λ byte. ToFile path byte) bytes) (sym (take-append-drop front.count text))
+      ∙ map-append (λ byte. ToFile path byte) (take front.count text) (drop front.count text);
+  left = ap (λ told. record world { files = told }) front.told ∙ sym (changed_by-file world path (take front.count text));
+}

@@ -1,0 +1,419 @@
+//! A tree in memory, which fails on demand.
+ghost use Rattle.std.specs.Prelude.{◌≡◌, ℕ, ◌+◌, ◌<◌, ◌≤◌, ◌==◌, ◌&&◌, ◌||◌, ◌⊎◌, ◌++◌, false, min, count_by, length, take, drop, option_map, is_err, is_some, IsTrue, IsSome, IsOk, IfOk, IfSome, OnOk, OnErr, if◌then◌else◌};
+ghost use Rattle.std.specs.List.{All, list_any};
+ghost use Rattle.std.specs.Str.{bytes_eq};
+ghost use Rattle.std.specs.Option.{option_copied};
+ghost use Rattle.std.specs.FinMap as map;
+ghost use Rattle.uxn_io.specs.Faults.{Counted};
+ghost use Rattle.uxn_io.specs.Files.{IsTree, kind_at, file_at, bytes_at, bytes_from, is_folder, Reads};
+ghost use Rattle.uxn_io.specs.Changes.{can_create, with_created, new_files, with_appended, HasAppendedFront, with_removed};
+ghost use Rattle.uxn_io.specs.Children.{children, IsEntry, has_failed as names_failed};
+ghost use Rattle.uxn_io.specs.Room.{Leaves};
+ghost use Rattle.uxn_io.specs.InMemory.Places.{node_of, nodes_of};
+ghost use Rattle.uxn_io.specs.declared.memory.trees.TreeCall.{TreeCall};
+ghost use Rattle.uxn_io.specs.InMemory.Sinks.{counted};
+ghost use Rattle.uxn_io.specs.InMemory.Trees.{
+  no_calls,
+  number_of,
+  with_call,
+  told_by,
+  faults_of,
+  sure_of,
+  same_call,
+  is_listed,
+  is_listed_later,
+  answer_of,
+  after,
+  read_count,
+  read_into,
+  lacks_place,
+  created,
+  fitting,
+  lacks_room,
+  appended,
+  removed,
+  fits,
+  is_sound,
+  can_hold,
+};
+
+use super::places::{Places, has_parent};
+use crate::{Bytes, Entry, Failed, Kind, NamesStop, Path, Tree};
+use std::alloc::{AllocError, Global};
+use std::marker::Model;
+
+/// The calls of a tree.
+#[derive(Clone, Copy, Debug, PartialEq, Eq)]
+pub enum TreeCall {
+    /// `Tree::kind`.
+    Kind,
+    /// `Tree::read`.
+    Read,
+    /// `Tree::create`.
+    Create,
+    /// `Tree::append`.
+    Append,
+    /// `Tree::remove`.
+    Remove,
+    /// `Tree::names`.
+    Names,
+}
+
+/// A file with its bytes, or a folder, whose bytes are empty.
+#[derive(Debug, Drop)]
+pub struct Node {
+    /// Whether it is a folder.
+    pub folder: bool,
+    /// The bytes of a file.
+    pub bytes: Bytes,
+}
+
+/// How many calls of each variant there were.
+#[derive(Debug, Drop)]
+struct Calls {
+    kind: u64,
+    read: u64,
+    create: u64,
+    append: u64,
+    remove: u64,
+    names: u64,
+}
+
+impl Model for Calls {
+    ghost use Rattle.uxn_io.specs.InMemory.Trees.{Calls};
+
+    ghost Value = { Calls };
+
+    ghost view = { λ c. record { kind = c.kind; read = c.read; create = c.create; append = c.append; remove = c.remove; names = c.names } };
+}
+
+impl Calls {
+    /// No calls so far.
+    fn new() -> Calls
+        ensures { result ≡ no_calls }
+    {
+        Calls {
+            kind: 0,
+            read: 0,
+            create: 0,
+            append: 0,
+            remove: 0,
+            names: 0,
+        }
+    }
+
+    /// The number of the next call of a variant, from 0.
+    fn number_of(&self, call: TreeCall) -> u64
+        ensures { result ≡ number_of call self.now }
+    {
+        match call {
+            TreeCall::Kind => self.kind,
+            TreeCall::Read => self.read,
+            TreeCall::Create => self.create,
+            TreeCall::Append => self.append,
+            TreeCall::Remove => self.remove,
+            TreeCall::Names => self.names,
+        }
+    }
+
+    /// Counts a call.
+    fn count(&mut self, call: TreeCall)
+        ensures after { self.new ≡ with_call call self.old }
+        ensures later { (other : TreeCall) → number_of other self.old ≤ number_of other self.new }
+    {
+        match call {
+            TreeCall::Kind => add_one(&mut self.kind),
+            TreeCall::Read => add_one(&mut self.read),
+            TreeCall::Create => add_one(&mut self.create),
+            TreeCall::Append => add_one(&mut self.append),
+            TreeCall::Remove => add_one(&mut self.remove),
+            TreeCall::Names => add_one(&mut self.names),
+        }
+    }
+}
+
+/// Counts one more.
+fn add_one(count: &mut u64)
+    ensures after { count.new ≡ counted count.old }
+    ensures later { count.old ≤ count.new }
+{
+    *count = count.saturating_add(1);
+}
+
+/// A tree that is kept in memory.
+#[derive(Debug, Drop)]
+pub struct MemTree {
+    held: Places,
+    fails: Vec<(TreeCall, u32)>,
+    calls: Calls,
+    faults: u64,
+}
+
+impl Model for MemTree {
+    ghost use Rattle.uxn_io.specs.InMemory.Trees.{TreeInMemory, tree_code};
+
+    ghost Value = { TreeInMemory };
+
+    ghost coded = { tree_code };
+
+    ghost view = { λ t. record { held = t.held; fails = t.fails.items; calls = t.calls; faults = t.faults } };
+}
+
+impl MemTree {
+    /// A tree of these nodes, with places for so many more files and room for so many bytes in each file.
+    /// The calls with a listed variant and number, from 0, fail. It takes all its memory now, and its
+    /// further calls none, but for the list that `names` gives. Errors with want of memory.
+    pub fn new(
+        alloc: Global,
+        nodes: &[(Path, Node)],
+        more: usize,
+        room: usize,
+        fails: &[(TreeCall, u32)],
+    ) -> Result<MemTree, AllocError>
+        requires { IsTrue (can_hold nodes.now room) }
+        ensures { IfOk result (λ tree. tree ≡ record {
+          held = record { nodes = nodes_of nodes.now; free = more; room = room };
+          fails = fails.now;
+          calls = no_calls;
+          faults = 0;
+        }) }
+    {
+        Ok(MemTree {
+            held: Places::new(alloc, nodes, more, room)?,
+            fails: Vec::from_slice(alloc, fails)?,
+            calls: Calls::new(),
+            faults: 0,
+        })
+    }
+
+    /// Whether a tree can hold these nodes with this room: each path stands once, its parent is there as a
+    /// folder, no file has more bytes than the room, and a folder has none.
+    pub fn can_hold(nodes: &[(Path, Node)], room: usize) -> bool
+        ensures { result ≡ can_hold nodes.now room }
+    {
+        nodes.iter().all(|entry| is_sound(nodes, room, entry))
+    }
+
+    /// The node at a path.
+    pub fn node(&self, path: &Path) -> Option<&Node>
+        ensures { option_map node_of (option_copied result) ≡ map.get self.now.held.nodes path.now }
+    {
+        self.held.node(path)
+    }
+
+    /// Counts a call, and a fault where something is lacking for it or it is listed. Whether it fails.
+    fn begin(&mut self, call: TreeCall, lacking: bool) -> bool
+        ensures fails { result ≡ (lacking || is_listed self.old call) }
+        ensures after { self.new ≡ after call self.old lacking self.old.held }
+        ensures ledger { Counted (faults_of self.old) (faults_of self.new) result }
+        ensures sure { is_listed_later self.old ≡ false → result ≡ lacking }
+        ensures later { is_listed_later self.old ≡ false → is_listed_later self.new ≡ false }
+    {
+        let listed = is_listed(&self.fails, call, self.calls.number_of(call));
+        let fails = lacking || listed;
+        self.calls.count(call);
+        if fails {
+            add_one(&mut self.faults);
+        }
+        fails
+    }
+}
+
+/// A call fails exactly where its variant and number are listed, where `create` would make a file that is
+/// not there and no place is free, and where `append` has a piece that is not empty and the file has no
+/// room. It then changes nothing.
+impl Tree for MemTree {
+    ghost told = { told_by };
+
+    ghost faults = { faults_of };
+
+    ghost sure = { sure_of };
+
+    /// Tells what is there.
+    fn kind(&mut self, path: &Path) -> Result<Kind, Failed>
+        ensures ok { IfOk result (λ kind. IfSome (told_by self.old) (λ nodes. kind ≡ kind_at nodes path.now)) }
+        ensures same { told_by self.new ≡ told_by self.old }
+        ensures shape { OnOk result (IfSome (told_by self.old) IsTree) }
+        ensures ledger { Counted (faults_of self.old) (faults_of self.new) (is_err result) }
+        ensures sure { 0 < (sure_of self.old).files → IsOk result }
+        ensures left { OnOk result (Leaves (sure_of self.old) (sure_of self.new) 0 0) }
+
+        ensures answer { result ≡ answer_of TreeCall.Kind self.old false (kind_at self.old.held.nodes path.now) }
+        ensures after { self.new ≡ after TreeCall.Kind self.old false self.old.held }
+    {
+        if self.begin(TreeCall::Kind, false) {
+            return Err(Failed);
+        }
+        Ok(self.held.kind(path))
+    }
+
+    /// Puts as many bytes as there are and fit.
+    fn read(&mut self, path: &Path, from: u64, into: &mut [u8]) -> Result<usize, Failed>
+        ensures count { IfOk result (λ n. n ≤ length into.old) }
+        ensures rest { IfOk result (λ n. drop n into.new ≡ drop n into.old) }
+        ensures ok { IfOk result (λ n. IfSome (told_by self.old) (λ nodes. Reads (bytes_from nodes path.now from) into.old into.new n)) }
+        ensures same { told_by self.new ≡ told_by self.old }
+        ensures ledger { Counted (faults_of self.old) (faults_of self.new) (is_err result) }
+        ensures sure { 0 < (sure_of self.old).files → IsOk result }
+        ensures left { OnOk result (Leaves (sure_of self.old) (sure_of self.new) 0 0) }
+
+        ensures answer { result ≡ answer_of TreeCall.Read self.old false (read_count self.old.held.nodes path.now from into.old) }
+        ensures into { into.new ≡ (if is_listed self.old TreeCall.Read then into.old else read_into self.old.held.nodes path.now from into.old) }
+        ensures after { self.new ≡ after TreeCall.Read self.old false self.old.held }
+    {
+        if self.begin(TreeCall::Read, false) {
+            return Err(Failed);
+        }
+        Ok(copy_from(self.held.bytes(path), from, into))
+    }
+
+    /// Makes an empty file, in a free place where nothing was.
+    fn create(&mut self, path: &Path) -> Result<bool, Failed>
+        ensures answer { IfOk result (λ made. IfSome (told_by self.old) (λ nodes. made ≡ can_create nodes path.now)) }
+        ensures ok { OnOk result (told_by self.new ≡ option_map (with_created path.now) (told_by self.old)) }
+        ensures err { OnErr result ((told_by self.new ≡ told_by self.old) ⊎ (told_by self.new ≡ option_map (with_created path.now) (told_by self.old))) }
+        ensures ledger { Counted (faults_of self.old) (faults_of self.new) (is_err result) }
+        ensures sure { IfSome (told_by self.old) (λ nodes. new_files nodes path.now < (sure_of self.old).files → IsOk result) }
+        ensures left { OnOk result (IfSome (told_by self.old) (λ nodes. Leaves (sure_of self.old) (sure_of self.new) (new_files nodes path.now) 0)) }
+
+        ensures exact { result ≡ answer_of TreeCall.Create self.old (lacks_place self.old.held path.now) (can_create self.old.held.nodes path.now) }
+        ensures after { self.new ≡ after TreeCall.Create self.old (lacks_place self.old.held path.now) (created self.old.held path.now) }
+    {
+        let lacking = self.held.lacks_place(path);
+        if self.begin(TreeCall::Create, lacking) {
+            return Err(Failed);
+        }
+        Ok(self.held.create(path))
+    }
+
+    /// Takes as much of the piece as the room has.
+    fn append(&mut self, path: &Path, piece: &[u8]) -> Result<usize, Failed>
+        requires { IfSome (told_by self.old) (λ nodes. IsSome (file_at nodes path.now)) }
+        ensures count { IfOk result (λ n. n ≤ length piece.now) }
+        ensures some { IfOk result (λ n. 0 < length piece.now → 0 < n) }
+        ensures ok { IfOk result (λ n. told_by self.new ≡ option_map (with_appended path.now (take n piece.now)) (told_by self.old)) }
+        ensures err { OnErr result (HasAppendedFront path.now (told_by self.old) (told_by self.new) piece.now) }
+        ensures ledger { Counted (faults_of self.old) (faults_of self.new) (is_err result) }
+        ensures sure { IfSome (told_by self.old) (λ nodes. 0 < (sure_of self.old).files
+            → length (bytes_at nodes path.now) + length piece.now ≤ (sure_of self.old).bytes → IsOk result) }
+        ensures left { OnOk result (Leaves (sure_of self.old) (sure_of self.new) 0 0) }
+
+        ensures exact { result ≡ answer_of TreeCall.Append self.old (lacks_room self.old.held path.now piece.now) (fitting self.old.held path.now piece.now) }
+        ensures after { self.new ≡ after TreeCall.Append self.old (lacks_room self.old.held path.now piece.now) (appended self.old.held path.now piece.now) }
+    {
+        let lacking = !piece.is_empty() && self.held.is_full(path);
+        if self.begin(TreeCall::Append, lacking) {
+            return Err(Failed);
+        }
+        Ok(self.held.append(path, piece))
+    }
+
+    /// Takes a file away, and frees its place.
+    fn remove(&mut self, path: &Path) -> Result<bool, Failed>
+        ensures answer { IfOk result (λ gone. IfSome (told_by self.old) (λ nodes. gone ≡ is_some (file_at nodes path.now))) }
+        ensures ok { OnOk result (told_by self.new ≡ option_map (with_removed path.now) (told_by self.old)) }
+        ensures err { OnErr result ((told_by self.new ≡ told_by self.old) ⊎ (told_by self.new ≡ option_map (with_removed path.now) (told_by self.old))) }
+        ensures ledger { Counted (faults_of self.old) (faults_of self.new) (is_err result) }
+        ensures sure { 0 < (sure_of self.old).files → IsOk result }
+        ensures left { IfOk result (λ gone. Leaves (sure_of self.old) (sure_of self.new) 0 (if gone then 1 else 0)) }
+
+        ensures exact { result ≡ answer_of TreeCall.Remove self.old false (is_some (file_at self.old.held.nodes path.now)) }
+        ensures after { self.new ≡ after TreeCall.Remove self.old false (removed self.old.held path.now) }
+    {
+        if self.begin(TreeCall::Remove, false) {
+            return Err(Failed);
+        }
+        Ok(self.held.remove(path))
+    }
+
+    /// Lists the children. Want of memory is no fault.
+    fn names(&mut self, alloc: Global, folder: &Path) -> Result<Vec<Entry>, NamesStop>
+        requires { IfSome (told_by self.old) (λ nodes. IsTrue (is_folder (map.get nodes folder.now))) }
+        ensures ok { IfOk result (λ entries. IfSome (told_by self.old) (λ nodes. entries.items ≡ children nodes folder.now)) }
+        ensures entries { IfOk result (λ entries. All IsEntry entries.items) }
+        ensures same { told_by self.new ≡ told_by self.old }
+        ensures ledger { Counted (faults_of self.old) (faults_of self.new) (names_failed result) }
+        ensures sure { 0 < (sure_of self.old).files → names_failed result ≡ false }
+        ensures left { names_failed result ≡ false → Leaves (sure_of self.old) (sure_of self.new) 0 0 }
+
+        ensures fails { names_failed result ≡ is_listed self.old TreeCall.Names }
+        ensures after { self.new ≡ after TreeCall.Names self.old false self.old.held }
+    {
+        if self.begin(TreeCall::Names, false) {
+            return Err(NamesStop::Failed);
+        }
+        match self.held.children(alloc, folder) {
+            Ok(entries) => Ok(entries),
+            Err(_) => Err(NamesStop::NoMemory),
+        }
+    }
+}
+
+/// Puts as many bytes from a place on as there are and fit at the front of the buffer, and says how many.
+fn copy_from(bytes: &[u8], from: u64, into: &mut [u8]) -> usize
+    ensures count { result ≡ min (length into.old) (length (drop from bytes.now)) }
+    ensures into { into.new ≡ take result (drop from bytes.now) ++ drop result into.old }
+{
+    let start = from as usize;
+    if start >= bytes.len() {
+        return 0;
+    }
+    let rest = &bytes[start..];
+    let count = into.len().min(rest.len());
+    into[..count].copy_from_slice(&rest[..count]);
+    count
+}
+
+/// Whether the call of this variant and number is among those that fail.
+fn is_listed(fails: &[(TreeCall, u32)], call: TreeCall, number: u64) -> bool
+    ensures { result ≡ list_any (λ e. same_call e.0 call && e.1 == number) fails.now }
+{
+    fails.iter().any(|(listed, n)| is_same_call(*listed, call) && u64::from(*n) == number)
+}
+
+/// Whether two calls are of one variant.
+fn is_same_call(listed: TreeCall, call: TreeCall) -> bool
+    ensures { result ≡ same_call listed call }
+{
+    match listed {
+        TreeCall::Kind => matches!(call, TreeCall::Kind),
+        TreeCall::Read => matches!(call, TreeCall::Read),
+        TreeCall::Create => matches!(call, TreeCall::Create),
+        TreeCall::Append => matches!(call, TreeCall::Append),
+        TreeCall::Remove => matches!(call, TreeCall::Remove),
+        TreeCall::Names => matches!(call, TreeCall::Names),
+    }
+}
+
+/// Whether the entry's path stands once, its parent is there as a folder, and its node fits.
+fn is_sound(nodes: &[(Path, Node)], room: usize, entry: &(Path, Node)) -> bool
+    ensures { result ≡ is_sound nodes.now room entry.now }
+{
+    stands_once(nodes, &entry.0) && has_parent(nodes, &entry.0) && fits(room, &entry.1)
+}
+
+/// Whether one entry has the path.
+fn stands_once(nodes: &[(Path, Node)], path: &Path) -> bool
+    ensures { result ≡ (count_by (λ e. bytes_eq e.0 path.now) nodes.now == 1) }
+{
+    nodes.iter().filter(|entry| is_at(entry, path)).count() == 1
+}
+
+/// Whether the entry has the path.
+fn is_at(entry: &(Path, Node), path: &Path) -> bool
+    ensures { result ≡ bytes_eq entry.now.0 path.now }
+{
+    entry.0.bytes() == path.bytes()
+}
+
+/// Whether a file has no more bytes than the room, and a folder none.
+fn fits(room: usize, node: &Node) -> bool
+    ensures { result ≡ fits room node.now }
+{
+    let count = node.bytes.as_slice().len();
+    if node.folder {
+        count == 0
+    } else {
+        count <= room
+    }
+}

@@ -1,0 +1,67 @@
+-- The instructions of a vector over any ports: how many ran whole, and what ended them (Varvara device reference; profile: the budget).
+use Rattle.std.specs.Prelude.{◌≡◌, ℕ, zero, suc, ◌+◌, ◌≤◌, ◌⊎◌, Result, Ok, Err, refl}
+use Rattle.uxn_opcodes.specs.declared.Core.{Core}
+use Rattle.uxn_opcodes.specs.declared.Stop.{Stop}
+use Rattle.uxn_opcodes.specs.declared.Stop.TheVariants.{NoMemory}
+use Rattle.uxn_opcodes.specs.declared.Turn.TheVariants.{Ran, Broke as Break}
+use Rattle.uxn_opcodes.specs.Ports.{Rules}
+use Rattle.uxn_opcodes.specs.Instruction.{Instruction}
+use Rattle.vector_loop.specs.declared.tally.Tally.{Tally}
+use Rattle.vector_loop.specs.declared.tally.VectorEnd.{VectorEnd}
+use Rattle.vector_loop.specs.declared.tally.VectorEnd.TheVariants.{Broke, Cut}
+
+-- BRK is an instruction that ran, and one at which a vector stops has not
+abbrev pub with_break : Result VectorEnd Stop → ℕ → ℕ
+with_break (Ok Broke) number = number + 1
+with_break (Ok Cut) number = number
+with_break (Err stop) number = number
+
+-- a vector is counted as it begins, each instruction that ran, and a cut
+abbrev pub counting_ran : Result VectorEnd Stop → ℕ → Tally → Tally
+counting_ran (Ok Cut) number tally = record tally {
+  instructions = tally.instructions + number;
+  vectors = tally.vectors + 1;
+  cuts = tally.cuts + 1;
+}
+counting_ran _ number tally = record tally { instructions = tally.instructions + number; vectors = tally.vectors + 1 }
+
+module _ {S : Type 0} (rules : Rules S) where
+  -- so many instructions ran, one after the other, and none of them was BRK
+  abbrev pub RunsOn : ℕ → Core → S → Core → S → Type 0
+  RunsOn zero core ports core_new ports_new = (core_new ≡ core) × (ports_new ≡ ports)
+  RunsOn (suc number) core ports core_new ports_new =
+      (middle : Core) × ((between : S) × (RunsOn number core ports middle between × Instruction rules middle between (Ok Ran) core_new ports_new))
+
+  -- then came BRK, or as many had run as may, or an instruction stopped, or the watcher refused before one
+  abbrev pub EndsBy : Type 0 → Result VectorEnd Stop → (number most : ℕ) → Core → S → Core → S → Type 0
+  EndsBy refuses (Ok Broke) number most core ports core_new ports_new = Instruction rules core ports (Ok Break) core_new ports_new
+  EndsBy refuses (Ok Cut) number most core ports core_new ports_new = (number ≡ most) × ((core_new ≡ core) × (ports_new ≡ ports))
+  EndsBy refuses (Err stop) number most core ports core_new ports_new =
+      Instruction rules core ports (Err stop) core_new ports_new
+      ⊎ ((stop ≡ NoMemory) × (refuses × ((core_new ≡ core) × (ports_new ≡ ports))))
+
+  -- so many instructions ran whole until a vector ended or stopped, at most the budget
+  pub record RanWhole (refuses : Type 0) (most : ℕ) (core : Core) (ports : S) (result : Result VectorEnd Stop) (core_new : Core)
+      (ports_new : S) (whole : ℕ) : Type 0 where
+    pub before : ℕ
+    pub middle : Core
+    pub between : S
+    pub runs : RunsOn before core ports middle between
+    pub ends : EndsBy refuses result before most middle between core_new ports_new
+    pub number : whole ≡ with_break result before
+    pub within : whole ≤ most
+
+  -- and exactly so many are counted
+  pub record CountsWhole (refuses : Type 0) (most : ℕ) (core : Core) (ports : S) (result : Result VectorEnd Stop) (core_new : Core)
+      (ports_new : S) (tally tally_new : Tally) : Type 0 where
+    pub whole : ℕ
+    pub ran : RanWhole refuses most core ports result core_new ports_new whole
+    pub counted : tally_new ≡ counting_ran result whole tally
+
+  pub runs-none : (number : ℕ) (core : Core) (ports : S) → number ≡ 0 → RunsOn number core ports core ports
+  runs-none number core ports none = rw none (refl, refl)
+
+  pub runs-more : (number more : ℕ) (core middle core_new : Core) (ports between ports_new : S) → more ≡ suc number
+      → RunsOn number core ports middle between → Instruction rules middle between (Ok Ran) core_new ports_new
+      → RunsOn more core ports core_new ports_new
+  runs-more number more core middle core_new ports between ports_new one runs ran = rw one (middle, (between, (runs, ran)))
