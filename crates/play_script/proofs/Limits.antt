@@ -1,5 +1,6 @@
 -- What is pushed keeps the limits of scripts.
-use Rattle.std.proofs.Common.{◌≡◌, ◌<◌, ℕ, List, [], ◌∷◌, ◌++◌, map}
+use Rattle.std.proofs.Common.{◌≡◌, ◌<◌, ◌+◌, ◌-◌, ℕ, List, [], ◌∷◌, ◌++◌, map, take, length, ap₂, ◌∙◌, arith}
+use Rattle.std.proofs.lemmas.List.{take_all}
 use Rattle.std.specs.Prelude.{replicate}
 use Rattle.std.specs.List.{All}
 use Rattle.std.proofs.lemmas.List.Elements.{All-nil, All-head, All-tail, All-append, All-replicate, All-map, All-weaker}
@@ -24,3 +25,10 @@ put_inputs number before items each is valid small = rw is (All-append (IsEvent 
 pub pushed_times : (number : Version) (before : List Event) (given : Event) (count : ℕ) → All (IsEvent number) before → IsEvent number given
     → All (IsEvent number) (before ++ replicate count given)
 pushed_times number before given count valid is = All-append (IsEvent number) before (replicate count given) valid (All-replicate (IsEvent number) count given is)
+
+-- a list made longer by so many of one event
+pub made_longer : (before items : List Event) (given : Event) (size held count : ℕ) → size ≡ held → length before ≡ held
+    → items ≡ take (size + count) before ++ replicate (size + count - held) given → items ≡ before ++ replicate count given
+made_longer before items given size held count is_size is_held is =
+    let more : size + count - held ≡ count = omega (arith, is_size) in
+    is ∙ ap₂ (λ front n. front ++ replicate n given) (take_all (size + count) before (omega (arith, is_size, is_held))) more

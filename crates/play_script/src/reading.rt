@@ -195,7 +195,6 @@ impl Gathered {
         Ok(())
     }
 
-    #[tactic(auto, using(crate::proofs::Limits::pushed_times))]
     fn take_times(&mut self, given: Event, count: usize) -> Result<(), LineStop>
         requires { IsEvent self.old.version given }
         ensures { Takes self.old (events (replicate count given)) result self.new }

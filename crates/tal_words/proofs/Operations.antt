@@ -1,10 +1,10 @@
 -- The names of the operations, one at a time, and that each name is read as its byte.
-use Rattle.std.proofs.Common.{◌≡◌, ℕ, suc, zero, ◌+◌, ◌<◌, ◌≤◌, Bool, true, false, ◌&&◌, ◌==◌, cond, List, [], get_or, drop, Option, Some, None, refl, ap, inl, inr, arith}
+use Rattle.std.proofs.Common.{◌≡◌, ℕ, suc, zero, ◌+◌, ◌<◌, ◌≤◌, Bool, true, false, ◌&&◌, ◌==◌, cond, List, [], get_or, drop, Option, Some, None, refl, ap, ap₂, ◌∙◌, min, take, length, inl, inr, arith}
 use Rattle.std.specs.Str.{bytes_eq}
 use Rattle.std.specs.List.{position_from}
 use Rattle.std.proofs.lemmas.List.{at_drop_more, at_drop_all, take_min, drop_min}
 use Rattle.std.proofs.lemmas.Bool.{and_parts, cases_lt, eqb-true}
-use Rattle.tal_words.specs.Opcodes.{operation_names, byte_of_op, name_of_op}
+use Rattle.tal_words.specs.Opcodes.{operation_names, moded_byte, byte_of_op, name_of_op}
 
 -- the search among the operations from one on
 pub position-more : (name : List ℕ) (code : ℕ) → code < 32
@@ -45,4 +45,13 @@ position-end name code past = at_drop_all (position_from (bytes_eq name) code) o
 
 pub ruleset operation_steps = (position-more, position-end)
 
-pub ruleset cut_at = (take_min, drop_min)
+-- the byte of a word that was cut behind its third letter
+pub moded-cut : (names : List (List ℕ)) (word name modes : List ℕ) (cut : ℕ) (found answer : Option ℕ)
+    → cut ≡ min (length word) 3 → name ≡ take cut word → modes ≡ drop cut word
+    → found ≡ position_from (bytes_eq name) 0 names → answer ≡ moded_byte found modes
+    → answer ≡ moded_byte (position_from (bytes_eq (take 3 word)) 0 names) (drop 3 word)
+moded-cut names word name modes cut found answer is_cut is_name are_modes is_found is_answer =
+    let is_three : cut ≡ min 3 (length word) = omega (arith, is_cut) in
+    let front : name ≡ take 3 word = is_name ∙ ap (λ n. take n word) is_three ∙ take_min 3 word in
+    let back : modes ≡ drop 3 word = are_modes ∙ ap (λ n. drop n word) is_three ∙ drop_min 3 word in
+    is_answer ∙ ap₂ moded_byte (is_found ∙ ap (λ n. position_from (bytes_eq n) 0 names) front) back

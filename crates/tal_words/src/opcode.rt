@@ -38,7 +38,6 @@ pub fn op_byte(word: &[u8]) -> Option<u8>
 }
 
 /// The byte of an operation of three letters and its modes.
-#[tactic(auto, using(crate::proofs::Operations::cut_at))]
 fn moded_op_byte(word: &[u8]) -> Option<u8>
     ensures { result ≡ moded_byte (position_from (bytes_eq (take 3 word.now)) 0 operation_names) (drop 3 word.now) }
 {

@@ -2,7 +2,6 @@
 use Rattle.std.proofs.Common.{◌≡◌, ℕ, Bool, true, false, cond, List, [], ◌∷◌, ◌++◌, refl, ap, sym, ◌∙◌}
 use Rattle.std.specs.Prelude.{Option, Some, None, option_map, IfSome}
 use Rattle.std.specs.Ordering.{nat_cmp, eq_by_cmp}
-use Rattle.std.specs.Cmp.{eq_by_cmp_equiv}
 use Rattle.std.specs.Cmp.Lexicographic.{slice_cmp, nat_list_cmp_total}
 use Rattle.std.specs.FinMap as fin
 use Rattle.uxn_io.specs.Files.{Nodes, Node, File, bytes_of, bytes_at}
@@ -12,7 +11,8 @@ use Rattle.file_ports.specs.PartLaws.{below-same, get_in}
 use Rattle.uxn_io.specs.Told.{extended}
 use Rattle.uxn_io.specs.Outside.{Change, ToOut, ToErr, Creates, ToFile, Removes, World, changed_files, changed, changed_by, files_by}
 use Rattle.varvara_bus.specs.Touching.{Each, each-append, each-map, told_at}
-use Rattle.uxn_io.specs.NodeLaws.{same_path}
+use Rattle.uxn_io.specs.ChangeLaws.{files-told}
+use Rattle.uxn_io.specs.NodeLaws.{same_path, get_put}
 use Rattle.uxn_cli.specs.World.{Text}
 use Rattle.uxn_cli.specs.Outcome.{creating, filling, filling_all}
 
@@ -32,9 +32,7 @@ pub made-here : (path other : List ℕ) (m n : Nodes) → path ≡ other → fin
 made-here path other m n same = here m ∙ sym (here n)
   where
     here : (nodes : Nodes) → fin.get (fin.insert nodes other (File [])) path ≡ Some (File [])
-    here nodes =
-        ap (λ p. fin.get (fin.insert nodes other (File [])) p) same ∙ fin.get-insert nat_list_cmp_total nodes other (File []) other
-        ∙ ap (λ b. cond b (Some (File [])) (fin.get nodes other)) ((eq_by_cmp_equiv nat_list_cmp_total).refl other)
+    here nodes = ap (λ p. fin.get (fin.insert nodes other (File [])) p) same ∙ get_put nodes other (File [])
 
 taken-same : (path other : List ℕ) (m n : Nodes) → fin.get m path ≡ fin.get n path → fin.get (fin.remove m other) path ≡ fin.get (fin.remove n other) path
 taken-same path other m n e =
@@ -69,36 +67,26 @@ same-part (Some root) m n changes e =
 
 -- ---- worlds
 
-told-same : (path : List ℕ) (m n : Option Nodes) (change : Change) → told_at path m ≡ told_at path n → told_at path (option_map (changed_files change) m) ≡ told_at path (option_map (changed_files change) n)
-told-same path None None change e = refl
-told-same path (Some m) None change e = absurd cc
-told-same path None (Some n) change e = absurd cc
-told-same path (Some m) (Some n) change e = (let same : fin.get m path ≡ fin.get n path = cc in ap Some (same-one path m n change same))
-
 pub files-after : (path : List ℕ) (a b : World) (changes : List Change) → told_at path a.files ≡ told_at path b.files → told_at path (changed_by a changes).files ≡ told_at path (changed_by b changes).files
-files-after path a b [] e = e
-files-after path a b (ToOut byte ∷ changes) e = files-after path (changed a (ToOut byte)) (changed b (ToOut byte)) changes e
-files-after path a b (ToErr byte ∷ changes) e = files-after path (changed a (ToErr byte)) (changed b (ToErr byte)) changes e
-files-after path a b (Creates other ∷ changes) e = files-after path (changed a (Creates other)) (changed b (Creates other)) changes (told-same path a.files b.files (Creates other) e)
-files-after path a b (ToFile other byte ∷ changes) e =
-    files-after path (changed a (ToFile other byte)) (changed b (ToFile other byte)) changes (told-same path a.files b.files (ToFile other byte) e)
-files-after path a b (Removes other ∷ changes) e = files-after path (changed a (Removes other)) (changed b (Removes other)) changes (told-same path a.files b.files (Removes other) e)
+files-after path a b changes e = ap (told_at path) (files-told a changes) ∙ go a.files b.files e ∙ sym (ap (told_at path) (files-told b changes))
+  where
+    go : (m n : Option Nodes) → told_at path m ≡ told_at path n → told_at path (option_map (λ nodes. files_by nodes changes) m) ≡ told_at path (option_map (λ nodes. files_by nodes changes) n)
+    go None None e = refl
+    go (Some m) None e = absurd cc
+    go None (Some n) e = absurd cc
+    go (Some m) (Some n) e = (let same : fin.get m path ≡ fin.get n path = cc in ap Some (same-node path m n changes same))
 
-pub out-after : (a b : World) (changes : List Change) → a.out ≡ b.out → (changed_by a changes).out ≡ (changed_by b changes).out
-out-after a b [] e = e
-out-after a b (ToOut byte ∷ changes) e = out-after (changed a (ToOut byte)) (changed b (ToOut byte)) changes (ap (λ o. extended o (byte ∷ [])) e)
-out-after a b (ToErr byte ∷ changes) e = out-after (changed a (ToErr byte)) (changed b (ToErr byte)) changes e
-out-after a b (Creates other ∷ changes) e = out-after (changed a (Creates other)) (changed b (Creates other)) changes e
-out-after a b (ToFile other byte ∷ changes) e = out-after (changed a (ToFile other byte)) (changed b (ToFile other byte)) changes e
-out-after a b (Removes other ∷ changes) e = out-after (changed a (Removes other)) (changed b (Removes other)) changes e
+-- worlds whose outputs tell the same
+abbrev pub HaveSameOutputs : World → World → Type 0
+HaveSameOutputs a b = (a.out ≡ b.out) × (a.err ≡ b.err)
 
-pub err-after : (a b : World) (changes : List Change) → a.err ≡ b.err → (changed_by a changes).err ≡ (changed_by b changes).err
-err-after a b [] e = e
-err-after a b (ToOut byte ∷ changes) e = err-after (changed a (ToOut byte)) (changed b (ToOut byte)) changes e
-err-after a b (ToErr byte ∷ changes) e = err-after (changed a (ToErr byte)) (changed b (ToErr byte)) changes (ap (λ o. extended o (byte ∷ [])) e)
-err-after a b (Creates other ∷ changes) e = err-after (changed a (Creates other)) (changed b (Creates other)) changes e
-err-after a b (ToFile other byte ∷ changes) e = err-after (changed a (ToFile other byte)) (changed b (ToFile other byte)) changes e
-err-after a b (Removes other ∷ changes) e = err-after (changed a (Removes other)) (changed b (Removes other)) changes e
+pub outputs-after : (a b : World) (changes : List Change) → HaveSameOutputs a b → HaveSameOutputs (changed_by a changes) (changed_by b changes)
+outputs-after a b [] e = e
+outputs-after a b (ToOut byte ∷ changes) e = outputs-after (changed a (ToOut byte)) (changed b (ToOut byte)) changes (ap (λ o. extended o (byte ∷ [])) e.0, e.1)
+outputs-after a b (ToErr byte ∷ changes) e = outputs-after (changed a (ToErr byte)) (changed b (ToErr byte)) changes (e.0, ap (λ o. extended o (byte ∷ [])) e.1)
+outputs-after a b (Creates other ∷ changes) e = outputs-after (changed a (Creates other)) (changed b (Creates other)) changes e
+outputs-after a b (ToFile other byte ∷ changes) e = outputs-after (changed a (ToFile other byte)) (changed b (ToFile other byte)) changes e
+outputs-after a b (Removes other ∷ changes) e = outputs-after (changed a (Removes other)) (changed b (Removes other)) changes e
 
 -- ---- changes of files put nothing on the outputs
 
@@ -109,7 +97,7 @@ IsOfAFile (Creates path) = Unit {0}
 IsOfAFile (ToFile path byte) = Unit {0}
 IsOfAFile (Removes path) = Unit {0}
 
-pub quiet : (world : World) (changes : List Change) → Each IsOfAFile changes → ((changed_by world changes).out ≡ world.out) × ((changed_by world changes).err ≡ world.err)
+pub quiet : (world : World) (changes : List Change) → Each IsOfAFile changes → HaveSameOutputs (changed_by world changes) world
 quiet world [] all = (refl, refl)
 quiet world (ToOut byte ∷ changes) all = absurd all.0
 quiet world (ToErr byte ∷ changes) all = absurd all.0

@@ -1,40 +1,31 @@
-use Rattle.std.proofs.Common.{◌≡◌, ℕ, ◌+◌, ◌-◌, ◌≤◌, Bool, true, false, true≢false, not, cond, List, [], ◌∷◌, ◌++◌, map, length, refl, ap, sym, ◌∙◌, arith}
-use Rattle.std.specs.Prelude.{Option, Some, None, IsSome, IfSome, option_map, find, All, count_by, ◌||◌, ◌&&◌, nat_lt}
+use Rattle.std.proofs.Common.{◌≡◌, ℕ, ◌≤◌, true, false, true≢false, not, cond, List, [], ◌∷◌, map, length, refl, ap, sym, ◌∙◌, inl, inr, arith}
+use Rattle.std.specs.Prelude.{Option, Some, None, IsSome, IfSome, option_map, find, All, count_by, ◌&&◌}
 use Rattle.std.specs.Option.{unwrap_or}
-use Rattle.std.specs.List.{list_any}
-use Rattle.std.specs.Str.{bytes_eq}
 use Rattle.std.specs.FinMap as fin
-use Rattle.std.specs.Cmp.Lexicographic.{slice_cmp, nat_list_cmp_total}
-use Rattle.std.specs.Ordering.{nat_cmp, eq_by_cmp}
-use Rattle.std.specs.Cmp.{eq_by_cmp_equiv}
-use Rattle.std.proofs.lemmas.Bool.{or_parts}
-use Rattle.std.proofs.lemmas.Bool.Decides.{nat_tests}
-use Rattle.std.proofs.lemmas.List.Sums.{sum_by-cons}
+use Rattle.std.proofs.lemmas.Bool.{false_from_ne_true, true_from_ne_false, not_from_false}
 use Rattle.std.proofs.lemmas.List.Elements.{All-cons, All-nil, All-head, All-tail}
 use Rattle.std.proofs.lemmas.Slice.Eq.{bytes_eq-Decides}
-use Rattle.uxn_io.specs.PathText.{parent_of, is_under}
+use Rattle.uxn_io.specs.PathText.{parent_of}
 use Rattle.uxn_io.specs.Changes.{can_create, with_created, with_appended}
 use Rattle.uxn_io.specs.Files.{Nodes, Node, File, file_at, bytes_at, bytes_of, is_folder, is_folder_at, has_parent}
-use Rattle.uxn_io.specs.NodeLaws.{put_elsewhere}
+use Rattle.uxn_io.specs.NodeLaws.{get_put, put_other, put_elsewhere, same_or_other}
 use Rattle.uxn_io.specs.PathLaws.{parent_under}
 use Rattle.uxn_cli.specs.World.{Text, with_empty, with_bytes, with_texts, CanMake, AreFiles, CanFill}
 use Rattle.uxn_words.specs.Places.{meets, clashes}
-use Rattle.uxn_cli.proofs.OutputLemmas.{insert-file}
+use Rattle.varvara_bus.specs.Touching.{differs}
+pub use Rattle.uxn_cli.proofs.PlaceLemmas.{no_clash-fewer}
+use Rattle.uxn_cli.proofs.PlaceLemmas.{one_if, none_parts, count-first, meets_parts, meets_same, clash_parts}
 
 -- ---- what a made file leaves
 
 not_same : (path other : List ℕ) → meets path other ≡ false → path ≡ other → ⊥
-not_same path other apart e =
-    true≢false (sym ((bytes_eq-Decides path other).1 e) ∙ (or_parts (bytes_eq path other) (is_under path other) (or_parts (bytes_eq path other || is_under path other) (is_under other path) apart).0).0)
-
-not_under : (path other : List ℕ) → meets path other ≡ false → is_under path other ≡ false
-not_under path other apart = (or_parts (bytes_eq path other) (is_under path other) (or_parts (bytes_eq path other || is_under path other) (is_under other path) apart).0).1
+not_same path other apart = differs path other (meets_parts path other apart).0
 
 kept_parent : (nodes : Nodes) (path other : List ℕ) (node : Node) → meets path other ≡ false → (parent : Option (List ℕ)) → parent_of path ≡ parent
     → is_folder_at (fin.insert nodes other node) parent ≡ is_folder_at nodes parent
 kept_parent nodes path other node apart None e = refl
 kept_parent nodes path other node apart (Some parent) e =
-    ap is_folder (put_elsewhere nodes other parent node (λ same. true≢false (sym (parent_under path other (e ∙ ap Some same)) ∙ not_under path other apart)))
+    ap is_folder (put_elsewhere nodes other parent node (λ same. true≢false (sym (parent_under path other (e ∙ ap Some same)) ∙ (meets_parts path other apart).1)))
 
 -- a file that can be made still can, once another that does not meet it was made
 create-keeps : (nodes : Nodes) (path other : List ℕ) → meets path other ≡ false → can_create nodes path ≡ true → can_create (with_created other nodes) path ≡ true
@@ -75,73 +66,31 @@ can_all : (nodes : Nodes) (paths : List (List ℕ)) → None ≡ find (λ path. 
 unfolding CanAll
 can_all nodes [] none = tt
 can_all nodes (path ∷ paths) none =
-    elim (can_create nodes path) as (λ b. can_create nodes path ≡ b → None ≡ cond (not b) (Some path) (find (λ p. not (can_create nodes p)) paths) → (can_create nodes path ≡ true) × CanAll paths nodes) [
-      | true ↦ λ can h. (can, can_all nodes paths h)
-      | false ↦ λ can h. absurd cc
-    ] refl none
-
-meets_itself : (path : List ℕ) → meets path path ≡ true
-meets_itself path = let same = (bytes_eq-Decides path path).1 refl in rw same refl
-
-count-head : (p : List ℕ → Bool) (x : List ℕ) (xs : List (List ℕ)) → p x ≡ true → count_by p (x ∷ xs) ≡ 1 + count_by p xs
-count-head p x xs e = sum_by-cons (λ y. cond (p y) 1 0) x xs ∙ ap (λ b. cond b 1 0 + count_by p xs) e
-
-count-tail : (p : List ℕ → Bool) (x : List ℕ) (xs : List (List ℕ)) → count_by p xs ≤ count_by p (x ∷ xs)
-count-tail p x xs = let sum = sum_by-cons (λ y. cond (p y) 1 0) x xs in omega (arith, sum)
+    let here = none_parts (λ q. not (can_create nodes q)) path paths (sym none) in
+    (true_from_ne_false (can_create nodes path) (λ is. true≢false (sym (not_from_false (can_create nodes path) is) ∙ here.0)), can_all nodes paths (sym here.1))
 
 module _ (inputs outputs : List (List ℕ)) where
-  meets_few : (path : List ℕ) → clashes inputs outputs path ≡ false → count_by (meets path) outputs ≤ 1
-  unfolding clashes
-  meets_few path e =
-      let few : nat_lt 1 (count_by (meets path) outputs) ≡ false = (or_parts (nat_lt 1 (count_by (meets path) outputs)) (list_any (bytes_eq path) inputs) e).0 in
-      grind (arith, nat_tests)
-
-  found_none : (path : List ℕ) (paths : List (List ℕ)) → find (clashes inputs outputs) (path ∷ paths) ≡ None → (clashes inputs outputs path ≡ false) × (find (clashes inputs outputs) paths ≡ None)
-  found_none path paths e =
-      elim (clashes inputs outputs path) as (λ b. clashes inputs outputs path ≡ b → cond b (Some path) (find (clashes inputs outputs) paths) ≡ None
-      → (clashes inputs outputs path ≡ false) × (find (clashes inputs outputs) paths ≡ None)) [
-        | true ↦ λ c h. absurd cc
-        | false ↦ λ c h. (c, h)
-      ] refl e
-
   avoids : (path : List ℕ) (rest some : List (List ℕ)) → find (clashes inputs outputs) some ≡ None → ((q : List ℕ) → count_by (meets q) some ≤ count_by (meets q) rest)
       → ((q : List ℕ) → count_by (meets q) (path ∷ rest) ≤ count_by (meets q) outputs) → Avoids path some
   unfolding Avoids
   avoids path rest [] none within all = tt
   avoids path rest (other ∷ others) none within all =
-      let here = found_none other others none in (
-        elim (meets other path) as (λ b. meets other path ≡ b → b ≡ false) [
-          | true ↦ λ t. absurd (omega (arith, meets_few other here.0, within other, all other, count-head (meets other) other others (meets_itself other), count-head (meets other) path rest t))
-          | false ↦ λ t. refl
-        ] refl,
-        avoids path rest others here.1 (λ q. omega (arith, within q, count-tail (meets q) other others)) all,
+      let here = none_parts (clashes inputs outputs) other others none in
+      let few = (clash_parts inputs outputs other here.0).0 in
+      let itself = ap one_if (meets_same other other ((bytes_eq-Decides other other).1 refl)) in (
+        false_from_ne_true (meets other path)
+            (λ is.
+            let one = ap one_if is in
+            omega (arith, few, within other, all other, count-first (meets other) other others, itself, count-first (meets other) path rest, one)),
+        avoids path rest others here.1 (λ q. omega (arith, within q, count-first (meets q) other others)) all,
       )
 
   apart_from : (paths : List (List ℕ)) → find (clashes inputs outputs) paths ≡ None → ((q : List ℕ) → count_by (meets q) paths ≤ count_by (meets q) outputs) → AreApart paths
   unfolding AreApart
   apart_from [] none within = tt
   apart_from (path ∷ paths) none within =
-      let here = found_none path paths none in
-      (avoids path paths paths here.1 (λ q. omega arith) within, apart_from paths here.1 (λ q. omega (arith, within q, count-tail (meets q) path paths)))
-
--- paths that clash with no more places clash with fewer
-counted-more : (p : List ℕ → Bool) (more places : List (List ℕ)) → count_by p places ≤ count_by p (more ++ places)
-counted-more p [] places = omega arith
-counted-more p (x ∷ more) places = omega (arith, counted-more p more places, count-tail p x (more ++ places))
-
-clash-fewer : (inputs more places : List (List ℕ)) (path : List ℕ) → clashes inputs (more ++ places) path ≡ false → clashes inputs places path ≡ false
-unfolding clashes
-clash-fewer inputs more places path e =
-    let few : nat_lt 1 (count_by (meets path) (more ++ places)) ≡ false = (or_parts (nat_lt 1 (count_by (meets path) (more ++ places))) (list_any (bytes_eq path) inputs) e).0 in
-    let last : list_any (bytes_eq path) inputs ≡ false = (or_parts (nat_lt 1 (count_by (meets path) (more ++ places))) (list_any (bytes_eq path) inputs) e).1 in
-    let fewer : nat_lt 1 (count_by (meets path) places) ≡ false = (let le = counted-more (meets path) more places in grind (arith, nat_tests)) in
-    rw (fewer, last) refl
-
-pub no_clash-fewer : (inputs more places paths : List (List ℕ)) → find (clashes inputs (more ++ places)) paths ≡ None → find (clashes inputs places) paths ≡ None
-no_clash-fewer inputs more places [] e = refl
-no_clash-fewer inputs more places (path ∷ paths) e =
-    let here = found_none inputs (more ++ places) path paths e in
-    rw (clash-fewer inputs more places path here.0) (no_clash-fewer inputs more places paths here.1)
+      let rest = (none_parts (clashes inputs outputs) path paths none).1 in
+      (avoids path paths paths rest (λ q. omega arith) within, apart_from paths rest (λ q. omega (arith, within q, count-first (meets q) path paths)))
 
 -- the outputs of a task that do not clash and that are not blocked
 pub makes_all : (inputs : List (List ℕ)) (texts : List Text) (nodes : Nodes) → find (clashes inputs (map (λ t. t.path) texts)) (map (λ t. t.path) texts) ≡ None
@@ -150,90 +99,76 @@ makes_all inputs texts nodes apart can =
     let paths = map (λ t. t.path) texts in
     can_make texts nodes (apart_from inputs paths paths apart (λ q. omega arith)) (can_all nodes paths can)
 
--- ---- files that were made are there
+-- ---- files that were made are there, and are empty
 
-created-keeps : (nodes : Nodes) (path other : List ℕ) → IsSome (file_at nodes other) → IsSome (file_at (with_created path nodes) other)
-created-keeps nodes path other h =
-    elim (can_create nodes path) as (λ b. IsSome (file_at (cond b (fin.insert nodes path (File [])) nodes) other)) [ true ↦ insert-file nodes path other [] h | false ↦ h ]
+abbrev IsMade : List ℕ → Nodes → Type 0
+IsMade path nodes = fin.get nodes path ≡ Some (File [])
 
-created-file : (nodes : Nodes) (path : List ℕ) → can_create nodes path ≡ true → IsSome (file_at (with_created path nodes) path)
-created-file nodes path can =
-    let here = fin.get-insert nat_list_cmp_total nodes path (File []) path ∙ ap (λ b. cond b (Some (File [])) (fin.get nodes path)) ((eq_by_cmp_equiv nat_list_cmp_total).refl path) in
-    rw (can, here) refl
+created-here : (nodes : Nodes) (path : List ℕ) → can_create nodes path ≡ true → IsMade path (with_created path nodes)
+created-here nodes path can = rw can (get_put nodes path (File []))
 
-empty-keeps : (texts : List Text) (nodes : Nodes) (path : List ℕ) → IsSome (file_at nodes path) → IsSome (file_at (with_empty texts nodes) path)
-empty-keeps [] nodes path h = h
-empty-keeps (text ∷ texts) nodes path h = empty-keeps texts (with_created text.path nodes) path (created-keeps nodes text.path path h)
+created-stays : (nodes : Nodes) (path other : List ℕ) → IsMade other nodes → IsMade other (with_created path nodes)
+created-stays nodes path other is = elim (can_create nodes path) as (λ b. IsMade other (cond b (fin.insert nodes path (File [])) nodes)) [
+  | true ↦ elim (same_or_other other path) [
+    | inl same ↦ ap (λ q. fin.get (fin.insert nodes path (File [])) q) same ∙ get_put nodes path (File [])
+    | inr apart ↦ put_other nodes path other (File []) apart ∙ is
+  ]
+  | false ↦ is
+]
 
-are_files : (texts : List Text) (nodes : Nodes) → CanMake texts nodes → AreFiles texts (with_empty texts nodes)
-unfolding CanMake
-are_files [] nodes can = All-nil (λ (t : Text). IsSome (file_at nodes t.path))
-are_files (text ∷ texts) nodes can =
-    All-cons (λ (t : Text). IsSome (file_at (with_empty texts (with_created text.path nodes)) t.path)) text texts
-    (empty-keeps texts (with_created text.path nodes) text.path (created-file nodes text.path can.0)) (are_files texts (with_created text.path nodes) can.1)
+made-stays : (texts : List Text) (nodes : Nodes) (path : List ℕ) → IsMade path nodes → IsMade path (with_empty texts nodes)
+made-stays [] nodes path is = is
+made-stays (text ∷ texts) nodes path is = made-stays texts (with_created text.path nodes) path (created-stays nodes text.path path is)
+
+AreMade : List Text → Nodes → Type 0
+AreMade [] nodes = Unit {0}
+AreMade (text ∷ texts) nodes = IsMade text.path nodes × AreMade texts nodes
+
+are_made : (texts : List Text) (nodes : Nodes) → CanMake texts nodes → AreMade texts (with_empty texts nodes)
+unfolding CanMake AreMade
+are_made [] nodes can = tt
+are_made (text ∷ texts) nodes can =
+    (made-stays texts (with_created text.path nodes) text.path (created-here nodes text.path can.0), are_made texts (with_created text.path nodes) can.1)
+
+are_files : (texts : List Text) (nodes : Nodes) → AreMade texts nodes → AreFiles texts nodes
+unfolding AreMade
+are_files [] nodes made = All-nil (λ (t : Text). IsSome (file_at nodes t.path))
+are_files (text ∷ texts) nodes made = All-cons (λ (t : Text). IsSome (file_at nodes t.path)) text texts (rw made.0 refl) (are_files texts nodes made.1)
 
 pub made_files : (texts : List Text) (before now : Option Nodes) → now ≡ option_map (with_empty texts) before → IfSome before (CanMake texts) → IfSome now (AreFiles texts)
 made_files texts None now e can = rw e tt
-made_files texts (Some nodes) now e can = rw e (are_files texts nodes can)
+made_files texts (Some nodes) now e can = rw e (are_files texts (with_empty texts nodes) (are_made texts nodes can))
 
 pub all_written : (texts : List Text) (before made now : Option Nodes) → made ≡ option_map (with_empty texts) before → now ≡ option_map (with_bytes texts) made → now ≡ option_map (with_texts texts) before
 unfolding with_texts
 all_written texts None made now e f = f ∙ ap (option_map (with_bytes texts)) e
 all_written texts (Some nodes) made now e f = f ∙ ap (option_map (with_bytes texts)) e
 
--- ---- files that were made are empty, and can be filled one after the other
+-- ---- so they can be filled one after the other
 
-AreEmpty : List Text → Nodes → Type 0
-AreEmpty [] nodes = Unit {0}
-AreEmpty (text ∷ texts) nodes = (bytes_at nodes text.path ≡ []) × AreEmpty texts nodes
+appended-other : (nodes : Nodes) (path other bytes : List ℕ) → (other ≡ path → ⊥) → IsMade other nodes → IsMade other (with_appended path bytes nodes)
+appended-other nodes path other [] apart is = is
+appended-other nodes path other (byte ∷ more) apart is = put_elsewhere nodes path other _ apart ∙ is
 
-empty_or : (b : Bool) (o : Option Node) → unwrap_or (bytes_of o) [] ≡ [] → unwrap_or (bytes_of (cond b (Some (File [])) o)) [] ≡ []
-empty_or true o h = refl
-empty_or false o h = h
+made_rest : (path bytes : List ℕ) (texts : List Text) (nodes : Nodes) → Avoids path (map (λ t. t.path) texts) → AreMade texts nodes → AreMade texts (with_appended path bytes nodes)
+unfolding Avoids AreMade
+made_rest path bytes [] nodes avoid made = tt
+made_rest path bytes (text ∷ texts) nodes avoid made =
+    (appended-other nodes path text.path bytes (not_same text.path path avoid.0) made.0, made_rest path bytes texts nodes avoid.1 made.1)
 
-created-empty : (nodes : Nodes) (path other : List ℕ) → bytes_at nodes other ≡ [] → bytes_at (with_created path nodes) other ≡ []
-created-empty nodes path other h =
-    elim (can_create nodes path) as (λ b. bytes_at (cond b (fin.insert nodes path (File [])) nodes) other ≡ []) [
-      | true ↦ rw (fin.get-insert nat_list_cmp_total nodes path (File []) other) (empty_or (eq_by_cmp (slice_cmp nat_cmp) other path) (fin.get nodes other) h)
-      | false ↦ h
-    ]
-
-created-is_empty : (nodes : Nodes) (path : List ℕ) → can_create nodes path ≡ true → bytes_at (with_created path nodes) path ≡ []
-created-is_empty nodes path can =
-    let here = fin.get-insert nat_list_cmp_total nodes path (File []) path ∙ ap (λ b. cond b (Some (File [])) (fin.get nodes path)) ((eq_by_cmp_equiv nat_list_cmp_total).refl path) in
-    rw (can, here) refl
-
-empty-stays : (texts : List Text) (nodes : Nodes) (path : List ℕ) → bytes_at nodes path ≡ [] → bytes_at (with_empty texts nodes) path ≡ []
-empty-stays [] nodes path h = h
-empty-stays (text ∷ texts) nodes path h = empty-stays texts (with_created text.path nodes) path (created-empty nodes text.path path h)
-
-are_empty : (texts : List Text) (nodes : Nodes) → CanMake texts nodes → AreEmpty texts (with_empty texts nodes)
-unfolding CanMake AreEmpty
-are_empty [] nodes can = tt
-are_empty (text ∷ texts) nodes can =
-    (empty-stays texts (with_created text.path nodes) text.path (created-is_empty nodes text.path can.0), are_empty texts (with_created text.path nodes) can.1)
-
-appended-other : (nodes : Nodes) (path other bytes : List ℕ) → (other ≡ path → ⊥) → bytes_at nodes other ≡ [] → bytes_at (with_appended path bytes nodes) other ≡ []
-appended-other nodes path other [] apart h = h
-appended-other nodes path other (byte ∷ more) apart h = ap (λ n. unwrap_or (bytes_of n) []) (put_elsewhere nodes path other _ apart) ∙ h
-
-empty_rest : (path bytes : List ℕ) (texts : List Text) (nodes : Nodes) → Avoids path (map (λ t. t.path) texts) → AreEmpty texts nodes → AreEmpty texts (with_appended path bytes nodes)
-unfolding Avoids AreEmpty
-empty_rest path bytes [] nodes avoid empty = tt
-empty_rest path bytes (text ∷ texts) nodes avoid empty =
-    (appended-other nodes path text.path bytes (not_same text.path path avoid.0) empty.0, empty_rest path bytes texts nodes avoid.1 empty.1)
-
-can_fill : (limit : ℕ) (texts : List Text) (nodes : Nodes) → AreApart (map (λ t. t.path) texts) → AreEmpty texts nodes → All (λ t. length t.bytes ≤ limit) texts → CanFill limit texts nodes
-unfolding AreApart AreEmpty CanFill
-can_fill limit [] nodes apart empty small = tt
-can_fill limit (text ∷ texts) nodes apart empty small = (
-  rw empty.0 (let one = All-head (λ (t : Text). length t.bytes ≤ limit) text texts small in omega (arith, one)),
-  can_fill limit texts (with_appended text.path text.bytes nodes) apart.1 (empty_rest text.path text.bytes texts nodes apart.0 empty.1) (All-tail (λ (t : Text). length t.bytes ≤ limit) text texts small),
-)
+can_fill : (limit : ℕ) (texts : List Text) (nodes : Nodes) → AreApart (map (λ t. t.path) texts) → AreMade texts nodes → All (λ t. length t.bytes ≤ limit) texts → CanFill limit texts nodes
+unfolding AreApart AreMade CanFill
+can_fill limit [] nodes apart made small = tt
+can_fill limit (text ∷ texts) nodes apart made small =
+    let none : bytes_at nodes text.path ≡ [] = ap (λ (o : Option Node). unwrap_or (bytes_of o) []) made.0 in (
+      rw none (let one = All-head (λ (t : Text). length t.bytes ≤ limit) text texts small in omega (arith, one)),
+      can_fill limit texts (with_appended text.path text.bytes nodes) apart.1 (made_rest text.path text.bytes texts nodes apart.0 made.1)
+          (All-tail (λ (t : Text). length t.bytes ≤ limit) text texts small),
+    )
 
 pub fills_all : (inputs : List (List ℕ)) (texts : List Text) (nodes : Nodes) (limit : ℕ) → find (clashes inputs (map (λ t. t.path) texts)) (map (λ t. t.path) texts) ≡ None
     → None ≡ find (λ path. not (can_create nodes path)) (map (λ t. t.path) texts) → All (λ t. length t.bytes ≤ limit) texts → CanFill limit texts (with_empty texts nodes)
 fills_all inputs texts nodes limit apart can small =
     let paths = map (λ t. t.path) texts in
     let all_apart = apart_from inputs paths paths apart (λ q. omega arith) in
-    can_fill limit texts (with_empty texts nodes) all_apart (are_empty texts nodes (can_make texts nodes all_apart (can_all nodes paths can))) small
+    can_fill limit texts (with_empty texts nodes) all_apart (are_made texts nodes (can_make texts nodes all_apart (can_all nodes paths can))) small

@@ -1,15 +1,21 @@
-use Rattle.std.proofs.Common.{◌≡◌, ℕ, ◌<◌, length, arith, not, List, [], ◌∷◌, map, refl, ap, ap₂, sym, ◌∙◌, subst, inl}
-use Rattle.std.specs.Prelude.{Option, Some, None, Result, Ok, Err, IfSome, option_map, option_to_list, find, ◌++◌}
+-- The files that are written out of a source.
+use Rattle.std.proofs.Common.{◌≡◌, ℕ, ◌<◌, length, arith, List, map, refl, ap, ap₂, sym, ◌∙◌, subst, inl, inr, append_assoc, append-nil}
+use Rattle.std.specs.List.{list_any}
+use Rattle.std.specs.Str.{bytes_eq}
+use Rattle.std.specs.Prelude.{true, Option, Some, None, Result, Ok, Err, IfSome, option_map, option_to_list, not, find, ◌++◌}
 use Rattle.std.proofs.lemmas.List.{map-append, length-map}
-use Rattle.uxn_io.specs.declared.trees.FileBytes.TheVariants.{Missing as NoFile}
 use Rattle.uxn_io.specs.Changes.{can_create}
+use Rattle.uxn_io.specs.Faults.{TheTree, Counts, Ledger, counts}
 use Rattle.uxn_io.specs.Files.{Nodes}
-use Rattle.uxn_io.specs.Room.{Room, Leaves}
+use Rattle.uxn_io.specs.Room.{Leaves}
 use Rattle.tal_sources.specs.Sources.{Sourced}
 use Rattle.uxn_opcodes.specs.declared.Stop.TheVariants.{TreeFault, SinkFault, NoMemory}
-use Rattle.uxn_cli.specs.declared.outputs.Output.{Output}
 use Rattle.uxn_words.specs.declared.task.Task.{Task}
 use Rattle.uxn_words.specs.declared.words.Command.TheVariants.{Assemble}
+use Rattle.uxn_words.specs.Places.{inputs_by, outputs_by, outputs_of, root_by, HasApartOutputs}
+use Rattle.uxn_words.specs.Tasks.{role_path}
+use Rattle.uxn_words.specs.declared.role.Role.TheVariants as role
+use Rattle.uxn_cli.specs.declared.outputs.Output.{Output}
 use Rattle.uxn_cli.specs.declared.refusal.Refusal.{Refusal}
 use Rattle.uxn_cli.specs.declared.refusal.Refusal.TheVariants.{NoOutput}
 use Rattle.uxn_cli.specs.declared.refusal.Halt.{Halt}
@@ -17,68 +23,21 @@ use Rattle.uxn_cli.specs.declared.refusal.Halt.TheVariants.{Refused, Stopped}
 use Rattle.uxn_cli.specs.World.{world, Text, with_empty, with_texts, CanMake, CanFill, HasWrittenFront}
 use Rattle.uxn_cli.specs.Outputs.{seen_text, seen_texts, paths_of}
 use Rattle.uxn_cli.specs.Job.{text_at}
-use Rattle.uxn_words.specs.Places.{root_by, HasApartOutputs}
-use Rattle.uxn_cli.specs.Prepared.{Sees, Accepts, AreFree}
+use Rattle.uxn_cli.specs.Outside.{TreeSeen, SinkSeen, outside, DoesWork}
+use Rattle.uxn_cli.specs.Prepared.{Sees, SeesWork, IsPlanned, AreFree, LooksAt, inputs_seen}
 use Rattle.uxn_cli.specs.Setup.{InputFile}
-use Rattle.uxn_cli.specs.Verdict.{and_then, View, Work, Write, Plan, planned, source_at, source_in, texts_of, inputs_by, outputs_by, outputs_of, clashes, blocked_seen, work_of, first_unmade, made_by, made_for, judged}
-use Rattle.uxn_cli.specs.Answer.{IsViewOf, Judges, HasEnded, IsRefused, HasCut, Performs}
-use Rattle.uxn_cli.proofs.ChangeLemmas.{written-changes, written-cut}
-use Rattle.uxn_cli.proofs.VerdictLemmas.{unlooked, unread_script, unread_commands, unseen_part, unseen_parent, unread_named}
+use Rattle.uxn_cli.specs.Verdict.{and_then, View, Work, Write, Plan, planned, source_at, source_in, texts_of, work_of}
+use Rattle.uxn_cli.specs.Answer.{Judges, Performs}
+use Rattle.uxn_cli.specs.Blame.{blame_in}
 use Rattle.uxn_cli.specs.Causes.{verdict_on}
-use Rattle.uxn_cli.specs.Room.{Takes, TakesFor, TreeSuffices}
-use Rattle.uxn_cli.proofs.ApartLemmas.{makes_all, fills_all}
-use Rattle.uxn_cli.proofs.CauseLemmas.{told_verdict}
-use Rattle.uxn_cli.proofs.SureLemmas.{fills_more}
-
--- the view of `asm`
-abbrev pub asm_view : (tree : Option Nodes) (task : Task) → InputFile → Option (List ℕ) → View
-asm_view tree task file blocked = record {
-  file = file;
-  symbols = NoFile;
-  script = (unread_script tree task).0;
-  commands = (unread_commands tree task).0;
-  part = (unseen_part tree task).0;
-  parent = (unseen_parent tree task).0;
-  named = (unread_named tree task).0;
-  blocked = blocked;
-}
-
-pub sees_asm : (tree : Option Nodes) (task : Task) (file : InputFile) (blocked : Option (List ℕ)) → task.command ≡ Assemble
-    → IfSome tree (λ nodes. file ≡ source_at nodes task.file) → IfSome tree (λ nodes. blocked ≡ blocked_seen nodes task) → IsViewOf tree task (asm_view tree task file blocked)
-sees_asm None task file blocked asm found looked = record { file = tt; symbols = tt; script = tt; commands = tt; part = tt; parent = tt; named = tt; blocked = tt }
-sees_asm (Some nodes) task file blocked asm found looked = record { file = rw asm found; symbols = rw asm refl; script = refl; commands = refl; part = refl; parent = refl; named = refl; blocked = looked }
-
--- the work of `asm`
-abbrev pub asm_plan : Task → Sourced → Plan
-asm_plan task source = planned (Write (texts_of task source.text)) source.paths
-
-then_made : (said : Result Sourced Refusal) (work : Sourced → Plan) (next : Plan → Result Work Refusal)
-    → and_then (and_then said (λ source. Ok (work source))) next ≡ and_then said (λ source. next (work source))
-then_made (Ok source) work next = refl
-then_made (Err refusal) work next = refl
-
-pub judged-asm : (tree : Option Nodes) (task : Task) (file : InputFile) (blocked : Option (List ℕ)) → task.command ≡ Assemble
-    → judged task (asm_view tree task file blocked) ≡ and_then (source_in task.file file) (λ source. made_for task blocked (asm_plan task source))
-judged-asm tree task file blocked asm =
-    ap (λ c. and_then (work_of c task (asm_view tree task file blocked)) (made_for task blocked)) asm ∙ then_made (source_in task.file file) (asm_plan task) (made_for task blocked)
-
--- the source was refused, or could not be read
-pub asm-unsourced : (task : Task) (tree now : Option Nodes) (out err : Option (List ℕ)) (halt : Halt) → task.command ≡ Assemble
-    → Accepts {B = Sourced} (λ source. source) tree (λ nodes. source_at nodes task.file) (source_in task.file) (Err halt) → now ≡ tree
-    → Performs (Ok task) (world tree out err) (world now out err) (Err halt)
-asm-unsourced task tree now out err (Refused refusal) asm sees same =
-    let blocked = unlooked tree task in
-    record {
-      judges = record {
-        view = asm_view tree task sees.file blocked.0;
-        seen = sees_asm tree task sees.file blocked.0 asm sees.seen blocked.1;
-        judged = judged-asm tree task sees.file blocked.0 asm ∙ ap (λ said. and_then said (λ source. made_for task blocked.0 (asm_plan task source))) sees.said_so;
-      };
-      same = ap (λ t. world t out err) same;
-    }
-asm-unsourced task tree now out err (Stopped TreeFault) asm other same = inl (ap (λ t. world t out err) same)
-asm-unsourced task tree now out err (Stopped NoMemory) asm other same = inl (ap (λ t. world t out err) same)
-asm-unsourced task tree now out err (Stopped SinkFault) asm other same = absurd (other refl)
+use Rattle.uxn_cli.specs.Room.{Takes, TakesFor, TreeSuffices, SinksSuffice}
+use Rattle.uxn_cli.proofs.ApartLemmas.{no_clash-fewer, fills_all}
+use Rattle.uxn_cli.proofs.ChangeLemmas.{written-changes, written-cut}
+use Rattle.uxn_cli.proofs.MakingLemmas.{can_make, is_unmade}
+use Rattle.uxn_cli.proofs.OutputLemmas.{seen_paths}
+use Rattle.uxn_cli.proofs.SeesLemmas.{inputs_or, sees-work}
+use Rattle.uxn_cli.proofs.SureLemmas.{always, never}
+use Rattle.uxn_cli.proofs.WorkLemmas.{judges_work, is_verdict, is_refused, halted, does-after}
 
 -- the files that are written are the outputs
 path-text_at : (path : Option (List ℕ)) (bytes : List ℕ) → map (λ (t : Text). t.path) (text_at path bytes) ≡ option_to_list path
@@ -87,114 +46,163 @@ path-text_at (Some path) bytes = refl
 
 pub paths-texts_of : (task : Task) (source : List ℕ) → map (λ (t : Text). t.path) (texts_of task source) ≡ outputs_by Assemble task
 paths-texts_of task source =
-    map-append (λ (t : Text). t.path) (text_at task.out _ ++ text_at task.symbols _) (text_at task.listing _)
+    map-append (λ (t : Text). t.path) (text_at (role_path task role.Out) _ ++ text_at (role_path task role.Symbols) _) (text_at (role_path task role.Listing) _)
     ∙ ap₂ (λ a b. a ++ b)
-    (map-append (λ (t : Text). t.path) (text_at task.out _) (text_at task.symbols _) ∙ ap₂ (λ a b. a ++ b) (path-text_at task.out _) (path-text_at task.symbols _))
-    (path-text_at task.listing _)
+    (map-append (λ (t : Text). t.path) (text_at (role_path task role.Out) _) (text_at (role_path task role.Symbols) _) ∙ ap₂ (λ a b. a ++ b) (path-text_at (role_path task role.Out) _) (path-text_at (role_path task role.Symbols) _))
+    (path-text_at (role_path task role.Listing) _)
+    ∙ append_assoc (option_to_list (role_path task role.Out)) (option_to_list (role_path task role.Symbols)) (option_to_list (role_path task role.Listing))
+    ∙ ap (λ listing. option_to_list (role_path task role.Out) ++ (option_to_list (role_path task role.Symbols) ++ listing)) (sym (append-nil (option_to_list (role_path task role.Listing))))
 
-pub seen_paths : (outputs : List Output) → map (λ (t : Text). t.path) (seen_texts outputs) ≡ paths_of outputs
-seen_paths [] = refl
-seen_paths (output ∷ outputs) = ap (λ ps. output.path ∷ ps) (seen_paths outputs)
+-- ---- what is asked for, by what the source says
 
-module _ (task : Task) (asm : task.command ≡ Assemble) (tree : Option Nodes) (source : Sourced) (outputs : List Output)
-    (sees : Sees tree (λ nodes. source_at nodes task.file) (source_in task.file) (Ok source))
-    (texts : seen_texts outputs ≡ texts_of task source.text) where
-  text_paths : map (λ (t : Text). t.path) (seen_texts outputs) ≡ outputs_of task
-  text_paths = ap (map (λ (t : Text). t.path)) texts ∙ paths-texts_of task source.text ∙ ap (λ c. outputs_by c task) (sym asm)
+module _ (task : Task) (tree : Option Nodes) (asm : task.command ≡ Assemble) where
+  abbrev put_in : Option Nodes → InputFile → View
+  put_in t file = record (inputs_or t task) { file = file }
 
+  abbrev by_source : Sourced → Plan
+  by_source source = planned (Write (texts_of task source.text)) source.paths
+
+  pub asm-sees : (said : Result Sourced Refusal) → Sees tree (λ nodes. source_at nodes task.file) (source_in task.file) said
+      → SeesWork tree task (and_then said (λ source. Ok (by_source source)))
+  asm-sees said sees =
+      sees-work tree task (λ nodes. source_at nodes task.file) (λ file. and_then (source_in task.file file) (λ source. Ok (by_source source))) (put_in tree) _ (fits tree)
+      (λ file. ap (λ c. work_of c task (put_in tree file)) asm)
+      (record { file = sees.file; seen = sees.seen; said_so = ap (λ s. and_then s (λ source. Ok (by_source source))) sees.said_so })
+    where
+      fits : (t : Option Nodes) → IfSome t (λ nodes. put_in t (source_at nodes task.file) ≡ inputs_seen nodes task)
+      fits None = tt
+      fits (Some nodes) = rw asm refl
+
+  pub asm-planned : (source : Sourced) (texts : List Text) → texts ≡ texts_of task source.text
+      → Sees tree (λ nodes. source_at nodes task.file) (source_in task.file) (Ok source) → IsPlanned tree task (Write texts) source.paths
+  asm-planned source texts is sees = rw is (record {
+    outputs = ap (λ c. outputs_by c task) asm ∙ sym (paths-texts_of task source.text);
+    sees = asm-sees (Ok source) sees;
+  })
+
+-- ---- files that are written
+
+module _ (task : Task) (start : TreeSeen) (outputs : List Output) (included : List (List ℕ))
+    (plan : IsPlanned start.told task (Write (seen_texts outputs)) included) (apart : HasApartOutputs task) where
   paths : paths_of outputs ≡ outputs_of task
-  paths = sym (seen_paths outputs) ∙ text_paths
+  paths = sym (plan.outputs ∙ seen_paths outputs)
 
-  looked_at : (blocked : Option (List ℕ)) → IfSome tree (λ nodes. blocked ≡ find (λ path. not (can_create nodes path)) (paths_of outputs)) → IfSome tree (λ nodes. blocked ≡ blocked_seen nodes task)
-  looked_at blocked looked = rw paths at looked
+  module _ (looked : AreFree start.told included (paths_of outputs)) where
+    free : AreFree start.told included (outputs_of task)
+    free = subst (AreFree start.told included) paths looked
 
-  judges_asm : (blocked first : Option (List ℕ)) → IfSome tree (λ nodes. blocked ≡ find (λ path. not (can_create nodes path)) (paths_of outputs))
-      → first_unmade blocked source.paths (paths_of outputs) ≡ first → Judges (Ok task) tree (made_by first (Write (texts_of task source.text)))
-  judges_asm blocked first looked is = record {
-    view = asm_view tree task sees.file blocked;
-    seen = sees_asm tree task sees.file blocked asm sees.seen (looked_at blocked looked);
-    judged = judged-asm tree task sees.file blocked asm ∙ ap (λ said. and_then said (λ s. made_for task blocked (asm_plan task s))) sees.said_so
-        ∙ ap (λ found. made_by found (Write (texts_of task source.text))) (ap (first_unmade blocked source.paths) (sym paths) ∙ is);
-  }
+    pub can_write : IfSome start.told (CanMake (seen_texts outputs))
+    can_write = can_make task start.told outputs paths apart included looked start.told refl
 
-  judges_free : AreFree tree source.paths (paths_of outputs) → Judges (Ok task) tree (Ok (Write (texts_of task source.text)))
-  judges_free free = judges_asm None None free.looked free.apart
-
-  -- `asm` has no root
-  no_clash : HasApartOutputs task → find (clashes (inputs_by task.command task) (outputs_of task)) (outputs_of task) ≡ None
-  no_clash apart = ap (λ c. find (clashes (inputs_by task.command task) (option_to_list (root_by c task) ++ outputs_of task)) (outputs_of task)) (sym asm) ∙ apart
-
-  -- what was looked at can be made
-  pub can_write : (told : Option Nodes) → told ≡ tree → HasApartOutputs task
-      → AreFree tree source.paths (paths_of outputs) → IfSome told (CanMake (seen_texts outputs))
-  can_write told same apart free = rw same (go tree (rw paths at free.looked))
-    where
-      go : (t : Option Nodes) → IfSome t (λ nodes. None ≡ find (λ path. not (can_create nodes path)) (outputs_of task)) → IfSome t (CanMake (seen_texts outputs))
-      go None l = tt
-      go (Some nodes) l = makes_all (inputs_by task.command task) (seen_texts outputs) nodes (rw text_paths (no_clash apart)) (rw text_paths l)
-
-  -- the files that the verdict asks for are surely written
-  pub sure_files : (start here : Room) (P : Type 0) → HasApartOutputs task
-      → AreFree tree source.paths (paths_of outputs) → Leaves start here 0 0
-      → IfSome tree (λ nodes. length outputs < here.files → CanFill here.bytes (seen_texts outputs) (with_empty (seen_texts outputs) nodes) → P)
-      → IfSome tree (λ nodes. TreeSuffices (verdict_on nodes (Ok task)) start nodes → P)
-  sure_files start here P apart free left sure = go tree (judges_free free) (rw paths at free.looked) sure
-    where
-      go : (t : Option Nodes) → Judges (Ok task) t (Ok (Write (texts_of task source.text))) → IfSome t (λ nodes. None ≡ find (λ path. not (can_create nodes path)) (outputs_of task))
-          → IfSome t (λ nodes. length outputs < here.files → CanFill here.bytes (seen_texts outputs) (with_empty (seen_texts outputs) nodes) → P)
-          → IfSome t (λ nodes. TreeSuffices (verdict_on nodes (Ok task)) start nodes → P)
-      go None j l s = tt
-      go (Some nodes) j l s = λ takes.
-          let V : Result Work Refusal → Type 0 = λ v. TakesFor v start nodes in
-          let room : Takes start (texts_of task source.text) = subst V (sym (told_verdict nodes (Ok task) (Ok (Write (texts_of task source.text))) j)) takes.takes in
-          let mine : Takes start (seen_texts outputs) = rw texts room in
-          let few = mine.files in
-          let count = length-map outputs seen_text in
-          let some : 0 < start.files = omega arith in
-          let more = left.files some in
-          let size = left.bytes some in
-          s (omega (arith, few, count, more)) (fills_more start.bytes here.bytes (seen_texts outputs) (with_empty (seen_texts outputs) nodes) size
-          (fills_all (inputs_by task.command task) (seen_texts outputs) nodes start.bytes (rw text_paths (no_clash apart)) (rw text_paths l) mine.bytes))
-
-  module _ (out err : Option (List ℕ)) (now : Option Nodes) where
-    -- an output that cannot be made, or is an included file
-    pub is_blocked : (blocked : Option (List ℕ)) (path : List ℕ) → IfSome tree (λ nodes. blocked ≡ find (λ p. not (can_create nodes p)) (paths_of outputs))
-        → Some path ≡ first_unmade blocked source.paths (paths_of outputs) → now ≡ tree → IsRefused (Ok task) (world tree out err) (world now out err) (NoOutput path)
-    is_blocked blocked path looked is same = record { judges = judges_asm blocked (Some path) looked (sym is); same = ap (λ t. world t out err) same }
-
-    can_here : HasApartOutputs task → AreFree tree source.paths (paths_of outputs) → IfSome tree (CanMake (texts_of task source.text))
-    can_here apart free = rw texts at (can_write tree refl apart free)
-
-    -- a fault while the files were written
-    pub is_cut : HasApartOutputs task → AreFree tree source.paths (paths_of outputs)
-        → HasWrittenFront tree now (seen_texts outputs) → HasCut (Ok task) (world tree out err) (world now out err) TreeFault
-    is_cut apart free front = record {
-      found = Ok (Write (texts_of task source.text));
-      judges = judges_free free;
-      may = inl tt;
-      front = inl (record { cut = written-cut out err (texts_of task source.text) tree now (can_here apart free) (rw (← texts) front); short = λ text. absurd text });
-    }
-
-    -- all files were written
-    pub is_written : HasApartOutputs task → AreFree tree source.paths (paths_of outputs)
-        → now ≡ option_map (with_texts (seen_texts outputs)) tree → HasEnded (Ok task) (world tree out err) (world now out err) 0
-    is_written apart free written = record {
-      found = Ok (Write (texts_of task source.text));
-      judges = judges_free free;
-      has = inl (record {
-        status = refl;
-        world = ap (λ t. world t out err) (written ∙ ap (λ ts. option_map (with_texts ts) tree) texts) ∙ sym (written-changes out err (texts_of task source.text) tree (can_here apart free));
-      });
-    }
-
-    -- a file that a tree which tells nothing did not make: it is the one that is blocked
-    pub is_unmade : (path : List ℕ) → AreFree tree source.paths (paths_of outputs) → tree ≡ None → now ≡ None → first_unmade (Some path) source.paths (paths_of outputs) ≡ Some path
-        → IsRefused (Ok task) (world tree out err) (world now out err) (NoOutput path)
-    is_unmade path free none gone is = record {
-      judges = judges_asm (Some path) (Some path) (untold tree none) is;
-      same = ap (λ t. world t out err) (gone ∙ sym none);
-    }
+    -- the files that the verdict asks for are surely written
+    sure_files : (P : Type 0) → IfSome start.told (λ nodes. length outputs < start.sure.files
+        → CanFill start.sure.bytes (seen_texts outputs) (with_empty (seen_texts outputs) nodes) → P)
+        → IfSome start.told (λ nodes. TreeSuffices (verdict_on nodes (Ok task)) start.sure nodes → P)
+    sure_files P sure = go start.told (is_verdict task start.told (Write (seen_texts outputs)) included plan free) free.looked sure
       where
-        untold : (t : Option Nodes) → t ≡ None → IfSome t (λ nodes. Some path ≡ find (λ p. not (can_create nodes p)) (paths_of outputs))
-        untold None e = tt
-        untold (Some nodes) e = absurd cc
+        go : (t : Option Nodes) → IfSome t (λ nodes. Ok (Write (seen_texts outputs)) ≡ verdict_on nodes (Ok task))
+            → IfSome t (λ nodes. None ≡ find (λ path. not (can_create nodes path)) (outputs_of task))
+            → IfSome t (λ nodes. length outputs < start.sure.files → CanFill start.sure.bytes (seen_texts outputs) (with_empty (seen_texts outputs) nodes) → P)
+            → IfSome t (λ nodes. TreeSuffices (verdict_on nodes (Ok task)) start.sure nodes → P)
+        go None is l s = tt
+        go (Some nodes) is l s = λ takes.
+            let V : Result Work Refusal → Type 0 = λ v. TakesFor v start.sure nodes in
+            let room : Takes start.sure (seen_texts outputs) = subst V (sym is) takes.takes in
+            let few = room.files in
+            let count = length-map outputs seen_text in
+            s (omega (arith, few, count))
+            (fills_all (inputs_by task.command task) (seen_texts outputs) nodes start.sure.bytes
+            (rw (seen_paths outputs ∙ paths) (no_clash-fewer (inputs_by task.command task) (option_to_list (root_by task.command task)) (outputs_of task) (outputs_of task) apart))
+            (rw (seen_paths outputs ∙ paths) l) room.bytes)
+
+    judged : Judges (Ok task) start.told (Ok (Write (seen_texts outputs)))
+    judged = judges_work task start.told (Write (seen_texts outputs)) included plan free
+
+    module _ (now : TreeSeen) (out err : SinkSeen) where
+      -- all files were written
+      pub does-written : now.told ≡ option_map (with_texts (seen_texts outputs)) start.told → counts now.faults 0 0 ≡ counts start.faults 0 0
+          → DoesWork (Ok task) (outside start out err) (outside now out err) (Ok 0)
+      does-written written counted = record {
+        performs = record {
+          found = Ok (Write (seen_texts outputs));
+          judges = judged;
+          has = inl (record {
+            status = refl;
+            world = ap (λ t. world t out.told err.told) written ∙ sym (written-changes out.told err.told (seen_texts outputs) start.told can_write);
+          });
+        };
+        ledger = ap (λ f. counts f out.faults err.faults) (ap (λ (c : Counts). c.tree) counted);
+        sure_tree = always start.told (λ nodes. TreeSuffices (verdict_on nodes (Ok task)) start.sure nodes) _ (λ e. cc e);
+        sure_sinks = always start.told (λ nodes. SinksSuffice (verdict_on nodes (Ok task)) out.sure err.sure) _ (λ e. cc e);
+      }
+
+      -- a fault while they were written
+      pub does-written-front : HasWrittenFront start.told now.told (seen_texts outputs) → Ledger (counts start.faults 0 0) (counts now.faults 0 0) TheTree
+          → IfSome start.told (λ nodes. length outputs < start.sure.files
+          → CanFill start.sure.bytes (seen_texts outputs) (with_empty (seen_texts outputs) nodes) → ⊥)
+          → DoesWork (Ok task) (outside start out err) (outside now out err) (Err (Stopped TreeFault))
+      does-written-front front ledger sure = halted (Ok task) start now out err (Stopped TreeFault)
+          (inr (record {
+            found = Ok (Write (seen_texts outputs));
+            judges = judged;
+            may = inl tt;
+            front = inl (record { cut = written-cut out.told err.told (seen_texts outputs) start.told now.told can_write front; short = λ text. absurd text });
+          })) ledger (never start.told _ ⊥ _ (λ no e. no) (sure_files ⊥ sure))
+
+      -- a file that a tree which tells nothing did not make: it is the one that is blocked
+      pub does-unwritten : (path : List ℕ) → start.told ≡ None → now.told ≡ None → list_any (bytes_eq path) (paths_of outputs) ≡ true
+          → counts now.faults 0 0 ≡ counts start.faults 0 0 → DoesWork (Ok task) (outside start out err) (outside now out err) (Err (Refused (NoOutput path)))
+      does-unwritten path none gone among counted =
+          let blocked = is_unmade task start.told outputs paths now.told included path looked none gone among in
+          halted (Ok task) start now out err (Refused (NoOutput path))
+          (is_refused task start.told (Write (seen_texts outputs)) included plan (NoOutput path) now.told out.told err.told blocked.0 blocked.1) counted
+          (always start.told (λ nodes. TreeSuffices (verdict_on nodes (Ok task)) start.sure nodes) _ (λ e. cc e))
+
+  -- the outputs were looked at, and one is blocked, or the tree failed
+  pub does-unlooked : (now : TreeSeen) (out err : SinkSeen) (halt : Halt) → LooksAt included (paths_of outputs) start.told (Err halt) → now.told ≡ start.told
+      → Ledger (counts start.faults 0 0) (counts now.faults 0 0) (blame_in {A = ℕ} (Err halt)) → (0 < start.sure.files → blame_in {A = ℕ} (Err halt) ≡ TheTree → ⊥)
+      → DoesWork (Ok task) (outside start out err) (outside now out err) (Err halt)
+  does-unlooked now out err halt looks same ledger sure =
+      halted (Ok task) start now out err halt (go halt (subst (λ ps. LooksAt included ps start.told (Err halt)) paths looks)) ledger (reads start.told)
+    where
+      go : (halt : Halt) → LooksAt included (outputs_of task) start.told (Err halt) → Performs (Ok task) (world start.told out.told err.told) (world now.told out.told err.told) (Err halt)
+      go (Refused refusal) blocked = is_refused task start.told (Write (seen_texts outputs)) included plan refusal now.told out.told err.told blocked same
+      go (Stopped TreeFault) other = inl (ap (λ t. world t out.told err.told) same)
+      go (Stopped NoMemory) other = inl (ap (λ t. world t out.told err.told) same)
+      go (Stopped SinkFault) other = absurd (other refl)
+
+      reads : (t : Option Nodes) → IfSome t (λ nodes. TreeSuffices (verdict_on nodes (Ok task)) start.sure nodes → blame_in {A = ℕ} (Err halt) ≡ TheTree → ⊥)
+      reads None = tt
+      reads (Some nodes) = λ s. sure s.some
+
+-- the same once the outputs were looked at, and all of them are free
+module _ (task : Task) (start here : TreeSeen) (outputs : List Output) (included : List (List ℕ))
+    (plan : IsPlanned start.told task (Write (seen_texts outputs)) included) (apart : HasApartOutputs task) (same : here.told ≡ start.told)
+    (left : Leaves start.sure here.sure 0 0) (counted : counts here.faults 0 0 ≡ counts start.faults 0 0)
+    (looked : AreFree start.told included (paths_of outputs)) where
+  plan_here : IsPlanned here.told task (Write (seen_texts outputs)) included
+  plan_here = subst (λ t. IsPlanned t task (Write (seen_texts outputs)) included) (sym same) plan
+
+  free_here : AreFree here.told included (paths_of outputs)
+  free_here = subst (λ t. AreFree t included (paths_of outputs)) (sym same) looked
+
+  pub can_write_here : IfSome here.told (CanMake (seen_texts outputs))
+  can_write_here = can_write task here outputs included plan_here apart free_here
+
+  module _ (now : TreeSeen) (out err : SinkSeen) where
+    after : (r : Result ℕ Halt) → DoesWork (Ok task) (outside here out err) (outside now out err) r → DoesWork (Ok task) (outside start out err) (outside now out err) r
+    after r does = does-after (Ok task) start here out err (outside now out err) r same left counted does
+
+    pub wrote : now.told ≡ option_map (with_texts (seen_texts outputs)) here.told → counts now.faults 0 0 ≡ counts here.faults 0 0
+        → DoesWork (Ok task) (outside start out err) (outside now out err) (Ok 0)
+    wrote written faults = after (Ok 0) (does-written task here outputs included plan_here apart free_here now out err written faults)
+
+    pub wrote-front : HasWrittenFront here.told now.told (seen_texts outputs) → Ledger (counts here.faults 0 0) (counts now.faults 0 0) TheTree
+        → IfSome here.told (λ nodes. length outputs < here.sure.files → CanFill here.sure.bytes (seen_texts outputs) (with_empty (seen_texts outputs) nodes) → ⊥)
+        → DoesWork (Ok task) (outside start out err) (outside now out err) (Err (Stopped TreeFault))
+    wrote-front front ledger sure = after (Err (Stopped TreeFault)) (does-written-front task here outputs included plan_here apart free_here now out err front ledger sure)
+
+    pub wrote-none : (path : List ℕ) → here.told ≡ None → now.told ≡ None → list_any (bytes_eq path) (paths_of outputs) ≡ true
+        → counts now.faults 0 0 ≡ counts here.faults 0 0 → DoesWork (Ok task) (outside start out err) (outside now out err) (Err (Refused (NoOutput path)))
+    wrote-none path none gone among faults =
+        after (Err (Refused (NoOutput path))) (does-unwritten task here outputs included plan_here apart free_here now out err path none gone among faults)

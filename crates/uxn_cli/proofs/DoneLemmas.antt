@@ -42,17 +42,10 @@ short-later a b c first more stop done short = record {
       (subst (λ told. WasNotSure (blame_of stop) b.sure told more) (told-after a b first done) short.not_sure);
 }
 
--- with nothing behind it
-pub done-last : (a b : Around) (changes : List Change) → WasDone a b changes → WasDone a b (changes ++ [])
-done-last a b changes done = subst (WasDone a b) (sym (append-nil changes)) done
-
-pub short-last : (a b : Around) (changes : List Change) (stop : Stop) → FellShort a b changes stop → FellShort a b (changes ++ []) stop
-short-last a b changes stop short = subst (λ cs. FellShort a b cs stop) (sym (append-nil changes)) short
-
 -- ---- a tree that is read first
 
 -- what a tree takes it takes with more room too
-takes-more : (room more : Room) (nodes : Nodes) (changes : List Change) → room.files ≤ more.files → room.bytes ≤ more.bytes → TreeTakes room nodes changes → TreeTakes more nodes changes
+pub takes-more : (room more : Room) (nodes : Nodes) (changes : List Change) → room.files ≤ more.files → room.bytes ≤ more.bytes → TreeTakes room nodes changes → TreeTakes more nodes changes
 takes-more room more nodes changes files bytes takes = record {
   files = λ first rest is. (let one = takes.files first rest is in omega (arith, one, files));
   bytes = λ first rest path byte is. (let one = takes.bytes first rest path byte is in omega (arith, one, bytes));
@@ -70,11 +63,6 @@ left-from (Some nodes) start here now changes read left = λ takes.
     let bytes = read.bytes some in
     let one = left (takes-more start here nodes changes (omega (arith, files)) bytes takes) in
     record { files = omega (arith, files, one.files); bytes = omega (arith, bytes, one.bytes) }
-
-pub read-before : (tree now : Option Nodes) (start here left : Room) (changes : List Change) → Leaves start here 0 0 → TreeWasDone tree now here left changes → TreeWasDone tree now start left changes
-read-before tree now start here left changes read done = λ out err out_sure err_sure.
-    let one = done out err out_sure err_sure in
-    record { world = one.world; remains = record { tree = left-from tree start here left changes read one.remains.tree; out = one.remains.out; err = one.remains.err } }
 
 -- no fault comes where the tree surely takes what is to be done, once it was read
 pub not-taken : (told : Option Nodes) (start here : Room) (changes : List Change) → Leaves start here 0 0

@@ -1,6 +1,6 @@
 -- What a call sees of a tree, and what it leaves alone.
-use Rattle.std.proofs.Common.{◌≡◌, ℕ, Bool, true, false, List, [], ◌∷◌, ◌++◌, map, refl, ap, sym, ◌∙◌, subst}
-use Rattle.std.specs.Prelude.{Some, Result, Ok, Err, IfOk, ◌||◌, if◌then◌else◌}
+use Rattle.std.proofs.Common.{◌≡◌, ℕ, Bool, true, false, List, [], ◌∷◌, ◌++◌, map, refl, ap, sym, ◌∙◌, subst, inl, inr}
+use Rattle.std.specs.Prelude.{Some, option_map, Result, Ok, Err, IfOk, ◌||◌, if◌then◌else◌}
 use Rattle.std.specs.List.{list_any, AllByRecursion}
 use Rattle.std.specs.Str.{bytes_eq}
 use Rattle.std.specs.FinMap as fin
@@ -13,28 +13,25 @@ use Rattle.tal_sources.specs.Sources.{sourced}
 use Rattle.uxn_io.specs.declared.trees.FileBytes.{FileBytes}
 use Rattle.uxn_io.specs.declared.trees.FileBytes.TheVariants.{Found, Missing as NoFile, TooLong}
 use Rattle.uxn_io.specs.Files.{Nodes}
-use Rattle.uxn_io.specs.Outside.{Change, ToErr, Creates, changed_files, files_by}
-use Rattle.varvara_bus.specs.Touching.{Spares, Each, spared-one}
+use Rattle.uxn_io.specs.ChangeLaws.{files-told}
+use Rattle.uxn_io.specs.Outside.{Change, Creates, World, changed_files, files_by}
+use Rattle.varvara_bus.specs.Touching.{told_at}
 use Rattle.uxn_line.specs.Setups.{SetupView}
 use Rattle.uxn_words.specs.declared.words.Command.{Command}
 use Rattle.uxn_words.specs.declared.words.Command.TheVariants.{Play, Debug, Assemble, Disassemble, Generate, Line}
 use Rattle.uxn_words.specs.declared.task.Task.{Task}
 use Rattle.uxn_cli.specs.declared.refusal.Refusal.{Refusal}
-use Rattle.uxn_cli.specs.Lines.{line_of}
+use Rattle.uxn_cli.specs.Answer.{HasOutcome, Answers}
 use Rattle.uxn_words.specs.Places.{root_by}
-use Rattle.uxn_cli.specs.Setup.{NamedFiles, setup_in}
+use Rattle.uxn_cli.specs.Setup.{InputFile, NamedFiles, setup_in}
 use Rattle.uxn_cli.specs.Verdict.{and_then, View, Work, Run, Write, Print, RunLine, Plan, planned, plain, view_of, judged, work_of, made_for, input_by, input_file, file_input, limit_by, file_seen, source_at, source_by, source_from, source_in, rom_in, loaded_rom, loaded_source, program_in, machine_rom, roms_in, line_in, script_by, named_by, named_in, texts_of}
 use Rattle.uxn_cli.specs.Outcome.{outcome_of, creating, writing, running}
-use Rattle.uxn_cli.specs.Causes.{verdict_on, IsAside}
-use Rattle.uxn_cli.specs.Isolation.{IncludeSame, AreSameSource, setup_sources, sources_in, HaveSameView, LookSame, files_after, IsWritten, LooksAtItsView}
+use Rattle.uxn_cli.specs.Causes.{verdict_on}
+use Rattle.uxn_cli.specs.Isolation.{IncludeSame, AreSameSource, setup_sources, sources_in, HaveSameView, LookSame, files_after, IsWritten, IsOutcomeOn, GivesAsOn}
 use Rattle.uxn_cli.proofs.AfterLemmas.{made-here, same-node, same-part}
 use Rattle.uxn_cli.proofs.SourceLemmas.{seen-source}
-use Rattle.uxn_cli.proofs.OthersLemmas.{paths_by, judged-writes, found-spares}
-
--- a path that is left alone keeps its node
-spared-nodes : (path : List ℕ) (nodes : Nodes) (changes : List Change) → Each (Spares path) changes → fin.get (files_by nodes changes) path ≡ fin.get nodes path
-spared-nodes path nodes [] s = refl
-spared-nodes path nodes (change ∷ changes) s = spared-nodes path (changed_files change nodes) changes s.1 ∙ spared-one nodes path change s.0
+use Rattle.uxn_cli.proofs.ClauseLemmas.{ends_told}
+use Rattle.uxn_cli.proofs.GivesLemmas.{paths_by, judged-writes}
 
 -- what stands at a path where a file is made does not depend on what stood there
 made-same : (path : List ℕ) (m n : Nodes) (paths : List (List ℕ)) (rest : List Change) → list_any (bytes_eq path) paths ≡ true
@@ -56,16 +53,17 @@ work-outputs path m n (Write texts) among = made-same path m n _ _ among
 work-outputs path m n (Print text) among = absurd cc
 work-outputs path m n (RunLine job) among = absurd cc
 
--- a line leaves the files as they are
-line-leaves : (nodes : Nodes) (line : List ℕ) → files_by nodes (map (λ byte. ToErr byte) line) ≡ nodes
-line-leaves nodes [] = refl
-line-leaves nodes (byte ∷ line) = line-leaves nodes line
-
 -- what a source comes to hangs on its files alone
 abbrev pub SourceLaw : Type 0
 SourceLaw =
     (nodes other : Nodes) (main source : List ℕ) → ((path : List ℕ) → IsIncluded (told_file nodes) main source path → told_file nodes path ≡ told_file other path)
     → sourced (told_reading nodes) main source ≡ sourced (told_reading other) main source
+
+-- a program that is read of the same file
+program-same : (rom : Bool) (path : List ℕ) (file other : InputFile) → file.bytes ≡ other.bytes → (rom ≡ false → source_in path file ≡ source_in path other)
+    → program_in rom path file ≡ program_in rom path other
+program-same true path file other bytes source = ap (λ b. and_then (rom_in path b) (λ rom. Ok (loaded_rom rom))) bytes
+program-same false path file other bytes source = ap (λ said. and_then said (λ source. Ok (loaded_source source))) (source refl)
 
 module _ (law : SourceLaw) (nodes other : Nodes) where
   same-source : (path : List ℕ) → AreSameSource nodes other path → source_in path (source_at nodes path) ≡ source_in path (source_at other path)
@@ -105,21 +103,19 @@ module _ (law : SourceLaw) (nodes other : Nodes) where
     abbrev there : View
     there = view_of other task
 
+    -- the file of a command, where it is a source
+    same-file : ((tree : Nodes) → file_seen tree task ≡ source_at tree task.file) → sources_in task.command nodes task ≡ task.file ∷ []
+        → source_in task.file here.file ≡ source_in task.file there.file
+    same-file seen sources =
+        let all : AllByRecursion (AreSameSource nodes other) (task.file ∷ []) = subst (AllByRecursion (AreSameSource nodes other)) sources same.sources in
+        ap (source_in task.file) (seen nodes) ∙ same-source task.file all.0 ∙ ap (source_in task.file) (sym (seen other))
+
     same-program : (command : Command) → task.command ≡ command → file_input command task ≡ Some task.file → limit_by command false ≡ 4194304
         → sources_in command nodes task ≡ (if task.rom then [] else task.file ∷ [])
         → program_in task.rom task.file here.file ≡ program_in task.rom task.file there.file
-    same-program command is input limit sources = go task.rom refl
-      where
-        go : (rom : Bool) → task.rom ≡ rom → program_in task.rom task.file here.file ≡ program_in task.rom task.file there.file
-        go true rom =
-            ap (λ r. program_in r task.file here.file) rom ∙ ap (λ bytes. and_then (rom_in task.file bytes) (λ r. Ok (loaded_rom r))) same.file
-            ∙ ap (λ r. program_in r task.file there.file) (sym rom)
-        go false rom =
-            let all : AllByRecursion (AreSameSource nodes other) (task.file ∷ []) =
-            subst (AllByRecursion (AreSameSource nodes other)) (ap (λ c. sources_in c nodes task) is ∙ sources ∙ ap (λ r. if r then [] else task.file ∷ []) rom) same.sources in
-            ap (λ r. program_in r task.file here.file) rom ∙ ap (program_in false task.file) (seen-source nodes task command is rom input limit)
-            ∙ ap (λ said. and_then said (λ source. Ok (loaded_source source))) (same-source task.file all.0)
-            ∙ ap (program_in false task.file) (sym (seen-source other task command is rom input limit)) ∙ ap (λ r. program_in r task.file there.file) (sym rom)
+    same-program command is input limit sources =
+        program-same task.rom task.file here.file there.file same.file
+        (λ rom. same-file (λ tree. seen-source tree task command is rom input limit) (ap (λ c. sources_in c nodes task) is ∙ sources ∙ ap (λ r. if r then [] else task.file ∷ []) rom))
 
     -- the work of each command
     same-play : (v w : View) → program_in task.rom task.file v.file ≡ program_in task.rom task.file w.file → v.script ≡ w.script → v.part ≡ w.part → v.parent ≡ w.parent
@@ -135,10 +131,8 @@ module _ (law : SourceLaw) (nodes other : Nodes) where
 
     same-asm : task.command ≡ Assemble → work_of Assemble task here ≡ work_of Assemble task there
     same-asm is =
-        let all : AllByRecursion (AreSameSource nodes other) (task.file ∷ []) = subst (AllByRecursion (AreSameSource nodes other)) (ap (λ c. sources_in c nodes task) is) same.sources in
-        let seen : (tree : Nodes) → file_seen tree task ≡ source_at tree task.file = λ tree. ap (λ c. input_file tree (input_by tree (file_input c task) (limit_by c task.rom))) is in
         ap (λ said. and_then said (λ source. Ok (planned (Write (texts_of task source.text)) source.paths)))
-        (ap (source_in task.file) (seen nodes) ∙ same-source task.file all.0 ∙ ap (source_in task.file) (sym (seen other)))
+        (same-file (λ tree. ap (λ c. input_file tree (input_by tree (file_input c task) (limit_by c task.rom))) is) (ap (λ c. sources_in c nodes task) is))
 
     same-line : task.command ≡ Line → work_of Line task here ≡ work_of Line task there
     same-line is =
@@ -166,35 +160,45 @@ module _ (law : SourceLaw) (nodes other : Nodes) where
   same-verdict (Err refusal) same = refl
   same-verdict (Ok task) same = same-judged task same
 
-  same-parts : (asked : Result Task Refusal) → LookSame asked nodes other
-      → IfOk asked (λ task. below (root_by task.command task) (files_after asked nodes) ≡ below (root_by task.command task) (files_after asked other))
-  same-parts (Err refusal) same = tt
-  same-parts (Ok task) same =
-      same-part (root_by task.command task) nodes other (outcome_of (judged task (view_of nodes task))).changes same.part
-      ∙ ap (λ found. below (root_by task.command task) (files_by other (outcome_of found).changes)) (same-judged task same)
+  module _ (asked : Result Task Refusal) (same : LookSame asked nodes other) (before now : World) (answer : ℕ) (told : before.files ≡ Some nodes)
+      (has : HasOutcome (outcome_of (verdict_on other asked)) before now answer) where
+    here-changes : now.files ≡ Some (files_by nodes (outcome_of (verdict_on other asked)).changes)
+    here-changes = ap (λ w. w.files) has.world ∙ files-told before (outcome_of (verdict_on other asked)).changes ∙ ap (option_map (λ n. files_by n (outcome_of (verdict_on other asked)).changes)) told
 
-  same-outputs : (asked : Result Task Refusal) → LookSame asked nodes other → (work : Work) → verdict_on nodes asked ≡ Ok work → (path : List ℕ) → IsWritten asked path
-      → fin.get (files_after asked nodes) path ≡ fin.get (files_after asked other) path
-  same-outputs (Err refusal) same work e path among = absurd cc
-  same-outputs (Ok task) same work e path among =
-      let writes = judged-writes task (view_of nodes task) work e in
-      ap (λ v. fin.get (files_by nodes (outcome_of v).changes) path) e
-      ∙ work-outputs path nodes other work (ap (list_any (bytes_eq path)) writes.paths ∙ among)
-      ∙ ap (λ v. fin.get (files_by other (outcome_of v).changes) path) (sym e ∙ same-judged task same)
+    outcome-on : IsOutcomeOn asked other before now answer
+    outcome-on = record {
+      status = has.status;
+      out = ap (λ w. w.out) has.world;
+      err = ap (λ w. w.err) has.world;
+      part = same-parts asked same here-changes;
+      outputs = λ work accepted path among. ap (told_at path) here-changes ∙ ap Some (same-outputs asked work accepted path among);
+    }
+      where
+        same-parts : (asks : Result Task Refusal) → LookSame asks nodes other → now.files ≡ Some (files_by nodes (outcome_of (verdict_on other asks)).changes)
+            → IfOk asks (λ task. option_map (below (root_by task.command task)) now.files ≡ Some (below (root_by task.command task) (files_after asks other)))
+        same-parts (Err refusal) same is = tt
+        same-parts (Ok task) same is =
+            ap (option_map (below (root_by task.command task))) is
+            ∙ ap Some (same-part (root_by task.command task) nodes other (outcome_of (judged task (view_of other task))).changes same.part)
 
-refused-same : (found : Result Work Refusal) (nodes : Nodes) (refusal : Refusal) → found ≡ Err refusal → files_by nodes (outcome_of found).changes ≡ nodes
-refused-same found nodes refusal e = ap (λ f. files_by nodes (outcome_of f).changes) e ∙ line-leaves nodes (line_of refusal)
+        same-outputs : (asks : Result Task Refusal) (work : Work) → verdict_on other asks ≡ Ok work → (path : List ℕ) → IsWritten asks path
+            → fin.get (files_by nodes (outcome_of (verdict_on other asks)).changes) path ≡ fin.get (files_after asks other) path
+        same-outputs (Err refusal) work e path among = absurd cc
+        same-outputs (Ok task) work e path among =
+            let writes = judged-writes task (view_of other task) work e in
+            ap (λ v. fin.get (files_by nodes (outcome_of v).changes) path) e
+            ∙ work-outputs path nodes other work (ap (list_any (bytes_eq path)) writes.paths ∙ among)
+            ∙ ap (λ v. fin.get (files_by other (outcome_of v).changes) path) (sym e)
 
-others-same : (asked : Result Task Refusal) (nodes : Nodes) (path : List ℕ) → IfOk asked (λ task. IsAside task path) → fin.get (files_after asked nodes) path ≡ fin.get nodes path
-others-same (Err refusal) nodes path aside = ap (λ m. fin.get m path) (line-leaves nodes (line_of refusal))
-others-same (Ok task) nodes path aside =
-    spared-nodes path nodes (outcome_of (verdict_on nodes (Ok task))).changes (found-spares (Ok task) (view_of nodes task) path (verdict_on nodes (Ok task)) aside refl)
-
-pub looks-at-view : SourceLaw → (asked : Result Task Refusal) (nodes other : Nodes) → LookSame asked nodes other → LooksAtItsView asked nodes other
-looks-at-view law asked nodes other same = record {
-  verdict = same-verdict law nodes other asked same;
-  part = same-parts law nodes other asked same;
-  outputs = same-outputs law nodes other asked same;
-  refused = λ refusal e. refused-same (verdict_on nodes asked) nodes refusal e;
-  others = λ path aside. others-same asked nodes path aside;
-}
+-- so another tree that looks the same gives the same
+pub gives-as-on : SourceLaw → (asked : Result Task Refusal) (before now : World) (answer : ℕ) (nodes : Nodes) → before.files ≡ Some nodes → Answers asked before now answer
+    → (other : Nodes) → LookSame asked nodes other → GivesAsOn asked nodes other before now answer
+gives-as-on law asked before now answer nodes told answers other same =
+    let verdict = same-verdict law nodes other asked same in
+    record {
+      verdict = verdict;
+      given = elim (ends_told asked before now nodes told answer answers) [
+        | inl has ↦ inr (outcome-on law nodes other asked same before now answer told (subst (λ v. HasOutcome (outcome_of v) before now answer) verdict has))
+        | inr early ↦ inl (early.stop, early.status)
+      ];
+    }

@@ -1,5 +1,5 @@
 -- What `line` reads, met one after the other, and what comes of its run.
-use Rattle.std.proofs.Common.{◌≡◌, ℕ, suc, ◌+◌, ◌<◌, Bool, true, false, cond, List, [], ◌∷◌, ◌++◌, map, length, take, drop, get_or, ◌≤◌, refl, ap, sym, ◌∙◌, subst, inl, arith, take-append-drop, drop-cons}
+use Rattle.std.proofs.Common.{◌≡◌, ℕ, suc, ◌+◌, ◌<◌, Bool, true, false, cond, List, [], ◌∷◌, ◌++◌, map, length, take, drop, get_or, ◌≤◌, refl, ap, sym, ◌∙◌, subst, arith, take-append-drop, drop-cons}
 use Rattle.std.specs.Prelude.{Option, Some, None, Result, Ok, Err, IfOk, OnOk, OnErr, IfSome}
 use Rattle.std.specs.List.{All, list_all}
 use Rattle.std.proofs.lemmas.List.Elements.{All-cons}
@@ -13,7 +13,7 @@ use Rattle.uxn_io.specs.declared.trees.FileBytes.{FileBytes}
 use Rattle.uxn_io.specs.declared.trees.FileBytes.TheVariants.{Missing as NoFile}
 use Rattle.uxn_io.specs.Files.{Nodes, file_at}
 use Rattle.uxn_io.specs.WholeFile.{whole_file}
-use Rattle.uxn_io.specs.Told.{extended, HasTakenFront}
+use Rattle.uxn_io.specs.Told.{extended}
 use Rattle.uxn_io.specs.declared.sinks.Failed.{Failed}
 use Rattle.uxn_memory.specs.Bytes.{largest_rom}
 use Rattle.uxn_line.specs.declared.line.Line.{Line as LineOf}
@@ -23,24 +23,19 @@ use Rattle.uxn_line.specs.Streams.{Job as LineJob, AreOfConsole}
 use Rattle.uxn_opcodes.specs.declared.Stop.TheVariants.{SinkFault, NoMemory}
 use Rattle.uxn_words.specs.declared.task.Task.{Task}
 use Rattle.uxn_words.specs.declared.words.Command.TheVariants.{Line}
+use Rattle.uxn_words.specs.Places.{outputs_by}
 use Rattle.uxn_cli.specs.declared.refusal.Refusal.{Refusal}
 use Rattle.uxn_cli.specs.declared.refusal.Refusal.TheVariants.{OtherEvents}
 use Rattle.uxn_cli.specs.declared.refusal.Halt.{Halt}
 use Rattle.uxn_cli.specs.declared.refusal.Halt.TheVariants.{Refused, Stopped}
-use Rattle.uxn_cli.specs.World.{world}
 use Rattle.uxn_cli.specs.Setup.{InputFile, NamedFiles, setup_in, is_of_console, console_script, line_job}
-use Rattle.uxn_cli.specs.Verdict.{and_then, View, Work, RunLine, source_at, script_by, named_by, named_seen, blocked_seen, machine_rom, script_in, roms_in, line_in, planned, plain, work_of, outputs_of, made_by}
+use Rattle.uxn_cli.specs.Verdict.{and_then, View, Work, RunLine, source_at, script_by, named_by, named_seen, machine_rom, script_in, roms_in, line_in, planned, plain, work_of}
 use Rattle.uxn_cli.specs.Follows.{Follows}
 use Rattle.uxn_cli.specs.Outcome.{line_bytes, line_exit}
-use Rattle.uxn_cli.specs.Answer.{Judges, Performs}
-use Rattle.uxn_cli.specs.Causes.{verdict_on}
-use Rattle.uxn_cli.specs.Room.{SinksSuffice}
-use Rattle.uxn_cli.specs.Prepared.{Sees, Accepts, SeesWork, Unready}
+use Rattle.uxn_cli.specs.Prepared.{Sees, Accepts, inputs_seen, SeesWork, Unready, IsPlanned}
 use Rattle.uxn_cli.specs.Joined.{SeesAll, AcceptsAll, GoesOn, FallsShort, HasDone}
-use Rattle.uxn_cli.proofs.CauseLemmas.{told_verdict}
-use Rattle.uxn_cli.proofs.ChangeLemmas.{printed, print-cut}
-use Rattle.uxn_cli.proofs.RunLemmas.{judges}
-use Rattle.uxn_cli.proofs.VerdictLemmas.{no_include, input_with, seen_with, unread_symbols, unread_script, unread_commands, unseen_part, unseen_parent, unread_named}
+use Rattle.uxn_cli.proofs.SeesLemmas.{inputs_or}
+use Rattle.uxn_cli.proofs.VerdictLemmas.{input_with, unread_named}
 
 -- ---- the sources of the machines, one after the other
 
@@ -157,7 +152,7 @@ sees-here tree told paths others says same is all = subst (λ t. SeesAll t other
 -- ---- the whole of what is read
 
 -- events of the console, as the code looks at them
-pub are-of-console : (events : List Event) → list_all is_of_console events ≡ true → AreOfConsole events
+are-of-console : (events : List Event) → list_all is_of_console events ≡ true → AreOfConsole events
 are-of-console [] e = tt
 are-of-console (Input byte ∷ events) e = (tt, are-of-console events e)
 are-of-console (EndInput ∷ events) e = (tt, are-of-console events e)
@@ -166,20 +161,23 @@ are-of-console (Device input ∷ events) e = absurd cc
 are-of-console (Shot ∷ events) e = absurd cc
 are-of-console (Expect port byte ∷ events) e = absurd cc
 
-module _ (task : Task) (tree : Option Nodes) (line : task.command ≡ Line) where
-  -- what was seen, where the outputs were not looked at yet
-  abbrev line_view : FileBytes → NamedFiles → View
-  line_view file named = record {
-    file = input_with tree file;
-    symbols = (unread_symbols tree task).0;
-    script = (unread_script tree task).0;
-    commands = (unread_commands tree task).0;
-    part = (unseen_part tree task).0;
-    parent = (unseen_parent tree task).0;
-    named = named;
-    blocked = None;
-  }
+pub of-console : (events : List Event) → AreOfConsole events → list_all is_of_console events ≡ true
+of-console [] of = refl
+of-console (Input byte ∷ events) of = of-console events of.1
+of-console (EndInput ∷ events) of = of-console events of.1
+of-console (Frame ∷ events) of = absurd of.0
+of-console (Device input ∷ events) of = absurd of.0
+of-console (Shot ∷ events) of = absurd of.0
+of-console (Expect port byte ∷ events) of = absurd of.0
 
+pub not-of-console : (events : List Event) → (AreOfConsole events → ⊥) → list_all is_of_console events ≡ false
+not-of-console events other = go (list_all is_of_console events) refl
+  where
+    go : (b : Bool) → list_all is_of_console events ≡ b → b ≡ false
+    go true e = absurd (other (are-of-console events e))
+    go false e = refl
+
+module _ (task : Task) (tree : Option Nodes) (line : task.command ≡ Line) where
   -- the work of a setup and the files that it names
   abbrev from_script : SetupView → List (List ℕ) → Result ScriptView Refusal → Result Work Refusal
   from_script setup roms said = and_then (and_then said (λ script. and_then (console_script script) (λ given. Ok (line_job setup roms given)))) (λ job. Ok (RunLine job))
@@ -191,19 +189,21 @@ module _ (task : Task) (tree : Option Nodes) (line : task.command ≡ Line) wher
   abbrev from_setup : NamedFiles → Result SetupView Refusal → Result Work Refusal
   from_setup named said = and_then said (λ setup. and_then (line_in setup named) (λ job. Ok (RunLine job)))
 
+  abbrev put_in : Option Nodes → FileBytes → NamedFiles → View
+  put_in t file named = record (inputs_or t task) { file = input_with t file; named = named }
+
   line_seen : (file : FileBytes) (named : NamedFiles) → IfSome tree (λ nodes. file ≡ whole_file (file_at nodes task.file) 4194304) → IfSome tree (λ nodes. named ≡ named_seen nodes task)
       → (said : Result Work Refusal) → from_setup named (setup_in task.file file) ≡ said → SeesWork tree task (plain said)
   line_seen file named f n said is = record {
-    view = line_view file named;
-    file = rw line (seen_with tree file (λ nodes. whole_file (file_at nodes task.file) 4194304) f);
-    symbols = (unread_symbols tree task).1;
-    script = (unread_script tree task).1;
-    commands = (unread_commands tree task).1;
-    part = (unseen_part tree task).1;
-    parent = (unseen_parent tree task).1;
-    named = n;
-    work = ap (λ c. work_of c task (line_view file named)) line ∙ ap plain is;
+    file = put_in tree file named;
+    seen = fits tree f n;
+    said_so = ap (λ c. work_of c task (put_in tree file named)) line ∙ ap plain is;
   }
+    where
+      fits : (t : Option Nodes) → IfSome t (λ nodes. file ≡ whole_file (file_at nodes task.file) 4194304) → IfSome t (λ nodes. named ≡ named_seen nodes task)
+          → IfSome t (λ nodes. put_in t file named ≡ inputs_seen nodes task)
+      fits None f n = tt
+      fits (Some nodes) f n = rw (f, n) (rw line refl)
 
   module _ (file : FileBytes) (f : IfSome tree (λ nodes. file ≡ whole_file (file_at nodes task.file) 4194304)) where
     -- the setup is refused, or memory was wanting
@@ -273,55 +273,12 @@ module _ (task : Task) (tree : Option Nodes) (line : task.command ≡ Line) wher
           pub line-other : list_all is_of_console script.events ≡ false → SeesWork tree task (Err OtherEvents)
           line-other e = scripted here.file (Ok script) (Err OtherEvents) here.seen here.said_so (judged false e)
 
+          line-sees : list_all is_of_console script.events ≡ true → SeesWork tree task (Ok (planned (RunLine (line_job setup roms script)) []))
+          line-sees e = scripted here.file (Ok script) (Ok (RunLine (line_job setup roms script))) here.seen here.said_so (judged true e)
+
           -- all is accepted
-          pub line-ready : list_all is_of_console script.events ≡ true → SeesWork tree task (Ok (planned (RunLine (line_job setup roms script)) []))
-          line-ready e = scripted here.file (Ok script) (Ok (RunLine (line_job setup roms script))) here.seen here.said_so (judged true e)
-
-  -- ---- the run of a line that is ready
-
-  -- a line writes no file, so none is blocked
-  no_output : IfSome tree (λ nodes. None ≡ blocked_seen nodes task)
-  no_output = go tree
-    where
-      go : (t : Option Nodes) → IfSome t (λ nodes. None ≡ blocked_seen nodes task)
-      go None = tt
-      go (Some nodes) = rw line refl
-
-  module _ (job : LineJob) (sees : SeesWork tree task (Ok (planned (RunLine job) []))) where
-    judges_line : Judges (Ok task) tree (Ok (RunLine job))
-    judges_line =
-        subst (λ first. Judges (Ok task) tree (made_by first (RunLine job))) (no_include (outputs_of task)) (judges task tree (Ok (planned (RunLine job) [])) sees None no_output)
-
-    -- the bytes of the last machine were put, and its exit code is the status
-    pub line-done : (now : Option Nodes) (out err new : Option (List ℕ)) (code : ℕ) → now ≡ tree → new ≡ extended out (line_bytes job) → code ≡ line_exit job
-        → Performs (Ok task) (world tree out err) (world now new err) (Ok code)
-    line-done now out err new code same put is = record {
-      found = Ok (RunLine job);
-      judges = judges_line;
-      has = inl (record { status = is; world = rw same (printed tree out err new (line_bytes job) put) });
-    }
-
-    -- a front of them was put that is not whole
-    pub line-cut-off : (now : Option Nodes) (out err new : Option (List ℕ)) → now ≡ tree → HasTakenFront out new (line_bytes job)
-        → Performs (Ok task) (world tree out err) (world now new err) (Err (Stopped SinkFault))
-    line-cut-off now out err new same front =
-        let cut = print-cut tree out err new (line_bytes job) front in
-        rw same (record {
-          found = Ok (RunLine job);
-          judges = judges_line;
-          may = inl tt;
-          front = inl (record { cut = cut.cut; short = λ text. cut.short });
-        })
-
-    -- a sink that suffices takes them all
-    pub line-sure : (out err : ℕ) (P : Type 0) → (length (line_bytes job) < out → P) → IfSome tree (λ nodes. SinksSuffice (verdict_on nodes (Ok task)) out err → P)
-    line-sure out err P takes = go tree judges_line
-      where
-        go : (t : Option Nodes) → Judges (Ok task) t (Ok (RunLine job)) → IfSome t (λ nodes. SinksSuffice (verdict_on nodes (Ok task)) out err → P)
-        go None j = tt
-        go (Some nodes) j = λ s.
-            let V : Result Work Refusal → Type 0 = λ v. SinksSuffice v out err in
-            takes (subst V (sym (told_verdict nodes (Ok task) (Ok (RunLine job)) j)) s)
+          pub line-ready : list_all is_of_console script.events ≡ true → IsPlanned tree task (RunLine (line_job setup roms script)) []
+          line-ready e = record { outputs = ap (λ c. outputs_by c task) line; sees = line-sees e }
 
 -- ---- turns, one after the other
 

@@ -1,10 +1,18 @@
 pub mod ChangeLemmas
 pub mod VerdictLemmas
+pub mod SeesLemmas
 pub mod ReadyLemmas
+pub mod MakingLemmas
+pub mod WorkLemmas
+pub mod DisassemblyLemmas
 pub mod RunLemmas
+pub mod JobLemmas
 pub mod RegularLemmas
 pub mod CauseLemmas
+pub mod GivesLemmas
+pub mod ClauseLemmas
 pub mod OutputLemmas
+pub mod PlaceLemmas
 pub mod ApartLemmas
 pub mod FreeLemmas
 pub mod SourceLemmas
@@ -12,6 +20,7 @@ pub mod SureLemmas
 pub mod AssemblingLemmas
 pub mod OpcodeLemmas
 pub mod OthersLemmas
+pub mod FrontLemmas
 pub mod AfterLemmas
 pub mod RootLemmas
 pub mod ObservationLemmas

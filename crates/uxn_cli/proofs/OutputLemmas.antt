@@ -12,7 +12,7 @@ use Rattle.uxn_io.specs.Changes.{can_create, with_created, with_appended, HasApp
 use Rattle.uxn_io.specs.Files.{Nodes, Node, File, bytes_of, file_at}
 use Rattle.uxn_cli.specs.declared.outputs.Output.{Output}
 use Rattle.uxn_cli.specs.World.{Text, with_empty, with_bytes, CanMake, AreFiles, HasMadeFront, HasFilledFront}
-use Rattle.uxn_cli.specs.Outputs.{seen_text, seen_texts}
+use Rattle.uxn_cli.specs.Outputs.{seen_text, seen_texts, paths_of}
 
 -- the elements of a list from a place on, through a function
 pub map_at : {X Y : Type 0} (f : X → Y) (xs : List X) (at : ℕ) (x : X) → at < length xs → x ≡ get_or xs at x → map f (drop at xs) ≡ f x ∷ map f (drop (at + 1) xs)
@@ -122,3 +122,8 @@ none_made written None = refl
 none_made written (Some nodes) = refl
 
 pub ruleset pushed = (map-append)
+
+-- the paths of files that are written
+pub seen_paths : (outputs : List Output) → map (λ (t : Text). t.path) (seen_texts outputs) ≡ paths_of outputs
+seen_paths [] = refl
+seen_paths (output ∷ outputs) = ap (λ ps. output.path ∷ ps) (seen_paths outputs)

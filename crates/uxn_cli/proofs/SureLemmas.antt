@@ -171,3 +171,15 @@ of_the_tree before middle now out err TheTree same ledger =
     (let here : middle ≡ before = ap (λ (c : Counts). c.tree) same in record { tree = rw here at ledger.tree; out = refl; err = refl })
 of_the_tree before middle now out err ASink same (inl rose) = absurd (let risen = rose.out.risen in omega arith)
 of_the_tree before middle now out err ASink same (inr rose) = absurd (let risen = rose.err.risen in omega arith)
+
+-- a call of the standard output alone, in the same way
+pub no-tree : (before now : ℕ) (blame : Blame) → Ledger (counts 0 before 0) (counts 0 now 0) blame → blame ≡ TheTree → ⊥
+no-tree before now Nobody ledger e = cc e
+no-tree before now ASink ledger e = cc e
+no-tree before now TheTree rose e = let risen = rose.tree.risen in omega arith
+
+pub of_the_out : (tree before now err : ℕ) (blame : Blame) → Ledger (counts 0 before 0) (counts 0 now 0) blame → Ledger (counts tree before err) (counts tree now err) blame
+of_the_out tree before now err Nobody ledger = (let moved : now ≡ before = ap (λ (c : Counts). c.out) ledger in rw moved refl)
+of_the_out tree before now err TheTree rose = absurd (let risen = rose.tree.risen in omega arith)
+of_the_out tree before now err ASink (inl rose) = inl (record { tree = refl; out = rose.out; err = refl })
+of_the_out tree before now err ASink (inr rose) = absurd (let risen = rose.err.risen in omega arith)

@@ -1,6 +1,6 @@
 -- What is told of a workload that ran.
 use Rattle.std.proofs.Common.{◌≡◌, ◌∙◌, ap, sym, refl, List, ℕ, []}
-use Rattle.std.specs.Prelude.{Option, Some, None, Ok, unwrap_or}
+use Rattle.std.specs.Prelude.{Option, Some, None, Result, Ok, Err, IfSome, unwrap_or}
 use Rattle.uxn_io.specs.Files.{Nodes}
 use Rattle.uxn_io.specs.Outside.{World, changed_by}
 use Rattle.vector_loop.specs.Trail.{Trail}
@@ -8,9 +8,16 @@ use Rattle.uxn_io.specs.declared.trees.FileBytes.TheVariants.{Missing as NoFile}
 use Rattle.uxn_words.specs.declared.words.Command.TheVariants.{Generate}
 use Rattle.uxn_words.specs.declared.task.Task.{Task}
 use Rattle.uxn_cli.specs.declared.running.Ended.{Ended}
-use Rattle.uxn_cli.specs.Answer.{IsViewOf}
-use Rattle.uxn_cli.specs.Verdict.{and_then, View, Print, summary_in, work_of, made_for, judged}
-use Rattle.uxn_cli.proofs.VerdictLemmas.{then_ok, input_with, unread_script, unread_commands, unseen_part, unseen_parent, unread_named}
+use Rattle.uxn_opcodes.specs.declared.Stop.TheVariants.{SinkFault, NoMemory}
+use Rattle.uxn_words.specs.Places.{outputs_by}
+use Rattle.uxn_cli.specs.declared.refusal.Refusal.{Refusal}
+use Rattle.uxn_cli.specs.declared.refusal.Halt.{Halt}
+use Rattle.uxn_cli.specs.declared.refusal.Halt.TheVariants.{Refused, Stopped}
+use Rattle.uxn_cli.specs.Follows.{Follows}
+use Rattle.uxn_cli.specs.Prepared.{inputs_seen, SeesWork, Unready, IsPlanned}
+use Rattle.uxn_cli.specs.Verdict.{and_then, View, Print, plain, summary_in, work_of}
+use Rattle.uxn_cli.proofs.SeesLemmas.{inputs_or, sees-work}
+use Rattle.uxn_cli.proofs.VerdictLemmas.{input_with}
 use Rattle.uxn_cli.specs.Job.{exit_in}
 use Rattle.uxn_cli.specs.Ended.{told_by_run}
 use Rattle.uxn_cli.specs.Workload.{empty_world, console_of, told_of}
@@ -30,24 +37,26 @@ pub same-told : (source rom console : List ℕ) (ended : Ended) (trail : Trail) 
 same-told source rom console ended trail exit tally is = rw (exit, tally, is) refl
 
 -- a workload looks at nothing, whatever the tree holds
-abbrev pub own_view : (tree : Option Nodes) (task : Task) → View
-own_view tree task = record {
-  file = input_with tree NoFile;
-  symbols = NoFile;
-  script = (unread_script tree task).0;
-  commands = (unread_commands tree task).0;
-  part = (unseen_part tree task).0;
-  parent = (unseen_parent tree task).0;
-  named = (unread_named tree task).0;
-  blocked = None;
-}
+module _ (task : Task) (tree : Option Nodes) (own : task.command ≡ Generate) where
+  abbrev put_in : Option Nodes → View
+  put_in t = record (inputs_or t task) { file = input_with t NoFile }
 
-pub sees_own : (tree : Option Nodes) (task : Task) → task.command ≡ Generate → IsViewOf tree task (own_view tree task)
-sees_own None task own = record { file = tt; symbols = tt; script = tt; commands = tt; part = tt; parent = tt; named = tt; blocked = tt }
-sees_own (Some nodes) task own =
-    rw own (record { file = refl; symbols = refl; script = refl; commands = refl; part = refl; parent = refl; named = refl; blocked = refl })
+  pub own-sees : (said : Result (List ℕ) Refusal) → summary_in task.count ≡ said → SeesWork tree task (plain (and_then said (λ text. Ok (Print text))))
+  own-sees said is =
+      sees-work tree task (λ nodes. tt {0}) (λ nothing. plain (and_then (summary_in task.count) (λ text. Ok (Print text)))) (λ nothing. put_in tree) _ (fits tree)
+      (λ nothing. ap (λ c. work_of c task (put_in tree)) own) (record { file = tt {0}; seen = nothing tree; said_so = ap (λ s. plain (and_then s (λ text. Ok (Print text)))) is })
+    where
+      fits : (t : Option Nodes) → IfSome t (λ nodes. put_in t ≡ inputs_seen nodes task)
+      fits None = tt
+      fits (Some nodes) = rw own refl
 
-pub judged-own : (tree : Option Nodes) (task : Task) → task.command ≡ Generate
-    → judged task (own_view tree task) ≡ and_then (summary_in task.count) (λ text. Ok (Print text))
-judged-own tree task own =
-    ap (λ c. and_then (work_of c task (own_view tree task)) (made_for task None)) own ∙ then_ok task (and_then (summary_in task.count) (λ text. Ok (Print text)))
+      nothing : (t : Option Nodes) → IfSome t (λ nodes. tt {0} ≡ tt {0})
+      nothing None = tt
+      nothing (Some nodes) = refl
+
+  pub own-unready : {A : Type 0} (view : A → List ℕ) (halt : Halt) → Follows view (Err halt) (summary_in task.count) → Unready tree task halt
+  own-unready view (Refused refusal) follows = own-sees (Err refusal) follows
+  own-unready view (Stopped stop) follows = λ is. absurd (let no : NoMemory ≡ SinkFault = sym follows ∙ is in cc)
+
+  pub own-planned : (text : List ℕ) → summary_in task.count ≡ Ok text → IsPlanned tree task (Print text) []
+  own-planned text is = record { outputs = ap (λ c. outputs_by c task) own; sees = own-sees (Ok text) is }

@@ -6,7 +6,10 @@ use Rattle.uxn_io.specs.declared.trees.ReadStop.{ReadStop}
 use Rattle.uxn_io.specs.declared.trees.ReadStop.TheVariants.{Failed, NoMemory as WantsMemory}
 use Rattle.tal_sources.specs.declared.fault.SourceStop.{SourceStop}
 use Rattle.tal_sources.specs.declared.fault.SourceStop.TheVariants.{Refused as BadSource, TreeFault as SourceTree, NoMemory as SourceMemory}
-use Rattle.uxn_cli.specs.declared.refusal.Refusal.TheVariants.{Faulty}
+use Rattle.uxn_words.specs.declared.words.WordFault.TheVariants as words
+use Rattle.uxn_words.specs.declared.words.WordStop.{WordStop}
+use Rattle.uxn_words.specs.declared.words.WordStop.TheVariants.{Refused as BadWords, NoMemory as WordMemory}
+use Rattle.uxn_cli.specs.declared.refusal.Refusal.TheVariants.{NotUnderstood, NoPath, Faulty}
 use Rattle.uxn_opcodes.specs.declared.Stop.{Stop}
 use Rattle.uxn_opcodes.specs.declared.Stop.TheVariants.{TreeFault, SinkFault, NoMemory}
 use Rattle.uxn_cli.specs.declared.refusal.Halt.{Halt}
@@ -42,6 +45,12 @@ OnRefused (Err (Stopped stop)) P = Unit {0}
 abbrev pub halt_of_read : ReadStop → Halt
 halt_of_read Failed = Stopped TreeFault
 halt_of_read WantsMemory = Stopped NoMemory
+
+-- words that were not read
+abbrev pub halt_of_words : WordStop → Halt
+halt_of_words (BadWords words.NotUnderstood) = Refused NotUnderstood
+halt_of_words (BadWords (words.NoPath word)) = Refused (NoPath word)
+halt_of_words WordMemory = Stopped NoMemory
 
 -- a source that was not assembled
 abbrev pub halt_of_source : SourceStop → Halt

@@ -1,5 +1,5 @@
 -- A call looks at a tree through its view of it alone, and leaves all else as it was.
-use Rattle.std.specs.Prelude.{◌≡◌, ℕ, true, List, [], ◌∷◌, Result, Ok, Err, IfOk, if◌then◌else◌, ⊤}
+use Rattle.std.specs.Prelude.{◌≡◌, ℕ, ◌⊎◌, true, List, [], ◌∷◌, Some, option_map, Result, Ok, Err, IfOk, if◌then◌else◌, ⊤}
 use Rattle.std.specs.List.{list_any, AllByRecursion}
 use Rattle.std.specs.Str.{bytes_eq}
 use Rattle.std.specs.FinMap as map
@@ -9,8 +9,9 @@ use Rattle.tal_include.specs.Included.{IsIncluded}
 use Rattle.uxn_io.specs.declared.trees.FileBytes.{FileBytes}
 use Rattle.uxn_io.specs.declared.trees.FileBytes.TheVariants.{Found}
 use Rattle.uxn_io.specs.Files.{Nodes}
-use Rattle.uxn_io.specs.Outside.{files_by}
+use Rattle.uxn_io.specs.Outside.{World, changed_by, files_by}
 use Rattle.uxn_line.specs.Setups.{SetupView}
+use Rattle.varvara_bus.specs.Touching.{told_at}
 use Rattle.uxn_words.specs.declared.words.Command.{Command}
 use Rattle.uxn_words.specs.declared.words.Command.TheVariants.{Play, Debug, Assemble, Disassemble, Generate, Line}
 use Rattle.uxn_words.specs.declared.task.Task.{Task}
@@ -19,7 +20,8 @@ use Rattle.uxn_cli.specs.Setup.{setup_in}
 use Rattle.uxn_cli.specs.Verdict.{Work, outputs_of, root_by, source_at, file_seen, symbols_seen, script_seen, commands_seen}
 use Rattle.uxn_cli.specs.Verdict.{part_seen, parent_seen, named_seen, blocked_seen}
 use Rattle.uxn_cli.specs.Outcome.{outcome_of}
-use Rattle.uxn_cli.specs.Causes.{verdict_on, IsAside}
+use Rattle.uxn_cli.specs.Causes.{verdict_on}
+use Rattle.uxn_cli.specs.Statuses.{IsEarly}
 
 -- the files that a source includes give the same in two trees; no other file does that is read beside it
 abbrev pub IncludeSame : Nodes → Nodes → List ℕ → FileBytes → Type 0
@@ -69,13 +71,17 @@ files_after asked nodes = files_by nodes (outcome_of (verdict_on nodes asked)).c
 abbrev pub IsWritten : Result Task Refusal → List ℕ → Type 0
 IsWritten asked path = IfOk asked (λ task. list_any (bytes_eq path) (outputs_of task) ≡ true)
 
--- over two trees that look the same the verdict is the same, and so are then what lies beneath the root and the outputs; after a
--- refusal the tree is as it was, and every other path has its old node
-pub record LooksAtItsView (asked : Result Task Refusal) (nodes other : Nodes) : Type 0 where
+-- what a call gave is the outcome over another tree: the status, the bytes on both outputs, what lies beneath the root, and the outputs
+pub record IsOutcomeOn (asked : Result Task Refusal) (other : Nodes) (before now : World) (answer : ℕ) : Type 0 where
+  pub status : answer ≡ (outcome_of (verdict_on other asked)).status
+  pub out : now.out ≡ (changed_by before (outcome_of (verdict_on other asked)).changes).out
+  pub err : now.err ≡ (changed_by before (outcome_of (verdict_on other asked)).changes).err
+  pub part : IfOk asked (λ task. option_map (below (root_by task.command task)) now.files
+      ≡ Some (below (root_by task.command task) (files_after asked other)))
+  pub outputs : (work : Work) → verdict_on other asked ≡ Ok work → (path : List ℕ) → IsWritten asked path
+      → told_at path now.files ≡ Some (map.get (files_after asked other) path)
+
+-- over another tree that looks the same the verdict is the same, and so is what the call gave, unless it ended early
+pub record GivesAsOn (asked : Result Task Refusal) (nodes other : Nodes) (before now : World) (answer : ℕ) : Type 0 where
   pub verdict : verdict_on nodes asked ≡ verdict_on other asked
-  pub part : IfOk asked (λ task. below (root_by task.command task) (files_after asked nodes)
-      ≡ below (root_by task.command task) (files_after asked other))
-  pub outputs : (work : Work) → verdict_on nodes asked ≡ Ok work → (path : List ℕ) → IsWritten asked path
-      → map.get (files_after asked nodes) path ≡ map.get (files_after asked other) path
-  pub refused : (refusal : Refusal) → verdict_on nodes asked ≡ Err refusal → files_after asked nodes ≡ nodes
-  pub others : (path : List ℕ) → IfOk asked (λ task. IsAside task path) → map.get (files_after asked nodes) path ≡ map.get nodes path
+  pub given : IsEarly answer ⊎ IsOutcomeOn asked other before now answer

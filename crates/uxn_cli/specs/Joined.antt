@@ -17,9 +17,9 @@ use Rattle.uxn_cli.specs.declared.refusal.Halt.{Halt}
 use Rattle.uxn_cli.specs.declared.refusal.Halt.TheVariants.{Refused, Stopped}
 use Rattle.uxn_cli.specs.declared.joining.Joined.{Joined}
 use Rattle.uxn_cli.specs.Setup.{InputFile, line_job}
-use Rattle.uxn_cli.specs.Verdict.{RunLine, planned, source_at, roms_in}
+use Rattle.uxn_cli.specs.Verdict.{RunLine, source_at, roms_in}
 use Rattle.uxn_cli.specs.Outcome.{line_bytes, line_exit}
-use Rattle.uxn_cli.specs.Prepared.{SeesWork, Unready}
+use Rattle.uxn_cli.specs.Prepared.{IsPlanned, Unready}
 
 -- what was seen of the sources of machines, and the ROMs that they are assembled to
 pub record SeesAll (tree : Option Nodes) (paths : List (List ℕ)) (says : Result (List (List ℕ)) Refusal) : Type 0 where
@@ -48,7 +48,7 @@ job_of_joined joined = line_job joined.setup (bytes_in joined.roms.items) joined
 pub record IsJoined (tree : Option Nodes) (task : Task) (joined : Joined) : Type 0 where
   pub machines : AreMachines joined.setup.sources joined.roms.items
   pub events : AreOfConsole joined.script.events
-  pub sees : SeesWork tree task (Ok (planned (RunLine (job_of_joined joined)) []))
+  pub planned : IsPlanned tree task (RunLine (job_of_joined joined)) []
 
 abbrev pub JoinsUp : Option Nodes → Task → Result Joined Halt → Type 0
 JoinsUp tree task (Ok joined) = IsJoined tree task joined

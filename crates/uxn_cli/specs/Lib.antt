@@ -14,8 +14,13 @@ pub mod Prepared
 pub mod Joined
 pub mod Answer
 pub mod Causes
+pub mod Outside
+pub mod Written
+pub mod Judged
 pub mod OpcodeNames
 pub mod Observation
 pub mod Isolation
 pub mod Workload
 pub mod Ended
+pub mod Call
+pub mod Clauses

@@ -9,7 +9,10 @@ use Rattle.varvara_bus.specs.Touching.{told_at}
 use Rattle.uxn_words.specs.declared.words.Command.TheVariants.{Play, Debug}
 use Rattle.uxn_words.specs.declared.task.Task.{Task}
 use Rattle.uxn_cli.specs.declared.refusal.Refusal.{Refusal}
-use Rattle.uxn_words.specs.Words.{settings}
+use Rattle.uxn_words.specs.Words.{task_of}
+use Rattle.uxn_words.specs.declared.role.Role.{Role}
+use Rattle.uxn_words.specs.Tasks.{role_path, with_paths}
+use Rattle.uxn_words.specs.declared.role.Role.TheVariants as role
 use Rattle.uxn_cli.specs.Job.{Debugging, Job, trail_of, exit_of, log_by}
 use Rattle.uxn_cli.specs.Verdict.{Work, Run}
 use Rattle.uxn_cli.specs.Outcome.{Outcome, outcome_of, creating, filling_all, running}
@@ -32,15 +35,21 @@ pub record OnlyWatches : Type 0 where
   pub changes : (job : Job) (debugging : Debugging) → running (watched job debugging) ≡ with_log job debugging
 
 -- what `play` is asked with the items of a `debug` but its commands, its log and its symbols
+abbrev pub played_path : Task → Role → Option (List ℕ)
+played_path task role.Commands = None
+played_path task role.Log = None
+played_path task role.Symbols = None
+played_path task other = role_path task other
+
 abbrev pub played : Task → Task
-played task = record task { command = Play; commands = None; log = None; symbols = None }
+played task = record (with_paths task (played_path task)) { command = Play }
 
 -- words of `debug`, and words of `play` with the same items but those three
 pub record HaveSameItems (words others : List (List ℕ)) : Type 0 where
   pub task : Task
   pub command : task.command ≡ Debug
-  pub debugs : settings words ≡ Some task
-  pub plays : settings others ≡ Some (played task)
+  pub debugs : task_of words ≡ Ok task
+  pub plays : task_of others ≡ Ok (played task)
 
 -- `debug` comes to a run under a debugger, and `play` to the same run
 pub record ComeToOneRun (debugged played : Result Work Refusal) : Type 0 where
@@ -51,11 +60,11 @@ pub record ComeToOneRun (debugged played : Result Work Refusal) : Type 0 where
 
 -- the path is not that of the log
 abbrev pub IsNoLog : Result Task Refusal → List ℕ → Type 0
-IsNoLog asked path = IfOk asked (λ task. list_any (bytes_eq path) (option_to_list task.log) ≡ false)
+IsNoLog asked path = IfOk asked (λ task. list_any (bytes_eq path) (option_to_list (role_path task role.Log)) ≡ false)
 
 -- what lies beneath the root of what is asked is the same
 abbrev pub HaveSamePart : Result Task Refusal → Option Nodes → Option Nodes → Type 0
-HaveSamePart asked now other = IfOk asked (λ task. option_map (below task.root) now ≡ option_map (below task.root) other)
+HaveSamePart asked now other = IfOk asked (λ task. option_map (below (role_path task role.Root)) now ≡ option_map (below (role_path task role.Root)) other)
 
 -- a status and a world are those of an outcome, but for the log
 pub record IsOutcomeButLog (asked : Result Task Refusal) (o : Outcome) (before now : World) (answer : ℕ) : Type 0 where

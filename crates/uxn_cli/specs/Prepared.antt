@@ -1,8 +1,9 @@
 -- What a run has before it begins: the inputs that were seen, and a new machine.
-use Rattle.std.specs.Prelude.{◌≡◌, ◌≢◌, ◌⊎◌, ℕ, Bool, true, not, find, unwrap_or, option_map, List, ◌++◌}
+use Rattle.std.specs.Prelude.{◌≡◌, ◌≢◌, ◌⊎◌, ℕ, Bool, true, not, find, map, option_map, List, [], ◌++◌}
 use Rattle.std.specs.Prelude.{Option, None, Some, Result, Ok, Err, IfSome}
 use Rattle.std.specs.List.{list_any}
 use Rattle.std.specs.Str.{bytes_eq}
+use Rattle.std.specs.Global.{Vec}
 use Rattle.uxn_io.specs.Files.{Nodes}
 use Rattle.uxn_io.specs.Outside.{Change, World, changed_by, IsCutOff}
 use Rattle.uxn_io.specs.Room.{Room}
@@ -25,6 +26,11 @@ use Rattle.vector_loop.specs.Outputs.{IsOutput}
 use Rattle.vector_loop.specs.Watch.{Page, page_in, moment_of, shown_all}
 use Rattle.vector_loop.specs.Trail.{Trail}
 use Rattle.uxn_words.specs.declared.task.Task.{Task}
+use Rattle.uxn_words.specs.declared.words.Command.{Command}
+use Rattle.uxn_words.specs.declared.words.Command.TheVariants.{Play, Debug}
+use Rattle.uxn_words.specs.Places.{outputs_of, root_by}
+use Rattle.uxn_words.specs.Tasks.{role_path}
+use Rattle.uxn_words.specs.declared.role.Role.TheVariants as role
 use Rattle.uxn_cli.specs.declared.program.Program.{Program}
 use Rattle.uxn_cli.specs.declared.program.Program.TheVariants.{Rom, Source}
 use Rattle.uxn_cli.specs.declared.machine.Machine.{Machine}
@@ -35,10 +41,10 @@ use Rattle.uxn_cli.specs.declared.refusal.Refusal.{Refusal}
 use Rattle.uxn_cli.specs.declared.refusal.Refusal.TheVariants.{NoOutput}
 use Rattle.uxn_cli.specs.declared.refusal.Halt.{Halt}
 use Rattle.uxn_cli.specs.declared.refusal.Halt.TheVariants.{Refused, Stopped}
-use Rattle.uxn_cli.specs.Verdict.{View, Run, file_seen, symbols_seen, script_seen, commands_seen, part_seen, parent_seen, named_seen}
-use Rattle.uxn_cli.specs.Verdict.{Loaded, loaded_rom, program_in, debugging, job_of, Plan, planned, work_of, first_unmade}
-use Rattle.uxn_cli.specs.World.{world}
-use Rattle.uxn_cli.specs.Job.{Debugging, Home, no_home, home_in, clock_by, outputs_by, trail_by, exit_in, log_by}
+use Rattle.uxn_cli.specs.Verdict.{View, view_of, file_seen, Loaded, loaded_rom, program_in, debugging, debug_labels, job_of}
+use Rattle.uxn_cli.specs.Verdict.{Work, Run, Write, Print, RunLine, Plan, planned, work_of, first_unmade}
+use Rattle.uxn_cli.specs.World.{world, Text}
+use Rattle.uxn_cli.specs.Job.{Debugging, Home, no_home, home_in, outputs_in, clock_by, outputs_by, trail_by, exit_in, log_by}
 use Rattle.uxn_cli.specs.Outcome.{creating, filling_all, reporting}
 use Rattle.uxn_cli.specs.Blame.{blame_of}
 
@@ -67,17 +73,25 @@ loaded_by (Source source) = record { rom = source.assembly.rom; labels = source.
 abbrev pub Loads : Option Nodes → Task → Result Program Halt → Type 0
 Loads tree task result = Accepts loaded_by tree (λ nodes. file_seen nodes task) (program_in task.rom task.file) result
 
+-- all that a task looks at before the outputs, as a tree tells it
+abbrev pub inputs_seen : Nodes → Task → View
+inputs_seen nodes task = record (view_of nodes task) { blocked = None }
+
 -- what was seen of all inputs, and the work that they ask for; the outputs are not looked at yet
-pub record SeesWork (tree : Option Nodes) (task : Task) (said : Result Plan Refusal) : Type 0 where
-  pub view : View
-  pub file : IfSome tree (λ nodes. view.file ≡ file_seen nodes task)
-  pub symbols : IfSome tree (λ nodes. view.symbols ≡ symbols_seen nodes task)
-  pub script : IfSome tree (λ nodes. view.script ≡ script_seen nodes task)
-  pub commands : IfSome tree (λ nodes. view.commands ≡ commands_seen nodes task)
-  pub part : IfSome tree (λ nodes. view.part ≡ part_seen nodes task)
-  pub parent : IfSome tree (λ nodes. view.parent ≡ parent_seen nodes task)
-  pub named : IfSome tree (λ nodes. view.named ≡ named_seen nodes task)
-  pub work : work_of task.command task view ≡ said
+abbrev pub SeesWork : Option Nodes → Task → Result Plan Refusal → Type 0
+SeesWork tree task said = Sees tree (λ nodes. inputs_seen nodes task) (work_of task.command task) said
+
+-- the files that a work writes
+abbrev pub paths_for : Work → List (List ℕ)
+paths_for (Run job) = outputs_in job
+paths_for (Write texts) = map (λ (text : Text). text.path) texts
+paths_for (Print text) = []
+paths_for (RunLine job) = []
+
+-- a work that the inputs ask for, whose files are the outputs of the task
+pub record IsPlanned (tree : Option Nodes) (task : Task) (work : Work) (included : List (List ℕ)) : Type 0 where
+  pub outputs : outputs_of task ≡ paths_for work
+  pub sees : SeesWork tree task (Ok (planned work included))
 
 -- devices are new: they stand for new ones with this script and this root, whatever lies there
 abbrev pub AreNew : Devices → ScriptView → Option (List ℕ) → Type 0
@@ -85,9 +99,9 @@ AreNew devices script root = (part : Nodes) (parent : Bool) → StandFor devices
 
 -- a folder of a program's own files is that of a task, as a tree tells it
 pub record IsHomeOf (tree : Option Nodes) (task : Task) (home : Home) : Type 0 where
-  pub root : home.root ≡ task.root
-  pub told : IfSome tree (λ nodes. home ≡ home_in task.root nodes)
-  pub none : task.root ≡ None → home ≡ no_home
+  pub root : home.root ≡ (role_path task role.Root)
+  pub told : IfSome tree (λ nodes. home ≡ home_in (role_path task role.Root) nodes)
+  pub none : (role_path task role.Root) ≡ None → home ≡ no_home
 
 -- a machine that is ready: it is new, with the ROM, the script and the root that are asked for, out of a source that includes files
 pub record IsReady (tree : Option Nodes) (task : Task) (debug : Option Debugging) (included : List (List ℕ)) (machine : Machine)
@@ -95,30 +109,55 @@ pub record IsReady (tree : Option Nodes) (task : Task) (debug : Option Debugging
   pub rom : List ℕ
   pub home : Home
   pub core : machine.core ≡ new_core rom
-  pub devices : AreNew machine.devices machine.script task.root
+  pub devices : AreNew machine.devices machine.script (role_path task role.Root)
   pub at_home : IsHomeOf tree task home
-  pub sees : SeesWork tree task (Ok (planned (Run (job_of task home rom machine.script debug)) included))
+  pub root : root_by task.command task ≡ (role_path task role.Root)
+  pub planned : IsPlanned tree task (Run (job_of task home rom machine.script debug)) included
 
 -- why there is none
 abbrev pub Unready : Option Nodes → Task → Halt → Type 0
 Unready tree task (Refused refusal) = SeesWork tree task (Err refusal)
 Unready tree task (Stopped stop) = stop ≢ SinkFault
 
-abbrev pub PreparesPlay : Option Nodes → Task → Result Prepared Halt → Type 0
-PreparesPlay tree task (Ok prepared) = IsReady tree task None (loaded_by prepared.program).included prepared.machine
-PreparesPlay tree task (Err halt) = Unready tree task halt
+-- a text that is printed
+abbrev pub PrintsText : Option Nodes → Task → Result (Vec ℕ) Halt → Type 0
+PrintsText tree task (Ok text) = IsPlanned tree task (Print text.items) []
+PrintsText tree task (Err halt) = Unready tree task halt
 
--- the labels of a session, and what its debugger does
-abbrev pub labels_in_session : Session → List Label
-labels_in_session session = unwrap_or (option_map (λ given. given.items) session.given) (loaded_by session.program).labels
+-- the commands that run a machine
+abbrev pub RunsMachine : Command → Type 0
+RunsMachine Play = Unit {0}
+RunsMachine Debug = Unit {0}
+RunsMachine _ = ⊥
 
-abbrev pub debugging_of : Task → Session → Debugging
-debugging_of task session = debugging task session.commands.items (labels_in_session session)
+-- `debug` has a debugger, whose commands and symbols are inputs
+abbrev pub debugger_by : Command → Debugging → Option Debugging
+debugger_by Debug debugging = Some debugging
+debugger_by _ debugging = None
 
-abbrev pub PreparesDebug : Option Nodes → Task → Result Session Halt → Type 0
-PreparesDebug tree task (Ok session) =
-    IsReady tree task (Some (debugging_of task session)) (loaded_by session.program).included session.machine
-PreparesDebug tree task (Err halt) = Unready tree task halt
+abbrev pub commands_input : Command → Task → Option (List ℕ)
+commands_input Debug task = (role_path task role.Commands)
+commands_input _ task = None
+
+-- what a debugger does in a session: its commands, and the labels of a symbol file, else those of the source
+abbrev pub labels_with : Loaded → Option (Vec Label) → List Label
+labels_with program given = debug_labels (option_map (λ (labels : Vec Label). labels.items) given) program
+
+abbrev pub debugger_of : Task → Loaded → Option Session → Option Debugging
+debugger_of task program None = None
+debugger_of task program (Some session) = Some (debugging task session.commands.items (labels_with program session.given))
+
+abbrev pub debugger_in : Task → Prepared → Option Debugging
+debugger_in task prepared = debugger_of task (loaded_by prepared.program) prepared.session
+
+-- a run that is ready: its debugger keeps no moments yet
+pub record IsReadyRun (tree : Option Nodes) (task : Task) (prepared : Prepared) : Type 0 where
+  pub ready : IsReady tree task (debugger_in task prepared) (loaded_by prepared.program).included prepared.machine
+  pub undo : IfSome prepared.session (λ session. session.undo ≡ [])
+
+abbrev pub Prepares : Option Nodes → Task → Result Prepared Halt → Type 0
+Prepares tree task (Ok prepared) = IsReadyRun tree task prepared
+Prepares tree task (Err halt) = Unready tree task halt
 
 -- what a call can see and change, and what is sure of it
 pub record Around : Type 0 where
@@ -166,17 +205,22 @@ pub record HalfMade (included paths : List (List ℕ)) (tree now : Option Nodes)
   pub cut : (out err : Option (List ℕ)) → IsCutOff (world tree out err) (world now out err) (creating paths)
 
 -- the first that cannot be made, or is an included file
-pub record Blocked (included paths : List (List ℕ)) (tree now : Option Nodes) (refusal : Refusal) : Type 0 where
+pub record Blocked (included paths : List (List ℕ)) (tree : Option Nodes) (refusal : Refusal) : Type 0 where
   pub path : List ℕ
   pub names : refusal ≡ NoOutput path
   pub blocked : Option (List ℕ)
   pub looked : IfSome tree (λ nodes. blocked ≡ find (λ p. not (can_create nodes p)) paths)
   pub first : first_unmade blocked included paths ≡ Some path
-  pub same : now ≡ tree
+
+-- outputs that were looked at
+abbrev pub LooksAt : List (List ℕ) → List (List ℕ) → Option Nodes → Result (Unit {0}) Halt → Type 0
+LooksAt included paths tree (Ok _) = AreFree tree included paths
+LooksAt included paths tree (Err (Refused refusal)) = Blocked included paths tree refusal
+LooksAt included paths tree (Err (Stopped stop)) = stop ≢ SinkFault
 
 abbrev pub MakesOutputs : List (List ℕ) → List (List ℕ) → Option Nodes → Option Nodes → Result (Unit {0}) Halt → Type 0
 MakesOutputs included paths tree now (Ok _) = Made included paths tree now
-MakesOutputs included paths tree now (Err (Refused refusal)) = Blocked included paths tree now refusal
+MakesOutputs included paths tree now (Err (Refused refusal)) = Blocked included paths tree refusal × (now ≡ tree)
 MakesOutputs included paths tree now (Err (Stopped TreeFault)) = (now ≡ tree) ⊎ HalfMade included paths tree now
 MakesOutputs included paths tree now (Err (Stopped NoMemory)) = now ≡ tree
 MakesOutputs included paths tree now (Err (Stopped SinkFault)) = ⊥
@@ -194,16 +238,16 @@ WasShown shown ended before trail now =
 
 -- the outputs of a run are files outside its root
 pub record RunFiles (task : Task) (tree : Option Nodes) : Type 0 where
-  pub frames : IfSome task.frames (IsOutput task.root tree)
-  pub samples : IfSome task.samples (IsOutput task.root tree)
-  pub report : IfSome task.report (IsOutput task.root tree)
+  pub frames : IfSome (role_path task role.Frames) (IsOutput (role_path task role.Root) tree)
+  pub samples : IfSome (role_path task role.Samples) (IsOutput (role_path task role.Root) tree)
+  pub report : IfSome (role_path task role.Report) (IsOutput (role_path task role.Root) tree)
 
 -- this holds of the folder of a program's own files, as a tree tells it
 abbrev pub AtHome : Option (List ℕ) → Option Nodes → (Home → Type 0) → Type 0
 AtHome root tree P = (home : Home) → home.root ≡ root → HasFiles tree home.root home.part home.parent → P home
 
 abbrev pub outputs_for : Task → Outputs
-outputs_for task = outputs_by task.frames task.samples
+outputs_for task = outputs_by (role_path task role.Frames) (role_path task role.Samples)
 
 -- the run of a machine for a task, from a folder of the program's own files
 abbrev pub trail_for : Task → Machine → Home → Trail
@@ -211,12 +255,10 @@ trail_for task machine home = trail_by task.budget (outputs_for task) machine.sc
 
 -- what is done by a run and behind it: its report is written, and then the log of a debugger
 abbrev pub reporting_for : Task → Machine → Home → List Change
-reporting_for task machine home = reporting task.report machine.script.version (trail_for task machine home)
+reporting_for task machine home = reporting (role_path task role.Report) machine.script.version (trail_for task machine home)
 
-abbrev pub debugging_for : Task → Session → Home → List Change
-debugging_for task session home =
-    reporting_for task session.machine home
-    ++ filling_all (log_by (Some (debugging_of task session)) (trail_for task session.machine home))
+abbrev pub logging_for : Task → Machine → Option Debugging → Home → List Change
+logging_for task machine debug home = reporting_for task machine home ++ filling_all (log_by debug (trail_for task machine home))
 
 -- a run was done with all that is behind it, and its exit code is the status
 pub record HasFinished (before now : Around) (trail : Trail) (changes : List Change) (answer : ℕ) : Type 0 where

@@ -37,6 +37,8 @@ use Rattle.uxn_memory.specs.Bytes.{largest_rom}
 use Rattle.tal_rom.specs.Rom.{rom_limit}
 use Rattle.uxn_words.specs.declared.words.Command.TheVariants.{Play, Debug, Assemble, Disassemble, Generate, Line}
 use Rattle.uxn_words.specs.declared.task.Task.{Task}
+use Rattle.uxn_words.specs.Tasks.{role_path}
+use Rattle.uxn_words.specs.declared.role.Role.TheVariants as role
 use Rattle.uxn_cli.specs.declared.refusal.Refusal.{Refusal}
 use Rattle.uxn_cli.specs.declared.refusal.Refusal.TheVariants.{NoOutput, Missing, Faulty, LongRom, BadSymbols, BadScript, BadCommands}
 use Rattle.uxn_cli.specs.Job.{Debugging, Job, Home, no_home, text_at}
@@ -101,9 +103,9 @@ symbols_by nodes (Some path) = whole_file (file_at nodes path) 16777216
 
 abbrev pub symbols_input : Command → Task → Option (List ℕ)
 symbols_input Play task = None
-symbols_input Debug task = task.symbols
+symbols_input Debug task = (role_path task role.Symbols)
 symbols_input Assemble task = None
-symbols_input Disassemble task = task.symbols
+symbols_input Disassemble task = (role_path task role.Symbols)
 symbols_input Generate task = None
 symbols_input Line task = None
 
@@ -116,11 +118,11 @@ script_by nodes None = NoFile
 script_by nodes (Some path) = whole_file (file_at nodes path) 4194304
 
 abbrev pub script_seen : Nodes → Task → FileBytes
-script_seen nodes task = script_by nodes task.script
+script_seen nodes task = script_by nodes (role_path task role.Script)
 
 -- the commands of a debugger
 abbrev pub commands_seen : Nodes → Task → FileBytes
-commands_seen nodes task = script_by nodes task.commands
+commands_seen nodes task = script_by nodes (role_path task role.Commands)
 
 -- what lies beneath the root, and whether its parent is a folder
 abbrev pub part_seen : Nodes → Task → Nodes
@@ -225,8 +227,8 @@ program_of source = record { rom = rom_of source; places = (layout source).words
 
 abbrev pub texts_of : Task → List ℕ → List Text
 texts_of task source =
-    text_at task.out (rom_of source) ++ text_at task.symbols (symbol_file (layout source).labels)
-    ++ text_at task.listing (listing_of source (program_of source))
+    text_at (role_path task role.Out) (rom_of source) ++ text_at (role_path task role.Symbols) (symbol_file (layout source).labels)
+    ++ text_at (role_path task role.Listing) (listing_of source (program_of source))
 
 -- the script in a file that is there (130) and not refused (132); without a script it is that of an empty text
 abbrev pub script_from : Result ScriptView (ℕ × ScriptKind) → Result ScriptView Refusal
@@ -266,7 +268,7 @@ commands_in labels None file = Ok []
 commands_in labels (Some path) file = commands_at labels path file
 
 abbrev pub debugging : Task → List DebugCommand → List Label → Debugging
-debugging task commands labels = record { commands = commands; labels = labels; log = task.log }
+debugging task commands labels = record { commands = commands; labels = labels; log = (role_path task role.Log) }
 
 -- the folder of a program's own files, as it was seen
 abbrev pub home_by : Option (List ℕ) → Nodes → Bool → Home
@@ -281,9 +283,9 @@ job_of task home rom script debug = record {
   script = script;
   budget = task.budget;
   home = home;
-  frames = task.frames;
-  samples = task.samples;
-  report = task.report;
+  frames = (role_path task role.Frames);
+  samples = (role_path task role.Samples);
+  report = (role_path task role.Report);
 }
 
 -- the summary of a workload: its source has no fault, and is run over 60 frames
@@ -334,20 +336,20 @@ plain said = and_then said (λ work. Ok (planned work []))
 abbrev pub work_of : Command → Task → View → Result Plan Refusal
 work_of Play task view =
     and_then (program_in task.rom task.file view.file) (λ program.
-    and_then (script_in task.script view.script) (λ script.
-    Ok (planned (Run (job_of task (home_by task.root view.part view.parent) program.rom script None)) program.included)))
+    and_then (script_in (role_path task role.Script) view.script) (λ script.
+    Ok (planned (Run (job_of task (home_by (role_path task role.Root) view.part view.parent) program.rom script None)) program.included)))
 work_of Debug task view =
     and_then (program_in task.rom task.file view.file) (λ program.
-    and_then (given_in task.symbols view.symbols) (λ given.
-    and_then (script_in task.script view.script) (λ script.
-    and_then (commands_in (debug_labels given program) task.commands view.commands) (λ commands.
-    Ok (planned (Run (job_of task (home_by task.root view.part view.parent) program.rom script
+    and_then (given_in (role_path task role.Symbols) view.symbols) (λ given.
+    and_then (script_in (role_path task role.Script) view.script) (λ script.
+    and_then (commands_in (debug_labels given program) (role_path task role.Commands) view.commands) (λ commands.
+    Ok (planned (Run (job_of task (home_by (role_path task role.Root) view.part view.parent) program.rom script
     (Some (debugging task commands (debug_labels given program))))) program.included)))))
 work_of Assemble task view =
     and_then (source_in task.file view.file) (λ source. Ok (planned (Write (texts_of task source.text)) source.paths))
 work_of Disassemble task view =
     plain (and_then (rom_in task.file view.file.bytes) (λ rom.
-    and_then (labels_in task.symbols view.symbols) (λ labels. Ok (Print (disassembly rom labels)))))
+    and_then (labels_in (role_path task role.Symbols) view.symbols) (λ labels. Ok (Print (disassembly rom labels)))))
 work_of Generate task view = plain (and_then (summary_in task.count) (λ text. Ok (Print text)))
 work_of Line task view =
     plain (and_then (setup_in task.file view.file.bytes) (λ setup. and_then (line_in setup view.named) (λ job. Ok (RunLine job))))

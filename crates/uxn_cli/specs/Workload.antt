@@ -2,6 +2,7 @@
 use Rattle.std.specs.Prelude.{ℕ, List, [], length, Some, None, unwrap_or}
 use Rattle.std.specs.FinMap as nodes_map
 use Rattle.uxn_io.specs.Outside.{World, changed_by}
+use Rattle.uxn_opcodes.specs.declared.Core.{Core}
 use Rattle.uxn_opcodes.specs.Rule.{new_core}
 use Rattle.play_script.specs.Scripts.{ScriptView}
 use Rattle.vector_loop.specs.Trail.{Trail}
@@ -13,8 +14,11 @@ abbrev pub empty_world : World
 empty_world = record { out = Some []; err = Some []; files = Some nodes_map.empty }
 
 -- it runs with no root, keeps neither pictures nor samples, and a vector has at most 4,000,000 instructions
+abbrev pub lone_trail : Core → ScriptView → Trail
+lone_trail core script = trail_by 4000000 (outputs_by None None) script no_home core
+
 abbrev pub workload_trail : List ℕ → ScriptView → Trail
-workload_trail rom script = trail_by 4000000 (outputs_by None None) script no_home (new_core rom)
+workload_trail rom script = lone_trail (new_core rom) script
 
 -- the bytes that a run puts on the standard output
 abbrev pub console_of : Trail → List ℕ

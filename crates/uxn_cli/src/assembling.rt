@@ -1,21 +1,22 @@
-//! What `asm` writes.
-ghost use Rattle.std.specs.Prelude.{◌≡◌, ℕ, ◌++◌, List, Option, Ok, IfOk, IfSome, OnOk};
+//! What `asm` does: a source is assembled, and what is asked for is written.
+ghost use Rattle.std.specs.Prelude.{◌≡◌, ◌<◌, ◌++◌, Ok, IfOk, OnOk};
 ghost use Rattle.tal_rom.specs.Assembly.{IsAssembled};
 ghost use Rattle.tal_symbols.specs.SymbolFile.{symbol_file};
 ghost use Rattle.tal_listing.specs.Listing.{listing_of};
-ghost use Rattle.uxn_io.specs.Faults.{Ledger, TheTree, ASink, counts};
-ghost use Rattle.uxn_cli.specs.World.{world};
+ghost use Rattle.uxn_io.specs.Faults.{Ledger, TheTree, counts};
+ghost use Rattle.uxn_io.specs.Room.{Leaves};
 ghost use Rattle.uxn_cli.specs.Outputs.{seen_texts};
 ghost use Rattle.uxn_words.specs.Places.{HasApartOutputs};
 ghost use Rattle.uxn_cli.specs.Job.{text_at};
-ghost use Rattle.uxn_cli.specs.Verdict.{texts_of};
-ghost use Rattle.uxn_cli.specs.Answer.{Performs};
+ghost use Rattle.uxn_cli.specs.Verdict.{Write, texts_of};
 ghost use Rattle.uxn_cli.specs.Blame.{blame_in};
-ghost use Rattle.uxn_cli.specs.Causes.{verdict_on};
-ghost use Rattle.uxn_cli.specs.Room.{TreeSuffices};
+ghost use Rattle.uxn_cli.specs.Outside.{SinkSeen, tree_seen, outside, DoesWork};
+ghost use Rattle.uxn_cli.specs.Prepared.{IsPlanned};
+ghost use Rattle.uxn_cli.specs.Written.{Writes};
 
 use super::commands::accept_source;
-use super::outputs::{Output, first_blocked, first_unmade, write_all};
+use super::making::look_at;
+use super::outputs::{Output, write_all};
 use super::refusal::{Halt, Refusal};
 use std::alloc::{AllocError, Global};
 use tal_listing::listing;
@@ -23,7 +24,7 @@ use tal_rom::Assembly;
 use tal_sources::AssembledSource;
 use tal_symbols::write_symbols;
 use uxn_io::{Path, Tree};
-use uxn_words::{Command, Task};
+use uxn_words::{Command, Role, Task};
 
 /// The file of a ROM, where it was asked for.
 #[tactic(auto, using(crate::proofs::OutputLemmas::pushed))]
@@ -87,30 +88,55 @@ fn outputs_of(
     ensures { IfOk result (λ outputs. seen_texts outputs.items ≡ texts_of task.now source.now.text) }
 {
     let mut outputs = Vec::new(alloc);
-    push_rom(alloc, &mut outputs, &task.out, source.assembly())?;
-    push_symbols(alloc, &mut outputs, &task.symbols, source.assembly())?;
-    push_listing(alloc, &mut outputs, &task.listing, source)?;
+    push_rom(
+        alloc,
+        &mut outputs,
+        &task.path(Role::Out),
+        source.assembly(),
+    )?;
+    push_symbols(
+        alloc,
+        &mut outputs,
+        &task.path(Role::Symbols),
+        source.assembly(),
+    )?;
+    push_listing(alloc, &mut outputs, &task.path(Role::Listing), source)?;
     Ok(outputs)
 }
 
-/// Assembles the source in a file, and writes what was asked for. All that takes memory is done before
-/// the first file is made.
-pub fn assemble_files<T: Tree>(alloc: Global, task: &Task, tree: &mut T) -> Result<u8, Halt>
-    requires command { task.now.command ≡ Command.Assemble }
-    requires apart { HasApartOutputs task.now }
-    ensures performs { (out err : Option (List ℕ)) → Performs (Ok task.now) (world (T.told tree.old) out err) (world (T.told tree.new) out err) result }
+/// A source that is accepted, and the files that are written out of it.
+#[derive(Drop)]
+pub struct Written {
+    /// The source, which may include files.
+    pub source: AssembledSource,
+    /// The files, with what they are to hold.
+    pub outputs: Vec<Output>,
+}
+
+/// Assembles the source in a file. All that takes memory is done here, before the first file is made.
+pub fn assemble<T: Tree>(alloc: Global, task: &Task, tree: &mut T) -> Result<Written, Halt>
+    requires { task.now.command ≡ Command.Assemble }
+    ensures writes { Writes (T.told tree.old) task.now result }
+    ensures same { T.told tree.new ≡ T.told tree.old }
     ensures ledger { Ledger (counts (T.faults tree.old) 0 0) (counts (T.faults tree.new) 0 0) (blame_in result) }
-    ensures no_sink { blame_in result ≡ ASink → ⊥ }
-    ensures sure { IfSome (T.told tree.old) (λ nodes. TreeSuffices (verdict_on nodes (Ok task.now)) (T.sure tree.old) nodes → blame_in result ≡ TheTree → ⊥) }
+    ensures sure { 0 < (T.sure tree.old).files → blame_in result ≡ TheTree → ⊥ }
+    ensures left { OnOk result (Leaves (T.sure tree.old) (T.sure tree.new) 0 0) }
 {
     let source = accept_source(alloc, &task.file, tree)?;
     let outputs = outputs_of(alloc, task, &source)?;
-    let blocked = first_blocked(tree, &outputs)?;
-    match first_unmade(&blocked, source.paths(), &outputs) {
+    Ok(Written { source, outputs })
+}
+
+/// Writes the files that were asked for.
+pub fn write<T: Tree>(task: &Task, written: &Written, tree: &mut T) -> Result<u8, Halt>
+    requires planned { IsPlanned (T.told tree.old) task.now (Write (seen_texts written.now.outputs.items)) written.now.source.paths }
+    requires apart { HasApartOutputs task.now }
+    ensures does { (out err : SinkSeen) → DoesWork (Ok task.now) (outside (tree_seen T.told T.sure T.faults tree.old) out err)
+        (outside (tree_seen T.told T.sure T.faults tree.new) out err) result }
+{
+    look_at(written.source.paths(), &written.outputs, tree)?;
+    match write_all(tree, &written.outputs)? {
         Some(path) => Err(Halt::Refused(Refusal::NoOutput(path))),
-        None => match write_all(tree, &outputs)? {
-            Some(path) => Err(Halt::Refused(Refusal::NoOutput(path))),
-            None => Ok(0),
-        },
+        None => Ok(0),
     }
 }

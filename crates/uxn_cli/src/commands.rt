@@ -1,18 +1,14 @@
 //! Inputs that are accepted, and what `dis` does.
-ghost use Rattle.std.specs.Prelude.{◌≡◌, ℕ, ◌<◌, ◌≤◌, Ok, Err, None, false, length, IfOk, IsOk, IfSome, OnOk, OnErr, is_err};
-ghost use Rattle.uxn_io.specs.Told.{extended, HasTakenFront};
-ghost use Rattle.uxn_io.specs.Faults.{Counted, Ledger, TheTree, ASink, counts};
+ghost use Rattle.std.specs.Prelude.{◌≡◌, ℕ, ◌<◌, ◌≤◌, Ok, None, false, length, IfOk, IfSome, OnOk};
+ghost use Rattle.uxn_io.specs.Faults.{Counted, Ledger, TheTree, counts};
 ghost use Rattle.uxn_io.specs.Room.{Leaves};
 ghost use Rattle.uxn_io.specs.WholeFile.{KeepsLimit, has_failed};
 ghost use Rattle.tal_rom.specs.Assembly.{IsAssembled};
-ghost use Rattle.uxn_cli.specs.World.{world};
 ghost use Rattle.uxn_cli.specs.Verdict.{too_long, source_at, source_in, rom_in, labels_at, labels_in, symbols_by};
-ghost use Rattle.uxn_cli.specs.Prepared.{Accepts, sourced_by};
+ghost use Rattle.uxn_cli.specs.Prepared.{Accepts, PrintsText, sourced_by};
 ghost use Rattle.uxn_cli.specs.Follows.{Follows};
-ghost use Rattle.uxn_cli.specs.Answer.{Performs};
-ghost use Rattle.uxn_cli.specs.Blame.{blame_in, OnRefused};
-ghost use Rattle.uxn_cli.specs.Causes.{verdict_on};
-ghost use Rattle.uxn_cli.specs.Room.{SinksSuffice};
+ghost use Rattle.uxn_cli.specs.Blame.{blame_in};
+ghost use Rattle.uxn_cli.specs.Outside.{sink_seen, Puts};
 
 use super::refusal::{Halt, Refusal};
 use std::alloc::Global;
@@ -22,7 +18,7 @@ use tal_symbols::{SymbolKind, SymbolStop, read_symbols};
 use tal_words::{FaultKind, Label};
 use uxn_io::{Bytes, Failed, FileBytes, Path, ReadStop, Sink, Tree, put_all, read_file};
 use uxn_opcodes::Stop;
-use uxn_words::{Command, Task};
+use uxn_words::{Command, Role, Task};
 
 /// The greatest length of a source in bytes.
 const SOURCE_LIMIT: u32 = 4_194_304;
@@ -125,12 +121,8 @@ fn accept_labels(alloc: Global, path: &Option<Path>, file: FileBytes) -> Result<
 
 /// Prints a text.
 pub fn print<O: Sink>(text: &[u8], out: &mut O) -> Result<u8, Halt>
-    ensures ok { IfOk result (λ status. status ≡ 0) }
-    ensures put { OnOk result (O.told out.new ≡ extended (O.told out.old) text.now) }
-    ensures front { OnErr result (HasTakenFront (O.told out.old) (O.told out.new) text.now) }
-    ensures stops { OnErr result (result ≡ Err (Halt.Stopped Stop.SinkFault)) }
-    ensures ledger { Counted (O.faults out.old) (O.faults out.new) (is_err result) }
-    ensures sure { length text.now < O.sure out.old → IsOk result }
+    ensures puts { Puts (sink_seen O.told O.sure O.faults out.old) (sink_seen O.told O.sure O.faults out.new) text.now 0 result }
+    ensures ledger { Ledger (counts 0 (O.faults out.old) 0) (counts 0 (O.faults out.new) 0) (blame_in result) }
 {
     match put_all(out, text) {
         Ok(()) => Ok(0),
@@ -138,28 +130,19 @@ pub fn print<O: Sink>(text: &[u8], out: &mut O) -> Result<u8, Halt>
     }
 }
 
-/// Prints the disassembly of a ROM file.
-pub fn disassemble_rom<T: Tree, O: Sink, E: Sink>(
-    alloc: Global,
-    task: &Task,
-    tree: &mut T,
-    out: &mut O,
-    err: &mut E,
-) -> Result<u8, Halt>
+/// The disassembly of a ROM file, where it and the symbols are accepted.
+pub fn disassemble_rom<T: Tree>(alloc: Global, task: &Task, tree: &mut T) -> Result<Vec<u8>, Halt>
     requires { task.now.command ≡ Command.Disassemble }
-    ensures performs { Performs (Ok task.now) (world (T.told tree.old) (O.told out.old) (E.told err.old))
-        (world (T.told tree.new) (O.told out.new) (E.told err.new)) result }
-    ensures ledger { Ledger (counts (T.faults tree.old) (O.faults out.old) (E.faults err.old))
-        (counts (T.faults tree.new) (O.faults out.new) (E.faults err.new)) (blame_in result) }
-    ensures kept { OnRefused result (err.new ≡ err.old) }
-    ensures sure_tree { 0 < (T.sure tree.old).files → blame_in result ≡ TheTree → ⊥ }
-    ensures sure_out { IfSome (T.told tree.old) (λ nodes. SinksSuffice (verdict_on nodes (Ok task.now)) (O.sure out.old) (E.sure err.old)
-        → blame_in result ≡ ASink → ⊥) }
+    ensures prints { PrintsText (T.told tree.old) task.now result }
+    ensures same { T.told tree.new ≡ T.told tree.old }
+    ensures ledger { Ledger (counts (T.faults tree.old) 0 0) (counts (T.faults tree.new) 0 0) (blame_in result) }
+    ensures sure { 0 < (T.sure tree.old).files → blame_in result ≡ TheTree → ⊥ }
+    ensures left { OnOk result (Leaves (T.sure tree.old) (T.sure tree.new) 0 0) }
 {
     let file = read_file(alloc, tree, &task.file, ROM_LIMIT)?;
     let rom = accept_rom(&task.file, file)?;
-    let symbols = read_optional(alloc, tree, &task.symbols)?;
-    let labels = accept_labels(alloc, &task.symbols, symbols)?;
-    let text = disassemble(alloc, rom.as_slice(), &labels)?;
-    print(&text, out)
+    let path = task.path(Role::Symbols);
+    let symbols = read_optional(alloc, tree, &path)?;
+    let labels = accept_labels(alloc, &path, symbols)?;
+    Ok(disassemble(alloc, rom.as_slice(), &labels)?)
 }

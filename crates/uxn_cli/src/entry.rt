@@ -1,31 +1,28 @@
 //! The top call, from the words to the status.
-ghost use Rattle.std.specs.Prelude.{◌≡◌, ◌≤◌, ◌⊎◌, ℕ, List, Ok, map, string_bytes, IfOk, IfSome};
-ghost use Rattle.uxn_io.specs.Faults.{Rose, Ledger, TheTree, ASink, counts};
+ghost use Rattle.std.specs.Prelude.{◌≡◌, ◌≤◌, map, string_bytes, IfOk, IfSome};
+ghost use Rattle.uxn_io.specs.Faults.{Ledger, TheTree, ASink, counts};
 ghost use Rattle.uxn_cli.specs.World.{world};
 ghost use Rattle.uxn_cli.specs.Request.{request};
 ghost use Rattle.uxn_words.specs.Places.{HasApartOutputs};
-ghost use Rattle.uxn_cli.specs.Verdict.{Work};
 ghost use Rattle.uxn_cli.specs.Follows.{Follows};
-ghost use Rattle.uxn_cli.specs.Answer.{Performs, Ends, MayStop, Answers};
-ghost use Rattle.uxn_cli.specs.Blame.{blame_in, blame_by, blame_at, OnRefused};
-ghost use Rattle.uxn_cli.specs.Statuses.{Reason, Exits, Refuses, early_status, IsEarly, IsRefusing, IsRefusedFor, IsOfWords};
+ghost use Rattle.uxn_cli.specs.Answer.{Performs};
+ghost use Rattle.uxn_cli.specs.Blame.{blame_in, OnRefused};
+ghost use Rattle.uxn_cli.specs.Statuses.{early_status};
 ghost use Rattle.uxn_cli.specs.Room.{TreeSuffices, SinksSuffice};
-ghost use Rattle.uxn_cli.specs.Causes.{IsExactly, verdict_on, EndsWith, KeepsOthers, PutsLine};
-ghost use Rattle.uxn_cli.specs.Outcome.{outcome_of};
-ghost use Rattle.uxn_cli.specs.Observation.{HaveSameItems, IsOutcomeButLog};
+ghost use Rattle.uxn_cli.specs.Causes.{verdict_on};
+ghost use Rattle.uxn_cli.specs.Call.{call};
+ghost use Rattle.uxn_cli.specs.Outside.{outside_of};
+ghost use Rattle.uxn_cli.specs.Clauses.{HasItsOutcome, LeavesTheRest, HasStatuses, EndsEarlyByFaults, IsCutShort, GivesTheSame, FailsNotWhereSure};
+ghost use Rattle.uxn_cli.specs.Clauses.{ComesOut, AnswersOrStops};
 
-use super::assembling::assemble_files;
-use super::commands::disassemble_rom;
-use super::debugging::debug;
-use super::generating::generate;
-use super::joining::join;
-use super::paths::{apart, paths_in};
-use super::playing::play;
+use super::paths::apart;
 use super::refusal::{Halt, Refusal};
+use super::work::carry_out;
 use std::alloc::Global;
+use tal_sources::a_source_looks_at_its_files_alone;
 use uxn_io::{Sink, Tree};
 use uxn_opcodes::Stop;
-use uxn_words::{Command, Task, read_words};
+use uxn_words::{Task, read_words};
 
 /// What the words ask for, unless they are not legal or name no path.
 fn request(alloc: Global, words: &[String]) -> Result<Task, Halt>
@@ -33,14 +30,8 @@ fn request(alloc: Global, words: &[String]) -> Result<Task, Halt>
     ensures apart { IfOk result HasApartOutputs }
     ensures budget { IfOk result (λ task. 1 ≤ task.budget) }
 {
-    match read_words(alloc, words) {
-        Ok(Some(settings)) => {
-            let task = paths_in(alloc, &settings)?;
-            apart(alloc, task)
-        }
-        Ok(None) => Err(Halt::Refused(Refusal::NotUnderstood)),
-        Err(_) => Err(Halt::Stopped(Stop::NoMemory)),
-    }
+    let task = read_words(alloc, words)?;
+    apart(alloc, task)
 }
 
 /// Does what the words ask for. Where it is refused its line is not put yet.
@@ -62,14 +53,7 @@ fn perform<T: Tree, O: Sink, E: Sink>(
         → blame_in result ≡ ASink → ⊥) }
 {
     let task = request(alloc, words)?;
-    match task.command {
-        Command::Play => play(alloc, &task, tree, out, err),
-        Command::Debug => debug(alloc, &task, tree, out, err),
-        Command::Assemble => assemble_files(alloc, &task, tree),
-        Command::Disassemble => disassemble_rom(alloc, &task, tree, out, err),
-        Command::Generate => generate(alloc, &task, tree, out, err),
-        Command::Line => join(alloc, &task, tree, out, err),
-    }
+    carry_out(alloc, &task, tree, out, err)
 }
 
 /// Does what the words ask for, or puts the line that says why not.
@@ -80,14 +64,8 @@ fn answer<T: Tree, O: Sink, E: Sink>(
     out: &mut O,
     err: &mut E,
 ) -> Result<u8, Stop>
-    ensures ends { Ends (request (map string_bytes words.now)) (world (T.told tree.old) (O.told out.old) (E.told err.old))
-        (world (T.told tree.new) (O.told out.new) (E.told err.new)) result }
-    ensures ledger { Ledger (counts (T.faults tree.old) (O.faults out.old) (E.faults err.old))
-        (counts (T.faults tree.new) (O.faults out.new) (E.faults err.new)) (blame_by result) }
-    ensures sure_tree { IfSome (T.told tree.old) (λ nodes. TreeSuffices (verdict_on nodes (request (map string_bytes words.now))) (T.sure tree.old) nodes
-        → blame_by result ≡ TheTree → ⊥) }
-    ensures sure_sinks { IfSome (T.told tree.old) (λ nodes. SinksSuffice (verdict_on nodes (request (map string_bytes words.now))) (O.sure out.old) (E.sure err.old)
-        → blame_by result ≡ ASink → ⊥) }
+    ensures { AnswersOrStops (map string_bytes words.now) (outside_of T.Tree O.Sink E.Sink tree.old out.old err.old)
+        (outside_of T.Tree O.Sink E.Sink tree.new out.new err.new) result }
 {
     match perform(alloc, words, tree, out, err) {
         Ok(status) => Ok(status),
@@ -115,14 +93,7 @@ fn status_of<T: Tree, O: Sink, E: Sink>(
     out: &mut O,
     err: &mut E,
 ) -> u8
-    ensures outcome { Answers (request (map string_bytes words.now)) (world (T.told tree.old) (O.told out.old) (E.told err.old))
-        (world (T.told tree.new) (O.told out.new) (E.told err.new)) result }
-    ensures ledger { Ledger (counts (T.faults tree.old) (O.faults out.old) (E.faults err.old))
-        (counts (T.faults tree.new) (O.faults out.new) (E.faults err.new)) (blame_at result) }
-    ensures sure_tree { IfSome (T.told tree.old) (λ nodes. TreeSuffices (verdict_on nodes (request (map string_bytes words.now))) (T.sure tree.old) nodes
-        → result ≡ 136 → ⊥) }
-    ensures sure_sinks { IfSome (T.told tree.old) (λ nodes. SinksSuffice (verdict_on nodes (request (map string_bytes words.now))) (O.sure out.old) (E.sure err.old)
-        → result ≡ 137 → ⊥) }
+    ensures { ComesOut (call T.Tree O.Sink E.Sink words.now tree.old out.old err.old tree.new out.new err.new result) }
 {
     match answer(alloc, words, tree, out, err) {
         Ok(status) => status,
@@ -161,52 +132,29 @@ pub fn uxn<T: Tree, O: Sink, E: Sink>(
     // Unless the call ends early, the status, the bytes added to both sinks and the files are the outcome of what
     // the words ask for and of what stands in the tree; after an early end a front of that was done. Beneath a root in
     // a tree that tells nothing a run ends with some exit code.
-    ensures outcome { Answers (request (map string_bytes words.now)) (world (T.told tree.old) (O.told out.old) (E.told err.old))
-        (world (T.told tree.new) (O.told out.new) (E.told err.new)) result }
+    ensures outcome { HasItsOutcome (call T.Tree O.Sink E.Sink words.now tree.old out.old err.old tree.new out.new err.new result) }
 
-    // Every path that is no output and lies outside the root has its old node.
-    ensures others { KeepsOthers (request (map string_bytes words.now)) (T.told tree.old) (T.told tree.new) }
+    // What stands as before: every path that is no output and lies outside the root; after a refusal all but its one line.
+    ensures rest { LeavesTheRest (call T.Tree O.Sink E.Sink words.now tree.old out.old err.old tree.new out.new err.new result) }
 
     // When the call is refused for each reason, of which two hang on the words alone, and when it ends with its exit code.
-    ensures asked { (reason : Reason) → IsOfWords reason
-        → IsExactly result (Refuses reason) (IsRefusedFor reason (request (map string_bytes words.now))) }
-    ensures refused { IfSome (T.told tree.old) (λ nodes. (reason : Reason)
-        → IsExactly result (Refuses reason) (IsRefusedFor reason (verdict_on nodes (request (map string_bytes words.now))))) }
-    ensures accepted { IfSome (T.told tree.old) (λ nodes. (code : ℕ) → code ≤ 127
-        → IsExactly result (Exits code) (EndsWith code (verdict_on nodes (request (map string_bytes words.now))))) }
+    ensures statuses { HasStatuses (call T.Tree O.Sink E.Sink words.now tree.old out.old err.old tree.new out.new err.new result) }
 
-    // A refusal changes nothing in the tree, and puts its one line on the error output and nothing on the standard output.
-    ensures untouched { IsRefusing result → T.told tree.new ≡ T.told tree.old }
-    ensures quiet { IsRefusing result → O.told out.new ≡ O.told out.old }
-    ensures one_line { IsRefusing result → PutsLine (E.told err.old) (E.told err.new) }
+    // When it ends early: a fault is answered exactly where a count rose in this call, and memory is wanting before anything
+    // is done, but where a debugger watches the run or it takes the names of a folder.
+    ensures early { EndsEarlyByFaults (call T.Tree O.Sink E.Sink words.now tree.old out.old err.old tree.new out.new err.new result) }
 
-    // A fault of the tree or of a sink is answered exactly where its count rose in this call.
-    ensures ledger { Ledger (counts (T.faults tree.old) (O.faults out.old) (E.faults err.old))
-        (counts (T.faults tree.new) (O.faults out.new) (E.faults err.new)) (blame_at result) }
-    ensures tree_fault { result ≡ 136 → Rose (T.faults tree.old) (T.faults tree.new) }
-    ensures sink_fault { result ≡ 137 → Rose (O.faults out.old) (O.faults out.new) ⊎ Rose (E.faults err.old) (E.faults err.new) }
+    // What stands after an early end: one of the cut outcomes, so each output, and each file that is written whole, has a front
+    // of what the outcome gives it.
+    ensures cut_off { IsCutShort (call T.Tree O.Sink E.Sink words.now tree.old out.old err.old tree.new out.new err.new result) }
 
-    // What is accepted ends with its exit code, unless a count rose or memory was wanting.
-    ensures complete { IfSome (T.told tree.old) (λ nodes. (work : Work) → verdict_on nodes (request (map string_bytes words.now)) ≡ Ok work
-        → (Rose (T.faults tree.old) (T.faults tree.new) → ⊥) → (Rose (O.faults out.old) (O.faults out.new) → ⊥)
-        → (Rose (E.faults err.old) (E.faults err.new) → ⊥) → (result ≡ (outcome_of (Ok work)).status) ⊎ (result ≡ 138)) }
-
-    // Where memory was wanting all is as it was, but where a debugger watches the run or it takes the names of a folder.
-    ensures wanting { IfSome (T.told tree.old) (λ nodes. result ≡ 138
-        → (world (T.told tree.new) (O.told out.new) (E.told err.new) ≡ world (T.told tree.old) (O.told out.old) (E.told err.old))
-        ⊎ MayStop (verdict_on nodes (request (map string_bytes words.now))) Stop.NoMemory) }
-
-    // Where `debug` comes to its run it gives, but for its log, what `play` gives with the same items.
-    ensures watched { IfSome (T.told tree.old) (λ nodes. (others : List (List ℕ)) (work : Work) → HaveSameItems (map string_bytes words.now) others
-        → verdict_on nodes (request (map string_bytes words.now)) ≡ Ok work → IsEarly result ⊎ IsOutcomeButLog (request (map string_bytes words.now))
-        (outcome_of (verdict_on nodes (request others))) (world (T.told tree.old) (O.told out.old) (E.told err.old))
-        (world (T.told tree.new) (O.told out.new) (E.told err.new)) result) }
+    // What other calls give the same: `play` with the items of a `debug`, but for the log, and the same words over every
+    // other tree that looks the same to them.
+    ensures same { GivesTheSame (call T.Tree O.Sink E.Sink words.now tree.old out.old err.old tree.new out.new err.new result) }
 
     // Where the tree and the sinks surely take what the verdict asks of them, none of them fails.
-    ensures sure_tree { IfSome (T.told tree.old) (λ nodes. TreeSuffices (verdict_on nodes (request (map string_bytes words.now))) (T.sure tree.old) nodes
-        → result ≡ 136 → ⊥) }
-    ensures sure_sinks { IfSome (T.told tree.old) (λ nodes. SinksSuffice (verdict_on nodes (request (map string_bytes words.now))) (O.sure out.old) (E.sure err.old)
-        → result ≡ 137 → ⊥) }
+    ensures sure { FailsNotWhereSure (call T.Tree O.Sink E.Sink words.now tree.old out.old err.old tree.new out.new err.new result) }
 {
+    a_source_looks_at_its_files_alone();
     status_of(alloc, words, tree, out, err)
 }

@@ -1,22 +1,16 @@
 //! What `gen` does: a workload is made, run and summed up.
-ghost use Rattle.std.specs.Prelude.{◌≡◌, ◌≤◌, [], Ok, length, IfOk, IfSome};
-ghost use Rattle.uxn_io.specs.Faults.{Ledger, TheTree, ASink, counts};
-ghost use Rattle.uxn_cli.specs.World.{world};
+ghost use Rattle.std.specs.Prelude.{◌≡◌, ◌≤◌, [], None, Ok, length, IfOk};
 ghost use Rattle.tal_rom.specs.Rom.{rom_limit};
 ghost use Rattle.uxn_workload.specs.Summary.{summary_text};
-ghost use Rattle.uxn_cli.specs.Ended.{told_by_run};
-ghost use Rattle.uxn_cli.specs.Workload.{workload_text};
+ghost use Rattle.uxn_cli.specs.Ended.{told_by_run, HasRunAlone};
+ghost use Rattle.uxn_cli.specs.Prepared.{AreNew};
+ghost use Rattle.uxn_cli.specs.Workload.{lone_trail, workload_text};
 ghost use Rattle.tal_rom.specs.Assembly.{IsAssembled, first_fault};
 ghost use Rattle.tal_sources.specs.Sources.{own_by};
 ghost use Rattle.uxn_cli.specs.Verdict.{source_by, summary_in};
 ghost use Rattle.uxn_cli.specs.Follows.{Follows};
-ghost use Rattle.uxn_cli.specs.Answer.{Performs};
-ghost use Rattle.uxn_cli.specs.Blame.{blame_in, OnRefused};
-ghost use Rattle.uxn_cli.specs.Causes.{verdict_on};
-ghost use Rattle.uxn_cli.specs.Room.{SinksSuffice};
 
-use super::commands::print;
-use super::machine::new_machine;
+use super::machine::{Machine, new_machine};
 use super::refusal::{Halt, Refusal};
 use super::running::{Ended, Settings, run_machine};
 use super::scripts::script_of;
@@ -25,9 +19,9 @@ use std::alloc::{AllocError, Global};
 use tal_rom::{Assembly, assemble};
 use tal_sources::SourceFault;
 use tal_words::AsmStop;
-use uxn_io::{MemTree, Sink, Tree};
+use uxn_io::MemTree;
 use uxn_opcodes::Stop;
-use uxn_words::{Command, Task};
+use uxn_words::Task;
 use uxn_workload::{GrowingSink, Ran, source};
 use vector_loop::{NoWatch, Outputs};
 
@@ -61,7 +55,32 @@ fn sum_up(
     ran.summary(alloc)
 }
 
-/// Runs a workload on a machine of its own, with a tree and sinks of its own, and sums it up. A fault of these is want of memory.
+/// Runs a new machine with a tree and an error output of its own. A fault of these is want of memory.
+fn run_alone(
+    alloc: Global,
+    machine: &mut Machine,
+    out: &mut GrowingSink,
+) -> Result<Ended, AllocError>
+    requires devices { AreNew machine.old.devices machine.old.script None }
+    requires empty { out.old.taken ≡ [] }
+    ensures { IfOk result (λ ended. HasRunAlone (lone_trail machine.old.core machine.old.script) ended out.new.taken) }
+{
+    let settings = Settings {
+        outputs: Outputs {
+            frames: None,
+            samples: None,
+        },
+        budget: BUDGET,
+    };
+    let mut tree = MemTree::new(alloc, &[], 0, 0, &[])?;
+    let mut err = GrowingSink::new(alloc);
+    match run_machine(machine, &settings, &mut tree, out, &mut err, &mut NoWatch) {
+        Ok(ended) => Ok(ended),
+        Err(_) => Err(AllocError),
+    }
+}
+
+/// Runs a workload on a machine of its own, and sums it up.
 fn run_workload(
     alloc: Global,
     source: &[u8],
@@ -72,29 +91,9 @@ fn run_workload(
     ensures { IfOk result (λ text. text.items ≡ workload_text source.now rom.now script) }
 {
     let mut machine = new_machine(alloc, None, rom, script)?;
-    let settings = Settings {
-        outputs: Outputs {
-            frames: None,
-            samples: None,
-        },
-        budget: BUDGET,
-    };
-    let mut tree = MemTree::new(alloc, &[], 0, 0, &[])?;
     let mut out = GrowingSink::new(alloc);
-    let mut err = GrowingSink::new(alloc);
-    match run_machine(
-        &mut machine.core,
-        &mut machine.devices,
-        &machine.script,
-        &settings,
-        &mut tree,
-        &mut out,
-        &mut err,
-        &mut NoWatch,
-    ) {
-        Ok(ended) => sum_up(alloc, source, rom, &ended, &out),
-        Err(_) => Err(AllocError),
-    }
+    let ended = run_alone(alloc, &mut machine, &mut out)?;
+    sum_up(alloc, source, rom, &ended, &out)
 }
 
 /// The assembly of a workload.
@@ -113,33 +112,11 @@ fn assembly_of(alloc: Global, source: &[u8]) -> Result<Assembly, Halt>
 }
 
 /// The summary of a workload.
-fn summarize(alloc: Global, task: &Task) -> Result<Vec<u8>, Halt>
+pub fn summarize(alloc: Global, task: &Task) -> Result<Vec<u8>, Halt>
     ensures { Follows (λ text. text.items) result (summary_in task.now.count) }
 {
     let text = source(alloc, task.count)?;
     let assembly = assembly_of(alloc, &text)?;
     let script = script_of(alloc, SCRIPT)?;
     Ok(run_workload(alloc, &text, assembly.rom(), script)?)
-}
-
-/// Makes a workload, runs it, and prints its summary.
-pub fn generate<T: Tree, O: Sink, E: Sink>(
-    alloc: Global,
-    task: &Task,
-    tree: &mut T,
-    out: &mut O,
-    err: &mut E,
-) -> Result<u8, Halt>
-    requires { task.now.command ≡ Command.Generate }
-    ensures performs { Performs (Ok task.now) (world (T.told tree.old) (O.told out.old) (E.told err.old))
-        (world (T.told tree.new) (O.told out.new) (E.told err.new)) result }
-    ensures ledger { Ledger (counts (T.faults tree.old) (O.faults out.old) (E.faults err.old))
-        (counts (T.faults tree.new) (O.faults out.new) (E.faults err.new)) (blame_in result) }
-    ensures kept { OnRefused result (err.new ≡ err.old) }
-    ensures sure_tree { blame_in result ≡ TheTree → ⊥ }
-    ensures sure_out { IfSome (T.told tree.old) (λ nodes. SinksSuffice (verdict_on nodes (Ok task.now)) (O.sure out.old) (E.sure err.old)
-        → blame_in result ≡ ASink → ⊥) }
-{
-    let text = summarize(alloc, task)?;
-    print(&text, out)
 }

@@ -1,29 +1,28 @@
 //! What `line` does: the machines of a setup are run in a line.
-ghost use Rattle.std.specs.Prelude.{◌≡◌, ◌<◌, ◌≤◌, Ok, false, length, IfOk, IsOk, OnOk, OnErr, IfSome, is_err};
-ghost use Rattle.std.specs.List.{All, list_all};
-ghost use Rattle.uxn_io.specs.Faults.{Counted, Ledger, TheTree, ASink, counts};
+ghost use Rattle.std.specs.Prelude.{◌≡◌, ◌<◌, ◌≤◌, length, IfOk, IsOk, OnOk, OnErr, is_err};
+ghost use Rattle.std.specs.List.{All};
+ghost use Rattle.uxn_io.specs.Faults.{Counted, Ledger, TheTree, counts};
 ghost use Rattle.uxn_io.specs.Room.{Leaves};
 ghost use Rattle.uxn_memory.specs.Bytes.{largest_rom};
-ghost use Rattle.uxn_cli.specs.World.{world};
-ghost use Rattle.uxn_cli.specs.Setup.{setup_in, is_of_console};
+ghost use Rattle.uxn_cli.specs.Setup.{setup_in};
 ghost use Rattle.uxn_cli.specs.Verdict.{source_at, machine_rom};
 ghost use Rattle.uxn_cli.specs.Prepared.{Accepts};
 ghost use Rattle.uxn_line.specs.Limits.{AreTurns};
 ghost use Rattle.uxn_line.specs.Moves.{sink_view};
-ghost use Rattle.uxn_cli.specs.Joined.{AcceptsAll, JoinsUp, GoesOn, FallsShort, IsSure, HasDone};
+ghost use Rattle.uxn_line.specs.Streams.{AreOfConsole};
+ghost use Rattle.uxn_cli.specs.Joined.{AcceptsAll, AreMachines, JoinsUp, GoesOn, FallsShort, IsSure, HasDone, job_of_joined};
+ghost use Rattle.uxn_cli.specs.Outcome.{line_bytes, line_exit};
+ghost use Rattle.uxn_cli.specs.Outside.{sink_seen, Puts};
 ghost use Rattle.uxn_cli.specs.Follows.{Follows};
-ghost use Rattle.uxn_cli.specs.Answer.{Performs};
-ghost use Rattle.uxn_cli.specs.Blame.{blame_in, OnRefused};
-ghost use Rattle.uxn_cli.specs.Causes.{verdict_on};
-ghost use Rattle.uxn_cli.specs.Room.{SinksSuffice};
+ghost use Rattle.uxn_cli.specs.Blame.{blame_in};
 
 use super::commands::accept_source;
 use super::refusal::{Halt, Refusal};
 use super::scripts::accept_script;
-use play_script::{Event, Script};
+use play_script::Script;
 use std::alloc::Global;
 use uxn_io::{Bytes, Failed, FileBytes, Path, Sink, Tree, read_file};
-use uxn_line::{Line, Setup, SetupKind, SetupStop, Turns, read_setup};
+use uxn_line::{Line, Setup, SetupKind, SetupStop, Turns, are_of_console, read_setup};
 use uxn_opcodes::Stop;
 use uxn_words::{Command, Task};
 
@@ -88,33 +87,20 @@ fn accept_machines<T: Tree>(alloc: Global, paths: &[Path], tree: &mut T) -> Resu
     Ok(roms)
 }
 
-/// Whether an event is a byte of input, or the end of input.
-fn is_of_console(event: &Event) -> bool
-    ensures { result ≡ is_of_console event.now }
-{
-    matches!(event, Event::Input(_) | Event::EndInput)
-}
-
-/// Whether all events of a script are of the console.
-fn is_for_console(script: &Script) -> bool
-    ensures { result ≡ list_all is_of_console script.now.events }
-{
-    script.events().iter().all(|event| is_of_console(event))
-}
-
 /// What a setup joins.
-fn join_up<T: Tree>(alloc: Global, task: &Task, tree: &mut T) -> Result<Joined, Halt>
+pub fn join_up<T: Tree>(alloc: Global, task: &Task, tree: &mut T) -> Result<Joined, Halt>
     requires { task.now.command ≡ Command.Line }
     ensures joins { JoinsUp (T.told tree.old) task.now result }
     ensures same { T.told tree.new ≡ T.told tree.old }
     ensures ledger { Ledger (counts (T.faults tree.old) 0 0) (counts (T.faults tree.new) 0 0) (blame_in result) }
     ensures sure { 0 < (T.sure tree.old).files → blame_in result ≡ TheTree → ⊥ }
+    ensures left { OnOk result (Leaves (T.sure tree.old) (T.sure tree.new) 0 0) }
 {
     let file = read_file(alloc, tree, &task.file, SETUP_LIMIT)?;
     let setup = setup_at(alloc, &task.file, file)?;
     let roms = accept_machines(alloc, setup.sources(), tree)?;
     let script = accept_script(alloc, &setup.script(), tree)?;
-    if !is_for_console(&script) {
+    if !are_of_console(script.events()) {
         return Err(Halt::Refused(Refusal::OtherEvents));
     }
     Ok(Joined {
@@ -166,24 +152,13 @@ fn run_all<O: Sink>(line: &mut Line<'_>, schedule: &[Turns], out: &mut O) -> Res
 }
 
 /// Runs the machines of a setup in a line, and gives the exit code of the last one.
-pub fn join<T: Tree, O: Sink, E: Sink>(
-    alloc: Global,
-    task: &Task,
-    tree: &mut T,
-    out: &mut O,
-    err: &mut E,
-) -> Result<u8, Halt>
-    requires { task.now.command ≡ Command.Line }
-    ensures performs { Performs (Ok task.now) (world (T.told tree.old) (O.told out.old) (E.told err.old))
-        (world (T.told tree.new) (O.told out.new) (E.told err.new)) result }
-    ensures ledger { Ledger (counts (T.faults tree.old) (O.faults out.old) (E.faults err.old))
-        (counts (T.faults tree.new) (O.faults out.new) (E.faults err.new)) (blame_in result) }
-    ensures kept { OnRefused result (err.new ≡ err.old) }
-    ensures sure_tree { 0 < (T.sure tree.old).files → blame_in result ≡ TheTree → ⊥ }
-    ensures sure_out { IfSome (T.told tree.old) (λ nodes. SinksSuffice (verdict_on nodes (Ok task.now)) (O.sure out.old) (E.sure err.old)
-        → blame_in result ≡ ASink → ⊥) }
+pub fn run_line<O: Sink>(alloc: Global, joined: &Joined, out: &mut O) -> Result<u8, Halt>
+    requires machines { AreMachines joined.now.setup.sources joined.now.roms.items }
+    requires events { AreOfConsole joined.now.script.events }
+    ensures puts { Puts (sink_seen O.told O.sure O.faults out.old) (sink_seen O.told O.sure O.faults out.new)
+        (line_bytes (job_of_joined joined.now)) (line_exit (job_of_joined joined.now)) result }
+    ensures ledger { Ledger (counts 0 (O.faults out.old) 0) (counts 0 (O.faults out.new) 0) (blame_in result) }
 {
-    let joined = join_up(alloc, task, tree)?;
     let mut line = Line::new(alloc, &joined.roms, &joined.script, joined.setup.budget())?;
     match run_all(&mut line, joined.setup.schedule(), out) {
         Ok(status) => Ok(status),

@@ -7,10 +7,7 @@ ghost use Rattle.uxn_io.specs.Files.{Nodes};
 ghost use Rattle.uxn_cli.specs.Request.{request};
 ghost use Rattle.uxn_cli.specs.Verdict.{Work};
 ghost use Rattle.uxn_cli.specs.Causes.{verdict_on};
-ghost use Rattle.uxn_cli.specs.Isolation.{LookSame, LooksAtItsView};
 ghost use Rattle.uxn_cli.specs.Observation.{OnlyWatches, HaveSameItems, ShowsWhatPlayDoes};
-
-use tal_sources::a_source_looks_at_its_files_alone;
 
 /// The name that a disassembly has for an instruction byte is that of the row by which the machine runs
 /// it, with the letters of its mode, for each of the 256 bytes.
@@ -31,12 +28,3 @@ pub fn debug_shows_what_play_does()
     ensures { (nodes : Nodes) (words others : List (List ℕ)) (work : Work) → HaveSameItems words others → verdict_on nodes (request words) ≡ Ok work
         → ShowsWhatPlayDoes nodes (request words) (request others) work }
 {}
-
-/// What is done depends on nothing of a tree but its view, in which the files that sources include stand and no others: over two
-/// trees that look the same to the words the statuses, the changes, the outputs and what lies beneath the root are the same in the end. Every path but those of the
-/// outputs and those beneath the root has its old node, and after a refusal every path has.
-pub fn each_call_looks_at_its_view_alone()
-    ensures { (words : List (List ℕ)) (nodes other : Nodes) → LookSame (request words) nodes other → LooksAtItsView (request words) nodes other }
-{
-    a_source_looks_at_its_files_alone();
-}

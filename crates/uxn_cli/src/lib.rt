@@ -18,9 +18,7 @@ mod refusal;
 mod report;
 mod running;
 mod scripts;
+mod work;
 
 pub use entry::uxn;
-pub use laws::{
-    debug_shows_what_play_does, each_call_looks_at_its_view_alone, names_are_those_of_rows,
-    the_debugger_only_watches,
-};
+pub use laws::{debug_shows_what_play_does, names_are_those_of_rows, the_debugger_only_watches};

@@ -1,12 +1,13 @@
 //! The outputs of a run, which are made before it.
 ghost use Rattle.std.specs.Prelude.{◌≡◌, ◌<◌, ◌++◌, IfOk, IfSome, OnOk, ◌∷◌, []};
 ghost use Rattle.uxn_io.specs.Faults.{Ledger, TheTree, counts};
+ghost use Rattle.uxn_io.specs.Room.{Leaves};
 ghost use Rattle.uxn_io.specs.Taking.{TreeTakes, TreeLeft};
 ghost use Rattle.uxn_cli.specs.Outcome.{creating};
 ghost use Rattle.uxn_cli.specs.Outputs.{paths_of};
 ghost use Rattle.uxn_words.specs.Places.{HasApartOutputs, outputs_of};
 ghost use Rattle.uxn_cli.specs.Blame.{blame_in};
-ghost use Rattle.uxn_cli.specs.Prepared.{AreFree, MakesOutputs};
+ghost use Rattle.uxn_cli.specs.Prepared.{AreFree, LooksAt, MakesOutputs};
 
 use super::outputs::{Output, first_blocked, first_unmade, make_all};
 use super::refusal::{Halt, Refusal};
@@ -35,6 +36,21 @@ fn empty_outputs(alloc: Global, paths: &[Path]) -> Result<Vec<Output>, AllocErro
     Ok(outputs)
 }
 
+/// Refuses the first output that cannot be made, or is an included file. Nothing changes.
+pub fn look_at<T: Tree>(included: &[Path], outputs: &[Output], tree: &mut T) -> Result<(), Halt>
+    ensures looks { LooksAt included.now (paths_of outputs.now) (T.told tree.old) result }
+    ensures same { T.told tree.new ≡ T.told tree.old }
+    ensures ledger { Ledger (counts (T.faults tree.old) 0 0) (counts (T.faults tree.new) 0 0) (blame_in result) }
+    ensures sure { 0 < (T.sure tree.old).files → blame_in result ≡ TheTree → ⊥ }
+    ensures left { OnOk result (Leaves (T.sure tree.old) (T.sure tree.new) 0 0) }
+{
+    let blocked = first_blocked(tree, outputs)?;
+    match first_unmade(&blocked, included, outputs) {
+        Some(path) => Err(Halt::Refused(Refusal::NoOutput(path))),
+        None => Ok(()),
+    }
+}
+
 /// Makes the files that a run writes, unless one of them cannot be made or is an included file: then it makes none.
 pub fn make_outputs<T: Tree>(
     alloc: Global,
@@ -53,10 +69,7 @@ pub fn make_outputs<T: Tree>(
 {
     let paths = task.outputs(alloc)?;
     let outputs = empty_outputs(alloc, &paths)?;
-    let blocked = first_blocked(tree, &outputs)?;
-    if let Some(path) = first_unmade(&blocked, included, &outputs) {
-        return Err(Halt::Refused(Refusal::NoOutput(path)));
-    }
+    look_at(included, &outputs, tree)?;
     match make_all(tree, &outputs)? {
         Some(path) => Err(Halt::Refused(Refusal::NoOutput(path))),
         None => Ok(()),

@@ -15,6 +15,7 @@ use uxn_debugger::CommandKind;
 use uxn_io::{Bytes, Failed, Path, ReadStop, Sink, decimal, put_all};
 use uxn_line::SetupKind;
 use uxn_opcodes::Stop;
+use uxn_words::{WordFault, WordStop};
 
 /// Why a call does nothing but put one line on the error output.
 #[derive(Debug, Drop)]
@@ -85,6 +86,21 @@ impl From<Failed> for Halt {
 
     fn from(_fault: Failed) -> Halt {
         Halt::Stopped(Stop::TreeFault)
+    }
+}
+
+impl From<WordStop> for Halt {
+    ghost use Rattle.std.specs.Prelude.{◌≡◌};
+    ghost use Rattle.uxn_cli.specs.Blame.{halt_of_words};
+
+    ghost from_gives = { λ stop halt. halt ≡ halt_of_words stop };
+
+    fn from(stop: WordStop) -> Halt {
+        match stop {
+            WordStop::Refused(WordFault::NotUnderstood) => Halt::Refused(Refusal::NotUnderstood),
+            WordStop::Refused(WordFault::NoPath(word)) => Halt::Refused(Refusal::NoPath(word)),
+            WordStop::NoMemory => Halt::Stopped(Stop::NoMemory),
+        }
     }
 }
 

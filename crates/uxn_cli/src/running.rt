@@ -8,15 +8,15 @@ ghost use Rattle.vector_loop.specs.Outputs.{OutputsThere};
 ghost use Rattle.uxn_cli.specs.Job.{trail_by, text_at};
 ghost use Rattle.uxn_cli.specs.Outcome.{filling_all};
 ghost use Rattle.uxn_cli.specs.Prepared.{around, AreNew, AtHome, TreeWasDone, TreeFellShort, FellShort, HasRun, HasFinished, WasShown, RunFiles, outputs_for, trail_for, reporting_for};
+ghost use Rattle.uxn_words.specs.Tasks.{role_path};
 
 use super::machine::Machine;
 use super::report::report;
-use play_script::Script;
 use system_port::exit_code;
 use uxn_io::{Failed, Path, Sink, Tree, append_all};
-use uxn_opcodes::{Core, Stop};
-use uxn_words::Task;
-use varvara_bus::{Bus, Devices};
+use uxn_opcodes::Stop;
+use uxn_words::{Role, Task};
+use varvara_bus::Bus;
 use vector_loop::{Outputs, Tally, Watcher, run_script};
 
 /// The port of the state.
@@ -43,41 +43,39 @@ pub struct Settings {
 /// Runs a new machine with a script. Memory is wanting only to the watcher, or where the run takes the names of a
 /// folder beneath a root.
 pub fn run_machine<T: Tree, O: Sink, E: Sink, W: Watcher>(
-    core: &mut Core,
-    devices: &mut Devices,
-    script: &Script,
+    machine: &mut Machine,
     settings: &Settings,
     tree: &mut T,
     out: &mut O,
     err: &mut E,
     watcher: &mut W,
 ) -> Result<Ended, Stop>
-    requires devices { AreNew devices.old script.now devices.old.root }
+    requires devices { AreNew machine.old.devices machine.old.script machine.old.devices.root }
     requires budget { 1 ≤ settings.now.budget }
-    requires outputs { OutputsThere settings.now.outputs devices.old.root (T.told tree.old) }
+    requires outputs { OutputsThere settings.now.outputs machine.old.devices.root (T.told tree.old) }
     ensures code { IfOk result (λ ended. ended.exit ≤ 127) }
-    ensures ok { AtHome devices.old.root (T.told tree.old) (λ home. IfOk result (λ ended. HasRun
+    ensures ok { AtHome machine.old.devices.root (T.told tree.old) (λ home. IfOk result (λ ended. HasRun
         (around (T.told tree.old) (T.sure tree.old) (O.told out.old) (O.sure out.old) (E.told err.old) (E.sure err.old))
         (around (T.told tree.new) (T.sure tree.new) (O.told out.new) (O.sure out.new) (E.told err.new) (E.sure err.new))
-        (trail_by settings.now.budget settings.now.outputs script.now home core.old) ended)) }
-    ensures watcher { AtHome devices.old.root (T.told tree.old) (λ home. OnOk result (WasShown W.shown W.ended (W.held watcher.old)
-        (trail_by settings.now.budget settings.now.outputs script.now home core.old) (W.held watcher.new))) }
-    ensures files { OnOk result (FilesStay devices.old.root (T.told tree.old) (T.told tree.new)) }
-    ensures err { AtHome devices.old.root (T.told tree.old) (λ home. IfErr result (λ stop. FellShort
+        (trail_by settings.now.budget settings.now.outputs machine.old.script home machine.old.core) ended)) }
+    ensures watcher { AtHome machine.old.devices.root (T.told tree.old) (λ home. OnOk result (WasShown W.shown W.ended (W.held watcher.old)
+        (trail_by settings.now.budget settings.now.outputs machine.old.script home machine.old.core) (W.held watcher.new))) }
+    ensures files { OnOk result (FilesStay machine.old.devices.root (T.told tree.old) (T.told tree.new)) }
+    ensures err { AtHome machine.old.devices.root (T.told tree.old) (λ home. IfErr result (λ stop. FellShort
         (around (T.told tree.old) (T.sure tree.old) (O.told out.old) (O.sure out.old) (E.told err.old) (E.sure err.old))
         (around (T.told tree.new) (T.sure tree.new) (O.told out.new) (O.sure out.new) (E.told err.new) (E.sure err.new))
-        (trail_by settings.now.budget settings.now.outputs script.now home core.old).changes stop)) }
+        (trail_by settings.now.budget settings.now.outputs machine.old.script home machine.old.core).changes stop)) }
     ensures ledger { Ledger (counts (T.faults tree.old) (O.faults out.old) (E.faults err.old))
         (counts (T.faults tree.new) (O.faults out.new) (E.faults err.new)) (blame_of result) }
-    ensures memory { IfErr result (λ stop. stop ≡ Stop.NoMemory → W.may_refuse ⊎ IsSome devices.old.root) }
-    ensures names { AtHome devices.old.root (T.told tree.old) (λ home. IfErr result (λ stop. stop ≡ Stop.NoMemory
-        → W.may_refuse ⊎ TakesNames (trail_by settings.now.budget settings.now.outputs script.now home core.old))) }
+    ensures memory { IfErr result (λ stop. stop ≡ Stop.NoMemory → W.may_refuse ⊎ IsSome machine.old.devices.root) }
+    ensures names { AtHome machine.old.devices.root (T.told tree.old) (λ home. IfErr result (λ stop. stop ≡ Stop.NoMemory
+        → W.may_refuse ⊎ TakesNames (trail_by settings.now.budget settings.now.outputs machine.old.script home machine.old.core))) }
 {
-    let mut bus = Bus::new(devices, tree, out, err);
+    let mut bus = Bus::new(&mut machine.devices, tree, out, err);
     match run_script(
-        core,
+        &mut machine.core,
         &mut bus,
-        script,
+        &machine.script,
         &settings.outputs,
         settings.budget,
         watcher,
@@ -99,10 +97,7 @@ pub fn write_text<T: Tree>(path: &Option<Path>, text: &[u8], tree: &mut T) -> Re
     ensures ledger { Counted (T.faults tree.old) (T.faults tree.new) (is_err result) }
 {
     match path {
-        Some(path) => match append_all(tree, path, text) {
-            Ok(()) => Ok(()),
-            Err(fault) => Err(fault),
-        },
+        Some(path) => append_all(tree, path, text),
         None => Ok(()),
     }
 }
@@ -114,8 +109,8 @@ fn settings_of(task: &Task) -> Settings
 {
     Settings {
         outputs: Outputs {
-            frames: task.frames,
-            samples: task.samples,
+            frames: task.path(Role::Frames),
+            samples: task.path(Role::Samples),
         },
         budget: task.budget,
     }
@@ -130,46 +125,33 @@ pub fn run_made<T: Tree, O: Sink, E: Sink, W: Watcher>(
     err: &mut E,
     watcher: &mut W,
 ) -> Result<u8, Stop>
-    requires devices { AreNew machine.devices machine.script task.now.root }
+    requires devices { AreNew machine.devices machine.script (role_path task.now Role.Root) }
     requires budget { 1 ≤ task.now.budget }
     requires files { RunFiles task.now (T.told tree.old) }
     ensures code { IfOk result (λ status. status ≤ 127) }
-    ensures ok { AtHome task.now.root (T.told tree.old) (λ home. IfOk result (λ status. HasFinished
+    ensures ok { AtHome (role_path task.now Role.Root) (T.told tree.old) (λ home. IfOk result (λ status. HasFinished
         (around (T.told tree.old) (T.sure tree.old) (O.told out.old) (O.sure out.old) (E.told err.old) (E.sure err.old))
         (around (T.told tree.new) (T.sure tree.new) (O.told out.new) (O.sure out.new) (E.told err.new) (E.sure err.new))
         (trail_for task.now machine home) (reporting_for task.now machine home) status)) }
-    ensures watcher { AtHome task.now.root (T.told tree.old) (λ home. OnOk result (WasShown W.shown W.ended (W.held watcher.old)
+    ensures watcher { AtHome (role_path task.now Role.Root) (T.told tree.old) (λ home. OnOk result (WasShown W.shown W.ended (W.held watcher.old)
         (trail_for task.now machine home) (W.held watcher.new))) }
-    ensures stay { OnOk result (FilesStay task.now.root (T.told tree.old) (T.told tree.new)) }
-    ensures err { AtHome task.now.root (T.told tree.old) (λ home. IfErr result (λ stop. FellShort
+    ensures stay { OnOk result (FilesStay (role_path task.now Role.Root) (T.told tree.old) (T.told tree.new)) }
+    ensures err { AtHome (role_path task.now Role.Root) (T.told tree.old) (λ home. IfErr result (λ stop. FellShort
         (around (T.told tree.old) (T.sure tree.old) (O.told out.old) (O.sure out.old) (E.told err.old) (E.sure err.old))
         (around (T.told tree.new) (T.sure tree.new) (O.told out.new) (O.sure out.new) (E.told err.new) (E.sure err.new))
         (reporting_for task.now machine home) stop)) }
     ensures ledger { Ledger (counts (T.faults tree.old) (O.faults out.old) (E.faults err.old))
         (counts (T.faults tree.new) (O.faults out.new) (E.faults err.new)) (blame_of result) }
-    ensures memory { IfErr result (λ stop. stop ≡ Stop.NoMemory → W.may_refuse ⊎ IsSome task.now.root) }
-    ensures names { AtHome task.now.root (T.told tree.old) (λ home. IfErr result (λ stop. stop ≡ Stop.NoMemory
+    ensures memory { IfErr result (λ stop. stop ≡ Stop.NoMemory → W.may_refuse ⊎ IsSome (role_path task.now Role.Root)) }
+    ensures names { AtHome (role_path task.now Role.Root) (T.told tree.old) (λ home. IfErr result (λ stop. stop ≡ Stop.NoMemory
         → W.may_refuse ⊎ TakesNames (trail_for task.now machine home))) }
 {
-    let Machine {
-        mut core,
-        mut devices,
-        script,
-    } = machine;
-    let settings = settings_of(task);
-    let ended = run_machine(
-        &mut core,
-        &mut devices,
-        &script,
-        &settings,
-        tree,
-        out,
-        err,
-        watcher,
-    )?;
+    let mut machine = machine;
+    let version = machine.script.version();
+    let ended = run_machine(&mut machine, &settings_of(task), tree, out, err, watcher)?;
     match write_text(
-        &task.report,
-        &report(script.version(), ended.exit, &ended.tally),
+        &task.path(Role::Report),
+        &report(version, ended.exit, &ended.tally),
         tree,
     ) {
         Ok(()) => Ok(ended.exit),

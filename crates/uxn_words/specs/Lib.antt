@@ -1,3 +1,5 @@
+pub mod Roles
+pub mod Tasks
 pub mod Words
-pub mod Asked
+pub mod Reads
 pub mod Places

@@ -1,46 +1,50 @@
 -- The files that a task reads and writes, and which of them clash (profile).
-use Rattle.std.specs.Prelude.{◌≡◌, ℕ, Bool, nat_lt, ◌||◌, List, [], ◌∷◌, ◌++◌, count_by}
+use Rattle.std.specs.Prelude.{◌≡◌, ℕ, Bool, nat_lt, ◌||◌, List, [], ◌∷◌, ◌++◌, count_by, if◌then◌else◌}
 use Rattle.std.specs.Prelude.{find, Option, None, option_to_list}
 use Rattle.std.specs.List.{list_any}
 use Rattle.std.specs.Str.{bytes_eq}
 use Rattle.uxn_io.specs.PathText.{is_under}
 use Rattle.uxn_words.specs.declared.words.Command.{Command}
 use Rattle.uxn_words.specs.declared.words.Command.TheVariants.{Play, Debug, Assemble, Disassemble, Generate, Line}
+use Rattle.uxn_words.specs.declared.role.Role.TheVariants.{Root}
+use Rattle.uxn_words.specs.declared.role.Access.{Access}
+use Rattle.uxn_words.specs.declared.role.Access.TheVariants.{Read, Write}
+use Rattle.uxn_words.specs.declared.role.FileOption.{FileOption}
 use Rattle.uxn_words.specs.declared.task.Task.{Task}
+use Rattle.uxn_words.specs.Roles.{files_of, same_access, has_root}
+use Rattle.uxn_words.specs.Tasks.{role_path}
+
+-- the paths of the files with which a command does this, in the order of its usage line
+abbrev pub path_where : Access → Task → FileOption → Option (List ℕ)
+path_where access task file = if same_access file.1 access then role_path task file.0 else None
+
+abbrev pub paths_used : Access → Task → List FileOption → List (List ℕ)
+paths_used access task [] = []
+paths_used access task (file ∷ files) = option_to_list (path_where access task file) ++ paths_used access task files
+
+-- the command's own file, which `gen` has none of
+abbrev pub own_input : Command → Task → List (List ℕ)
+own_input Play task = task.file ∷ []
+own_input Debug task = task.file ∷ []
+own_input Assemble task = task.file ∷ []
+own_input Disassemble task = task.file ∷ []
+own_input Generate task = []
+own_input Line task = task.file ∷ []
 
 -- the files that the words of a command name as inputs
 abbrev pub inputs_by : Command → Task → List (List ℕ)
-inputs_by Play task = task.file ∷ option_to_list task.script
-inputs_by Debug task = task.file ∷ option_to_list task.symbols ++ option_to_list task.script ++ option_to_list task.commands
-inputs_by Assemble task = task.file ∷ []
-inputs_by Disassemble task = task.file ∷ option_to_list task.symbols
-inputs_by Generate task = []
-inputs_by Line task = task.file ∷ []
-
--- the files that a run writes beside those beneath its root
-abbrev pub run_outputs : Task → List (List ℕ)
-run_outputs task = option_to_list task.frames ++ option_to_list task.samples ++ option_to_list task.report
+inputs_by command task = own_input command task ++ paths_used Read task (files_of command)
 
 -- the files that a command writes, in the order of the usage line
 abbrev pub outputs_by : Command → Task → List (List ℕ)
-outputs_by Play task = run_outputs task
-outputs_by Debug task = option_to_list task.log ++ run_outputs task
-outputs_by Assemble task = option_to_list task.out ++ option_to_list task.symbols ++ option_to_list task.listing
-outputs_by Disassemble task = []
-outputs_by Generate task = []
-outputs_by Line task = []
+outputs_by command task = paths_used Write task (files_of command)
 
 abbrev pub outputs_of : Task → List (List ℕ)
 outputs_of task = outputs_by task.command task
 
 -- the folder of a program's own files
 abbrev pub root_by : Command → Task → Option (List ℕ)
-root_by Play task = task.root
-root_by Debug task = task.root
-root_by Assemble task = None
-root_by Disassemble task = None
-root_by Generate task = None
-root_by Line task = None
+root_by command task = if has_root command then role_path task Root else None
 
 -- the root and the outputs, none of which may meet another
 abbrev pub places_of : Task → List (List ℕ)

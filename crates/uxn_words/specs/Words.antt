@@ -1,11 +1,19 @@
 -- What the words of the command line mean (profile).
-use Rattle.std.specs.Prelude.{ℕ, List, [], ◌∷◌, codes, Option, Some, None, is_some, option_map, option_and_then, if◌then◌else◌}
+use Rattle.std.specs.Prelude.{ℕ, List, [], ◌∷◌, codes, Option, Some, None, is_some, option_map, option_and_then, if◌then◌else◌, Result, Ok, Err}
 use Rattle.std.specs.Str.{bytes_eq}
+use Rattle.uxn_io.specs.declared.paths.PathFault.{PathFault}
+use Rattle.uxn_io.specs.ByteList.{tight}
+use Rattle.uxn_io.specs.PathText.{path_of}
 use Rattle.line_texts.specs.Numbers.{number_within}
-use Rattle.option_table.specs.Words.{Choice, operand, optional, required, switch, values_over}
+use Rattle.option_table.specs.Words.{operand, values_over}
 use Rattle.uxn_words.specs.declared.words.Command.{Command}
 use Rattle.uxn_words.specs.declared.words.Command.TheVariants.{Play, Debug, Assemble, Disassemble, Generate, Line}
+use Rattle.uxn_words.specs.declared.words.WordFault.{WordFault}
+use Rattle.uxn_words.specs.declared.words.WordFault.TheVariants.{NotUnderstood, NoPath}
+use Rattle.uxn_words.specs.declared.role.Role.{Role}
 use Rattle.uxn_words.specs.declared.task.Task.{Task}
+use Rattle.uxn_words.specs.Roles.{roles, option_name, choices_of}
+use Rattle.uxn_words.specs.Tasks.{with_path, no_paths}
 
 -- the commands by name
 abbrev pub command_of : List ℕ → Option Command
@@ -17,21 +25,6 @@ command_of name =
     else if bytes_eq name (codes "gen") then Some Generate
     else if bytes_eq name (codes "line") then Some Line
     else None
-
--- the options of a run
-abbrev pub run_choices : List Choice
-run_choices =
-    switch (codes "rom") ∷ optional (codes "script") ∷ optional (codes "root") ∷ optional (codes "frames") ∷ optional (codes "samples")
-    ∷ optional (codes "report") ∷ optional (codes "budget") ∷ []
-
--- the options of each command
-abbrev pub choices_of : Command → List Choice
-choices_of Play = run_choices
-choices_of Debug = required (codes "commands") ∷ required (codes "log") ∷ optional (codes "symbols") ∷ run_choices
-choices_of Assemble = required (codes "out") ∷ optional (codes "symbols") ∷ optional (codes "listing") ∷ []
-choices_of Disassemble = optional (codes "symbols") ∷ []
-choices_of Generate = []
-choices_of Line = []
 
 -- the greatest number of instructions of a vector: 1 to 4,294,967,295, and without the option 4,000,000
 abbrev pub budget_in : Option (List ℕ) → Option ℕ
@@ -47,38 +40,52 @@ count_in Disassemble word = Some 0
 count_in Generate word = number_within 1 8000 word
 count_in Line word = Some 0
 
--- what the values of a file and of options ask for, by their names
-abbrev pub task_with : Command → (List ℕ → Option (List ℕ)) → List ℕ → ℕ → ℕ → Task
-task_with command value_at file count budget = record {
-  command = command;
-  file = file;
-  count = count;
-  rom = is_some (value_at (codes "rom"));
-  budget = budget;
-  out = value_at (codes "out");
-  commands = value_at (codes "commands");
-  log = value_at (codes "log");
-  symbols = value_at (codes "symbols");
-  listing = value_at (codes "listing");
-  script = value_at (codes "script");
-  root = value_at (codes "root");
-  frames = value_at (codes "frames");
-  samples = value_at (codes "samples");
-  report = value_at (codes "report");
-}
-
--- there is a file, or the count of a workload, and the budget is a number
-abbrev pub task_in : Command → (List ℕ → Option (List ℕ)) → Option Task
-task_in command value_at =
+-- the command's own item, and the count and the budget, where these are numbers
+abbrev pub values_in : Command → (List ℕ → Option (List ℕ)) → Option (List ℕ × ℕ × ℕ)
+values_in command value_at =
     option_and_then (λ file.
-    option_and_then (λ count. option_map (task_with command value_at file count) (budget_in (value_at (codes "budget"))))
+    option_and_then (λ count. option_map (λ budget. (file, count, budget)) (budget_in (value_at (codes "budget"))))
     (count_in command file)) (value_at operand)
 
-abbrev pub asked_with : List (List ℕ) → Option Command → Option Task
-asked_with words None = None
-asked_with words (Some command) = option_and_then (task_in command) (values_over (choices_of command) words)
+-- a step after another: the first fault counts
+abbrev pub and_then : {A B : Type 0} → Result A WordFault → (A → Result B WordFault) → Result B WordFault
+and_then (Ok value) next = next value
+and_then (Err fault) next = Err fault
 
--- what the words ask for, where they are legal; that what they name are paths is not said yet
-unfoldable pub settings : List (List ℕ) → Option Task
-settings [] = None
-settings (name ∷ words) = asked_with words (command_of name)
+abbrev pub legal : {A : Type 0} → Option A → Result A WordFault
+legal None = Err NotUnderstood
+legal (Some value) = Ok value
+
+-- each word that names a file is a path
+abbrev pub path_by : List ℕ → Result (List ℕ) PathFault → Result (List ℕ) WordFault
+path_by word (Err fault) = Err (NoPath (tight word))
+path_by word (Ok path) = Ok path
+
+abbrev pub path_in : List ℕ → Result (List ℕ) WordFault
+path_in word = path_by word (path_of word)
+
+abbrev pub optional_path_in : Option (List ℕ) → Result (Option (List ℕ)) WordFault
+optional_path_in None = Ok None
+optional_path_in (Some word) = and_then (path_in word) (λ path. Ok (Some path))
+
+-- each role gets the path of its option; the first word that is none counts
+unfoldable pub paths_from : (List ℕ → Option (List ℕ)) → List Role → Task → Result Task WordFault
+paths_from value_at [] task = Ok task
+paths_from value_at (role ∷ rest) task =
+    and_then (optional_path_in (value_at (option_name role))) (λ path. paths_from value_at rest (with_path task role path))
+
+-- what the values of a line ask for: they are legal, and then all that name a file are paths
+abbrev pub task_in : Command → (List ℕ → Option (List ℕ)) → Result Task WordFault
+task_in command value_at =
+    and_then (legal (values_in command value_at)) (λ values.
+    and_then (path_in values.0) (λ file.
+    paths_from value_at roles (no_paths command file values.1 (is_some (value_at (codes "rom"))) values.2)))
+
+abbrev pub task_with : List (List ℕ) → Option Command → Result Task WordFault
+task_with words None = Err NotUnderstood
+task_with words (Some command) = and_then (legal (values_over (choices_of command) words)) (task_in command)
+
+-- what the words ask for
+unfoldable pub task_of : List (List ℕ) → Result Task WordFault
+task_of [] = Err NotUnderstood
+task_of (name ∷ words) = task_with words (command_of name)

@@ -2,8 +2,11 @@
 ghost use Rattle.std.specs.Prelude.{◌≡◌, ◌++◌, IfOk, OnOk, find, option_copied, option_to_list};
 ghost use Rattle.std.specs.List.{list_any};
 ghost use Rattle.std.specs.Str.{bytes_eq};
-ghost use Rattle.uxn_words.specs.Places.{inputs_by, run_outputs, outputs_of, root_by, places_of, meets, clashes, first_clash};
+ghost use Rattle.uxn_words.specs.Roles.{files_of};
+ghost use Rattle.uxn_words.specs.Tasks.{role_path, with_path, no_paths};
+ghost use Rattle.uxn_words.specs.Places.{own_input, path_where, paths_used, inputs_by, outputs_of, root_by, places_of, meets, clashes, first_clash};
 
+use super::role::{Access, FileOption, ROLE_COUNT, Role};
 use super::words::Command;
 use std::alloc::{AllocError, Global};
 use uxn_io::Path;
@@ -21,36 +24,63 @@ pub struct Task {
     pub rom: bool,
     /// The greatest number of instructions of a vector.
     pub budget: u32,
-    /// The file for a ROM.
-    pub out: Option<Path>,
-    /// The file of a debugger's commands.
-    pub commands: Option<Path>,
-    /// The file for a debugger's log.
-    pub log: Option<Path>,
-    /// The file of symbols.
-    pub symbols: Option<Path>,
-    /// The file for a listing.
-    pub listing: Option<Path>,
-    /// The file of a script.
-    pub script: Option<Path>,
-    /// The folder of the program's own files.
-    pub root: Option<Path>,
-    /// The file for the pictures of a run.
-    pub frames: Option<Path>,
-    /// The file for the samples of a run.
-    pub samples: Option<Path>,
-    /// The file for the report of a run.
-    pub report: Option<Path>,
+    /// The path of each role, in the order of the roles.
+    paths: [Option<Path>; ROLE_COUNT],
 }
 
 impl Task {
-    /// Puts the files that a run writes behind others.
-    fn push_run_outputs(&self, paths: &mut Vec<Path>) -> Result<(), AllocError>
-        ensures { OnOk result (paths.new.items ≡ paths.old.items ++ run_outputs self.now) }
+    /// A task in which no role has a path yet.
+    pub(crate) fn new(command: Command, file: Path, count: u16, rom: bool, budget: u32) -> Task
+        ensures { result ≡ no_paths command file count rom budget }
     {
-        push_some(paths, self.frames)?;
-        push_some(paths, self.samples)?;
-        push_some(paths, self.report)
+        Task {
+            command,
+            file,
+            count,
+            rom,
+            budget,
+            paths: [None; ROLE_COUNT],
+        }
+    }
+
+    /// The path of a role, where the words name one.
+    pub fn path(&self, role: Role) -> Option<Path>
+        ensures { result ≡ role_path self.now role }
+    {
+        match self.paths.get(role.number()) {
+            Some(path) => *path,
+            None => None,
+        }
+    }
+
+    /// Gives a role its path.
+    pub(crate) fn set(&mut self, role: Role, path: Option<Path>)
+        ensures path { self.new ≡ with_path self.old role path }
+        ensures budget { self.new.budget ≡ self.old.budget }
+    {
+        self.paths[role.number()] = path;
+    }
+
+    /// The path of a file, where the command does this with it.
+    fn path_where(&self, access: Access, file: &FileOption) -> Option<Path>
+        ensures { result ≡ path_where access self.now file.now }
+    {
+        if file.1.is(access) {
+            self.path(file.0)
+        } else {
+            None
+        }
+    }
+
+    /// Puts the files with which the command does this behind others, in the order of its usage line.
+    fn push_used(&self, access: Access, paths: &mut Vec<Path>) -> Result<(), AllocError>
+        ensures { OnOk result (paths.new.items ≡ paths.old.items ++ paths_used access self.now (files_of self.now.command)) }
+    {
+        let files = self.command.files();
+        for file in files {
+            push_some(paths, self.path_where(access, file))?;
+        }
+        Ok(())
     }
 
     /// The files that it writes, in the order of its usage line. Errors with want of memory.
@@ -58,29 +88,42 @@ impl Task {
         ensures { IfOk result (λ paths. paths.items ≡ outputs_of self.now) }
     {
         let mut paths = Vec::new(alloc);
+        self.push_used(Access::Write, &mut paths)?;
+        Ok(paths)
+    }
+
+    /// The command's own file, where it reads it.
+    fn own_input(&self) -> Option<Path>
+        ensures { option_to_list result ≡ own_input self.now.command self.now }
+    {
         match self.command {
-            Command::Play => self.push_run_outputs(&mut paths)?,
-            Command::Debug => {
-                push_some(&mut paths, self.log)?;
-                self.push_run_outputs(&mut paths)?;
-            }
-            Command::Assemble => {
-                push_some(&mut paths, self.out)?;
-                push_some(&mut paths, self.symbols)?;
-                push_some(&mut paths, self.listing)?;
-            }
-            Command::Disassemble | Command::Generate | Command::Line => {}
+            Command::Generate => None,
+            Command::Play
+            | Command::Debug
+            | Command::Assemble
+            | Command::Disassemble
+            | Command::Line => Some(self.file),
         }
+    }
+
+    /// The files that it reads. Errors with want of memory.
+    fn inputs(&self, alloc: Global) -> Result<Vec<Path>, AllocError>
+        ensures { IfOk result (λ paths. paths.items ≡ inputs_by self.now.command self.now) }
+    {
+        let mut paths = Vec::new(alloc);
+        push_some(&mut paths, self.own_input())?;
+        self.push_used(Access::Read, &mut paths)?;
         Ok(paths)
     }
 
     /// The folder of the program's own files, in a run.
-    pub fn run_root(&self) -> Option<Path>
+    fn run_root(&self) -> Option<Path>
         ensures { result ≡ root_by self.now.command self.now }
     {
-        match self.command {
-            Command::Play | Command::Debug => self.root,
-            Command::Assemble | Command::Disassemble | Command::Generate | Command::Line => None,
+        if self.command.has_root() {
+            self.path(Role::Root)
+        } else {
+            None
         }
     }
 
@@ -95,47 +138,14 @@ impl Task {
         Ok(paths)
     }
 
-    /// Whether it reads the file at this path.
-    fn has_input(&self, path: &Path) -> bool
-        ensures { result ≡ list_any (bytes_eq path.now) (inputs_by self.now.command self.now) }
-    {
-        let is_file = is_same(path, &self.file);
-        match self.command {
-            Command::Play => is_file || is_some(path, &self.script),
-            Command::Debug => {
-                is_file
-                    || is_some(path, &self.symbols)
-                    || is_some(path, &self.script)
-                    || is_some(path, &self.commands)
-            }
-            Command::Assemble | Command::Line => is_file,
-            Command::Disassemble => is_file || is_some(path, &self.symbols),
-            Command::Generate => false,
-        }
-    }
-
-    /// Whether an output clashes with another one or the root, or is an input.
-    #[tactic(auto, unfolding(crate::specs::Places::clashes))]
-    fn clashes(&self, places: &[Path], path: &Path) -> bool
-        ensures { result ≡ clashes (inputs_by self.now.command self.now) places.now path.now }
-    {
-        places.iter().filter(|other| meets(path, other)).count() > 1 || self.has_input(path)
-    }
-
-    /// The first of the outputs that clashes.
-    fn clash_in<'a>(&self, places: &[Path], outputs: &'a [Path]) -> Option<&'a Path>
-        ensures { option_copied result ≡ find (clashes (inputs_by self.now.command self.now) places.now) outputs.now }
-    {
-        outputs.iter().find(|path| self.clashes(places, path))
-    }
-
     /// The first output that clashes: with another one or the root, or since it is an input. Errors with want of memory.
     pub fn first_clash(&self, alloc: Global) -> Result<Option<Path>, AllocError>
         ensures { IfOk result (λ found. found ≡ first_clash self.now) }
     {
+        let inputs = self.inputs(alloc)?;
         let outputs = self.outputs(alloc)?;
         let places = self.places(alloc, &outputs)?;
-        Ok(self.clash_in(&places, &outputs).copied())
+        Ok(clash_in(&inputs, &places, &outputs).copied())
     }
 }
 
@@ -149,16 +159,6 @@ fn push_some(paths: &mut Vec<Path>, path: Option<Path>) -> Result<(), AllocError
     Ok(())
 }
 
-/// Whether a path is this one, where there is one.
-fn is_some(path: &Path, other: &Option<Path>) -> bool
-    ensures { result ≡ list_any (bytes_eq path.now) (option_to_list other.now) }
-{
-    match other {
-        Some(other) => is_same(path, other),
-        None => false,
-    }
-}
-
 /// Whether two paths are the same.
 fn is_same(path: &Path, other: &Path) -> bool
     ensures { result ≡ bytes_eq path.now other.now }
@@ -166,9 +166,31 @@ fn is_same(path: &Path, other: &Path) -> bool
     path.bytes() == other.bytes()
 }
 
+/// Whether a path is among others.
+fn is_among(path: &Path, others: &[Path]) -> bool
+    ensures { result ≡ list_any (bytes_eq path.now) others.now }
+{
+    others.iter().any(|other| is_same(path, other))
+}
+
 /// Whether two paths are the same or one lies under the other.
 fn meets(path: &Path, other: &Path) -> bool
     ensures { result ≡ meets path.now other.now }
 {
     is_same(path, other) || path.is_under(other) || other.is_under(path)
+}
+
+/// Whether an output clashes with another one or the root, or is an input.
+#[tactic(auto, unfolding(crate::specs::Places::clashes))]
+fn clashes(inputs: &[Path], places: &[Path], path: &Path) -> bool
+    ensures { result ≡ clashes inputs.now places.now path.now }
+{
+    places.iter().filter(|other| meets(path, other)).count() > 1 || is_among(path, inputs)
+}
+
+/// The first of the outputs that clashes.
+fn clash_in<'a>(inputs: &[Path], places: &[Path], outputs: &'a [Path]) -> Option<&'a Path>
+    ensures { option_copied result ≡ find (clashes inputs.now places.now) outputs.now }
+{
+    outputs.iter().find(|path| clashes(inputs, places, path))
 }

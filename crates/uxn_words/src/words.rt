@@ -1,13 +1,17 @@
 //! The words of the command line.
-ghost use Rattle.std.specs.Prelude.{◌≡◌, ◌≤◌, IfSome, IfOk, map, option_map, string_bytes};
+ghost use Rattle.std.specs.Prelude.{◌≡◌, ◌≤◌, ◌++◌, IfSome, IfOk, map, option_map, string_bytes};
 ghost use Rattle.option_table.specs.Words.{choices_in};
 ghost use Rattle.option_table.specs.Parsing.{found_value};
-ghost use Rattle.uxn_words.specs.Words.{command_of, choices_of, budget_in, count_in, task_in, asked_with, settings};
-ghost use Rattle.uxn_words.specs.Asked.{asked};
+ghost use Rattle.uxn_words.specs.Roles.{roles, files_of, settings_of, choices_of, has_root};
+ghost use Rattle.uxn_words.specs.Words.{command_of, budget_in, count_in, values_in, path_in, optional_path_in, paths_from, task_in, task_with, task_of};
+ghost use Rattle.uxn_words.specs.Reads.{Reads};
 
+use super::role::{Access, FileOption, ROLES, Role};
+use super::task::Task;
 use line_texts::number_within;
 use option_table::{Choice, Found};
 use std::alloc::{AllocError, Global};
+use uxn_io::{Bytes, Path};
 
 /// What the program is asked to do.
 #[derive(Clone, Copy, Debug, PartialEq, Eq)]
@@ -28,67 +32,62 @@ pub enum Command {
     Line,
 }
 
-/// What legal words ask for: the words that name files, and what else they say.
-#[derive(Clone, Copy)]
-pub struct Settings<'a> {
-    /// The command.
-    pub command: Command,
-    /// The command's own item: the file that it is about, or of `gen` the digits of its count.
-    pub file: &'a [u8],
-    /// How many routines a workload has, 1 to 8,000; 0 of other commands.
-    pub count: u16,
-    /// Whether the file is a ROM.
-    pub rom: bool,
-    /// The greatest number of instructions of a vector.
-    pub budget: u32,
-    /// The file for a ROM.
-    pub out: Option<&'a [u8]>,
-    /// The file of a debugger's commands.
-    pub commands: Option<&'a [u8]>,
-    /// The file for a debugger's log.
-    pub log: Option<&'a [u8]>,
-    /// The file of symbols.
-    pub symbols: Option<&'a [u8]>,
-    /// The file for a listing.
-    pub listing: Option<&'a [u8]>,
-    /// The file of a script.
-    pub script: Option<&'a [u8]>,
-    /// The folder of the program's own files.
-    pub root: Option<&'a [u8]>,
-    /// The file for the pictures of a run.
-    pub frames: Option<&'a [u8]>,
-    /// The file for the samples of a run.
-    pub samples: Option<&'a [u8]>,
-    /// The file for the report of a run.
-    pub report: Option<&'a [u8]>,
+/// Why words ask for nothing.
+#[derive(Debug, Drop)]
+pub enum WordFault {
+    /// They are not legal.
+    NotUnderstood,
+    /// This word names a file and is no path.
+    NoPath(Bytes),
 }
 
-/// How many options only `debug` has; those behind them are the options of a run.
+/// Why words were not read.
+#[derive(Debug, Drop)]
+pub enum WordStop {
+    /// They ask for nothing.
+    Refused(WordFault),
+    /// Memory is wanting.
+    NoMemory,
+}
+
+impl From<AllocError> for WordStop {
+    ghost use Rattle.std.specs.Prelude.{◌≡◌};
+    ghost use Rattle.uxn_words.specs.declared.words.WordStop.TheVariants as stops;
+
+    ghost from_gives = { λ _ stop. stop ≡ stops.NoMemory };
+
+    fn from(_want: AllocError) -> WordStop {
+        WordStop::NoMemory
+    }
+}
+
+/// How many files only `debug` names; those behind them are the files of a run.
 const DEBUG_ONLY: usize = 3;
 
-/// The options of `debug`, and behind the first three those of `play`.
-static DEBUG: [Choice; 10] = [
-    Choice::Required("commands"),
-    Choice::Required("log"),
-    Choice::Optional("symbols"),
-    Choice::Switch("rom"),
-    Choice::Optional("script"),
-    Choice::Optional("root"),
-    Choice::Optional("frames"),
-    Choice::Optional("samples"),
-    Choice::Optional("report"),
-    Choice::Optional("budget"),
+/// The files of `debug`, and behind its own those of `play`.
+static DEBUG: [FileOption; 8] = [
+    FileOption(Role::Commands, Access::Read, true),
+    FileOption(Role::Log, Access::Write, true),
+    FileOption(Role::Symbols, Access::Read, false),
+    FileOption(Role::Script, Access::Read, false),
+    FileOption(Role::Root, Access::Root, false),
+    FileOption(Role::Frames, Access::Write, false),
+    FileOption(Role::Samples, Access::Write, false),
+    FileOption(Role::Report, Access::Write, false),
 ];
 
-/// The options of `asm`.
-static ASSEMBLE: [Choice; 3] = [
-    Choice::Required("out"),
-    Choice::Optional("symbols"),
-    Choice::Optional("listing"),
+/// The files of `asm`.
+static ASSEMBLE: [FileOption; 3] = [
+    FileOption(Role::Out, Access::Write, true),
+    FileOption(Role::Symbols, Access::Write, false),
+    FileOption(Role::Listing, Access::Write, false),
 ];
 
-/// The options of `dis`.
-static DISASSEMBLE: [Choice; 1] = [Choice::Optional("symbols")];
+/// The files of `dis`.
+static DISASSEMBLE: [FileOption; 1] = [FileOption(Role::Symbols, Access::Read, false)];
+
+/// The options of a run that name no file.
+static RUN_SETTINGS: [Choice; 2] = [Choice::Switch("rom"), Choice::Optional("budget")];
 
 /// The command of a name.
 fn command_named(name: &[u8]) -> Option<Command>
@@ -132,10 +131,43 @@ fn value_of<'a>(found: &Found<'a>, name: &str) -> Option<&'a [u8]>
     found.value(name).map(|word| word.as_bytes())
 }
 
+/// The path that a word is.
+fn path_in(alloc: Global, word: &[u8]) -> Result<Path, WordStop>
+    ensures { Reads result (path_in word.now) }
+{
+    match Path::read(word) {
+        Ok(path) => Ok(path),
+        Err(_) => Err(WordStop::Refused(WordFault::NoPath(Bytes::new(alloc, word)?))),
+    }
+}
+
+/// The path that a word is, where there is a word.
+fn optional_path_in(alloc: Global, word: Option<&[u8]>) -> Result<Option<Path>, WordStop>
+    ensures { Reads result (optional_path_in (option_map (λ text. text.now) word.entry)) }
+{
+    match word {
+        Some(word) => Ok(Some(path_in(alloc, word)?)),
+        None => Ok(None),
+    }
+}
+
+/// A task with the path that the words give each role, unless a word is no path: then the first one is named.
+fn with_paths(alloc: Global, found: &Found<'_>, bare: Task) -> Result<Task, WordStop>
+    ensures paths { Reads result (paths_from (found_value found.now) roles bare) }
+    ensures budget { IfOk result (λ task. task.budget ≡ bare.budget) }
+{
+    let mut task = bare;
+    for role in &ROLES {
+        let path = optional_path_in(alloc, value_of(found, role.option_name()))?;
+        task.set(*role, path);
+    }
+    Ok(task)
+}
+
 impl Command {
-    /// Its options.
-    fn choices(self) -> &'static [Choice]
-        ensures { choices_in result.now ≡ choices_of self }
+    /// The files that it names, in the order of its usage line.
+    pub(crate) fn files(self) -> &'static [FileOption]
+        ensures { result.now ≡ files_of self }
     {
         match self {
             Command::Play => &DEBUG[DEBUG_ONLY..],
@@ -144,6 +176,36 @@ impl Command {
             Command::Disassemble => DISASSEMBLE.as_slice(),
             Command::Generate | Command::Line => &[],
         }
+    }
+
+    /// Its options that name no file.
+    fn settings(self) -> &'static [Choice]
+        ensures { choices_in result.now ≡ settings_of self }
+    {
+        match self {
+            Command::Play | Command::Debug => RUN_SETTINGS.as_slice(),
+            Command::Assemble | Command::Disassemble | Command::Generate | Command::Line => &[],
+        }
+    }
+
+    /// Its options. Errors with want of memory.
+    fn choices(self, alloc: Global) -> Result<Vec<Choice>, AllocError>
+        ensures { IfOk result (λ choices. choices_in choices.items ≡ choices_of self) }
+    {
+        let mut choices = Vec::new(alloc);
+        choices.extend_from_slice(self.settings())?;
+        let files = self.files();
+        for file in files {
+            choices.push(file.choice())?;
+        }
+        Ok(choices)
+    }
+
+    /// Whether it has a folder of the program's own files.
+    pub(crate) fn has_root(self) -> bool
+        ensures { result ≡ has_root self }
+    {
+        self.files().iter().any(|file| file.1.is(Access::Root))
     }
 
     /// The count of a workload, 1 to 8,000, that its command's own item says; 0 for other commands.
@@ -163,62 +225,55 @@ impl Command {
         }
     }
 
-    /// What a legal line asks for, where its budget and its count are numbers.
-    fn settings<'a>(self, found: &Found<'a>) -> Option<Settings<'a>>
-        ensures asked { option_map asked result ≡ task_in self (found_value found.now) }
-        ensures budget { IfSome result (λ settings. 1 ≤ settings.budget) }
+    /// The command's own item, and the count and the budget, where these are numbers.
+    fn values<'a>(self, found: &Found<'a>) -> Option<(&'a [u8], u16, u32)>
+        ensures values { option_map (λ values. (values.0.now, values.1, values.2)) result ≡ values_in self (found_value found.now) }
+        ensures budget { IfSome result (λ values. 1 ≤ values.2) }
     {
         let file = found.operand()?.as_bytes();
-        Some(Settings {
-            command: self,
-            file,
-            count: self.count_in(file)?,
-            rom: found.has("rom"),
-            budget: budget_in(value_of(found, "budget"))?,
-            out: value_of(found, "out"),
-            commands: value_of(found, "commands"),
-            log: value_of(found, "log"),
-            symbols: value_of(found, "symbols"),
-            listing: value_of(found, "listing"),
-            script: value_of(found, "script"),
-            root: value_of(found, "root"),
-            frames: value_of(found, "frames"),
-            samples: value_of(found, "samples"),
-            report: value_of(found, "report"),
-        })
+        let count = self.count_in(file)?;
+        let budget = budget_in(value_of(found, "budget"))?;
+        Some((file, count, budget))
     }
 
-    /// What the words after the command's name ask for, where they are legal. Errors with want of
-    /// memory.
-    fn read<'a>(
-        self,
-        alloc: Global,
-        words: &'a [String],
-    ) -> Result<Option<Settings<'a>>, AllocError>
-        ensures asked { IfOk result (λ read. option_map asked read ≡ asked_with (map string_bytes words.now) (Some self)) }
-        ensures budget { IfOk result (λ read. IfSome read (λ settings. 1 ≤ settings.budget)) }
+    /// What a legal line asks for, where its budget and its count are numbers and what names a file is a path.
+    fn task(self, alloc: Global, found: &Found<'_>) -> Result<Task, WordStop>
+        ensures asked { Reads result (task_in self (found_value found.now)) }
+        ensures budget { IfOk result (λ task. 1 ≤ task.budget) }
     {
-        match option_table::read(alloc, self.choices(), words)? {
-            Some(found) => Ok(self.settings(&found)),
-            None => Ok(None),
+        let Some((word, count, budget)) = self.values(found) else {
+            return Err(WordStop::Refused(WordFault::NotUnderstood));
+        };
+        let file = path_in(alloc, word)?;
+        let bare = Task::new(self, file, count, found.has("rom"), budget);
+        with_paths(alloc, found, bare)
+    }
+
+    /// What the words after the command's name ask for.
+    fn read(self, alloc: Global, words: &[String]) -> Result<Task, WordStop>
+        ensures asked { Reads result (task_with (map string_bytes words.now) (Some self)) }
+        ensures budget { IfOk result (λ task. 1 ≤ task.budget) }
+    {
+        let choices = self.choices(alloc)?;
+        match option_table::read(alloc, &choices, words)? {
+            Some(found) => self.task(alloc, &found),
+            None => Err(WordStop::Refused(WordFault::NotUnderstood)),
         }
     }
 }
 
-/// What the words ask for, where they are legal. Errors with want of memory.
-#[tactic(auto, unfolding(crate::specs::Words::settings))]
-pub fn read_words<'a>(
-    alloc: Global,
-    words: &'a [String],
-) -> Result<Option<Settings<'a>>, AllocError>
-    ensures asked { IfOk result (λ read. option_map asked read ≡ settings (map string_bytes words.now)) }
-    ensures budget { IfOk result (λ read. IfSome read (λ settings. 1 ≤ settings.budget)) }
+/// What the words ask for. They are refused where they are not legal; then where a word that names a file is no path, the
+/// first one in the order of the usage line. Errors with want of memory.
+#[tactic(auto, unfolding(crate::specs::Words::task_of))]
+pub fn read_words(alloc: Global, words: &[String]) -> Result<Task, WordStop>
+    ensures asked { Reads result (task_of (map string_bytes words.now)) }
+    ensures budget { IfOk result (λ task. 1 ≤ task.budget) }
 {
     let Some((name, rest)) = words.split_first() else {
-        return Ok(None);
+        return Err(WordStop::Refused(WordFault::NotUnderstood));
     };
     match command_named(name.as_bytes()) {
         Some(command) => command.read(alloc, rest),
-        None => Ok(None),
+        None => Err(WordStop::Refused(WordFault::NotUnderstood)),
     }
 }

@@ -1,11 +1,11 @@
-use Rattle.std.proofs.Common.{◌≡◌, ◌≢◌, List, [], ◌++◌, ◌⊎◌, inl, inr, refl, ap, sym, ◌∙◌, arith}
+use Rattle.std.proofs.Common.{◌≡◌, ◌≢◌, List, [], ◌++◌, refl, ap, sym, ◌∙◌, arith}
+use Rattle.std.proofs.lemmas.List.{append-nil}
 use Rattle.std.proofs.lemmas.List.FromFn.{get_or-map-range_with_len, length-map-range_with_len}
-use Rattle.std.specs.Prelude.{Option, Ok, Err}
+use Rattle.std.specs.Prelude.{Option, Ok}
 use Rattle.uxn_io.specs.Files.{Nodes}
 use Rattle.uxn_io.specs.Outside.{Change}
 use Rattle.uxn_io.specs.ChangeLaws.{cut-here}
 use Rattle.uxn_opcodes.specs.declared.Core.{Core}
-use Rattle.uxn_opcodes.specs.declared.Stop.{Stop}
 use Rattle.uxn_opcodes.specs.declared.Stop.TheVariants.{NoMemory}
 use Rattle.uxn_opcodes.specs.declared.Turn.{Turn}
 use Rattle.uxn_opcodes.specs.declared.Turn.TheVariants.{Ran, Broke as Broken}
@@ -16,17 +16,14 @@ use Rattle.varvara_bus.specs.History.{stored}
 use Rattle.varvara_bus.specs.State.{DeviceState}
 use Rattle.varvara_bus.specs.Reads.{read_of}
 use Rattle.varvara_bus.specs.Bus.{BusStandsFor, Reads, Meaning, Makes, StopsShort, world_of, held_page, bus_rules}
-use Rattle.varvara_bus.specs.InstructionLaws.{makes-none, makes-both, stops-first, stops-later, instruction-done, instruction-cut}
-use Rattle.varvara_bus.specs.Folders.{instruction-names}
-use Rattle.vector_loop.specs.declared.tally.Tally.{Tally}
+use Rattle.varvara_bus.specs.InstructionLaws.{makes-none, makes-both, instruction-done}
 use Rattle.vector_loop.specs.declared.watch.Moment.{Moment}
 use Rattle.vector_loop.specs.State.{State, counting_instruction}
 use Rattle.vector_loop.specs.Trail.{Trail, stays, followed_by}
-use Rattle.vector_loop.specs.Folders.{takes-first, takes-later}
 use Rattle.vector_loop.specs.Vector.{instruction}
 use Rattle.vector_loop.specs.Watch.{Page, IsPage, page_in, ports_read, ports_stored, shown_all}
-use Rattle.vector_loop.specs.Follows.{Running, running, state_of, Follows, FallsShort, FollowsFrom, FallsShortFrom}
-use Rattle.vector_loop.proofs.Trails.{shown_all-append}
+use Rattle.vector_loop.specs.Follows.{Running, running, state_of, Follows, FollowsFrom}
+use Rattle.vector_loop.proofs.Trails.{shown_all-append, changes-append}
 
 -- what the ports of a bus read, and what was last stored in them
 pub is_page : {T O E : Type 0} (told_tree : T → Option Nodes) (bus : Bus T O E) (state : State) → BusStandsFor told_tree bus state.devices
@@ -43,11 +40,6 @@ is_page told_tree bus state stands = record {
       ∙ sym (get_or-map-range_with_len (stored state.devices.history) 0 256 port port 0 within (omega arith));
 }
 
--- the one, or what the other gives
-or-else : {A B C : Type 0} → (B → C) → A ⊎ B → A ⊎ C
-or-else f (inl a) = inl a
-or-else f (inr b) = inr (f b)
-
 module _ {T O E : Type 0} (meaning : Meaning T O E) where
   -- where memory was wanting to the watcher all was made so far, and nothing of what is to come
   pub stops-here : (before now : Bus T O E) (first more : List Change) → Makes meaning before now first
@@ -57,37 +49,18 @@ module _ {T O E : Type 0} (meaning : Meaning T O E) where
     not_sure = tt;
   }
 
-module _ {T O E W : Type 0} (meaning : Meaning T O E) where
-  -- not all of the part, whatever would follow it
-  pub short-first : {refuses : Type 0} (before now : Running T O E W) (stop : Stop) (first : Trail) (rest : State → Trail)
-      → FallsShort meaning refuses before now stop first → FallsShort meaning refuses before now stop (followed_by first rest)
-  short-first before now stop first rest short = record {
-    made = stops-first meaning before.bus now.bus stop first.changes (rest first.last).changes short.made;
-    names = λ wanted. or-else (takes-first first rest) (short.names wanted);
-  }
-
-  -- not all of one instruction
-  pub short-instruction : {refuses : Type 0} (now : Running T O E W) (core_new : Core) (bus_new : Bus T O E) (tally_new : Tally) (watcher_new : W) (stop : Stop)
-      → Instruction (bus_rules meaning) now.core now.bus (Err stop) core_new bus_new
-      → FallsShortFrom meaning refuses now (running core_new bus_new tally_new watcher_new) stop instruction
-  short-instruction now core_new bus_new tally_new watcher_new stop stopped = record {
-    from = λ devices stands. record {
-      made = instruction-cut meaning now.core core_new now.bus bus_new stop devices stands stopped;
-      names = λ wanted. inr (record {
-        before = [];
-        moment = state_of now devices;
-        after = [];
-        in_order = refl;
-        takes = instruction-names meaning now.core core_new now.bus bus_new devices stands (rw wanted at stopped);
-      });
-    };
-  }
-
 module _ {T O E W H : Type 0} (meaning : Meaning T O E) (held : W → H) (shown : H → Core → Page → Moment → H) where
   -- nothing is done yet
   pub follows-nothing : (now : Running T O E W) (devices : DeviceState) → BusStandsFor meaning.tree now.bus devices
       → Follows meaning held shown now now (stays (state_of now devices))
-  follows-nothing now devices stands = record { core = refl; devices = stands; tally = refl; makes = makes-none meaning now.bus; watcher = refl }
+  follows-nothing now devices stands = record {
+    core = refl;
+    devices = stands;
+    tally = refl;
+    makes = makes-none meaning now.bus;
+    changes = tt;
+    watcher = refl;
+  }
 
   -- the state that was reached is that of the machine
   pub reached : (before middle : Running T O E W) (first : Trail) → Follows meaning held shown before middle first
@@ -95,31 +68,26 @@ module _ {T O E W H : Type 0} (meaning : Meaning T O E) (held : W → H) (shown 
   reached before middle first follows = ap (λ core. record { core = core; devices = first.last.devices; tally = middle.tally }) follows.core
       ∙ ap (λ tally. record { core = first.last.core; devices = first.last.devices; tally = tally }) follows.tally
 
+  -- a part, and then another
+  pub follows-on : (before middle now : Running T O E W) (first second : Trail) → Follows meaning held shown before middle first
+      → Follows meaning held shown middle now second → Follows meaning held shown before now (followed_by first (λ s. second))
+  follows-on before middle now first second one then = record {
+    core = then.core;
+    devices = then.devices;
+    tally = then.tally;
+    makes = makes-both meaning before.bus middle.bus now.bus first.changes second.changes one.makes then.makes;
+    changes = changes-append first.moments second.moments first.changes second.changes one.changes then.changes;
+    watcher = then.watcher ∙ ap (λ h. shown_all shown h second.moments) one.watcher
+        ∙ sym (shown_all-append shown (held before.watcher) first.moments second.moments);
+  }
+
   -- a part, and then what follows it
   pub follows-both : (before middle now : Running T O E W) (first : Trail) (rest : State → Trail)
       → Follows meaning held shown before middle first → FollowsFrom meaning held shown middle now rest
       → Follows meaning held shown before now (followed_by first rest)
   follows-both before middle now first rest one more =
-      let then = rw (reached before middle first one) at (more.from first.last.devices one.devices) in
-      record {
-        core = then.core;
-        devices = then.devices;
-        tally = then.tally;
-        makes = makes-both meaning before.bus middle.bus now.bus first.changes (rest first.last).changes one.makes then.makes;
-        watcher = then.watcher ∙ ap (λ h. shown_all shown h (rest first.last).moments) one.watcher
-            ∙ sym (shown_all-append shown (held before.watcher) first.moments (rest first.last).moments);
-      }
-
-  -- a part, and then not all of what follows it
-  pub short-later : {refuses : Type 0} (before middle now : Running T O E W) (stop : Stop) (first : Trail) (rest : State → Trail)
-      → Follows meaning held shown before middle first → FallsShortFrom meaning refuses middle now stop rest
-      → FallsShort meaning refuses before now stop (followed_by first rest)
-  short-later before middle now stop first rest one more =
-      let then = rw (reached before middle first one) at (more.from first.last.devices one.devices) in
-      record {
-        made = stops-later meaning before.bus middle.bus now.bus stop first.changes (rest first.last).changes one.makes then.made;
-        names = λ wanted. or-else (takes-later first rest) (then.names wanted);
-      }
+      follows-on before middle now first (rest first.last) one
+      (rw (reached before middle first one) at (more.from first.last.devices one.devices))
 
   -- one instruction, before which the watcher was shown the machine
   pub follows-instruction : (now : Running T O E W) (core_new : Core) (bus_new : Bus T O E) (watcher_new : W) (turn : Turn)
@@ -135,6 +103,7 @@ module _ {T O E W H : Type 0} (meaning : Meaning T O E) (held : W → H) (shown 
           devices = done.devices;
           tally = refl;
           makes = done.makes;
+          changes = ([], ([], (sym (append-nil (instruction (state_of now devices)).changes), tt)));
           watcher = watched (page_in (state_of now devices)) (is_page meaning.tree now.bus (state_of now devices) stands);
         };
   }
@@ -149,8 +118,3 @@ pub is-break : {T O E : Type 0} (meaning : Meaning T O E) (core core_new : Core)
     → Instruction (bus_rules meaning) core before (Ok Broken) core_new now → opcode_at core ≡ 0
 unfolding Instruction
 is-break meaning core core_new before now ran = ran.0
-
-pub stop-no-break : {T O E : Type 0} (meaning : Meaning T O E) (core core_new : Core) (before now : Bus T O E) (stop : Stop)
-    → Instruction (bus_rules meaning) core before (Err stop) core_new now → opcode_at core ≢ 0
-unfolding Instruction
-stop-no-break meaning core core_new before now stop ran = ran.0

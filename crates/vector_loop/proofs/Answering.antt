@@ -3,26 +3,27 @@ use Rattle.std.proofs.Common.{◌≡◌, ℕ, ◌+◌, ◌≤◌, ◌⊎◌, Boo
 use Rattle.std.specs.Prelude.{Option, Some, None, IfSome, Result, Ok, Err, OnOk, IfErr}
 use Rattle.uxn_io.specs.Files.{Nodes}
 use Rattle.uxn_io.specs.Faults.{Ledger}
-use Rattle.uxn_io.specs.Outside.{Change}
 use Rattle.uxn_opcodes.specs.declared.Core.{Core}
 use Rattle.uxn_opcodes.specs.declared.Stop.{Stop}
 use Rattle.uxn_opcodes.specs.declared.Stop.TheVariants.{NoMemory, TreeFault, SinkFault}
 use Rattle.uxn_opcodes.specs.Ports.{blame_of}
 use Rattle.varvara_bus.specs.declared.bus.Bus.{Bus}
 use Rattle.varvara_bus.specs.State.{DeviceState}
-use Rattle.varvara_bus.specs.Bus.{SameLent, SameBus, FilesStay, HasRoot, ChangesDevices, BusStandsFor, frames_begun}
+use Rattle.varvara_bus.specs.Bus.{SameLent, SameBus, FilesStay, HasRoot, IsOutside, ChangesDevices, BusStandsFor, frames_begun}
 use Rattle.vector_loop.specs.declared.runner.Runner.{Runner}
 use Rattle.vector_loop.specs.declared.tally.Tally.{Tally}
 use Rattle.vector_loop.specs.State.{State, is_over}
 use Rattle.vector_loop.specs.Trail.{Trail, stays, makes, followed_by}
 use Rattle.vector_loop.specs.Event.{unless_over}
 use Rattle.vector_loop.specs.declared.output.Outputs.{Outputs}
-use Rattle.vector_loop.specs.Outputs.{IsOutput, OutputsThere}
+use Rattle.vector_loop.specs.Outputs.{IsOutput, OutputsThere, appended_to}
 use Rattle.vector_loop.specs.Making.{MadeOrCut, MadeBy}
 use Rattle.vector_loop.specs.Follows.{Running, running, state_of, FollowsFrom, FallsShortFrom, HasGrown}
+use Rattle.vector_loop.specs.Stops.{StopsInFrom}
 use Rattle.vector_loop.specs.Answers.{Telling, Count, none, both, HasRoom, running_of, HasOutputs, SameRunner, faults_of, Reaches, Answers}
 use Rattle.vector_loop.specs.TrailLaws.{followed_by-again, followed_by-at, stays-after}
-use Rattle.vector_loop.proofs.Along.{follows-nothing, follows-both, short-first, short-later}
+use Rattle.vector_loop.proofs.Along.{follows-nothing, follows-both}
+use Rattle.vector_loop.proofs.Stopping.{stopped-first, stopped-later, stopped-append, falls-short-from}
 use Rattle.vector_loop.proofs.Counting.{grown-both, grown-none, grown-within, room-left}
 use Rattle.vector_loop.proofs.Makings.{makes-nothing, files-kept, same_faults, no-memory}
 
@@ -40,6 +41,12 @@ blame-same : (X Y : Type 0) (stop : Stop) → blame_of {T = X} (Err stop) ≡ bl
 blame-same X Y NoMemory = refl
 blame-same X Y TreeFault = refl
 blame-same X Y SinkFault = refl
+
+-- an output that is there lies outside the root part
+output-outside : (output : Option (List ℕ)) (root : Option (List ℕ)) (told : Option Nodes) → IfSome output (IsOutput root told)
+    → IfSome output (IsOutside root)
+output-outside None root told there = tt
+output-outside (Some path) root told there = there.outside
 
 -- an output that is there is there still
 output-still : (output : Option (List ℕ)) (root root_now : Option (List ℕ)) (before now : Option Nodes) → IfSome output (IsOutput root before)
@@ -104,7 +111,7 @@ module _ {T O E W H : Type 0} (telling : Telling T O E W H) where
       → Reaches telling a b part r → Reaches telling a b other r
   reaches-where a b part other (Ok x) same follows = record { from = λ devices stands. rw (same devices stands) (follows.from devices stands) }
   reaches-where a b part other (Err stop) same stopped = record {
-    short = record { from = λ devices stands. rw (same devices stands) (stopped.short.from devices stands) };
+    within = record { from = λ devices stands. rw (same devices stands) (stopped.within.from devices stands) };
     memory = stopped.memory;
   }
 
@@ -115,8 +122,9 @@ module _ {T O E W H : Type 0} (telling : Telling T O E W H) where
     from = λ devices stands. follows-both telling.meaning telling.held telling.shown a b c (part (state_of a devices)) rest (one.from devices stands) more;
   }
   reaches-then a b c part rest (Err stop) root one more = record {
-    short = record {
-      from = λ devices stands. short-later telling.meaning telling.held telling.shown a b c stop (part (state_of a devices)) rest (one.from devices stands) more.short;
+    within = record {
+      from = λ devices stands. stopped-later telling.meaning telling.held telling.shown telling.may_refuse a b c stop (part (state_of a devices)) rest
+          (one.from devices stands) more.within;
     };
     memory = λ wanted. wanting-still telling.may_refuse a.bus b.bus root (more.memory wanted);
   }
@@ -149,9 +157,9 @@ module _ {T O E W H : Type 0} (telling : Telling T O E W H) where
       → Answers telling {X = X} a b part m (Err stop) → Answers telling {X = Y} a b (λ s. followed_by (part s) rest) m (Err stop)
   answers-first {X = X} {Y = Y} a b part rest m stop p = record {
     reaches = record {
-      short = record {
-        from = λ devices stands. short-first telling.meaning (running_of a) (running_of b) stop (part (state_of (running_of a) devices)) rest
-            (p.reaches.short.from devices stands);
+      within = record {
+        from = λ devices stands. stopped-first telling.meaning telling.held telling.shown telling.may_refuse (running_of a) (running_of b) stop
+            (part (state_of (running_of a) devices)) rest (p.reaches.within.from devices stands);
       };
       memory = p.reaches.memory;
     };
@@ -243,6 +251,7 @@ module _ {T O E W H : Type 0} (telling : Telling T O E W H) where
         devices = devices_now devices stands;
         tally = ap (λ (s : State). s.tally) (state_now devices stands);
         makes = makes-nothing telling.meaning a.bus.now b.bus.now others;
+        changes = tt;
         watcher = ap (λ (r : Runner T O E W). telling.held r.watcher.now) (sym others_same);
       };
     };
@@ -274,33 +283,35 @@ module _ {T O E W H : Type 0} (telling : Telling T O E W H) where
       ∙ ap (λ t. record { core = a.core.now; devices = change devices; tally = t }) tally)
 
   -- changes that a run makes itself are a part of it
-  reaches-made : (a b : Runner T O E W) (changes : DeviceState → List Change) (r : Result (Unit {0}) Stop)
-      → b.core.now ≡ a.core.now → b.tally ≡ a.tally → b.watcher.now ≡ a.watcher.now
-      → MadeBy telling.meaning a.bus.now b.bus.now changes r → Reaches telling (running_of a) (running_of b) (λ s. makes (changes s.devices) s) r
-  reaches-made a b changes (Ok x) core tally watcher made = record {
+  reaches-made : (a b : Runner T O E W) (output : Option (List ℕ)) (bytes : DeviceState → List ℕ) (r : Result (Unit {0}) Stop)
+      → IfSome output (IsOutside a.bus.now.devices.now.root) → b.core.now ≡ a.core.now → b.tally ≡ a.tally → b.watcher.now ≡ a.watcher.now
+      → MadeBy telling.meaning a.bus.now b.bus.now (λ s. appended_to output (bytes s)) r
+      → Reaches telling (running_of a) (running_of b) (λ s. makes (appended_to output (bytes s.devices)) s) r
+  reaches-made a b output bytes (Ok x) outside core tally watcher made = record {
     from = λ devices stands. record {
       core = core;
       devices = made.stands devices stands;
       tally = tally;
       makes = made.makes devices stands;
+      changes = tt;
       watcher = ap telling.held watcher;
     };
   }
-  reaches-made a b changes (Err stop) core tally watcher cut = record {
-    short = record {
-      from = λ devices stands. record { made = cut.cut devices stands; names = λ wanted. absurd (no-memory stop cut.fault wanted) };
-    };
+  reaches-made a b output bytes (Err stop) outside core tally watcher cut = record {
+    within = stopped-append telling.meaning telling.held telling.shown telling.may_refuse (running_of a) (running_of b) stop output bytes outside core tally watcher
+        cut;
     memory = λ wanted. absurd (no-memory stop cut.fault wanted);
   }
 
-  pub answers-made : (a b : Runner T O E W) (changes : DeviceState → List Change) (r : Result (Unit {0}) Stop)
-      → record a { bus = b.bus } ≡ b → b.bus.ghost_name ≡ a.bus.ghost_name
-      → MadeOrCut telling.meaning telling.tree_faults telling.out_faults telling.err_faults a.bus.now b.bus.now changes r
-      → Answers telling a b (λ s. makes (changes s.devices) s) none r
-  answers-made a b changes r others_same bus made =
+  pub answers-made : (a b : Runner T O E W) (output : Option (List ℕ)) (bytes : DeviceState → List ℕ) (r : Result (Unit {0}) Stop)
+      → IfSome output (IsOutput a.bus.now.devices.now.root (telling.meaning.tree a.bus.now.tree.now)) → record a { bus = b.bus } ≡ b → b.bus.ghost_name ≡ a.bus.ghost_name
+      → MadeOrCut telling.meaning telling.tree_faults telling.out_faults telling.err_faults a.bus.now b.bus.now
+      (λ s. appended_to output (bytes s)) r
+      → Answers telling a b (λ s. makes (appended_to output (bytes s.devices)) s) none r
+  answers-made a b output bytes r there others_same bus made =
       let tally : b.tally ≡ a.tally = ap (λ (r : Runner T O E W). r.tally) (sym others_same) in
       record {
-        reaches = reaches-made a b changes r (ap (λ (r : Runner T O E W). r.core.now) (sym others_same)) tally
+        reaches = reaches-made a b output bytes r (output-outside output _ _ there) (ap (λ (r : Runner T O E W). r.core.now) (sym others_same)) tally
             (ap (λ (r : Runner T O E W). r.watcher.now) (sym others_same)) made.made;
         ledger = made.ledger;
         grown = rw tally (grown-none a.tally a.budget);
@@ -345,13 +356,13 @@ module _ {T O E W H : Type 0} (telling : Telling T O E W H) where
 
   pub answers-cut : (X : Type 0) {Y : Type 0} (a b : Runner T O E W) (part : State → Trail) (m : Count) (stop : Stop)
       → b.core.ghost_name ≡ a.core.ghost_name → b.bus.ghost_name ≡ a.bus.ghost_name → b.watcher.ghost_name ≡ a.watcher.ghost_name
-      → b.budget ≡ a.budget → FallsShortFrom telling.meaning telling.may_refuse (running_of a) (running_of b) stop part
+      → b.budget ≡ a.budget → StopsInFrom telling.meaning telling.held telling.shown telling.may_refuse (running_of a) (running_of b) stop part
       → (stop ≡ NoMemory → telling.may_refuse ⊎ HasRoot a.bus.now.devices.now)
       → Ledger (faults_of telling a.bus.now) (faults_of telling b.bus.now) (blame_of {T = X} (Err stop))
       → HasGrown a.tally b.tally m.vectors m.events a.budget
       → SameBus telling.meaning.tree a.bus.now b.bus.now → Answers telling {X = Y} a b part m (Err stop)
-  answers-cut X {Y = Y} a b part m stop core bus watcher budget short memory ledger grown same = record {
-    reaches = record { short = short; memory = memory };
+  answers-cut X {Y = Y} a b part m stop core bus watcher budget within memory ledger grown same = record {
+    reaches = record { within = within; memory = memory };
     ledger = rw (blame-same Y X stop) ledger;
     grown = grown;
     frames = omega (arith, same.frames);
@@ -411,16 +422,28 @@ module _ {T O E W H : Type 0} (telling : Telling T O E W H) where
   ok-reached before now part (Err stop) stopped = tt
 
   err-reached : {X : Type 0} (before now : Running T O E W) (part : State → Trail) (r : Result X Stop) → Reaches telling before now part r
-      → IfErr r (λ stop. FallsShortFrom telling.meaning telling.may_refuse before now stop part)
+      → IfErr r (λ stop. StopsInFrom telling.meaning telling.held telling.shown telling.may_refuse before now stop part)
   err-reached before now part (Ok x) follows = tt
-  err-reached before now part (Err stop) stopped = stopped.short
+  err-reached before now part (Err stop) stopped = stopped.within
+
+  short-reached : {X : Type 0} (before now : Running T O E W) (part : State → Trail) (r : Result X Stop)
+      → IfErr r (λ stop. StopsInFrom telling.meaning telling.held telling.shown telling.may_refuse before now stop part)
+      → IfErr r (λ stop. FallsShortFrom telling.meaning telling.may_refuse before now stop part)
+  short-reached before now part (Ok x) follows = tt
+  short-reached before now part (Err stop) within = falls-short-from telling.meaning telling.held telling.shown telling.may_refuse before now stop part within
 
   pub ok-handed : {X : Type 0} (a b : Runner T O E W) (core : Core) (bus : Bus T O E) (tally : Tally) (watcher : W) (part : State → Trail) (m : Count)
       (r : Result X Stop) → core ≡ b.core.now → bus ≡ b.bus.now → tally ≡ b.tally → watcher ≡ b.watcher.now → Answers telling a b part m r
       → OnOk r (FollowsFrom telling.meaning telling.held telling.shown (running_of a) (running core bus tally watcher) part)
   ok-handed a b core bus tally watcher part m r c i t w answers = rw (c, i, t, w) (ok-reached (running_of a) (running_of b) part r answers.reaches)
 
+  pub stopped-handed : {X : Type 0} (a b : Runner T O E W) (core : Core) (bus : Bus T O E) (tally : Tally) (watcher : W) (part : State → Trail) (m : Count)
+      (r : Result X Stop) → core ≡ b.core.now → bus ≡ b.bus.now → tally ≡ b.tally → watcher ≡ b.watcher.now → Answers telling a b part m r
+      → IfErr r (λ stop. StopsInFrom telling.meaning telling.held telling.shown telling.may_refuse (running_of a) (running core bus tally watcher) stop part)
+  stopped-handed a b core bus tally watcher part m r c i t w answers = rw (c, i, t, w) (err-reached (running_of a) (running_of b) part r answers.reaches)
+
   pub err-handed : {X : Type 0} (a b : Runner T O E W) (core : Core) (bus : Bus T O E) (tally : Tally) (watcher : W) (part : State → Trail) (m : Count)
       (r : Result X Stop) → core ≡ b.core.now → bus ≡ b.bus.now → tally ≡ b.tally → watcher ≡ b.watcher.now → Answers telling a b part m r
       → IfErr r (λ stop. FallsShortFrom telling.meaning telling.may_refuse (running_of a) (running core bus tally watcher) stop part)
-  err-handed a b core bus tally watcher part m r c i t w answers = rw (c, i, t, w) (err-reached (running_of a) (running_of b) part r answers.reaches)
+  err-handed a b core bus tally watcher part m r c i t w answers =
+      short-reached (running_of a) (running core bus tally watcher) part r (stopped-handed a b core bus tally watcher part m r c i t w answers)

@@ -1,5 +1,6 @@
 pub mod Trails
 pub mod Along
+pub mod Stopping
 pub mod Vectors
 pub mod Events
 pub mod Giving

@@ -17,8 +17,9 @@ use Rattle.screen_frame.specs.Colours.{colours_of}
 use Rattle.screen_frame.specs.Ppm.{head_bytes}
 use Rattle.screen_layers.specs.Pictures.{picture_row_of}
 use Rattle.varvara_bus.specs.declared.bus.Bus.{Bus}
+use Rattle.varvara_bus.specs.declared.devices.Devices.{Devices}
 use Rattle.varvara_bus.specs.History.{colour_bytes}
-use Rattle.varvara_bus.specs.State.{DeviceState}
+use Rattle.varvara_bus.specs.State.{DeviceState, StandFor}
 use Rattle.varvara_bus.specs.Bus.{ChangesDevices, FilesStay, IsOutside, BusStandsFor, Meaning, Makes, StopsShort, bus_faults, frames_begun, screen_of, sure_of}
 use Rattle.varvara_bus.specs.FileActs.{piece_appended}
 use Rattle.varvara_bus.specs.Laws.{appended-outside}
@@ -114,7 +115,11 @@ module _ {T O E : Type 0} (meaning : Meaning T O E) where
     stands = made.stands;
     height = made.height;
   }
-  by-where a b changes other (Err stop) same cut = record { cut = λ s stands. rw (same s stands) (cut.cut s stands); fault = cut.fault }
+  by-where a b changes other (Err stop) same cut = record {
+    cut = λ s stands. rw (same s stands) (cut.cut s stands);
+    devices = cut.devices;
+    fault = cut.fault;
+  }
 
   by-then : (a b c : Bus T O E) (first more : DeviceState → List Change) (r : Result (Unit {0}) Stop) → MadeBy meaning a b first (Ok (tt {0}))
       → MadeBy meaning b c more r → MadeBy meaning a c (λ s. first s ++ more s) r
@@ -125,17 +130,28 @@ module _ {T O E : Type 0} (meaning : Meaning T O E) where
   }
   by-then a b c first more (Err stop) p q = record {
     cut = λ s stands. stops-later meaning a b c stop (first s) (more s) (p.makes s stands) (q.cut s (p.stands s stands));
+    devices = λ s stands. q.devices s (p.stands s stands);
     fault = q.fault;
   }
+
+  -- the devices stand for the same, whatever was answered
+  pub devices-kept : (a b : Bus T O E) (changes : DeviceState → List Change) (r : Result (Unit {0}) Stop) → MadeBy meaning a b changes r
+      → (s : DeviceState) → BusStandsFor meaning.tree a s → StandFor b.devices.now s
+  devices-kept a b changes (Ok x) made s stands = (made.stands s stands).devices
+  devices-kept a b changes (Err stop) cut s stands = cut.devices s stands
 
   -- what the bus answered for a piece, with the stop that it names
   pub appended : (a b : Bus T O E) (changes : List Change) (r : Result (Unit {0}) Stop) → OnOk r (Makes meaning a b changes)
       → OnOk r ((s : DeviceState) → BusStandsFor meaning.tree a s → BusStandsFor meaning.tree b s) → OnErr r (r ≡ Err TreeFault)
-      → OnErr r (StopsShort meaning a b TreeFault changes) → (screen_of b).height ≡ (screen_of a).height → MadeBy meaning a b (λ s. changes) r
-  appended a b changes (Ok x) makes kept err cut height = record { makes = λ s stands. makes; stands = kept; height = height }
-  appended a b changes (Err stop) makes kept err cut height =
+      → OnErr r (StopsShort meaning a b TreeFault changes) → b.devices.now ≡ a.devices.now → MadeBy meaning a b (λ s. changes) r
+  appended a b changes (Ok x) makes kept err cut devices = record {
+    makes = λ s stands. makes;
+    stands = kept;
+    height = ap (λ (d : Devices). d.screen.height) devices;
+  }
+  appended a b changes (Err stop) makes kept err cut devices =
       let fault : stop ≡ TreeFault = cc in
-      record { cut = λ s stands. rw fault cut; fault = fault }
+      record { cut = λ s stands. rw fault cut; devices = λ s stands. rw devices stands.devices; fault = fault }
 
 module _ {T O E : Type 0} (meaning : Meaning T O E) (of_tree : T → ℕ) (of_out : O → ℕ) (of_err : E → ℕ) where
   pub made-nothing : (bus : Bus T O E) → MadeOrCut meaning of_tree of_out of_err bus bus (λ s. []) (Ok (tt {0}))
@@ -176,7 +192,11 @@ module _ {T O E : Type 0} (meaning : Meaning T O E) (of_tree : T → ℕ) (of_ou
   pub made-first : (a b : Bus T O E) (first more : DeviceState → List Change) (stop : Stop) → MadeOrCut meaning of_tree of_out of_err a b first (Err stop)
       → MadeOrCut meaning of_tree of_out of_err a b (λ s. first s ++ more s) (Err stop)
   made-first a b first more stop p = record {
-    made = record { cut = λ s stands. stops-first meaning a b stop (first s) (more s) (p.made.cut s stands); fault = p.made.fault };
+    made = record {
+      cut = λ s stands. stops-first meaning a b stop (first s) (more s) (p.made.cut s stands);
+      devices = p.made.devices;
+      fault = p.made.fault;
+    };
     ledger = p.ledger;
     same = p.same;
   }

@@ -1,18 +1,22 @@
 -- The run of a script, and its end.
-use Rattle.std.proofs.Common.{◌≡◌, ap, ◌∙◌}
-use Rattle.std.specs.Prelude.{Ok}
+use Rattle.std.proofs.Common.{◌≡◌, inl, inr, refl, ap, sym, ◌∙◌}
+use Rattle.std.specs.Prelude.{Ok, Err}
 use Rattle.uxn_opcodes.specs.declared.Core.{Core}
+use Rattle.uxn_opcodes.specs.declared.Stop.{Stop}
+use Rattle.uxn_opcodes.specs.declared.Stop.TheVariants.{NoMemory}
 use Rattle.varvara_bus.specs.declared.bus.Bus.{Bus}
 use Rattle.varvara_bus.specs.Bus.{Reads, held_page}
 use Rattle.vector_loop.specs.declared.watch.Moment.{Moment}
 use Rattle.vector_loop.specs.State.{State}
 use Rattle.vector_loop.specs.Trail.{Trail}
 use Rattle.vector_loop.specs.Watch.{Page, IsPage, page_in, moment_of, shown_all}
-use Rattle.vector_loop.specs.Follows.{Running, running, state_of, FollowsFrom, EndsFrom}
+use Rattle.vector_loop.specs.Follows.{Running, running, state_of, FollowsFrom, FallsShortFrom, EndsFrom}
+use Rattle.vector_loop.specs.Stops.{RunStops}
 use Rattle.vector_loop.specs.declared.runner.Runner.{Runner}
 use Rattle.vector_loop.specs.declared.tally.Tally.{Tally}
 use Rattle.vector_loop.specs.Answers.{Telling, Count, running_of, moment_in, Answers}
 use Rattle.vector_loop.proofs.Along.{is_page, reached}
+use Rattle.vector_loop.proofs.Stopping.{run-short}
 
 module _ {T O E W H : Type 0} (telling : Telling T O E W H) where
   -- the end was shown, or not
@@ -46,3 +50,38 @@ module _ {T O E W H : Type 0} (telling : Telling T O E W H) where
       let then : Runner T O E W → Running T O E W = λ r. running r.core.now r.bus.now r.tally c.watcher.now in
       rw (is_core, is_bus, is_tally, is_watcher)
       (rw (ap then others) at (ends-run ended (running_of a) (running_of b) part c.watcher.now answers.reaches shown_end))
+
+  -- a run stopped before its end
+  pub run-stopped : {X : Type 0} (a b : Runner T O E W) (core : Core) (bus : Bus T O E) (watcher : W) (part : State → Trail) (m : Count) (stop : Stop)
+      → core ≡ b.core.now → bus ≡ b.bus.now → watcher ≡ b.watcher.now → Answers telling {X = X} a b part m (Err stop)
+      → RunStops telling.meaning telling.held telling.shown telling.may_refuse (running_of a) core bus watcher stop part
+  run-stopped a b core bus watcher part m stop is_core is_bus is_watcher answers = record {
+    tally = b.tally;
+    stops = inl (rw (is_core, is_bus, is_watcher) answers.reaches.within);
+  }
+
+  pub run-fell : {X : Type 0} (a b : Runner T O E W) (core : Core) (bus : Bus T O E) (tally : Tally) (watcher : W) (part : State → Trail) (m : Count) (stop : Stop)
+      → core ≡ b.core.now → bus ≡ b.bus.now → watcher ≡ b.watcher.now → Answers telling {X = X} a b part m (Err stop)
+      → FallsShortFrom telling.meaning telling.may_refuse (running_of a) (running core bus tally watcher) stop part
+  run-fell a b core bus tally watcher part m stop is_core is_bus is_watcher answers =
+      run-short telling.meaning telling.held telling.shown telling.may_refuse (running_of a) core bus tally watcher part stop
+      (run-stopped a b core bus watcher part m stop is_core is_bus is_watcher answers)
+
+  -- all of it was done, and the watcher refused to be shown its end
+  pub end-refused : {X : Type 0} (a b c : Runner T O E W) (core : Core) (bus : Bus T O E) (watcher : W) (part : State → Trail) (m : Count) (x : X) (stop : Stop)
+      → Answers telling a b part m (Ok x) → telling.may_refuse → stop ≡ NoMemory → record b { watcher = c.watcher } ≡ c → core ≡ c.core.now → bus ≡ c.bus.now
+      → RunStops telling.meaning telling.held telling.shown telling.may_refuse (running_of a) core bus watcher stop part
+  end-refused a b c core bus watcher part m x stop answers may memory others is_core is_bus = record {
+    tally = b.tally;
+    stops = inr (record {
+      here = running_of b;
+      follows = answers.reaches;
+      refused = record {
+        may = may;
+        memory = memory;
+        core = is_core ∙ ap (λ (r : Runner T O E W). r.core.now) (sym others);
+        bus = is_bus ∙ ap (λ (r : Runner T O E W). r.bus.now) (sym others);
+        tally = refl;
+      };
+    });
+  }

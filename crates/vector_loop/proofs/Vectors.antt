@@ -1,4 +1,4 @@
-use Rattle.std.proofs.Common.{◌≡◌, ◌≢◌, ℕ, zero, suc, true, false, cond, inl, refl, ap, sym, ◌∙◌, arith}
+use Rattle.std.proofs.Common.{◌≡◌, ◌≢◌, ℕ, zero, suc, Bool, true, false, cond, ◌⊎◌, inl, inr, refl, ap, sym, ◌∙◌, arith}
 use Rattle.std.proofs.lemmas.Bool.Decides.{nat_tests}
 use Rattle.std.specs.Prelude.{Option, Ok, Err, ◌==◌, ◌||◌}
 use Rattle.uxn_io.specs.Files.{Nodes}
@@ -19,9 +19,11 @@ use Rattle.vector_loop.specs.State.{State, counting_instruction, counting_vector
 use Rattle.vector_loop.specs.Trail.{Trail, stays, followed_by}
 use Rattle.vector_loop.specs.Vector.{instruction, at_break, instructions, breaks, vector, vector_end}
 use Rattle.vector_loop.specs.Watch.{Page, IsPage}
-use Rattle.vector_loop.specs.Follows.{Running, running, state_of, Follows, FollowsFrom, FallsShortFrom}
-use Rattle.vector_loop.specs.TrailLaws.{followed_by-again, followed_by-at}
-use Rattle.vector_loop.proofs.Along.{follows-nothing, follows-both, short-later, short-first, stops-here, follows-instruction, short-instruction}
+use Rattle.vector_loop.specs.Follows.{Running, running, state_of, Follows, FollowsFrom}
+use Rattle.vector_loop.specs.Stops.{StopsInFrom}
+use Rattle.vector_loop.specs.TrailLaws.{followed_by-again, followed_by-at, stays-after}
+use Rattle.vector_loop.proofs.Along.{follows-nothing, follows-both, follows-instruction}
+use Rattle.vector_loop.proofs.Stopping.{stopped-later, stopped-instruction, refused-instruction}
 
 instructions-break : (left : ℕ) (state : State) → at_break state ≡ true → instructions (suc left) state ≡ instruction state
 unfolding instructions
@@ -46,6 +48,17 @@ breaks-next left state at = ap (λ b. b || breaks left (instruction state).last)
 breaks-zero : (state : State) → breaks zero state ≡ false
 unfolding breaks
 breaks-zero state = refl
+
+bool_cases : (b : Bool) → (b ≡ true) ⊎ (b ≡ false)
+bool_cases true = inl refl
+bool_cases false = inr refl
+
+-- what is left of a vector begins with an instruction
+left-instruction : (left : ℕ) (state : State) → (later : State → Trail) × (instructions (suc left) state ≡ followed_by (instruction state) later)
+left-instruction left state = elim (bool_cases (at_break state)) [
+  | inl at ↦ (stays, instructions-break left state at ∙ sym (stays-after (instruction state)))
+  | inr on ↦ (instructions left, instructions-next left state on)
+]
 
 is_zero : (n : ℕ) → n ≡ 0 → (n == 0) ≡ true
 is_zero n h = grind (arith, nat_tests)
@@ -137,7 +150,7 @@ module _ {T O E W H : Type 0} (meaning : Meaning T O E) (held : W → H) (shown 
         let so_far = along.from devices stands in
         let whole = sym so_far.whole ∙ followed_by-at so_far.done (instructions 0) (λ s. stays (record s { tally = counting_cut s.tally })) (instructions-zero so_far.done.last) in
         rw whole (follows-both meaning held shown before now (running now.core now.bus (counting_cut now.tally) now.watcher) so_far.done (λ s. stays (record s { tally = counting_cut s.tally })) so_far.follows
-        (record { from = λ reached s. record { core = refl; devices = s; tally = refl; makes = makes-none meaning now.bus; watcher = refl } }));
+        (record { from = λ reached s. record { core = refl; devices = s; tally = refl; makes = makes-none meaning now.bus; changes = tt; watcher = refl } }));
   }
 
   pub cut-ends : (before now : Running T O E W) (budget : ℕ) → Along before now budget 0
@@ -146,40 +159,33 @@ module _ {T O E W H : Type 0} (meaning : Meaning T O E) (held : W → H) (shown 
       let so_far = along.from devices stands in
       sym so_far.ends ∙ breaks-zero so_far.done.last
 
-  pub stop-short : {refuses : Type 0} (before now : Running T O E W) (budget left : ℕ) (core_new : Core) (bus_new : Bus T O E) (tally_new : Tally) (watcher_new : W) (stop : Stop)
-      → Along before now budget (suc left)
-      → Instruction (bus_rules meaning) now.core now.bus (Err stop) core_new bus_new → opcode_at now.core ≢ 0
-      → FallsShortFrom meaning refuses before (running core_new bus_new tally_new watcher_new) stop (instructions budget)
-  stop-short before now budget left core_new bus_new tally_new watcher_new stop along stopped goes_on = record {
+  -- it stopped, or the watcher refused to be shown the machine before it
+  stops-left : {refuses : Type 0} (before now after : Running T O E W) (budget left : ℕ) (stop : Stop) → Along before now budget (suc left)
+      → ((later : State → Trail) → StopsInFrom meaning held shown refuses now after stop (λ s. followed_by (instruction s) later))
+      → StopsInFrom meaning held shown refuses before after stop (instructions budget)
+  stops-left {refuses} before now after budget left stop along stops = record {
     from = λ devices stands.
         let so_far = along.from devices stands in
-        let on = goes-on-at now so_far.done now.core so_far.follows.core goes_on in
-        let whole = sym so_far.whole ∙ followed_by-at so_far.done (instructions (suc left)) (λ s. followed_by (instruction s) (instructions left)) (instructions-next left so_far.done.last on) in
-        rw whole (short-later meaning held shown before now (running core_new bus_new tally_new watcher_new) stop so_far.done (λ s. followed_by (instruction s) (instructions left)) so_far.follows
-        (record {
-          from = λ reached s. short-first meaning now (running core_new bus_new tally_new watcher_new) stop (instruction (state_of now reached)) (instructions left)
-              ((short-instruction meaning now core_new bus_new tally_new watcher_new stop stopped).from reached s);
-        }));
+        let one = left-instruction left so_far.done.last in
+        let whole = sym so_far.whole ∙ followed_by-at so_far.done (instructions (suc left)) (λ s. followed_by (instruction s) one.0) one.1 in
+        rw whole (stopped-later meaning held shown refuses before now after stop so_far.done (λ s. followed_by (instruction s) one.0) so_far.follows
+        (stops one.0));
   }
 
-  pub refused-short : {refuses : Type 0} (before now : Running T O E W) (budget left : ℕ) (tally_new : Tally) (watcher_new : W)
-      → Along before now budget left → refuses
-      → FallsShortFrom meaning refuses before (running now.core now.bus tally_new watcher_new) NoMemory (instructions budget)
-  refused-short before now budget left tally_new watcher_new along refused = record {
-    from = λ devices stands.
-        let so_far = along.from devices stands in
-        let whole : instructions budget (state_of before devices) ≡ followed_by so_far.done (instructions left) = sym so_far.whole in
-        rw whole (record {
-          made = stops-here meaning before.bus now.bus so_far.done.changes (instructions left so_far.done.last).changes so_far.follows.makes;
-          names = λ wanted. inl refused;
-        });
-  }
+  pub stop-short : {refuses : Type 0} (before now : Running T O E W) (budget left : ℕ) (core_new : Core) (bus_new : Bus T O E) (watcher_new : W) (stop : Stop)
+      → Along before now budget (suc left) → Watched now watcher_new
+      → Instruction (bus_rules meaning) now.core now.bus (Err stop) core_new bus_new
+      → StopsInFrom meaning held shown refuses before (running core_new bus_new now.tally watcher_new) stop (instructions budget)
+  stop-short {refuses} before now budget left core_new bus_new watcher_new stop along watched stopped =
+      stops-left before now (running core_new bus_new now.tally watcher_new) budget left stop along
+      (λ later. stopped-instruction meaning held shown refuses now core_new bus_new watcher_new stop later watched stopped)
 
-  -- the same with the count of instructions written otherwise
-  pub follows-counted : (before : Running T O E W) (core : Core) (bus : Bus T O E) (tally : Tally) (watcher : W) (count other : ℕ) (part : State → Trail) → count ≡ other
-      → FollowsFrom meaning held shown before (running core bus (record tally { instructions = count }) watcher) part
-      → FollowsFrom meaning held shown before (running core bus (record tally { instructions = other }) watcher) part
-  follows-counted before core bus tally watcher count other part same follows = rw (← same) follows
+  pub refused-short : {refuses : Type 0} (before now : Running T O E W) (budget left : ℕ) (watcher_new : W)
+      → Along before now budget (suc left) → refuses
+      → StopsInFrom meaning held shown refuses before (running now.core now.bus now.tally watcher_new) NoMemory (instructions budget)
+  refused-short {refuses} before now budget left watcher_new along may =
+      stops-left before now (running now.core now.bus now.tally watcher_new) budget left NoMemory along
+      (λ later. refused-instruction meaning held shown refuses now watcher_new later may)
 
   -- what begins at an address is a vector
   pub vector-follows : (core core_new : Core) (bus bus_new : Bus T O E) (tally tally_new : Tally) (watcher watcher_new : W) (budget at count other : ℕ) → count ≡ other
@@ -191,19 +197,28 @@ module _ {T O E W H : Type 0} (meaning : Meaning T O E) (held : W → H) (shown 
   vector-follows core core_new bus bus_new tally tally_new watcher watcher_new budget at count other same follows = record {
     from = λ devices stands.
         let done = follows.from devices stands in
-        record { core = done.core; devices = done.devices; tally = ap (λ n. record tally_new { instructions = n }) (sym same) ∙ done.tally; makes = done.makes; watcher = done.watcher };
+        record { core = done.core; devices = done.devices; tally = ap (λ n. record tally_new { instructions = n }) (sym same) ∙ done.tally; makes = done.makes; changes = done.changes; watcher = done.watcher };
   }
 
-module _ {T O E W : Type 0} (meaning : Meaning T O E) where
-  pub vector-short : {refuses : Type 0} (core : Core) (bus : Bus T O E) (tally : Tally) (watcher : W) (now : Running T O E W) (stop : Stop) (budget at : ℕ)
-      → FallsShortFrom meaning refuses (running (record core { at = at }) bus (counting_vector tally) watcher) now stop (instructions budget)
-      → FallsShortFrom meaning refuses (running core bus tally watcher) now stop (vector budget at)
+  pub vector-short : {refuses : Type 0} (core : Core) (bus : Bus T O E) (tally : Tally) (watcher : W) (now : Running T O E W) (stop : Stop) (budget other at : ℕ)
+      → budget ≡ other
+      → StopsInFrom meaning held shown refuses (running (record core { at = at }) bus (counting_vector tally) watcher) now stop (instructions budget)
+      → StopsInFrom meaning held shown refuses (running core bus tally watcher) now stop (vector other at)
   unfolding vector
-  vector-short core bus tally watcher now stop budget at short = record {
+  vector-short core bus tally watcher now stop budget other at same stops = rw (← same) (record {
     from = λ devices stands.
-        let then = short.from devices stands in
-        record { made = then.made; names = then.names };
-  }
+        let within = stops.from devices stands in
+        let follows = within.follows in
+        record {
+          done = within.done;
+          here = within.here;
+          follows = record { core = follows.core; devices = follows.devices; tally = follows.tally; makes = follows.makes; changes = follows.changes; watcher = follows.watcher };
+          step = within.step;
+          later = within.later;
+          parts = within.parts;
+          stopped = within.stopped;
+        };
+  })
 
 module _ {T O E W : Type 0} (told_tree : T → Option Nodes) where
   pub broke-is : (core : Core) (bus : Bus T O E) (tally : Tally) (watcher : W) (budget at : ℕ)

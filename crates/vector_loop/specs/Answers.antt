@@ -16,7 +16,8 @@ use Rattle.vector_loop.specs.State.{State}
 use Rattle.vector_loop.specs.Watch.{Page}
 use Rattle.vector_loop.specs.Trail.{Trail}
 use Rattle.vector_loop.specs.Outputs.{OutputsThere}
-use Rattle.vector_loop.specs.Follows.{Running, running, FollowsFrom, FallsShortFrom, HasGrown}
+use Rattle.vector_loop.specs.Follows.{Running, running, FollowsFrom, HasGrown}
+use Rattle.vector_loop.specs.Stops.{StopsInFrom}
 
 -- what trees, sinks and a watcher tell, and how they count
 pub record Telling (T O E W H : Type 0) : Type 1 where
@@ -98,9 +99,9 @@ module _ {T O E W H : Type 0} (telling : Telling T O E W H) where
   abbrev pub faults_of : Bus T O E → Counts
   faults_of bus = bus_faults telling.tree_faults telling.out_faults telling.err_faults bus
 
-  -- a part stopped: a front of it was done; memory was wanting only to the watcher, or where there is a root
+  -- a part stopped within; memory was wanting only to the watcher, or where there is a root
   pub record Stopped (before now : Running T O E W) (part : State → Trail) (stop : Stop) : Type 0 where
-    pub short : FallsShortFrom telling.meaning telling.may_refuse before now stop part
+    pub within : StopsInFrom telling.meaning telling.held telling.shown telling.may_refuse before now stop part
     pub memory : stop ≡ NoMemory → telling.may_refuse ⊎ HasRoot before.bus.devices.now
 
   -- all of a part was done, or it stopped, by the answer

@@ -10,6 +10,7 @@ use Rattle.vector_loop.specs.declared.tally.Tally.{Tally}
 use Rattle.vector_loop.specs.declared.watch.Moment.{Moment}
 use Rattle.vector_loop.specs.State.{State}
 use Rattle.vector_loop.specs.Trail.{Trail}
+use Rattle.vector_loop.specs.Vector.{AreChangesAt}
 use Rattle.vector_loop.specs.Folders.{TakesNames}
 use Rattle.vector_loop.specs.Watch.{Page, page_in, moment_of, shown_all}
 
@@ -63,12 +64,14 @@ module _ {T O E W : Type 0} (meaning : Meaning T O E) (refuses : Type 0) where
         → FallsShort before now stop (part (state_of before devices))
 
 module _ {T O E W H : Type 0} (meaning : Meaning T O E) (held : W → H) (shown : H → Core → Page → Moment → H) where
-  -- all of a trail was done: the last state is reached, the changes are made, and the watcher was shown all moments
+  -- all of a trail was done: the last state is reached, the changes are made, which are those at its moments, and the watcher was shown
+  -- all of these
   pub record Follows (before now : Running T O E W) (trail : Trail) : Type 0 where
     pub core : now.core ≡ trail.last.core
     pub devices : BusStandsFor meaning.tree now.bus trail.last.devices
     pub tally : now.tally ≡ trail.last.tally
     pub makes : Makes meaning before.bus now.bus trail.changes
+    pub changes : AreChangesAt trail.moments trail.changes
     pub watcher : held now.watcher ≡ shown_all shown (held before.watcher) trail.moments
 
   -- the same from each state that the bus stood for

@@ -6,6 +6,7 @@ pub mod Vector
 pub mod Budget
 pub mod Watch
 pub mod Follows
+pub mod Stops
 pub mod Answers
 pub mod Making
 pub mod Outputs

@@ -6,7 +6,7 @@ use Rattle.uxn_opcodes.specs.declared.Stop.{Stop}
 use Rattle.uxn_opcodes.specs.declared.Stop.TheVariants.{TreeFault}
 use Rattle.uxn_opcodes.specs.Ports.{blame_of}
 use Rattle.varvara_bus.specs.declared.bus.Bus.{Bus}
-use Rattle.varvara_bus.specs.State.{DeviceState}
+use Rattle.varvara_bus.specs.State.{DeviceState, StandFor}
 use Rattle.varvara_bus.specs.Bus.{SameBus, BusStandsFor, Meaning, Makes, StopsShort, bus_faults, screen_of}
 
 module _ {T O E : Type 0} (meaning : Meaning T O E) where
@@ -16,9 +16,10 @@ module _ {T O E : Type 0} (meaning : Meaning T O E) where
     pub stands : (state : DeviceState) → BusStandsFor meaning.tree before state → BusStandsFor meaning.tree now state
     pub height : (screen_of now).height ≡ (screen_of before).height
 
-  -- a front of them was made, since the tree failed
+  -- a front of them was made, since the tree failed; the devices stand for the same
   pub record CutShort (before now : Bus T O E) (changes : DeviceState → List Change) (stop : Stop) : Type 0 where
     pub cut : (state : DeviceState) → BusStandsFor meaning.tree before state → StopsShort meaning before now stop (changes state)
+    pub devices : (state : DeviceState) → BusStandsFor meaning.tree before state → StandFor now.devices.now state
     pub fault : stop ≡ TreeFault
 
   -- the one or the other, by the answer

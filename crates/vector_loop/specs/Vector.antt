@@ -1,5 +1,6 @@
 -- The run of a vector (Varvara device reference; profile: the budget).
-use Rattle.std.specs.Prelude.{ℕ, zero, suc, ◌==◌, ◌||◌, Bool, false, [], ◌∷◌, if◌then◌else◌}
+use Rattle.std.specs.Prelude.{◌≡◌, List, ◌++◌, ℕ, zero, suc, ◌==◌, ◌||◌, Bool, false, [], ◌∷◌, if◌then◌else◌}
+use Rattle.uxn_io.specs.Outside.{Change}
 use Rattle.uxn_opcodes.specs.Rule.{opcode_at}
 use Rattle.varvara_bus.specs.Effect.{Effect}
 use Rattle.varvara_bus.specs.Model.{instruction_effect}
@@ -18,6 +19,12 @@ after state done = record {
 
 abbrev pub instruction : State → Trail
 instruction state = after state (instruction_effect state.devices state.core)
+
+-- these changes are those of the instructions at these moments, in order, and between them what the run itself appends
+abbrev pub AreChangesAt : List State → List Change → Type 0
+AreChangesAt [] changes = Unit {0}
+AreChangesAt (state ∷ states) changes = (own : List Change) × ((later : List Change)
+    × ((changes ≡ own ++ ((instruction state).changes ++ later)) × AreChangesAt states later))
 
 -- the next instruction is BRK
 abbrev pub at_break : State → Bool

@@ -10,6 +10,7 @@ ghost use Rattle.vector_loop.specs.State.{counting_expect, is_over};
 ghost use Rattle.vector_loop.specs.Event.{vector_in, console, device, happens, give};
 ghost use Rattle.vector_loop.specs.Outputs.{OutputsThere};
 ghost use Rattle.vector_loop.specs.Follows.{running, state_of, FollowsFrom, FallsShortFrom, HasGrown, IsCompared};
+ghost use Rattle.vector_loop.specs.Stops.{StopsInFrom, ShotLeaves};
 ghost use Rattle.vector_loop.specs.Answers.{telling_of, of_vectors, of_events, HasRoom, HasOutputs, running_of, Answers};
 
 use crate::output::{Outputs, keep_picture};
@@ -87,9 +88,10 @@ impl<'r, 'a, T: Tree, O: Sink, E: Sink, W: Watcher> Runner<'r, 'a, T, O, E, W> {
         requires outputs { HasOutputs T.told outputs.now self.old }
         requires frames { event.now ≡ events.Frame → frames_begun self.old.bus.now < 1000000 }
         requires room { HasRoom self.old.tally self.old.budget (of_events 1) }
-        ensures { Answers (telling_of (meaning_of T.told O.told E.told T.sure O.sure E.sure)
+        ensures answers { Answers (telling_of (meaning_of T.told O.told E.told T.sure O.sure E.sure)
             T.faults O.faults E.faults W.held W.shown W.may_refuse) self.old self.new
             (give self.old.budget outputs.now event.now) (of_events 1) result }
+        ensures shot { event.now ≡ events.Shot → ShotLeaves T.told (running_of self.old) (running_of self.new) }
     {
         self.tally.events += 1;
         match event {
@@ -163,6 +165,14 @@ pub fn run_event<'a, T: Tree, O: Sink, E: Sink, W: Watcher>(
     ensures err { IfErr result (λ stop. FallsShortFrom (meaning_of T.told O.told E.told T.sure O.sure E.sure) W.may_refuse
         (running core.old bus.old tally.old watcher.old) (running core.new bus.new tally.new watcher.new) stop (give budget outputs.now event.now)) }
     ensures grown { HasGrown tally.old tally.new 5 1 budget }
+
+    // Where it stopped, all was done up to one instruction, or up to the picture or the samples that were appended.
+    ensures stopped { IfErr result (λ stop. StopsInFrom (meaning_of T.told O.told E.told T.sure O.sure E.sure) W.held W.shown W.may_refuse
+        (running core.old bus.old tally.old watcher.old) (running core.new bus.new tally.new watcher.new) stop (give budget outputs.now event.now)) }
+
+    // A shot is counted and changes nothing else of the machine, whatever is answered.
+    ensures shot { event.now ≡ events.Shot → ShotLeaves T.told
+        (running core.old bus.old tally.old watcher.old) (running core.new bus.new tally.new watcher.new) }
 
     // A fault comes only where its count rose; memory is wanting only to the watcher, or beneath a root where the event takes
     // the names of a folder.

@@ -23,6 +23,7 @@ ghost use Rattle.vector_loop.specs.Event.{unless_over, give_each};
 ghost use Rattle.vector_loop.specs.Run.{made_ready, most_of, run};
 ghost use Rattle.vector_loop.specs.Gifts.{given, count_of, counts_of};
 ghost use Rattle.vector_loop.specs.Follows.{running, FallsShortFrom, EndsFrom};
+ghost use Rattle.vector_loop.specs.Stops.{RunStops};
 ghost use Rattle.vector_loop.specs.Answers.{telling_of, HasRoom, HasOutputs, moment_in, Answers};
 
 use crate::gift::Gift;
@@ -140,6 +141,10 @@ pub fn run_script<'a, T: Tree, O: Sink, E: Sink, W: Watcher>(
         (running core.old bus.old new_tally watcher.old) (running core.new bus.new tally watcher.new) (run budget outputs.now script.now)) }
     ensures err { IfErr result (λ stop. FallsShortFrom (meaning_of T.told O.told E.told T.sure O.sure E.sure) W.may_refuse
         (running core.old bus.old new_tally watcher.old) (running core.new bus.new new_tally watcher.new) stop (run budget outputs.now script.now)) }
+
+    // Where it stopped, all was done up to one instruction, or to the picture or the samples that were appended, or to the end.
+    ensures stopped { IfErr result (λ stop. RunStops (meaning_of T.told O.told E.told T.sure O.sure E.sure) W.held W.shown W.may_refuse
+        (running core.old bus.old new_tally watcher.old) core.new bus.new watcher.new stop (run budget outputs.now script.now)) }
 
     // A fault comes only where its count rose; memory is wanting only to the watcher, or beneath a root where the run takes
     // the names of a folder.

@@ -6,7 +6,8 @@ ghost use Rattle.varvara_bus.specs.State.{DeviceState};
 ghost use Rattle.varvara_bus.specs.Bus.{BusStandsFor, SameBus, HasRoot, meaning_of, bus_faults, bus_rules};
 ghost use Rattle.vector_loop.specs.Vector.{instructions, breaks, vector, vector_end};
 ghost use Rattle.vector_loop.specs.Follows.{running, state_of, FollowsFrom, FallsShortFrom};
-ghost use Rattle.vector_loop.specs.Budget.{RanWhole, CountsWhole};
+ghost use Rattle.vector_loop.specs.Stops.{StopsInFrom};
+ghost use Rattle.vector_loop.specs.Budget.{with_break, RanWhole, CountsWhole};
 ghost use Rattle.vector_loop.specs.Answers.{telling_of, of_vectors, HasRoom, running_of, Answers};
 
 use crate::runner::Runner;
@@ -16,11 +17,11 @@ use uxn_io::{Sink, Tree};
 use uxn_opcodes::{Core, Stop, Turn, step};
 use varvara_bus::Bus;
 
-/// How a run of instructions ended, and how many of them ran whole.
+/// How a run of instructions ended, and how much of its budget was left before its end: a BRK has not taken its own from it yet.
 #[derive(Drop)]
 struct Ran {
     end: Result<VectorEnd, Stop>,
-    whole: u64,
+    left: u64,
 }
 
 /// Runs instructions from `core.at` on, up to and with the first BRK, or exactly `budget` of them. `start` instructions were run
@@ -35,24 +36,26 @@ fn run_instructions<'a, T: Tree, O: Sink, E: Sink, W: Watcher>(
 ) -> Ran
     requires budget { 1 ≤ budget }
     requires room { start + budget < 2 ^ 64 }
+    ensures left { result.left ≤ budget }
     ensures whole { RanWhole (bus_rules (meaning_of T.told O.told E.told T.sure O.sure E.sure)) W.may_refuse budget core.old bus.old
-        result.end core.new bus.new result.whole }
+        result.end core.new bus.new (with_break result.end (budget - result.left)) }
     ensures broke { result.end ≡ Ok VectorEnd.Broke → (before : Tally) → before.instructions ≡ start
         → FollowsFrom (meaning_of T.told O.told E.told T.sure O.sure E.sure) W.held W.shown (running core.old bus.old before watcher.old)
-        (running core.new bus.new (record before { instructions = start + result.whole }) watcher.new) (instructions budget) }
+        (running core.new bus.new (record before { instructions = start + (budget - result.left) + 1 }) watcher.new) (instructions budget) }
     ensures broke_end { result.end ≡ Ok VectorEnd.Broke → (before : Tally) → before.instructions ≡ start
         → (devices : DeviceState) → BusStandsFor T.told bus.old devices
         → breaks budget (state_of (running core.old bus.old before watcher.old) devices) ≡ true }
     ensures cut { result.end ≡ Ok VectorEnd.Cut → (before : Tally) → before.instructions ≡ start
         → FollowsFrom (meaning_of T.told O.told E.told T.sure O.sure E.sure) W.held W.shown (running core.old bus.old before watcher.old)
-        (running core.new bus.new (record before { instructions = start + result.whole; cuts = before.cuts + 1 }) watcher.new)
+        (running core.new bus.new (record before { instructions = start + (budget - result.left); cuts = before.cuts + 1 }) watcher.new)
         (instructions budget) }
     ensures cut_end { result.end ≡ Ok VectorEnd.Cut → (before : Tally) → before.instructions ≡ start
         → (devices : DeviceState) → BusStandsFor T.told bus.old devices
         → breaks budget (state_of (running core.old bus.old before watcher.old) devices) ≡ false }
     ensures err { IfErr result.end (λ stop. (before : Tally) → before.instructions ≡ start
-        → (now : Tally) → FallsShortFrom (meaning_of T.told O.told E.told T.sure O.sure E.sure) W.may_refuse
-        (running core.old bus.old before watcher.old) (running core.new bus.new now watcher.new) stop (instructions budget)) }
+        → StopsInFrom (meaning_of T.told O.told E.told T.sure O.sure E.sure) W.held W.shown W.may_refuse
+        (running core.old bus.old before watcher.old)
+        (running core.new bus.new (record before { instructions = start + (budget - result.left) }) watcher.new) stop (instructions budget)) }
     ensures ledger { Ledger (bus_faults T.faults O.faults E.faults bus.old) (bus_faults T.faults O.faults E.faults bus.new) (blame_of result.end) }
     ensures memory { IfErr result.end (λ stop. stop ≡ Stop.NoMemory → W.may_refuse ⊎ HasRoot bus.old.devices.now) }
     ensures same { SameBus T.told bus.old bus.new }
@@ -66,7 +69,7 @@ fn run_instructions<'a, T: Tree, O: Sink, E: Sink, W: Watcher>(
         let Ok(()) = watcher.before(core, bus, moment) else {
             return Ran {
                 end: Err(Stop::NoMemory),
-                whole: budget - left,
+                left,
             };
         };
         // Written out: `?` leaves one goal more for each clause, over what was converted, in the dearest proof of the crate.
@@ -75,13 +78,13 @@ fn run_instructions<'a, T: Tree, O: Sink, E: Sink, W: Watcher>(
             Ok(Turn::Broke) => {
                 return Ran {
                     end: Ok(VectorEnd::Broke),
-                    whole: budget - left + 1,
+                    left,
                 };
             }
             Err(stop) => {
                 return Ran {
                     end: Err(stop),
-                    whole: budget - left,
+                    left,
                 };
             }
         }
@@ -89,7 +92,7 @@ fn run_instructions<'a, T: Tree, O: Sink, E: Sink, W: Watcher>(
         if left == 0 {
             return Ran {
                 end: Ok(VectorEnd::Cut),
-                whole: budget,
+                left: 0,
             };
         }
     }
@@ -113,14 +116,21 @@ impl<'r, 'a, T: Tree, O: Sink, E: Sink, W: Watcher> Runner<'r, 'a, T, O, E, W> {
         let budget = u64::from(self.budget);
         let start = self.tally.instructions;
         let ran = run_instructions(self.core, self.bus, start, budget, self.watcher);
-        self.tally.instructions += ran.whole;
+        let before = budget - ran.left;
         match ran.end {
-            Ok(VectorEnd::Broke) => Ok(VectorEnd::Broke),
+            Ok(VectorEnd::Broke) => {
+                self.tally.instructions += before + 1;
+                Ok(VectorEnd::Broke)
+            }
             Ok(VectorEnd::Cut) => {
+                self.tally.instructions += before;
                 self.tally.cuts += 1;
                 Ok(VectorEnd::Cut)
             }
-            Err(stop) => Err(stop),
+            Err(stop) => {
+                self.tally.instructions += before;
+                Err(stop)
+            }
         }
     }
 }
@@ -145,6 +155,10 @@ pub fn run_vector<'a, T: Tree, O: Sink, E: Sink, W: Watcher>(
     ensures end { IfOk result (λ end. (devices : DeviceState) → BusStandsFor T.told bus.old devices
         → end ≡ vector_end budget at (state_of (running core.old bus.old tally.old watcher.old) devices)) }
     ensures err { IfErr result (λ stop. FallsShortFrom (meaning_of T.told O.told E.told T.sure O.sure E.sure) W.may_refuse
+        (running core.old bus.old tally.old watcher.old) (running core.new bus.new tally.new watcher.new) stop (vector budget at)) }
+
+    // Where it stopped, all was done up to one instruction, before which the watcher refused, or which stopped at a write.
+    ensures stopped { IfErr result (λ stop. StopsInFrom (meaning_of T.told O.told E.told T.sure O.sure E.sure) W.held W.shown W.may_refuse
         (running core.old bus.old tally.old watcher.old) (running core.new bus.new tally.new watcher.new) stop (vector budget at)) }
 
     // Whatever the ports are and whatever is answered, at most `budget` instructions ran whole, and exactly so many are counted.

@@ -12,8 +12,8 @@ run_script-requires-clause-frames g c = ap (λ devices. devices.time.frames) c.n
 pub returns-in-Ok-clause-ok : goal.returns-in-Ok-clause-ok
 unfolding trail_by
 returns-in-Ok-clause-ok g c = λ home root files.
-    let start = devices_with c.args.script.now home in
-    let stands = at-start g.T.Tree.told c.new-bus.result c.args.devices.now c.args.tree.now c.args.script.now home
+    let start = devices_with c.args.machine.now.script home in
+    let stands = at-start g.T.Tree.told c.new-bus.result c.args.machine.now.devices c.args.tree.now c.args.machine.now.script home
     c.new-bus.ensures.devices_now c.new-bus.ensures.tree_now root c.requires.devices files in
     let ends = c.in-Ok.ensures.ok.from start stands in
     let makes = ends.makes in
@@ -29,16 +29,16 @@ returns-in-Ok-clause-ok g c = λ home root files.
 pub returns-in-Ok-clause-watcher : goal.returns-in-Ok-clause-watcher
 unfolding trail_by
 returns-in-Ok-clause-watcher g c = λ home root files.
-    let start = devices_with c.args.script.now home in
-    let stands = at-start g.T.Tree.told c.new-bus.result c.args.devices.now c.args.tree.now c.args.script.now home
+    let start = devices_with c.args.machine.now.script home in
+    let stands = at-start g.T.Tree.told c.new-bus.result c.args.machine.now.devices c.args.tree.now c.args.machine.now.script home
     c.new-bus.ensures.devices_now c.new-bus.ensures.tree_now root c.requires.devices files in
     (c.in-Ok.ensures.ok.from start stands).watcher
 
 pub returns-in-Err-clause-err : goal.returns-in-Err-clause-err
 unfolding trail_by
 returns-in-Err-clause-err g c = λ home root files.
-    let start = devices_with c.args.script.now home in
-    let stands = at-start g.T.Tree.told c.new-bus.result c.args.devices.now c.args.tree.now c.args.script.now home
+    let start = devices_with c.args.machine.now.script home in
+    let stands = at-start g.T.Tree.told c.new-bus.result c.args.machine.now.devices c.args.tree.now c.args.machine.now.script home
     c.new-bus.ensures.devices_now c.new-bus.ensures.tree_now root c.requires.devices files in
     let short = (c.in-Err.ensures.err.from start stands).made in
     let cut = short.cut in
@@ -48,7 +48,7 @@ returns-in-Err-clause-err g c = λ home root files.
 pub returns-in-Err-clause-names : goal.returns-in-Err-clause-names
 unfolding trail_by
 returns-in-Err-clause-names g c = λ home root files.
-    let start = devices_with c.args.script.now home in
-    let stands = at-start g.T.Tree.told c.new-bus.result c.args.devices.now c.args.tree.now c.args.script.now home
+    let start = devices_with c.args.machine.now.script home in
+    let stands = at-start g.T.Tree.told c.new-bus.result c.args.machine.now.devices c.args.tree.now c.args.machine.now.script home
     c.new-bus.ensures.devices_now c.new-bus.ensures.tree_now root c.requires.devices files in
     (c.in-Err.ensures.err.from start stands).names

@@ -1,8 +1,8 @@
-use Rattle.std.proofs.Common.{refl, arith, rules}
-use Rattle.vector_loop.specs.Run.{most_of}
+use Rattle.std.proofs.Common.{◌≡◌, Err, refl, arith, rules}
+use Rattle.vector_loop.specs.Run.{most_of, run}
 use Rattle.vector_loop.proofs.Counting.{room-new}
 use Rattle.vector_loop.proofs.Giving.{all-given}
-use Rattle.vector_loop.proofs.Runs.{ends-handed}
+use Rattle.vector_loop.proofs.Runs.{ends-handed, run-stopped, run-fell, end-refused}
 use Rattle.vector_loop.proofs.run.run_script.Goals as goal
 
 pub run-requires-clause-frames : goal.run-requires-clause-frames
@@ -17,3 +17,19 @@ pub returns-clause-ok : goal.returns-clause-ok
 returns-clause-ok g c =
     ends-handed _ g.W.Watcher.ended _ _ _ _ _ _ _ _ (most_of c.args.script.now) _ c.in_ok-run.ensures c.in_ok-finish.ensures.ok c.in_ok-finish.ensures.others
     (search rules) (search rules) refl (search rules)
+
+pub returns-in_err-run-clause-stopped : goal.returns-in_err-run-clause-stopped
+returns-in_err-run-clause-stopped g c =
+    let result : c.from_residual.result ≡ Err c.in_err-run.field-0.0 = search rules in
+    rw result (run-stopped _ _ _ _ _ _ _ (most_of c.args.script.now) c.in_err-run.field-0.0 (search rules) (search rules) (search rules) c.in_err-run.ensures)
+
+pub returns-in_err-run-clause-err : goal.returns-in_err-run-clause-err
+returns-in_err-run-clause-err g c =
+    let result : c.from_residual.result ≡ Err c.in_err-run.field-0.0 = search rules in
+    rw result (run-fell _ _ _ _ _ _ _ _ (most_of c.args.script.now) c.in_err-run.field-0.0 (search rules) (search rules) (search rules) c.in_err-run.ensures)
+
+pub returns-in_err-finish-clause-stopped : goal.returns-in_err-finish-clause-stopped
+returns-in_err-finish-clause-stopped g c =
+    let result : c.from_residual-in_err-finish.result ≡ Err c.in_err-finish.field-0.0 = search rules in
+    rw result (end-refused _ _ _ _ _ _ _ (run c.args.budget c.args.outputs.now c.args.script.now) (most_of c.args.script.now) _ c.in_err-finish.field-0.0 c.in_ok-run.ensures c.in_err-finish.ensures.refused
+    c.in_err-finish.ensures.err c.in_err-finish.ensures.others (search rules) (search rules))

@@ -2,8 +2,8 @@ use Rattle.std.proofs.Common.{◌≡◌, suc, ◌+◌, ◌-◌, refl, ◌∙◌,
 use Rattle.varvara_bus.specs.InstructionLaws.{same-itself, same-again, instruction-lent, instruction-fault}
 use Rattle.vector_loop.specs.Budget.{runs-none, runs-more}
 use Rattle.vector_loop.specs.Follows.{running}
-use Rattle.vector_loop.proofs.Along.{not-break, is-break, stop-no-break}
-use Rattle.vector_loop.proofs.Vectors.{along-left, along-counted, along-start, along-ran, follows-counted, broke-follows, broke-ends, cut-follows, cut-ends, stop-short, refused-short}
+use Rattle.vector_loop.proofs.Along.{not-break, is-break}
+use Rattle.vector_loop.proofs.Vectors.{along-left, along-counted, along-start, along-ran, broke-follows, broke-ends, cut-follows, cut-ends, stop-short, refused-short}
 use Rattle.vector_loop.proofs.vector.run_instructions.Goals as goal
 
 pub loop-core-init : goal.loop-core-init
@@ -33,13 +33,15 @@ loop-core-preserved g c =
     }
 
 pub returns-in_default-clause-err : goal.returns-in_default-clause-err
-returns-in_default-clause-err g c before started now = refused-short _ _ _ (running c.args.core.now c.args.bus.now before c.args.watcher.now) (running c.loop-core.core c.loop-core.bus (record before { instructions = c.args.start + (c.args.budget - c.loop-core.left) }) c.loop-core.watcher) c.args.budget _ _ _ (c.loop-core.invariant.along before started) c.in_default.ensures.err
+returns-in_default-clause-err g c before started =
+    let one : c.loop-core.left ≡ suc (c.loop-core.left - 1) = omega (arith, c.loop-core.invariant.some) in
+    refused-short _ _ _ {refuses = g.W.Watcher.may_refuse} (running c.args.core.now c.args.bus.now before c.args.watcher.now) (running c.loop-core.core c.loop-core.bus (record before { instructions = c.args.start + (c.args.budget - c.loop-core.left) }) c.loop-core.watcher) c.args.budget _ _ (along-left _ _ _ (running c.args.core.now c.args.bus.now before c.args.watcher.now) (running c.loop-core.core c.loop-core.bus (record before { instructions = c.args.start + (c.args.budget - c.loop-core.left) }) c.loop-core.watcher) c.args.budget c.loop-core.left (suc (c.loop-core.left - 1)) one (c.loop-core.invariant.along before started)) c.in_default.ensures.err
 
 pub returns-in-Ok-Broke-clause-broke : goal.returns-in-Ok-Broke-clause-broke
 returns-in-Ok-Broke-clause-broke g c is before started =
     let one : c.loop-core.left ≡ suc (c.loop-core.left - 1) = omega (arith, c.loop-core.invariant.some) in
     let ran = rw c.in-Ok-Broke.field-0-is at c.in-Ok-Broke.ensures.instruction in
-    follows-counted _ _ _ _ _ _ before _ _ _ _ (omega (arith, c.loop-core.invariant.within)) (broke-follows _ _ _ (running c.args.core.now c.args.bus.now before c.args.watcher.now) (running c.loop-core.core c.loop-core.bus (record before { instructions = c.args.start + (c.args.budget - c.loop-core.left) }) c.loop-core.watcher) c.args.budget _ _ _ _ (along-left _ _ _ (running c.args.core.now c.args.bus.now before c.args.watcher.now) (running c.loop-core.core c.loop-core.bus (record before { instructions = c.args.start + (c.args.budget - c.loop-core.left) }) c.loop-core.watcher) c.args.budget c.loop-core.left (suc (c.loop-core.left - 1)) one (c.loop-core.invariant.along before started)) c.in-Ok.ensures.ok ran (is-break _ _ _ _ _ ran))
+    broke-follows _ _ _ (running c.args.core.now c.args.bus.now before c.args.watcher.now) (running c.loop-core.core c.loop-core.bus (record before { instructions = c.args.start + (c.args.budget - c.loop-core.left) }) c.loop-core.watcher) c.args.budget _ _ _ _ (along-left _ _ _ (running c.args.core.now c.args.bus.now before c.args.watcher.now) (running c.loop-core.core c.loop-core.bus (record before { instructions = c.args.start + (c.args.budget - c.loop-core.left) }) c.loop-core.watcher) c.args.budget c.loop-core.left (suc (c.loop-core.left - 1)) one (c.loop-core.invariant.along before started)) c.in-Ok.ensures.ok ran (is-break _ _ _ _ _ ran)
 
 pub returns-in-Ok-Broke-clause-broke_end : goal.returns-in-Ok-Broke-clause-broke_end
 returns-in-Ok-Broke-clause-broke_end g c is before started =
@@ -53,9 +55,9 @@ returns-in-Ok-Broke-clause-same g c =
     same-again _ _ _ _ c.loop-core.invariant.same (instruction-lent _ _ _ _ _ _ ran)
 
 pub returns-in-Err-clause-err : goal.returns-in-Err-clause-err
-returns-in-Err-clause-err g c before started now =
+returns-in-Err-clause-err g c before started =
     let one : c.loop-core.left ≡ suc (c.loop-core.left - 1) = omega (arith, c.loop-core.invariant.some) in
-    stop-short _ _ _ (running c.args.core.now c.args.bus.now before c.args.watcher.now) (running c.loop-core.core c.loop-core.bus (record before { instructions = c.args.start + (c.args.budget - c.loop-core.left) }) c.loop-core.watcher) c.args.budget _ _ _ _ _ _ (along-left _ _ _ (running c.args.core.now c.args.bus.now before c.args.watcher.now) (running c.loop-core.core c.loop-core.bus (record before { instructions = c.args.start + (c.args.budget - c.loop-core.left) }) c.loop-core.watcher) c.args.budget c.loop-core.left (suc (c.loop-core.left - 1)) one (c.loop-core.invariant.along before started)) c.in-Err.ensures.instruction (stop-no-break _ _ _ _ _ _ c.in-Err.ensures.instruction)
+    stop-short _ _ _ {refuses = g.W.Watcher.may_refuse} (running c.args.core.now c.args.bus.now before c.args.watcher.now) (running c.loop-core.core c.loop-core.bus (record before { instructions = c.args.start + (c.args.budget - c.loop-core.left) }) c.loop-core.watcher) c.args.budget _ _ _ _ _ (along-left _ _ _ (running c.args.core.now c.args.bus.now before c.args.watcher.now) (running c.loop-core.core c.loop-core.bus (record before { instructions = c.args.start + (c.args.budget - c.loop-core.left) }) c.loop-core.watcher) c.args.budget c.loop-core.left (suc (c.loop-core.left - 1)) one (c.loop-core.invariant.along before started)) c.in-Ok.ensures.ok c.in-Err.ensures.instruction
 
 pub returns-in-Err-clause-memory : goal.returns-in-Err-clause-memory
 returns-in-Err-clause-memory g c wanted =
@@ -68,7 +70,7 @@ pub returns-then-left-eq0-clause-cut : goal.returns-then-left-eq0-clause-cut
 returns-then-left-eq0-clause-cut g c is before started =
     let last : c.loop-core.left ≡ 1 = omega (arith, c.loop-core.invariant.some, c.if-left-eq0.true) in
     let ran = rw c.in-Ok-Ran.field-0-is at c.in-Ok-Ran.ensures.instruction in
-    cut-follows _ _ _ (running c.args.core.now c.args.bus.now before c.args.watcher.now) _ c.args.budget (along-counted _ _ _ (running c.args.core.now c.args.bus.now before c.args.watcher.now) _ _ before _ c.args.budget _ (c.args.start + (c.args.budget - c.loop-core.left) + 1) (c.args.start + c.args.budget)
+    cut-follows _ _ _ (running c.args.core.now c.args.bus.now before c.args.watcher.now) _ c.args.budget (along-counted _ _ _ (running c.args.core.now c.args.bus.now before c.args.watcher.now) _ _ before _ c.args.budget _ (c.args.start + (c.args.budget - c.loop-core.left) + 1) (c.args.start + (c.args.budget - 0))
     (omega (arith, c.loop-core.invariant.within, last))
     (along-ran _ _ _ (running c.args.core.now c.args.bus.now before c.args.watcher.now) (running c.loop-core.core c.loop-core.bus (record before { instructions = c.args.start + (c.args.budget - c.loop-core.left) }) c.loop-core.watcher) c.args.budget _ _ _ _ (along-left _ _ _ (running c.args.core.now c.args.bus.now before c.args.watcher.now) (running c.loop-core.core c.loop-core.bus (record before { instructions = c.args.start + (c.args.budget - c.loop-core.left) }) c.loop-core.watcher) c.args.budget c.loop-core.left 1 last (c.loop-core.invariant.along before started)) c.in-Ok.ensures.ok ran (not-break _ _ _ _ _ ran)))
 
@@ -121,11 +123,11 @@ pub returns-then-left-eq0-clause-whole : goal.returns-then-left-eq0-clause-whole
 returns-then-left-eq0-clause-whole g c =
     let ran = rw c.in-Ok-Ran.field-0-is at c.in-Ok-Ran.ensures.instruction in
     record {
-      before = c.args.budget;
+      before = c.args.budget - 0;
       middle = _;
       between = _;
-      runs = runs-more _ (c.args.budget - c.loop-core.left) c.args.budget _ _ _ _ _ _ (omega (arith, c.loop-core.invariant.some, c.loop-core.invariant.within, c.if-left-eq0.true)) c.loop-core.invariant.runs ran;
-      ends = (refl, (refl, refl));
+      runs = runs-more _ (c.args.budget - c.loop-core.left) (c.args.budget - 0) _ _ _ _ _ _ (omega (arith, c.loop-core.invariant.some, c.loop-core.invariant.within, c.if-left-eq0.true)) c.loop-core.invariant.runs ran;
+      ends = (omega arith, (refl, refl));
       number = refl;
       within = omega arith;
     }

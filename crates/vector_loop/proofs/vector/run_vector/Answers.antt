@@ -1,5 +1,5 @@
 use Rattle.std.proofs.Common.{refl, rules, arith}
-use Rattle.vector_loop.proofs.Answering.{ok-handed, err-handed}
+use Rattle.vector_loop.proofs.Answering.{ok-handed, err-handed, stopped-handed}
 use Rattle.vector_loop.proofs.vector.run_vector.Goals as goal
 
 pub run_vector-end-requires : goal.run_vector-end-requires
@@ -17,6 +17,9 @@ run_vector-end-requires g c = record {
 
 pub returns-clause-ok : goal.returns-clause-ok
 returns-clause-ok g c = ok-handed _ _ _ _ _ _ _ _ _ _ (search rules) (search rules) refl (search rules) c.run_vector-end.ensures.answers
+
+pub returns-clause-stopped : goal.returns-clause-stopped
+returns-clause-stopped g c = stopped-handed _ _ _ _ _ _ _ _ _ _ (search rules) (search rules) refl (search rules) c.run_vector-end.ensures.answers
 
 pub returns-clause-err : goal.returns-clause-err
 returns-clause-err g c = err-handed _ _ _ _ _ _ _ _ _ _ (search rules) (search rules) refl (search rules) c.run_vector-end.ensures.answers

@@ -13,3 +13,9 @@ returns-clause-row c = λ x h.
     ∙ ap (λ f. shown f (slice_index c.row-2.result.now x)) (ap (λ row. slice_index row x) c.row.ensures.pixels ∙ row-pixel c.args.foreground.now c.args.size.width x c.args.y h)
     ∙ ap (λ b. shown (pixel_at c.args.size.width c.args.foreground.now x c.args.y) b)
     (ap (λ row. slice_index row x) c.row-2.ensures.pixels ∙ row-pixel c.args.background.now c.args.size.width x c.args.y h))
+
+pub returns-clause-others : goal.returns-clause-others
+returns-clause-others c = λ x other h differs.
+    rw (take_at c.compose_at.new.pixels _ c.self.inside.pixels.len (omega arith))
+    (c.compose_at.ensures.others x other h differs
+    ∙ ap (λ pixels. pixel_at c.args.size.width pixels x other) (c.deref_mut.ensures.value ∙ c.self.view_is))

@@ -9,24 +9,25 @@ use Rattle.vector_loop.specs.Outputs.{appended_to, picture_bytes}
 use Rattle.vector_loop.specs.Answers.{none, of_vectors, of_events}
 use Rattle.vector_loop.proofs.Counting.{grown-counted, grown-compared}
 use Rattle.vector_loop.proofs.Frames.{shot-is}
+use Rattle.vector_loop.proofs.Makings.{devices-kept}
 use Rattle.vector_loop.proofs.Events.{one_event, with_compared, frame-given, expect-given, answers-given}
 use Rattle.vector_loop.proofs.Answering.{answers-then, answers-as, answers-within, answers-change, answers-made}
 use Rattle.vector_loop.proofs.runner.Runner.give_event.Goals as goal
 
-pub returns-in-Input : goal.returns-in-Input
-returns-in-Input g c = rw c.in-Input.is
+pub returns-in-Input-clause-answers : goal.returns-in-Input-clause-answers
+returns-in-Input-clause-answers g c = rw c.in-Input.is
     (answers-given _ c.args.self.now _ c.args.self.now.budget c.args.outputs.now (Input c.in-Input.byte) 1 _ (lit≤ tt) c.give_console.ensures)
 
-pub returns-in-EndInput : goal.returns-in-EndInput
-returns-in-EndInput g c = rw c.in-EndInput.is
+pub returns-in-EndInput-clause-answers : goal.returns-in-EndInput-clause-answers
+returns-in-EndInput-clause-answers g c = rw c.in-EndInput.is
     (answers-given _ c.args.self.now _ c.args.self.now.budget c.args.outputs.now EndInput 1 _ (lit≤ tt) c.give_console-in-EndInput.ensures)
 
-pub returns-in-Device : goal.returns-in-Device
-returns-in-Device g c = rw c.in-Device.is
+pub returns-in-Device-clause-answers : goal.returns-in-Device-clause-answers
+returns-in-Device-clause-answers g c = rw c.in-Device.is
     (answers-given _ c.args.self.now _ c.args.self.now.budget c.args.outputs.now (Device c.in-Device.input) 1 _ (lit≤ tt) c.give_device.ensures)
 
-pub returns-in-Frame : goal.returns-in-Frame
-returns-in-Frame g c = rw c.in-Frame.is
+pub returns-in-Frame-clause-answers : goal.returns-in-Frame-clause-answers
+returns-in-Frame-clause-answers g c = rw c.in-Frame.is
     (answers-as _ _ _ (λ s. followed_by (stays (with_next_frame (with_counted Frame s))) (shown_and_heard c.args.self.now.budget c.args.outputs.now)) _ (of_events 1) _
     (frame-given c.args.self.now.budget c.args.outputs.now)
     (answers-then _ _ _ _ (λ s. stays (with_next_frame (with_counted Frame s))) (shown_and_heard c.args.self.now.budget c.args.outputs.now) one_event (of_vectors 5) (tt {0}) _
@@ -34,8 +35,8 @@ returns-in-Frame g c = rw c.in-Frame.is
     (grown-counted Frame c.args.self.now.tally c.args.self.now.budget) c.frame_begins.ensures.devices.bus (λ devices stands. refl))
     c.show_and_sound.ensures))
 
-pub returns-in-Expect : goal.returns-in-Expect
-returns-in-Expect g c =
+pub returns-in-Expect-clause-answers : goal.returns-in-Expect-clause-answers
+returns-in-Expect-clause-answers g c =
     let now : DeviceState → Tally → State = λ devices tally. record { core = c.args.self.now.core.now; devices = devices; tally = tally } in
     rw c.in-Expect.is
     (answers-within _ _ _ _ one_event (of_events 1) _ (omega arith) (omega arith)
@@ -46,8 +47,16 @@ returns-in-Expect g c =
     (grown-compared c.args.self.now.tally _ c.args.self.now.budget c.compare.ensures.grown) (λ devices stands. stands)
     (λ devices stands. ap (now devices) (c.compare.ensures.counted devices stands)))))
 
-pub returns-in-Shot : goal.returns-in-Shot
-returns-in-Shot g c = rw c.in-Shot.is
+pub returns-in-Shot-clause-answers : goal.returns-in-Shot-clause-answers
+returns-in-Shot-clause-answers g c = rw c.in-Shot.is
     (answers-given _ c.args.self.now _ c.args.self.now.budget c.args.outputs.now Shot 0 _ (lit≤ tt)
     (answers-as _ _ _ (λ s. makes (appended_to c.args.outputs.now.frames (picture_bytes s.devices)) s) (shot c.args.outputs.now) none _ (shot-is c.args.outputs.now)
-    (answers-made _ _ _ (λ d. appended_to c.args.outputs.now.frames (picture_bytes d)) _ refl refl c.keep_picture.ensures)))
+    (answers-made _ _ _ c.args.outputs.now.frames picture_bytes _ c.requires.outputs.frames refl refl c.keep_picture.ensures)))
+
+pub returns-in-Shot-clause-shot : goal.returns-in-Shot-clause-shot
+returns-in-Shot-clause-shot g c is = record {
+  core = refl;
+  devices = devices-kept _ _ _ _ _ c.keep_picture.ensures.made;
+  tally = refl;
+  watcher = refl;
+}

@@ -14,4 +14,4 @@ returns-in-OfArgument g c = rw c.in-OfArgument.is
 
 pub returns-in-OfEvent : goal.returns-in-OfEvent
 returns-in-OfEvent g c = rw c.in-OfEvent.is
-    (answers-not_over _ _ _ (given c.args.self.now.budget c.args.outputs.now (OfEvent c.in-OfEvent.event)) (of_events 1) _ c.is_over.result c.is_over.ensures c.if-is_over.false c.give_event.ensures)
+    (answers-not_over _ _ _ (given c.args.self.now.budget c.args.outputs.now (OfEvent c.in-OfEvent.event)) (of_events 1) _ c.is_over.result c.is_over.ensures c.if-is_over.false c.give_event.ensures.answers)

@@ -1,0 +1,269 @@
+-- The clauses of a call, from its outcome.
+use Rattle.std.proofs.Common.{◌≡◌, ℕ, ◌≤◌, ◌⊎◌, List, refl, ap, sym, ◌∙◌, inl, inr, subst, arith}
+use Rattle.std.proofs.lemmas.Bool.Decides.{nat_tests}
+use Rattle.std.specs.Prelude.{Option, Some, None, Result, Ok, Err, IfErr, IfSome}
+use Rattle.uxn_io.specs.ChangeLaws.{changed_by-err}
+use Rattle.uxn_io.specs.Faults.{Blame, Nobody, TheTree, ASink, Counts, counts, Rose, Ledger}
+use Rattle.uxn_io.specs.Files.{Nodes}
+use Rattle.uxn_io.specs.Outside.{World}
+use Rattle.uxn_io.specs.Told.{extended}
+use Rattle.uxn_opcodes.specs.declared.Stop.{Stop}
+use Rattle.uxn_opcodes.specs.declared.Stop.TheVariants.{TreeFault, SinkFault, NoMemory}
+use Rattle.uxn_words.specs.declared.task.Task.{Task}
+use Rattle.uxn_cli.specs.declared.refusal.Refusal.{Refusal}
+use Rattle.uxn_cli.specs.Answer.{IsUntold, Judges, HasOutcome, HasEnded, EndsEarly, HasFront, HasCut, IsCut, MayStop, Answers}
+use Rattle.uxn_cli.specs.Blame.{blame_by, blame_at, Stops}
+use Rattle.uxn_cli.specs.Call.{Call, asked_by, status_by}
+use Rattle.uxn_cli.specs.Outside.{Outside}
+use Rattle.uxn_cli.specs.Causes.{IsExactly, verdict_on, EndsWith, PutsLine}
+use Rattle.uxn_cli.specs.Clauses.{HasItsOutcome, HasStatuses, EndsEarlyByFaults, AnswersOrStops, ComesOut}
+use Rattle.uxn_cli.specs.Lines.{text_of, line_of}
+use Rattle.uxn_cli.specs.Outcome.{outcome_of}
+use Rattle.uxn_cli.specs.Request.{request}
+use Rattle.uxn_cli.specs.Statuses.{Reason, Status, Exits, Refuses, EndsBy, number, early_status, IsEarly, IsRefusing, IsRefusedFor, IsOfWords}
+use Rattle.uxn_cli.specs.Verdict.{View, Work, verdict}
+use Rattle.uxn_cli.proofs.CauseLemmas.{told_verdict, status_in, has_status, IsStatus, is_status, one_status, IsRefusal, IsUsual, is_usual, only_refused, is_refused, only_exit, is_exit, blame_early, tree-rose, sink-rose}
+use Rattle.uxn_cli.proofs.SureLemmas.{never}
+use Rattle.uxn_cli.proofs.GivesLemmas.{Gives, Writes, judged-gives}
+
+-- this holds where a tree tells its contents
+pub where_told : (tree : Option Nodes) (P : Nodes → Type 0) → ((nodes : Nodes) → tree ≡ Some nodes → P nodes) → IfSome tree P
+where_told None P all = tt
+where_told (Some nodes) P all = all nodes refl
+
+-- what holds whatever it tells
+pub always : (tree : Option Nodes) (A : Nodes → Type 0) (P : Type 0) → P → IfSome tree (λ nodes. A nodes → P)
+always None A P is = tt
+always (Some nodes) A P is = λ a. is
+
+-- of what was to be done over a tree that tells its contents a front was done
+pub record IsCutBy (found : Result Work Refusal) (before now : World) (stop : Stop) : Type 0 where
+  pub may : MayStop found stop
+  pub front : HasFront found before now
+
+module _ (asked : Result Task Refusal) (before now : World) where
+  cut_either : (stop : Stop) → IsCut asked before now stop → (now ≡ before) ⊎ HasCut asked before now stop
+  cut_either TreeFault cut = cut
+  cut_either SinkFault cut = inr cut
+  cut_either NoMemory cut = cut
+
+  module _ (nodes : Nodes) (told : before.files ≡ Some nodes) where
+    is_told : {A : Type 0} (found : Result Work Refusal) → A ⊎ IsUntold before.files found → A
+    is_told found (inl is) = is
+    is_told found (inr untold) = absurd (subst (λ t. IsUntold t found) told untold)
+
+    is_verdict : (found : Result Work Refusal) → Judges asked before.files found → found ≡ verdict_on nodes asked
+    is_verdict found judges = told_verdict nodes asked found (subst (λ t. Judges asked t found) told judges)
+
+    -- what stands after an early end
+    pub early_told : (stop : Stop) → IsCut asked before now stop → (now ≡ before) ⊎ IsCutBy (verdict_on nodes asked) before now stop
+    early_told stop cut = elim (cut_either stop cut) [
+      | inl same ↦ inl same
+      | inr cut ↦ inr (subst (λ found. IsCutBy found before now stop) (is_verdict cut.found cut.judges)
+          (record { may = is_told cut.found cut.may; front = is_told cut.found cut.front }))
+    ]
+
+    -- the answer is that of the outcome, or the call ended early
+    pub ends_told : (answer : ℕ) → Answers asked before now answer → HasOutcome (outcome_of (verdict_on nodes asked)) before now answer ⊎ EndsEarly asked before now answer
+    ends_told answer (inr early) = inr early
+    ends_told answer (inl ended) = elim ended.has [
+      | inl has ↦ inl (subst (λ found. HasOutcome (outcome_of found) before now answer) (is_verdict ended.found ended.judges) has)
+      | inr untold ↦ absurd (subst (λ t. IsUntold t ended.found) told untold.0)
+    ]
+
+-- ---- statuses
+
+-- an answer that is the number of two statuses
+refusal_by : (answer : ℕ) (reason : Reason) (status : Status) → IsStatus status → answer ≡ number status → answer ≡ number (Refuses reason) → IsRefusal reason status
+refusal_by answer reason status is a b = subst (IsRefusal reason) (one_status (Refuses reason) status tt is (sym b ∙ a)) refl
+
+-- an early end has no other status
+not_usual : (answer : ℕ) (status : Status) → IsStatus status → IsUsual status → answer ≡ number status → IsEarly answer → ⊥
+not_usual answer status is usual same early = subst IsUsual (one_status status (EndsBy early.0) is tt (sym same ∙ early.1)) usual
+
+pub outcome_usual : (found : Result Work Refusal) (before now : World) (answer : ℕ) → HasOutcome (outcome_of found) before now answer → IsEarly answer → ⊥
+outcome_usual found before now answer has early = not_usual answer (status_in found) (is_status found) (is_usual found) (has.status ∙ has_status found) early
+
+ended_usual : (asked : Result Task Refusal) (before now : World) (answer : ℕ) → HasEnded asked before now answer → IsEarly answer → ⊥
+ended_usual asked before now answer ended early = elim ended.has [
+  | inl has ↦ outcome_usual ended.found before now answer has early
+  | inr untold ↦ not_usual answer (Exits answer) untold.1 tt refl early
+]
+
+-- a status comes exactly where a verdict has it, and after an early end no such status does
+exactly_by : (found : Result Work Refusal) (answer : ℕ) (status : Status) (P : Type 0) → IsStatus status → answer ≡ (outcome_of found).status → (status_in found ≡ status → P) → (P → status_in found ≡ status)
+    → IsExactly answer status P
+exactly_by found answer status P is same only whenever = record {
+  only = λ e. only (one_status (status_in found) status (is_status found) is (sym (has_status found) ∙ sym same ∙ e));
+  whenever = λ p. inl (same ∙ has_status found ∙ ap number (whenever p));
+}
+
+exactly_early : (answer : ℕ) (status : Status) (P : Type 0) → IsStatus status → IsUsual status → IsEarly answer → IsExactly answer status P
+exactly_early answer status P is usual early = record {
+  only = λ e. absurd (not_usual answer status is usual e early);
+  whenever = λ p. inr early;
+}
+
+abbrev refusal_or : {A : Type 0} → Refusal → Result A Refusal → Refusal
+refusal_or other (Ok value) = other
+refusal_or other (Err refusal) = refusal
+
+-- words that are refused for a reason of theirs are so whatever was seen
+asked_refused : (reason : Reason) (asked : Result Task Refusal) (view : View) → IsOfWords reason → IsRefusedFor reason (verdict asked view) → IsRefusedFor reason asked
+asked_refused reason (Err refusal) view of refused = (refused.0, ap Err (ap (refusal_or refusal) refused.1), refused.2)
+asked_refused reason (Ok task) view of refused = absurd (subst (Gives (Writes task.command task)) refused.1 (judged-gives task view) (subst IsOfWords (sym refused.2) of))
+
+refused_asked : (reason : Reason) (asked : Result Task Refusal) (view : View) → IsRefusedFor reason asked → IsRefusedFor reason (verdict asked view)
+refused_asked reason asked view refused = (refused.0, ap (λ a. verdict a view) refused.1, refused.2)
+
+-- what is refused is told
+refused_told : (tree : Option Nodes) (found : Result Work Refusal) (refusal : Refusal) → found ≡ Err refusal → IsUntold tree found → ⊥
+refused_told (Some nodes) found refusal e untold = untold
+refused_told None found refusal e untold = subst (IsUntold None) e untold
+
+module _ (asked : Result Task Refusal) (before now : World) (answer : ℕ) (answers : Answers asked before now answer) where
+  early_is : EndsEarly asked before now answer → IsEarly answer
+  early_is ends = (ends.stop, ends.status)
+
+  -- what the words alone decide
+  exactly_asked : (reason : Reason) → IsOfWords reason → IsExactly answer (Refuses reason) (IsRefusedFor reason asked)
+  exactly_asked reason of = go answers
+    where
+      go : Answers asked before now answer → IsExactly answer (Refuses reason) (IsRefusedFor reason asked)
+      go (inr early) = exactly_early answer (Refuses reason) (IsRefusedFor reason asked) tt tt (early_is early)
+      go (inl ended) =
+          let same = ended.judges.judged in
+          let refused : IsRefusedFor reason asked → IsRefusedFor reason ended.found =
+          λ refused. subst (IsRefusedFor reason) same (refused_asked reason asked ended.judges.view refused) in
+          elim ended.has [
+            | inl has ↦
+                exactly_by ended.found answer (Refuses reason) (IsRefusedFor reason asked) tt has.status
+                (λ e. asked_refused reason asked ended.judges.view of (subst (IsRefusedFor reason) (sym same) (only_refused reason ended.found e)))
+                (λ p. is_refused reason ended.found (refused p))
+            | inr untold ↦ record {
+              only = λ e. absurd (refusal_by answer reason (Exits answer) untold.1 refl e);
+              whenever = λ p. absurd (refused_told before.files ended.found (refused p).0 (refused p).1 untold.0);
+            }
+          ]
+
+  -- a refusal puts its one line on the error output, and nothing else
+  pub refusal_of : (refusing : IsRefusing answer) → (refusal : Refusal) × HasOutcome (outcome_of (Err refusal)) before now answer
+  refusal_of refusing = go answers
+    where
+      by : (found : Result Work Refusal) → HasOutcome (outcome_of found) before now answer → (refusal : Refusal) × HasOutcome (outcome_of (Err refusal)) before now answer
+      by (Ok work) has = absurd (refusal_by answer refusing.0 (status_in (Ok work)) (is_status (Ok work)) has.status refusing.1)
+      by (Err refusal) has = (refusal, has)
+
+      go : Answers asked before now answer → (refusal : Refusal) × HasOutcome (outcome_of (Err refusal)) before now answer
+      go (inr early) = absurd (not_usual answer (Refuses refusing.0) tt tt refusing.1 (early_is early))
+      go (inl ended) = elim ended.has [
+        | inl has ↦ by ended.found has
+        | inr untold ↦ absurd (refusal_by answer refusing.0 (Exits answer) untold.1 refl refusing.1)
+      ]
+
+  pub line_put : (refusing : IsRefusing answer) → now ≡ record before { err = extended before.err (line_of (refusal_of refusing).0) }
+  line_put refusing = let r = refusal_of refusing in r.1.world ∙ changed_by-err before (line_of r.0)
+
+  pub puts_line : IsRefusing answer → PutsLine before.err now.err
+  puts_line refusing = (text_of (refusal_of refusing).0, ap (λ w. w.err) (line_put refusing))
+
+  module _ (nodes : Nodes) (told : before.files ≡ Some nodes) where
+    -- what stands in the tree decides
+    exactly_told : (status : Status) → IsStatus status → IsUsual status → (P : Type 0) → (status_in (verdict_on nodes asked) ≡ status → P) → (P → status_in (verdict_on nodes asked) ≡ status)
+        → IsExactly answer status P
+    exactly_told status is usual P only whenever = elim (ends_told asked before now nodes told answer answers) [
+      | inl has ↦ exactly_by (verdict_on nodes asked) answer status P is has.status only whenever
+      | inr early ↦ exactly_early answer status P is usual (early_is early)
+    ]
+
+    -- what is accepted ends with its exit code, unless a count rose or memory was wanting
+    completes : (TreeRose OutRose ErrRose : Type 0) → (answer ≡ 136 → TreeRose) → (answer ≡ 137 → OutRose ⊎ ErrRose)
+        → (work : Work) → verdict_on nodes asked ≡ Ok work → (TreeRose → ⊥) → (OutRose → ⊥) → (ErrRose → ⊥) → (answer ≡ (outcome_of (Ok work)).status) ⊎ (answer ≡ 138)
+    completes TreeRose OutRose ErrRose by_tree by_sink work accepted t o e = elim (ends_told asked before now nodes told answer answers) [
+      | inl has ↦ inl (has.status ∙ ap (λ v. (outcome_of v).status) accepted)
+      | inr early ↦ inr (go early.stop early.status)
+    ]
+      where
+        go : (stop : Stop) → answer ≡ early_status stop → answer ≡ 138
+        go TreeFault is = absurd (t (by_tree is))
+        go SinkFault is = elim (by_sink is) [ inl rose ↦ absurd (o rose) | inr rose ↦ absurd (e rose) ]
+        go NoMemory is = is
+
+    -- where memory was wanting all is as it was, or the verdict is of a run in which it may be wanting
+    wanting : answer ≡ 138 → (now ≡ before) ⊎ MayStop (verdict_on nodes asked) NoMemory
+    wanting is = elim (ends_told asked before now nodes told answer answers) [
+      | inl has ↦ absurd (outcome_usual (verdict_on nodes asked) before now answer has (NoMemory, is))
+      | inr early ↦ go early.stop (sym early.status ∙ is) early.stands
+    ]
+      where
+        go : (stop : Stop) → early_status stop ≡ 138 → IsCut asked before now stop → (now ≡ before) ⊎ MayStop (verdict_on nodes asked) NoMemory
+        go TreeFault e cut = absurd (omega (arith, e))
+        go SinkFault e cut = absurd (omega (arith, e))
+        go NoMemory e cut = elim (early_told asked before now nodes told NoMemory cut) [ inl same ↦ inl same | inr front ↦ inr front.may ]
+
+pub has_statuses : (c : Call) → HasItsOutcome c → HasStatuses c
+has_statuses c answers =
+    let before = c.before.world in
+    let now = c.now.world in
+    record {
+      asked = exactly_asked (asked_by c) before now c.status answers;
+      refused = where_told before.files _ (λ nodes told reason.
+          exactly_told (asked_by c) before now c.status answers nodes told (Refuses reason) tt tt (IsRefusedFor reason (verdict_on nodes (asked_by c)))
+          (only_refused reason (verdict_on nodes (asked_by c))) (is_refused reason (verdict_on nodes (asked_by c))));
+      accepted = where_told before.files _ (λ nodes told code small.
+          exactly_told (asked_by c) before now c.status answers nodes told (Exits code) small tt (EndsWith code (verdict_on nodes (asked_by c)))
+          (only_exit code (verdict_on nodes (asked_by c))) (is_exit code (verdict_on nodes (asked_by c))));
+    }
+
+pub ends_early : (c : Call) → HasItsOutcome c → Ledger c.before.faults c.now.faults (blame_at c.status) → EndsEarlyByFaults c
+ends_early c answers ledger =
+    let by_tree = tree-rose c.before.faults c.now.faults c.status ledger in
+    let by_sink = sink-rose c.before.faults c.now.faults c.status ledger in
+    record {
+      ledger = ledger;
+      tree_fault = by_tree;
+      sink_fault = by_sink;
+      complete = where_told c.before.world.files _ (λ nodes told. completes (asked_by c) c.before.world c.now.world c.status answers nodes told _ _ _ by_tree by_sink);
+      wanting = where_told c.before.world.files _ (λ nodes told. wanting (asked_by c) c.before.world c.now.world c.status answers nodes told);
+    }
+
+-- ---- a call comes out as it answered or stopped
+
+blameless : (answer : ℕ) → (answer ≡ 136 → ⊥) → (answer ≡ 137 → ⊥) → blame_at answer ≡ Nobody
+blameless answer tree sink = grind (arith, nat_tests)
+
+pub comes_out : (words : List (List ℕ)) (before now : Outside) (result : Result ℕ Stop) → AnswersOrStops words before now result
+    → ComesOut (record { words = words; before = before; now = now; status = status_by result })
+comes_out words before now (Ok status) e =
+    let usual = ended_usual (request words) before.world now.world status e.ends in
+    record {
+      outcome = inl e.ends;
+      ledger = subst (Ledger before.faults now.faults) (sym (blameless status (λ is. usual (TreeFault, is)) (λ is. usual (SinkFault, is)))) e.ledger;
+      sure = record {
+        tree = always before.world.files _ _ (λ is. usual (TreeFault, is));
+        sinks = always before.world.files _ _ (λ is. usual (SinkFault, is));
+      };
+    }
+comes_out words before now (Err stop) e = record {
+  outcome = inr (record { stop = stop; status = refl; stands = e.ends });
+  ledger = subst (Ledger before.faults now.faults) (sym (blame_early stop)) e.ledger;
+  sure = record {
+    tree = never before.world.files _ _ _ (λ not_blamed is. not_blamed (sym (blame_early stop) ∙ ap blame_at is)) e.sure_tree;
+    sinks = never before.world.files _ _ _ (λ not_blamed is. not_blamed (sym (blame_early stop) ∙ ap blame_at is)) e.sure_sinks;
+  };
+}
+
+-- ---- a refusal's line is put
+
+-- whoever is to blame for the line has counted it
+pub put_ledger : (before middle : Counts) (err : ℕ) (blame : Blame) → middle ≡ before → Ledger (counts 0 0 middle.err) (counts 0 0 err) blame
+    → Ledger before (counts middle.tree middle.out err) blame
+put_ledger before middle err Nobody same put = ap (λ (c : Counts). counts middle.tree middle.out c.err) put ∙ same
+put_ledger before middle err TheTree same put = absurd (let rose : 1 ≤ 0 = put.tree.risen in omega (arith, rose))
+put_ledger before middle err ASink same (inl put) = absurd (let rose : 1 ≤ 0 = put.out.risen in omega (arith, rose))
+put_ledger before middle err ASink same (inr put) =
+    inr (record { tree = ap (λ (c : Counts). c.tree) same; out = ap (λ (c : Counts). c.out) same; err = subst (λ e. Rose e err) (ap (λ (c : Counts). c.err) same) put.err })
+
+-- which is not the tree
+pub tree_spared : (before now : Option (List ℕ)) (line : List ℕ) (result : Result ℕ Stop) → IfErr result (Stops before now line) → blame_by result ≡ TheTree → ⊥
+tree_spared before now line result stops is = grind arith

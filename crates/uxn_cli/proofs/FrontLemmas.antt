@@ -1,0 +1,226 @@
+-- What a file holds, where the changes that write it were cut off.
+use Rattle.std.proofs.Common.{◌≡◌, ℕ, ◌⊎◌, Bool, true, false, List, [], ◌∷◌, ◌++◌, map, refl, ap, sym, ◌∙◌, subst, inl, inr, append_assoc, append-nil, arith}
+use Rattle.std.specs.Prelude.{Option, Some, None, Result, Ok, Err, IfOk, option_to_list, ◌||◌}
+use Rattle.std.specs.List.{list_any}
+use Rattle.std.specs.Option.{unwrap_or}
+use Rattle.std.specs.Str.{bytes_eq}
+use Rattle.std.specs.FinMap as fin
+use Rattle.std.proofs.lemmas.Slice.Eq.{bytes_eq-Decides}
+use Rattle.uxn_io.specs.ChangeLaws.{changed_by-append, files_by-append, files-told, extended-nothing, extended-extended}
+use Rattle.uxn_io.specs.Files.{Nodes, Node, File, bytes_of, bytes_at}
+use Rattle.uxn_io.specs.NodeLaws.{get_put}
+use Rattle.uxn_io.specs.Outside.{Change, ToOut, ToErr, Creates, ToFile, Removes, World, changed_files, files_by, changed, changed_by}
+use Rattle.uxn_io.specs.Told.{extended}
+use Rattle.uxn_opcodes.specs.Rule.{new_core}
+use Rattle.varvara_bus.specs.Touching.{Spares, Each, each-append, each-front, each-map, inserted-other, removed-other, told_at}
+use Rattle.uxn_words.specs.Places.{first_clash, HasApartOutputs}
+use Rattle.uxn_words.specs.Words.{task_of}
+use Rattle.uxn_words.specs.declared.task.Task.{Task}
+use Rattle.uxn_cli.specs.declared.refusal.Refusal.{Refusal}
+use Rattle.uxn_cli.specs.Answer.{Answers}
+use Rattle.uxn_cli.specs.Call.{Call, asked_by}
+use Rattle.uxn_cli.specs.Causes.{verdict_on}
+use Rattle.uxn_cli.specs.Clauses.{IsWrittenWhole, HoldsFileFront, IsFrontOf, StandsCutOff, HasItsOutcome, IsCutShort}
+use Rattle.uxn_cli.specs.Job.{outputs_in, outputs_by, trail_of, log_by, report_of}
+use Rattle.uxn_cli.specs.Outcome.{outcome_of, creating, filling, filling_all, reporting, writing, running}
+use Rattle.uxn_cli.specs.Request.{refused, apart, apart_by, request}
+use Rattle.uxn_cli.specs.Statuses.{IsEarly}
+use Rattle.uxn_cli.specs.Verdict.{and_then, Work, Run, Write, Print, RunLine, view_of, judged}
+use Rattle.uxn_cli.specs.World.{Text}
+use Rattle.uxn_cli.proofs.ClauseLemmas.{where_told, early_told, ends_told, outcome_usual}
+use Rattle.uxn_cli.proofs.OthersLemmas.{any-parts, other-output, trail-spares}
+use Rattle.uxn_cli.proofs.RootLemmas.{outputs-outside}
+use Rattle.uxn_cli.proofs.GivesLemmas.{judged-writes}
+
+module _ (path : List ℕ) where
+  -- a change makes and takes away nothing at the path, but may add to the file there
+  abbrev Adds : Change → Type 0
+  Adds (ToOut byte) = Unit {0}
+  Adds (ToErr byte) = Unit {0}
+  Adds (Creates other) = bytes_eq path other ≡ false
+  Adds (ToFile other byte) = Unit {0}
+  Adds (Removes other) = bytes_eq path other ≡ false
+
+  spares-one : (change : Change) → Spares path change → Adds change
+  spares-one change spares = grind arith
+
+  spares-adds : (changes : List Change) → Each (Spares path) changes → Each Adds changes
+  spares-adds [] spares = tt
+  spares-adds (change ∷ changes) spares = (spares-one change spares.0, spares-adds changes spares.1)
+
+  filling-adds : (texts : List Text) → Each Adds (filling_all texts)
+  filling-adds [] = tt
+  filling-adds (text ∷ texts) = each-append Adds (filling text) (filling_all texts) (each-map Adds (λ byte. ToFile text.path byte) text.bytes (λ byte. tt)) (filling-adds texts)
+
+  each-last : (first last : List Change) → Each Adds (first ++ last) → Each Adds last
+  each-last [] last adds = adds
+  each-last (change ∷ first) last adds = each-last first last adds.1
+
+  -- the file at the path gets more bytes
+  abbrev GetsMore : List ℕ → Nodes → Type 0
+  GetsMore bytes nodes = (more : List ℕ) × (fin.get nodes path ≡ Some (File (bytes ++ more)))
+
+  nothing-more : (bytes : List ℕ) (nodes : Nodes) → fin.get nodes path ≡ Some (File bytes) → GetsMore bytes nodes
+  nothing-more bytes nodes is = ([], is ∙ ap (λ b. Some (File b)) (sym (append-nil bytes)))
+
+  added-one : (bytes : List ℕ) (nodes : Nodes) (change : Change) → Adds change → fin.get nodes path ≡ Some (File bytes) → GetsMore bytes (changed_files change nodes)
+  added-one bytes nodes (ToOut byte) adds is = nothing-more bytes nodes is
+  added-one bytes nodes (ToErr byte) adds is = nothing-more bytes nodes is
+  added-one bytes nodes (Creates other) adds is = nothing-more bytes (changed_files (Creates other) nodes) (inserted-other nodes path other (File []) adds ∙ is)
+  added-one bytes nodes (Removes other) adds is = nothing-more bytes (changed_files (Removes other) nodes) (removed-other nodes path other adds ∙ is)
+  added-one bytes nodes (ToFile other byte) adds is = go (bytes_eq path other) refl
+    where
+      go : (b : Bool) → bytes_eq path other ≡ b → GetsMore bytes (changed_files (ToFile other byte) nodes)
+      go false apart = nothing-more bytes (changed_files (ToFile other byte) nodes) (inserted-other nodes path other (File (bytes_at nodes other ++ byte ∷ [])) apart ∙ is)
+      go true same = (
+        byte ∷ [],
+        ap (λ q. fin.get (changed_files (ToFile q byte) nodes) path) (sym ((bytes_eq-Decides path other).0 same))
+            ∙ get_put nodes path (File (bytes_at nodes path ++ byte ∷ [])) ∙ ap (λ (o : Option Node). Some (File (unwrap_or (bytes_of o) [] ++ byte ∷ []))) is,
+      )
+
+  added : (bytes : List ℕ) (nodes : Nodes) (changes : List Change) → Each Adds changes → fin.get nodes path ≡ Some (File bytes) → GetsMore bytes (files_by nodes changes)
+  added bytes nodes [] adds is = nothing-more bytes nodes is
+  added bytes nodes (change ∷ changes) adds is =
+      let one = added-one bytes nodes change adds.0 is in
+      let rest = added (bytes ++ one.0) (changed_files change nodes) changes adds.1 one.1 in
+      (one.0 ++ rest.0, rest.1 ∙ ap (λ b. Some (File b)) (append_assoc bytes one.0 rest.0))
+
+  -- the node is as it was, or a front of the file that is to be there
+  abbrev IsFront : Option Node → Option Node → Option Node → Type 0
+  IsFront before now whole = (now ≡ before) ⊎ ((bytes : List ℕ) × (rest : List ℕ) × (now ≡ Some (File bytes)) × (whole ≡ Some (File (bytes ++ rest))))
+
+  -- a file is made among others, all of which are then added to
+  module _ (later rest : List Change) (adds : Each Adds later) (before : Option Node) where
+    abbrev Fronts : Nodes → List Change → Type 0
+    Fronts nodes made = IsFront before (fin.get (files_by nodes made) path) (fin.get (files_by nodes (made ++ rest)) path)
+
+    made-front : (nodes : Nodes) (made : List Change) → later ≡ made ++ rest → fin.get nodes path ≡ Some (File []) → Fronts nodes made
+    made-front nodes made parts is =
+        let all : Each Adds (made ++ rest) = subst (Each Adds) parts adds in
+        let first = added [] nodes made (each-front Adds made rest all) is in
+        let last = added first.0 (files_by nodes made) rest (each-last made rest all) first.1 in
+        inr (first.0, last.0, first.1, ap (λ n. fin.get n path) (files_by-append nodes made rest) ∙ last.1)
+
+    created : (paths : List (List ℕ)) (nodes : Nodes) → fin.get nodes path ≡ Some (File []) → fin.get (files_by nodes (creating paths)) path ≡ Some (File [])
+    created [] nodes is = is
+    created (other ∷ paths) nodes is = created paths (changed_files (Creates other) nodes) (go (bytes_eq path other) refl)
+      where
+        go : (b : Bool) → bytes_eq path other ≡ b → fin.get (changed_files (Creates other) nodes) path ≡ Some (File [])
+        go false apart = inserted-other nodes path other (File []) apart ∙ is
+        go true same = ap (λ q. fin.get (changed_files (Creates q) nodes) path) (sym ((bytes_eq-Decides path other).0 same)) ∙ get_put nodes path (File [])
+
+    pub front-of : (paths : List (List ℕ)) (nodes : Nodes) (made : List Change) → creating paths ++ later ≡ made ++ rest
+        → ((fin.get nodes path ≡ before) × (list_any (bytes_eq path) paths ≡ true)) ⊎ (fin.get nodes path ≡ Some (File [])) → Fronts nodes made
+    front-of [] nodes made parts (inl waits) = absurd (let among = waits.1 in cc)
+    front-of [] nodes made parts (inr is) = made-front nodes made parts is
+    front-of (other ∷ paths) nodes [] parts (inl waits) = inl waits.0
+    front-of (other ∷ paths) nodes [] parts (inr is) =
+        let all = added [] (files_by nodes (creating (other ∷ paths))) later adds (created (other ∷ paths) nodes is) in
+        inr ([], all.0, is, ap (λ changes. fin.get (files_by nodes changes) path) (sym parts) ∙ ap (λ n. fin.get n path) (files_by-append nodes (creating (other ∷ paths)) later) ∙ all.1)
+    front-of (other ∷ paths) nodes (change ∷ made) parts state =
+        let same : Creates other ≡ change = cc in
+        let more : creating paths ++ later ≡ made ++ rest = cc in
+        subst (λ (c : Change). Fronts nodes (c ∷ made)) same (front-of paths (changed_files (Creates other) nodes) made more (go (bytes_eq path other) refl state))
+      where
+        here : Nodes
+        here = changed_files (Creates other) nodes
+
+        go : (b : Bool) → bytes_eq path other ≡ b → ((fin.get nodes path ≡ before) × (list_any (bytes_eq path) (other ∷ paths) ≡ true)) ⊎ (fin.get nodes path ≡ Some (File []))
+            → ((fin.get (changed_files (Creates other) nodes) path ≡ before) × (list_any (bytes_eq path) paths ≡ true)) ⊎ (fin.get (changed_files (Creates other) nodes) path ≡ Some (File []))
+        go true same state = inr (ap (λ q. fin.get (changed_files (Creates q) nodes) path) (sym ((bytes_eq-Decides path other).0 same)) ∙ get_put nodes path (File []))
+        go false apart (inl waits) = inl (inserted-other nodes path other (File []) apart ∙ waits.0, ap (λ b. b || list_any (bytes_eq path) paths) (sym apart) ∙ waits.1)
+        go false apart (inr is) = inr (inserted-other nodes path other (File []) apart ∙ is)
+
+-- work that writes a file whole
+work-front : (path : List ℕ) (task : Task) (nodes : Nodes) (work : Work) (made rest : List Change) → HasApartOutputs task → judged task (view_of nodes task) ≡ Ok work
+    → IsWrittenWhole (Ok work) path → (outcome_of (Ok work)).changes ≡ made ++ rest
+    → IsFront path (fin.get nodes path) (fin.get (files_by nodes made) path) (fin.get (files_by nodes (outcome_of (Ok work)).changes) path)
+unfolding running writing
+work-front path task nodes (Run job) made rest apart e whole parts =
+    let writes = judged-writes task (view_of nodes task) (Run job) e in
+    let outside = outputs-outside task path apart (ap (list_any (bytes_eq path)) (sym writes.paths) ∙ whole.0) in
+    let streams = any-parts path (option_to_list job.frames) (option_to_list job.samples) whole.1 in
+    let run = trail-spares path job.budget (outputs_by job.frames job.samples) job.script job.home (new_core job.rom) (other-output path job.frames streams.0) (other-output path job.samples streams.1)
+    (rw writes.root outside) in
+    let adds = each-append (Adds path) (reporting job.report job.script.version (trail_of job)) (filling_all (log_by job.debug (trail_of job)))
+    (each-append (Adds path) (trail_of job).changes (filling_all (report_of job.report job.script.version (trail_of job).last)) (spares-adds path (trail_of job).changes run)
+    (filling-adds path (report_of job.report job.script.version (trail_of job).last))) (filling-adds path (log_by job.debug (trail_of job))) in
+    subst (λ changes. IsFront path (fin.get nodes path) (fin.get (files_by nodes made) path) (fin.get (files_by nodes changes) path)) (sym parts)
+    (front-of path _ rest adds (fin.get nodes path) (outputs_in job) nodes made parts (inl (refl, whole.0)))
+work-front path task nodes (Write texts) made rest apart e whole parts =
+    subst (λ changes. IsFront path (fin.get nodes path) (fin.get (files_by nodes made) path) (fin.get (files_by nodes changes) path)) (sym parts)
+    (front-of path (filling_all texts) rest (filling-adds path texts) (fin.get nodes path) (map (λ text. text.path) texts) nodes made parts (inl (refl, whole)))
+work-front path task nodes (Print text) made rest apart e whole parts = absurd whole
+work-front path task nodes (RunLine job) made rest apart e whole parts = absurd whole
+
+-- so of what was cut off
+pub holds-front : (path : List ℕ) (asked : Result Task Refusal) (before : World) (nodes : Nodes) (made rest : List Change) → IfOk asked HasApartOutputs → before.files ≡ Some nodes
+    → (outcome_of (verdict_on nodes asked)).changes ≡ made ++ rest → IsWrittenWhole (verdict_on nodes asked) path
+    → HoldsFileFront (told_at path before.files) (told_at path (changed_by before made).files) (told_at path (changed_by before (outcome_of (verdict_on nodes asked)).changes).files)
+holds-front path (Err refusal) before nodes made rest apart told parts whole = absurd whole
+holds-front path (Ok task) before nodes made rest apart told parts whole = go (judged task (view_of nodes task)) refl parts whole
+  where
+    stands : (changes : List Change) → told_at path (changed_by before changes).files ≡ Some (fin.get (files_by nodes changes) path)
+    stands changes = ap (told_at path) (files-told before changes) ∙ rw told refl
+
+    go : (found : Result Work Refusal) → judged task (view_of nodes task) ≡ found → (outcome_of found).changes ≡ made ++ rest → IsWrittenWhole found path
+        → HoldsFileFront (told_at path before.files) (told_at path (changed_by before made).files) (told_at path (changed_by before (outcome_of found).changes).files)
+    go (Err refusal) e p w = absurd w
+    go (Ok work) e p w = elim (work-front path task nodes work made rest apart e w p) [
+      | inl same ↦ inl (stands made ∙ ap Some same ∙ sym (ap (told_at path) told))
+      | inr front ↦ inr (front.0, front.1, stands made ∙ ap Some front.2, stands (outcome_of (Ok work)).changes ∙ ap Some front.3)
+    ]
+
+-- ---- what stands after an early end
+
+put_more : (told : Option (List ℕ)) (byte : ℕ) (whole : Option (List ℕ)) → IsFrontOf (extended told (byte ∷ [])) whole → IsFrontOf told whole
+put_more told byte whole front = record { rest = byte ∷ front.rest; is = front.is ∙ extended-extended told (byte ∷ []) front.rest }
+
+-- changes add to the outputs
+adds_to : (w : World) (changes : List Change) → IsFrontOf w.out (changed_by w changes).out × IsFrontOf w.err (changed_by w changes).err
+adds_to w [] = (record { rest = []; is = sym (extended-nothing w.out) }, record { rest = []; is = sym (extended-nothing w.err) })
+adds_to w (ToOut byte ∷ changes) = let more = adds_to (changed w (ToOut byte)) changes in (put_more w.out byte _ more.0, more.1)
+adds_to w (ToErr byte ∷ changes) = let more = adds_to (changed w (ToErr byte)) changes in (more.0, put_more w.err byte _ more.1)
+adds_to w (Creates path ∷ changes) = adds_to (changed w (Creates path)) changes
+adds_to w (ToFile path byte ∷ changes) = adds_to (changed w (ToFile path byte)) changes
+adds_to w (Removes path ∷ changes) = adds_to (changed w (Removes path)) changes
+
+-- outputs of what is asked for do not clash
+asked_apart : (words : List (List ℕ)) → IfOk (request words) HasApartOutputs
+unfolding request
+asked_apart words = named (refused (task_of words))
+  where
+    clashing : (task : Task) (clash : Option (List ℕ)) → first_clash task ≡ clash → IfOk (apart_by task clash) HasApartOutputs
+    clashing task None is = is
+    clashing task (Some path) is = tt
+
+    named : (said : Result Task Refusal) → IfOk (and_then said apart) HasApartOutputs
+    named (Err refusal) = tt
+    named (Ok task) = clashing task (first_clash task) refl
+
+-- a front of the changes gives a front of each
+module _ (asked : Result Task Refusal) (before : World) (nodes : Nodes) (told : before.files ≡ Some nodes) (apart_too : IfOk asked HasApartOutputs) where
+  stands_cut : (made rest : List Change) → (outcome_of (verdict_on nodes asked)).changes ≡ made ++ rest → StandsCutOff (verdict_on nodes asked) before (changed_by before made)
+  stands_cut made rest parts =
+      let first = adds_to before made in
+      let last = adds_to (changed_by before made) rest in
+      let whole : changed_by before (outcome_of (verdict_on nodes asked)).changes ≡ changed_by (changed_by before made) rest = ap (changed_by before) parts ∙ changed_by-append before made rest in
+      record {
+        cut = record { made = made; rest = rest; parts = parts; left = refl };
+        out = record { kept = first.0; front = subst (λ (w : World). IsFrontOf (changed_by before made).out w.out) (sym whole) last.0 };
+        err = record { kept = first.1; front = subst (λ (w : World). IsFrontOf (changed_by before made).err w.err) (sym whole) last.1 };
+        files = λ path is. holds-front path asked before nodes made rest apart_too told parts is;
+      }
+
+  cut_short : (now : World) (answer : ℕ) → Answers asked before now answer → IsEarly answer → StandsCutOff (verdict_on nodes asked) before now
+  cut_short now answer answers is = elim (ends_told asked before now nodes told answer answers) [
+    | inl has ↦ absurd (outcome_usual (verdict_on nodes asked) before now answer has is)
+    | inr early ↦ elim (early_told asked before now nodes told early.stop early.stands) [
+      | inl same ↦ subst (StandsCutOff (verdict_on nodes asked) before) (sym same) (stands_cut [] (outcome_of (verdict_on nodes asked)).changes refl)
+      | inr cut ↦ subst (StandsCutOff (verdict_on nodes asked) before) (sym cut.front.cut.left) (stands_cut cut.front.cut.made cut.front.cut.rest cut.front.cut.parts)
+    ]
+  ]
+
+pub is_cut_short : (c : Call) → HasItsOutcome c → IsCutShort c
+is_cut_short c answers =
+    where_told c.before.world.files _ (λ nodes told is. cut_short (asked_by c) c.before.world nodes told (asked_apart c.words) c.now.world c.status answers is)

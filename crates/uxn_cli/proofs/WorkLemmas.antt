@@ -1,0 +1,253 @@
+-- The work of a task, from what was judged to what was done.
+use Rattle.std.proofs.Common.{◌≡◌, ℕ, ◌+◌, ◌<◌, ◌≤◌, List, [], length, not, refl, ap, ◌∙◌, subst, inl, arith}
+use Rattle.std.specs.Prelude.{Option, Some, None, Result, Ok, Err, IfSome, find}
+use Rattle.std.proofs.lemmas.List.Elements.{All-weaker}
+use Rattle.uxn_io.specs.Changes.{can_create}
+use Rattle.uxn_io.specs.Faults.{Counts, Ledger, TheTree, ASink, counts}
+use Rattle.uxn_io.specs.Files.{Nodes}
+use Rattle.uxn_io.specs.Room.{Room, Leaves}
+use Rattle.uxn_opcodes.specs.declared.Stop.TheVariants.{TreeFault, SinkFault, NoMemory}
+use Rattle.uxn_words.specs.declared.task.Task.{Task}
+use Rattle.uxn_words.specs.declared.words.Command.{Command}
+use Rattle.uxn_words.specs.declared.words.Command.TheVariants.{Play, Debug, Assemble, Disassemble, Generate, Line}
+use Rattle.uxn_words.specs.Places.{outputs_of}
+use Rattle.uxn_cli.specs.declared.refusal.Refusal.{Refusal}
+use Rattle.uxn_cli.specs.declared.refusal.Halt.{Halt}
+use Rattle.uxn_cli.specs.declared.refusal.Halt.TheVariants.{Refused, Stopped}
+use Rattle.uxn_cli.specs.World.{world, Text}
+use Rattle.uxn_cli.specs.Answer.{IsViewOf, Judges, IsRefused, Performs}
+use Rattle.uxn_cli.specs.Blame.{blame_in}
+use Rattle.uxn_cli.specs.Causes.{verdict_on}
+use Rattle.uxn_cli.specs.Outcome.{line_bytes, line_exit}
+use Rattle.uxn_cli.specs.Outside.{TreeSeen, SinkSeen, Outside, outside, DoesWork, Puts}
+use Rattle.uxn_cli.specs.Prepared.{inputs_seen, SeesWork, Unready, IsPlanned, AreFree, Blocked}
+use Rattle.uxn_cli.specs.Room.{TreeSuffices, SinksSuffice, TakesFor}
+use Rattle.uxn_cli.specs.Verdict.{and_then, View, Work, Run, Write, Print, RunLine, blocked_seen, Plan, planned, first_unmade, made_by, made_for, work_of}
+use Rattle.uxn_cli.proofs.CauseLemmas.{told_verdict}
+use Rattle.uxn_cli.proofs.ChangeLemmas.{printed, print-cut}
+use Rattle.uxn_cli.proofs.DoneLemmas.{takes-more}
+use Rattle.uxn_cli.proofs.SureLemmas.{always, no-sink, no-tree, of_the_tree, of_the_out}
+use Rattle.uxn_cli.proofs.VerdictLemmas.{unlooked}
+
+-- ---- what was judged
+
+module _ (task : Task) (tree : Option Nodes) where
+  -- what was seen of the inputs and of the outputs is a view, which the verdict is on
+  pub judges : (said : Result Plan Refusal) (work : SeesWork tree task said) (blocked : Option (List ℕ)) → IfSome tree (λ nodes. blocked ≡ blocked_seen nodes task)
+      → Judges (Ok task) tree (and_then said (made_for task blocked))
+  judges said work blocked looked = record {
+    view = record work.file { blocked = blocked };
+    seen = go tree work.seen looked;
+    judged = ap (λ s. and_then s (made_for task blocked)) (same_work task.command ∙ work.said_so);
+  }
+    where
+      go : (t : Option Nodes) → IfSome t (λ nodes. work.file ≡ inputs_seen nodes task) → IfSome t (λ nodes. blocked ≡ blocked_seen nodes task)
+          → IsViewOf t task (record work.file { blocked = blocked })
+      go None seen free = record { file = tt; symbols = tt; script = tt; commands = tt; part = tt; parent = tt; named = tt; blocked = tt }
+      go (Some nodes) seen free = record {
+        file = ap (λ (v : View). v.file) seen;
+        symbols = ap (λ (v : View). v.symbols) seen;
+        script = ap (λ (v : View). v.script) seen;
+        commands = ap (λ (v : View). v.commands) seen;
+        part = ap (λ (v : View). v.part) seen;
+        parent = ap (λ (v : View). v.parent) seen;
+        named = ap (λ (v : View). v.named) seen;
+        blocked = free;
+      }
+
+      same_work : (c : Command) → work_of c task (record work.file { blocked = blocked }) ≡ work_of c task work.file
+      same_work Play = refl
+      same_work Debug = refl
+      same_work Assemble = refl
+      same_work Disassemble = refl
+      same_work Generate = refl
+      same_work Line = refl
+
+  -- the inputs were refused, or could not be read
+  pub unprepared : (new : Option Nodes) (out err : Option (List ℕ)) (halt : Halt) → Unready tree task halt → new ≡ tree
+      → Performs (Ok task) (world tree out err) (world new out err) (Err halt)
+  unprepared new out err (Refused refusal) work same = record {
+    judges = judges (Err refusal) work (unlooked tree task).0 (unlooked tree task).1;
+    same = ap (λ t. world t out err) same;
+  }
+  unprepared new out err (Stopped TreeFault) work same = inl (ap (λ t. world t out err) same)
+  unprepared new out err (Stopped NoMemory) work same = inl (ap (λ t. world t out err) same)
+  unprepared new out err (Stopped SinkFault) work same = absurd (work refl)
+
+  module _ (work : Work) (included : List (List ℕ)) (plan : IsPlanned tree task work included) where
+    judges_first : (blocked first : Option (List ℕ)) → IfSome tree (λ nodes. blocked ≡ find (λ path. not (can_create nodes path)) (outputs_of task))
+        → first_unmade blocked included (outputs_of task) ≡ first → Judges (Ok task) tree (made_by first work)
+    judges_first blocked first looked is =
+        subst (λ f. Judges (Ok task) tree (made_by f work)) is (judges (Ok (planned work included)) plan.sees blocked looked)
+
+    -- where the outputs are free the work is the verdict
+    pub judges_work : AreFree tree included (outputs_of task) → Judges (Ok task) tree (Ok work)
+    judges_work free = judges_first None None free.looked free.apart
+
+    pub is_verdict : AreFree tree included (outputs_of task) → IfSome tree (λ nodes. Ok work ≡ verdict_on nodes (Ok task))
+    is_verdict free = go tree (judges_work free)
+      where
+        go : (t : Option Nodes) → Judges (Ok task) t (Ok work) → IfSome t (λ nodes. Ok work ≡ verdict_on nodes (Ok task))
+        go None j = tt
+        go (Some nodes) j = told_verdict nodes (Ok task) (Ok work) j
+
+    -- what holds of the work holds of the verdict
+    pub of_verdict : (V : Nodes → Result Work Refusal → Type 0) → AreFree tree included (outputs_of task) → IfSome tree (λ nodes. V nodes (Ok work))
+        → IfSome tree (λ nodes. V nodes (verdict_on nodes (Ok task)))
+    of_verdict V free holds = go tree (is_verdict free) holds
+      where
+        go : (t : Option Nodes) → IfSome t (λ nodes. Ok work ≡ verdict_on nodes (Ok task)) → IfSome t (λ nodes. V nodes (Ok work))
+            → IfSome t (λ nodes. V nodes (verdict_on nodes (Ok task)))
+        go None is holds = tt
+        go (Some nodes) is holds = subst (V nodes) is holds
+
+    -- an output is blocked
+    pub is_refused : (refusal : Refusal) (now : Option Nodes) (out err : Option (List ℕ)) → Blocked included (outputs_of task) tree refusal → now ≡ tree
+        → IsRefused (Ok task) (world tree out err) (world now out err) refusal
+    is_refused refusal now out err blocked same = rw blocked.names (record {
+      judges = judges_first blocked.blocked (Some blocked.path) blocked.looked blocked.first;
+      same = ap (λ t. world t out err) same;
+    })
+
+-- work without outputs finds none blocked
+pub none_blocked : (tree : Option Nodes) (task : Task) → outputs_of task ≡ [] → AreFree tree [] (outputs_of task)
+none_blocked tree task none = rw none (record { looked = go tree; apart = refl })
+  where
+    go : (t : Option Nodes) → IfSome t (λ nodes. None ≡ find (λ path. not (can_create nodes path)) [])
+    go None = tt
+    go (Some nodes) = refl
+
+-- ---- steps, one after the other
+
+-- a step over the tree ended the call, and put nothing on the outputs
+pub halted : (asked : Result Task Refusal) (start now : TreeSeen) (out err : SinkSeen) (halt : Halt)
+    → Performs asked (world start.told out.told err.told) (world now.told out.told err.told) (Err halt)
+    → Ledger (counts start.faults 0 0) (counts now.faults 0 0) (blame_in {A = ℕ} (Err halt))
+    → IfSome start.told (λ nodes. TreeSuffices (verdict_on nodes asked) start.sure nodes → blame_in {A = ℕ} (Err halt) ≡ TheTree → ⊥)
+    → DoesWork asked (outside start out err) (outside now out err) (Err halt)
+halted asked start now out err halt performs ledger sure = record {
+  performs = performs;
+  ledger = of_the_tree start.faults start.faults now.faults out.faults err.faults (blame_in {A = ℕ} (Err halt)) refl ledger;
+  sure_tree = sure;
+  sure_sinks = always start.told (λ nodes. SinksSuffice (verdict_on nodes asked) out.sure err.sure) _
+      (no-sink start.faults now.faults (blame_in {A = ℕ} (Err halt)) ledger);
+}
+
+-- the inputs were refused, or could not be read
+pub halted-unready : (task : Task) (start now : TreeSeen) (out err : SinkSeen) (halt : Halt) → Unready start.told task halt → now.told ≡ start.told
+    → Ledger (counts start.faults 0 0) (counts now.faults 0 0) (blame_in {A = ℕ} (Err halt))
+    → (0 < start.sure.files → blame_in {A = ℕ} (Err halt) ≡ TheTree → ⊥)
+    → DoesWork (Ok task) (outside start out err) (outside now out err) (Err halt)
+halted-unready task start now out err halt unready same ledger sure =
+    halted (Ok task) start now out err halt (unprepared task start.told now.told out.told err.told halt unready same) ledger (go start.told)
+  where
+    go : (t : Option Nodes) → IfSome t (λ nodes. TreeSuffices (verdict_on nodes (Ok task)) start.sure nodes → blame_in {A = ℕ} (Err halt) ≡ TheTree → ⊥)
+    go None = tt
+    go (Some nodes) = λ s. sure s.some
+
+-- a tree that suffices does so still, once it was read
+suffices-still : (verdict : Result Work Refusal) (start here : Room) (nodes : Nodes) → Leaves start here 0 0 → TreeSuffices verdict start nodes → TreeSuffices verdict here nodes
+suffices-still verdict start here nodes left s =
+    let some = s.some in
+    let files = left.files some in
+    let bytes = left.bytes some in
+    record { some = omega (arith, files, some); takes = go verdict files bytes s.takes }
+  where
+    go : (v : Result Work Refusal) → start.files + 0 ≤ here.files + 0 → start.bytes ≤ here.bytes → TakesFor v start nodes → TakesFor v here nodes
+    go (Err refusal) files bytes takes = tt
+    go (Ok (Run job)) files bytes takes = takes-more start here nodes _ (omega (arith, files)) bytes takes
+    go (Ok (Write texts)) files bytes takes = record {
+      files = (let few = takes.files in omega (arith, files, few));
+      bytes = All-weaker (λ (text : Text). length text.bytes ≤ start.bytes) (λ text. length text.bytes ≤ here.bytes) (λ text small. omega (arith, bytes, small)) texts takes.bytes;
+    }
+    go (Ok (Print text)) files bytes takes = tt
+    go (Ok (RunLine job)) files bytes takes = tt
+
+-- a step that only reads the tree, and then the rest
+pub does-after : (asked : Result Task Refusal) (start here : TreeSeen) (out err : SinkSeen) (now : Outside) (r : Result ℕ Halt) → here.told ≡ start.told
+    → Leaves start.sure here.sure 0 0 → counts here.faults 0 0 ≡ counts start.faults 0 0
+    → DoesWork asked (outside here out err) now r → DoesWork asked (outside start out err) now r
+does-after asked start here out err now r same left counted does = record {
+  performs = subst (λ t. Performs asked (world t out.told err.told) now.world r) same does.performs;
+  ledger = subst (λ f. Ledger (counts f out.faults err.faults) now.faults (blame_in r)) (ap (λ (c : Counts). c.tree) counted) does.ledger;
+  sure_tree = go start.told (subst (λ t. IfSome t (λ nodes. TreeSuffices (verdict_on nodes asked) here.sure nodes → blame_in r ≡ TheTree → ⊥)) same does.sure_tree);
+  sure_sinks = subst (λ t. IfSome t (λ nodes. SinksSuffice (verdict_on nodes asked) out.sure err.sure → blame_in r ≡ ASink → ⊥)) same does.sure_sinks;
+}
+  where
+    go : (t : Option Nodes) → IfSome t (λ nodes. TreeSuffices (verdict_on nodes asked) here.sure nodes → blame_in r ≡ TheTree → ⊥)
+        → IfSome t (λ nodes. TreeSuffices (verdict_on nodes asked) start.sure nodes → blame_in r ≡ TheTree → ⊥)
+    go None holds = tt
+    go (Some nodes) holds = λ s. holds (suffices-still (verdict_on nodes asked) start.sure here.sure nodes left s)
+
+-- ---- bytes that are put on the standard output
+
+-- all that the work does is to put these bytes, with this code
+abbrev pub IsOutput : Work → List ℕ → ℕ → Type 0
+IsOutput (Run job) bytes code = ⊥
+IsOutput (Write texts) bytes code = ⊥
+IsOutput (Print text) bytes code = (text ≡ bytes) × (code ≡ 0)
+IsOutput (RunLine job) bytes code = (line_bytes job ≡ bytes) × (code ≡ line_exit job)
+
+module _ (task : Task) (tree : TreeSeen) (err : SinkSeen) (work : Work) (plan : IsPlanned tree.told task work []) (none : outputs_of task ≡ [])
+    (bytes : List ℕ) (code : ℕ) (is : IsOutput work bytes code) (out now : SinkSeen) where
+  puts_performs : (r : Result ℕ Halt) → Puts out now bytes code r
+      → Performs (Ok task) (world tree.told out.told err.told) (world tree.told now.told err.told) r
+  puts_performs r puts = go work (judges_work task tree.told work [] plan (none_blocked tree.told task none)) is r puts
+    where
+      go : (w : Work) → Judges (Ok task) tree.told (Ok w) → IsOutput w bytes code → (r : Result ℕ Halt) → Puts out now bytes code r
+          → Performs (Ok task) (world tree.told out.told err.told) (world tree.told now.told err.told) r
+      go (Run job) j is r puts = absurd is
+      go (Write texts) j is r puts = absurd is
+      go (Print text) j is (Ok answer) puts = record {
+        found = Ok (Print text);
+        judges = j;
+        has = inl (record { status = puts.1 ∙ is.1; world = printed tree.told out.told err.told now.told text (rw is.0 puts.0) });
+      }
+      go (RunLine job) j is (Ok answer) puts = record {
+        found = Ok (RunLine job);
+        judges = j;
+        has = inl (record { status = puts.1 ∙ is.1; world = printed tree.told out.told err.told now.told (line_bytes job) (rw is.0 puts.0) });
+      }
+      go (Print text) j is (Err (Stopped SinkFault)) puts =
+          let cut = print-cut tree.told out.told err.told now.told text (rw is.0 puts.0) in
+          record { found = Ok (Print text); judges = j; may = inl tt; front = inl (record { cut = cut.cut; short = λ text. cut.short }) }
+      go (RunLine job) j is (Err (Stopped SinkFault)) puts =
+          let cut = print-cut tree.told out.told err.told now.told (line_bytes job) (rw is.0 puts.0) in
+          record { found = Ok (RunLine job); judges = j; may = inl tt; front = inl (record { cut = cut.cut; short = λ text. cut.short }) }
+      go (Print text) j is (Err (Stopped NoMemory)) puts = inl (ap (λ o. world tree.told o err.told) puts)
+      go (RunLine job) j is (Err (Stopped NoMemory)) puts = inl (ap (λ o. world tree.told o err.told) puts)
+      go (Print text) j is (Err (Stopped TreeFault)) puts = absurd puts
+      go (RunLine job) j is (Err (Stopped TreeFault)) puts = absurd puts
+      go (Print text) j is (Err (Refused refusal)) puts = absurd puts
+      go (RunLine job) j is (Err (Refused refusal)) puts = absurd puts
+
+  sure_sinks : (r : Result ℕ Halt) → Puts out now bytes code r
+      → IfSome tree.told (λ nodes. SinksSuffice (verdict_on nodes (Ok task)) out.sure err.sure → blame_in r ≡ ASink → ⊥)
+  sure_sinks r puts =
+      of_verdict task tree.told work [] plan (λ nodes v. SinksSuffice v out.sure err.sure → blame_in r ≡ ASink → ⊥) (none_blocked tree.told task none) (all tree.told)
+    where
+      blameless : (r : Result ℕ Halt) → Puts out now bytes code r → length bytes < out.sure → blame_in r ≡ ASink → ⊥
+      blameless (Ok answer) puts less e = cc e
+      blameless (Err (Stopped SinkFault)) puts less e = puts.1 less
+      blameless (Err (Stopped NoMemory)) puts less e = cc e
+      blameless (Err (Stopped TreeFault)) puts less e = puts
+      blameless (Err (Refused refusal)) puts less e = puts
+
+      go : (w : Work) → IsOutput w bytes code → SinksSuffice (Ok w) out.sure err.sure → blame_in r ≡ ASink → ⊥
+      go (Run job) is s = absurd is
+      go (Write texts) is s = absurd is
+      go (Print text) is s = blameless r puts (rw is.0 at s)
+      go (RunLine job) is s = blameless r puts (rw is.0 at s)
+
+      all : (t : Option Nodes) → IfSome t (λ nodes. SinksSuffice (Ok work) out.sure err.sure → blame_in r ≡ ASink → ⊥)
+      all None = tt
+      all (Some nodes) = go work is
+
+  pub does-puts : (r : Result ℕ Halt) → Puts out now bytes code r → Ledger (counts 0 out.faults 0) (counts 0 now.faults 0) (blame_in r)
+      → DoesWork (Ok task) (outside tree out err) (outside tree now err) r
+  does-puts r puts ledger = record {
+    performs = puts_performs r puts;
+    ledger = of_the_out tree.faults out.faults now.faults err.faults (blame_in r) ledger;
+    sure_tree = always tree.told (λ nodes. TreeSuffices (verdict_on nodes (Ok task)) tree.sure nodes) _ (no-tree out.faults now.faults (blame_in r) ledger);
+    sure_sinks = sure_sinks r puts;
+  }

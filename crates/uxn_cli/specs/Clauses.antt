@@ -1,0 +1,129 @@
+-- What each call of the program keeps to, in groups.
+use Rattle.std.specs.Prelude.{◌≡◌, ℕ, ◌≤◌, ◌⊎◌, true, false, List, ◌++◌, map, Option, Some, option_to_list, Result, Ok, IfSome}
+use Rattle.std.specs.List.{list_any}
+use Rattle.std.specs.Str.{bytes_eq}
+use Rattle.uxn_io.specs.Faults.{Rose, Ledger, TheTree, ASink}
+use Rattle.uxn_io.specs.Files.{Nodes, Node, File}
+use Rattle.uxn_io.specs.Outside.{World, changed_by, IsCutOff}
+use Rattle.uxn_io.specs.Told.{extended}
+use Rattle.uxn_opcodes.specs.declared.Stop.{Stop}
+use Rattle.uxn_opcodes.specs.declared.Stop.TheVariants.{NoMemory}
+use Rattle.varvara_bus.specs.Touching.{told_at}
+use Rattle.uxn_cli.specs.declared.refusal.Refusal.{Refusal}
+use Rattle.uxn_cli.specs.Answer.{MayStop, Ends, Answers}
+use Rattle.uxn_cli.specs.Blame.{blame_at, blame_by}
+use Rattle.uxn_cli.specs.Call.{Call, asked_by, OfVerdict}
+use Rattle.uxn_cli.specs.Outside.{Outside}
+use Rattle.uxn_cli.specs.Causes.{IsExactly, verdict_on, EndsWith, KeepsOthers, PutsLine}
+use Rattle.uxn_cli.specs.Isolation.{LookSame, GivesAsOn}
+use Rattle.uxn_cli.specs.Job.{outputs_in}
+use Rattle.uxn_cli.specs.Observation.{HaveSameItems, IsOutcomeButLog}
+use Rattle.uxn_cli.specs.Outcome.{outcome_of}
+use Rattle.uxn_cli.specs.Request.{request}
+use Rattle.uxn_cli.specs.Room.{TreeSuffices, SinksSuffice}
+use Rattle.uxn_cli.specs.Statuses.{Reason, Exits, Refuses, IsEarly, IsRefusing, IsRefusedFor, IsOfWords}
+use Rattle.uxn_cli.specs.Verdict.{Work, Run, Write}
+
+-- the status, the bytes on both outputs and the files are the outcome of what was asked and seen; or the call ended early
+abbrev pub HasItsOutcome : Call → Type 0
+HasItsOutcome c = Answers (asked_by c) c.before.world c.now.world c.status
+
+-- what stands as before
+pub record LeavesTheRest (c : Call) : Type 0 where
+  -- every path that is no output and lies outside the root has its old node
+  pub others : KeepsOthers (asked_by c) c.before.world.files c.now.world.files
+  -- a refusal changes nothing in the tree, puts nothing on the standard output, and one line on the error output
+  pub untouched : IsRefusing c.status → c.now.world.files ≡ c.before.world.files
+  pub quiet : IsRefusing c.status → c.now.world.out ≡ c.before.world.out
+  pub one_line : IsRefusing c.status → PutsLine c.before.world.err c.now.world.err
+
+-- when each status is given, unless the call ends early
+pub record HasStatuses (c : Call) : Type 0 where
+  -- 128 and 129, which hang on the words alone
+  pub asked : (reason : Reason) → IsOfWords reason → IsExactly c.status (Refuses reason) (IsRefusedFor reason (asked_by c))
+  -- every refusal, and every exit code
+  pub refused : OfVerdict c (λ verdict. (reason : Reason) → IsExactly c.status (Refuses reason) (IsRefusedFor reason verdict))
+  pub accepted : OfVerdict c (λ verdict. (code : ℕ) → code ≤ 127 → IsExactly c.status (Exits code) (EndsWith code verdict))
+
+-- why a call ends early
+pub record EndsEarlyByFaults (c : Call) : Type 0 where
+  -- the count of whoever is to blame for the status rose in this call, and no other did
+  pub ledger : Ledger c.before.faults c.now.faults (blame_at c.status)
+  pub tree_fault : c.status ≡ 136 → Rose c.before.faults.tree c.now.faults.tree
+  pub sink_fault : c.status ≡ 137 → Rose c.before.faults.out c.now.faults.out ⊎ Rose c.before.faults.err c.now.faults.err
+  -- what is accepted ends with its exit code, unless a count rose or memory was wanting
+  pub complete : OfVerdict c (λ verdict. (work : Work) → verdict ≡ Ok work → (Rose c.before.faults.tree c.now.faults.tree → ⊥)
+      → (Rose c.before.faults.out c.now.faults.out → ⊥) → (Rose c.before.faults.err c.now.faults.err → ⊥)
+      → (c.status ≡ (outcome_of (Ok work)).status) ⊎ (c.status ≡ 138))
+  -- where memory was wanting all is as it was, but where a debugger watches the run or it takes the names of a folder
+  pub wanting : OfVerdict c (λ verdict. c.status ≡ 138 → (c.now.world ≡ c.before.world) ⊎ MayStop verdict NoMemory)
+
+-- a cut outcome of a verdict: a front of the changes of its outcome was made, perhaps none of them
+abbrev pub IsCutOutcome : Result Work Refusal → World → World → Type 0
+IsCutOutcome verdict before now = IsCutOff before now (outcome_of verdict).changes
+
+-- one text is told to be a front of another
+pub record IsFrontOf (front whole : Option (List ℕ)) : Type 0 where
+  pub rest : List ℕ
+  pub is : whole ≡ extended front rest
+
+-- an output holds what it held, and then a front of what it is to get
+pub record HoldsFront (before now whole : Option (List ℕ)) : Type 0 where
+  pub kept : IsFrontOf before now
+  pub front : IsFrontOf now whole
+
+-- an output that is written whole: each one but the pictures and the samples of a run, which are added to while it goes
+abbrev pub IsWrittenWhole : Result Work Refusal → List ℕ → Type 0
+IsWrittenWhole (Ok (Run job)) path = (list_any (bytes_eq path) (outputs_in job) ≡ true)
+    × (list_any (bytes_eq path) (option_to_list job.frames ++ option_to_list job.samples) ≡ false)
+IsWrittenWhole (Ok (Write texts)) path = list_any (bytes_eq path) (map (λ text. text.path) texts) ≡ true
+IsWrittenWhole _ path = ⊥
+
+-- at a path stands what stood there, or a file with a front of what it is to hold
+abbrev pub HoldsFileFront : Option (Option Node) → Option (Option Node) → Option (Option Node) → Type 0
+HoldsFileFront before now whole = (now ≡ before)
+    ⊎ ((bytes : List ℕ) × (rest : List ℕ) × (now ≡ Some (Some (File bytes))) × (whole ≡ Some (Some (File (bytes ++ rest)))))
+
+-- what stands after an early end
+pub record StandsCutOff (verdict : Result Work Refusal) (before now : World) : Type 0 where
+  -- one of the cut outcomes
+  pub cut : IsCutOutcome verdict before now
+  -- so each output has a front of what the outcome gives it
+  pub out : HoldsFront before.out now.out (changed_by before (outcome_of verdict).changes).out
+  pub err : HoldsFront before.err now.err (changed_by before (outcome_of verdict).changes).err
+  -- and so has each file that is written whole, or it is as it was
+  pub files : (path : List ℕ) → IsWrittenWhole verdict path
+      → HoldsFileFront (told_at path before.files) (told_at path now.files) (told_at path (changed_by before (outcome_of verdict).changes).files)
+
+abbrev pub IsCutShort : Call → Type 0
+IsCutShort c = OfVerdict c (λ verdict. IsEarly c.status → StandsCutOff verdict c.before.world c.now.world)
+
+-- what other calls give the same, unless the call ended early
+pub record GivesTheSame (c : Call) : Type 0 where
+  -- where `debug` comes to its run, `play` with the same items, but for the log
+  pub watched : IfSome c.before.world.files (λ nodes. (others : List (List ℕ)) (work : Work) → HaveSameItems c.words others
+      → verdict_on nodes (asked_by c) ≡ Ok work
+      → IsEarly c.status ⊎ IsOutcomeButLog (asked_by c) (outcome_of (verdict_on nodes (request others))) c.before.world c.now.world c.status)
+  -- the same call over every other tree that looks the same to it
+  pub isolated : IfSome c.before.world.files (λ nodes. (other : Nodes) → LookSame (asked_by c) nodes other
+      → GivesAsOn (asked_by c) nodes other c.before.world c.now.world c.status)
+
+-- where the tree and the sinks surely take what the verdict asks of them, none of them fails
+pub record FailsNotWhereSure (c : Call) : Type 0 where
+  pub tree : IfSome c.before.world.files (λ nodes. TreeSuffices (verdict_on nodes (asked_by c)) c.before.sure.tree nodes → c.status ≡ 136 → ⊥)
+  pub sinks : OfVerdict c (λ verdict. SinksSuffice verdict c.before.sure.out c.before.sure.err → c.status ≡ 137 → ⊥)
+
+-- what a call comes to, from which the rest follows
+pub record ComesOut (c : Call) : Type 0 where
+  pub outcome : HasItsOutcome c
+  pub ledger : Ledger c.before.faults c.now.faults (blame_at c.status)
+  pub sure : FailsNotWhereSure c
+
+-- the same before its status is made: it answered or stopped, and whoever is to blame for a stop has counted it
+pub record AnswersOrStops (words : List (List ℕ)) (before now : Outside) (result : Result ℕ Stop) : Type 0 where
+  pub ends : Ends (request words) before.world now.world result
+  pub ledger : Ledger before.faults now.faults (blame_by result)
+  pub sure_tree : IfSome before.world.files (λ nodes. TreeSuffices (verdict_on nodes (request words)) before.sure.tree nodes
+      → blame_by result ≡ TheTree → ⊥)
+  pub sure_sinks : IfSome before.world.files (λ nodes. SinksSuffice (verdict_on nodes (request words)) before.sure.out before.sure.err
+      → blame_by result ≡ ASink → ⊥)

@@ -1,0 +1,22 @@
+-- What is to be done once all inputs are accepted, as the code holds it.
+use Rattle.std.specs.Prelude.{[], Option, Result, Ok, Err}
+use Rattle.uxn_io.specs.Files.{Nodes}
+use Rattle.uxn_words.specs.declared.task.Task.{Task}
+use Rattle.uxn_cli.specs.declared.work.Work.{Work as HeldWork}
+use Rattle.uxn_cli.specs.declared.work.Work.TheVariants.{Run as RunIt, Write as WriteIt, Print as PrintIt, Join as JoinIt}
+use Rattle.uxn_cli.specs.declared.refusal.Halt.{Halt}
+use Rattle.uxn_cli.specs.Joined.{IsJoined}
+use Rattle.uxn_cli.specs.Outputs.{seen_texts}
+use Rattle.uxn_cli.specs.Prepared.{IsPlanned, IsReadyRun, Unready}
+use Rattle.uxn_cli.specs.Verdict.{Write, Print}
+
+-- it is the work that a task asks for, over what was seen in a tree
+abbrev pub IsWork : Option Nodes → Task → HeldWork → Type 0
+IsWork tree task (RunIt prepared) = IsReadyRun tree task prepared
+IsWork tree task (WriteIt written) = IsPlanned tree task (Write (seen_texts written.outputs.items)) written.source.paths
+IsWork tree task (PrintIt text) = IsPlanned tree task (Print text.items) []
+IsWork tree task (JoinIt joined) = IsJoined tree task joined
+
+abbrev pub Judged : Option Nodes → Task → Result HeldWork Halt → Type 0
+Judged tree task (Ok work) = IsWork tree task work
+Judged tree task (Err halt) = Unready tree task halt

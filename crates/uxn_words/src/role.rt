@@ -1,0 +1,118 @@
+//! The files that options name: what each is for, and what a command does with it.
+ghost use Rattle.std.specs.Prelude.{◌≡◌, ◌<◌};
+ghost use Rattle.uxn_words.specs.Roles.{number_of, option_name, same_access, choice_for};
+ghost use Rattle.option_table.specs.Words.{choice_in};
+
+use option_table::Choice;
+
+/// What a file is for that an option names.
+#[derive(Clone, Copy, Debug, PartialEq, Eq)]
+pub enum Role {
+    /// The file for a ROM.
+    Out,
+    /// The file of a debugger's commands.
+    Commands,
+    /// The file for a debugger's log.
+    Log,
+    /// The file of symbols.
+    Symbols,
+    /// The file for a listing.
+    Listing,
+    /// The file of a script.
+    Script,
+    /// The folder of the program's own files.
+    Root,
+    /// The file for the pictures of a run.
+    Frames,
+    /// The file for the samples of a run.
+    Samples,
+    /// The file for the report of a run.
+    Report,
+}
+
+/// How many roles there are.
+pub(crate) const ROLE_COUNT: usize = 10;
+
+/// All roles, in the order in which their words are judged, which is that of each usage line.
+pub(crate) static ROLES: [Role; ROLE_COUNT] = [
+    Role::Out,
+    Role::Commands,
+    Role::Log,
+    Role::Symbols,
+    Role::Listing,
+    Role::Script,
+    Role::Root,
+    Role::Frames,
+    Role::Samples,
+    Role::Report,
+];
+
+impl Role {
+    /// Its number among all.
+    pub(crate) fn number(self) -> usize
+        ensures number { result ≡ number_of self }
+        ensures range { result < ROLE_COUNT }
+    {
+        self as usize
+    }
+
+    /// The name of its option.
+    pub(crate) fn option_name(self) -> &'static str
+        ensures { result.now ≡ option_name self }
+    {
+        match self {
+            Role::Out => "out",
+            Role::Commands => "commands",
+            Role::Log => "log",
+            Role::Symbols => "symbols",
+            Role::Listing => "listing",
+            Role::Script => "script",
+            Role::Root => "root",
+            Role::Frames => "frames",
+            Role::Samples => "samples",
+            Role::Report => "report",
+        }
+    }
+}
+
+/// What a command does with a file.
+#[derive(Clone, Copy, Debug, PartialEq, Eq)]
+pub enum Access {
+    /// It reads it.
+    Read,
+    /// It writes it.
+    Write,
+    /// It is the folder of the program's own files.
+    Root,
+}
+
+impl Access {
+    /// Whether it is this one.
+    pub(crate) fn is(self, other: Access) -> bool
+        ensures { result ≡ same_access self other }
+    {
+        match self {
+            Access::Read => matches!(other, Access::Read),
+            Access::Write => matches!(other, Access::Write),
+            Access::Root => matches!(other, Access::Root),
+        }
+    }
+}
+
+/// An option of a command that names a file: what the file is for, what the command does with it, and whether the option
+/// has to be given.
+#[derive(Clone, Copy, Debug)]
+pub struct FileOption(pub Role, pub Access, pub bool);
+
+impl FileOption {
+    /// The row of a table of options.
+    pub(crate) fn choice(&self) -> Choice
+        ensures { choice_in result ≡ choice_for self.now }
+    {
+        if self.2 {
+            Choice::Required(self.0.option_name())
+        } else {
+            Choice::Optional(self.0.option_name())
+        }
+    }
+}
