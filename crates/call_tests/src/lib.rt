@@ -6,6 +6,8 @@ mod calls;
 #[cfg(test)]
 mod fault_tests;
 #[cfg(test)]
+mod good_tests;
+#[cfg(test)]
 mod order_tests;
 #[cfg(test)]
 mod outside;

@@ -189,7 +189,7 @@ impl Sink for Output<'_> {
 }
 
 /// Appends to a file.
-#[tactic(auto, using(crate::proofs::Told::told_file))]
+#[tactic(auto, using(uxn_io::specs::KindLaws::told_file))]
 fn append<T: Tree>(tree: &mut T, path: &Path, piece: &[u8]) -> Result<usize, Failed>
     ensures count { IfOk result (λ n. n ≤ length piece.now) }
     ensures some { IfOk result (λ n. 0 < length piece.now → 0 < n) }
@@ -201,7 +201,7 @@ fn append<T: Tree>(tree: &mut T, path: &Path, piece: &[u8]) -> Result<usize, Fai
 }
 
 /// Lists a folder.
-#[tactic(auto, using(crate::proofs::Told::told_folder))]
+#[tactic(auto, using(uxn_io::specs::KindLaws::told_folder))]
 fn names<T: Tree>(alloc: Global, tree: &mut T, path: &Path) -> Result<Vec<Entry>, NamesStop>
     ensures { IfOk result (λ entries. All IsEntry entries.items) }
 {

@@ -1,19 +1,7 @@
 -- The console's ports (Varvara device reference: Console).
-use Rattle.std.specs.Prelude.{ℕ, List, [], ◌∷◌, slice_set}
+use Rattle.std.specs.Prelude.{ℕ, List, slice_set}
 use Rattle.console_port.specs.declared.EventKind.{EventKind}
 use Rattle.console_port.specs.declared.EventKind.TheVariants.{Input, Argument, Spacer, End}
-use Rattle.console_port.specs.declared.Output.{Output}
-use Rattle.console_port.specs.declared.Output.TheVariants.{Standard, Error}
-
--- what a byte puts on the standard output
-abbrev pub to_out : Output → ℕ → List ℕ
-to_out Standard value = value ∷ []
-to_out Error value = []
-
--- what it puts on the error output
-abbrev pub to_err : Output → ℕ → List ℕ
-to_err Standard value = []
-to_err Error value = value ∷ []
 
 -- the kinds of events
 abbrev pub event_byte : EventKind → ℕ

@@ -1,11 +1,11 @@
 //! The console: bytes that a program writes, and the events that it is given. No call takes memory.
 #![tactic(auto)]
 
-ghost use Rattle.std.specs.Prelude.{◌≡◌, ◌+◌, ◌<◌, ◌≤◌, [], ◌∷◌, IsOk, OnOk, OnErr, is_err};
-ghost use Rattle.uxn_io.specs.Faults.{Counted};
-ghost use Rattle.uxn_io.specs.Told.{extended};
+ghost use Rattle.std.specs.Prelude.{◌≡◌, [], ◌∷◌, is_err};
+ghost use Rattle.uxn_io.specs.State.{sink_state};
+ghost use Rattle.uxn_io.specs.Ended.{SinkEnded};
 ghost use Rattle.console_port.specs.declared.Output.TheVariants.{Standard, Error};
-ghost use Rattle.console_port.specs.Console.{to_out, to_err, event_byte, given};
+ghost use Rattle.console_port.specs.Console.{event_byte, given};
 
 use uxn_io::{Failed, Sink};
 
@@ -58,18 +58,10 @@ pub fn console_write<O: Sink, E: Sink>(
     output: Output,
     value: u8,
 ) -> Result<(), Failed>
-    ensures out { OnOk result (O.told out.new ≡ extended (O.told out.old) (to_out output value)) }
-    ensures err { OnOk result (E.told err.new ≡ extended (E.told err.old) (to_err output value)) }
-    ensures out_failed { OnErr result (O.told out.new ≡ O.told out.old) }
-    ensures err_failed { OnErr result (E.told err.new ≡ E.told err.old) }
+    ensures standard { output ≡ Standard → SinkEnded (value ∷ []) (is_err result) (sink_state O.Sink out.old) (sink_state O.Sink out.new) }
+    ensures error { output ≡ Error → SinkEnded (value ∷ []) (is_err result) (sink_state E.Sink err.old) (sink_state E.Sink err.new) }
     ensures out_alone { output ≡ Standard → err.new ≡ err.old }
     ensures err_alone { output ≡ Error → out.new ≡ out.old }
-    ensures out_ledger { output ≡ Standard → Counted (O.faults out.old) (O.faults out.new) (is_err result) }
-    ensures err_ledger { output ≡ Error → Counted (E.faults err.old) (E.faults err.new) (is_err result) }
-    ensures out_sure { output ≡ Standard → 1 < O.sure out.old → IsOk result }
-    ensures err_sure { output ≡ Error → 1 < E.sure err.old → IsOk result }
-    ensures out_left { output ≡ Standard → OnOk result (O.sure out.old ≤ O.sure out.new + 1) }
-    ensures err_left { output ≡ Error → OnOk result (E.sure err.old ≤ E.sure err.new + 1) }
 {
     match output {
         Output::Standard => put_byte(out, value),
@@ -79,11 +71,7 @@ pub fn console_write<O: Sink, E: Sink>(
 
 /// Puts one byte. After `Failed` the sink has taken nothing.
 fn put_byte<S: Sink>(sink: &mut S, value: u8) -> Result<(), Failed>
-    ensures ok { OnOk result (S.told sink.new ≡ extended (S.told sink.old) (value ∷ [])) }
-    ensures err { OnErr result (S.told sink.new ≡ S.told sink.old) }
-    ensures ledger { Counted (S.faults sink.old) (S.faults sink.new) (is_err result) }
-    ensures sure { 1 < S.sure sink.old → IsOk result }
-    ensures left { OnOk result (S.sure sink.old ≤ S.sure sink.new + 1) }
+    ensures { SinkEnded (value ∷ []) (is_err result) (sink_state S.Sink sink.old) (sink_state S.Sink sink.new) }
 {
     sink.put(&[value])?;
     Ok(())

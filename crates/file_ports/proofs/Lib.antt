@@ -2,6 +2,4 @@ pub mod MemoryLemmas
 pub mod NameLemmas
 pub mod SignLemmas
 pub mod ReadLemmas
-pub mod ActLemmas
-pub mod WriteLemmas
-pub mod RoomLemmas
+pub mod ChangeLemmas

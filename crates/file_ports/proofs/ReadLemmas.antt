@@ -1,6 +1,5 @@
 -- A file is read chunk after chunk.
 use Rattle.std.proofs.Common.{◌≡◌, ℕ, ◌+◌, ◌<◌, ◌≤◌, List, [], ◌∷◌, ◌++◌, length, take, drop, Option, Some, None, IfSome, refl, ap, sym, subst, ◌∙◌, arith}
-use Rattle.std.specs.Prelude.{Result, Ok, Err, OnErr}
 use Rattle.std.specs.Option.{option_map}
 use Rattle.std.proofs.lemmas.List.{length-take, length-append, length-drop, drop-drop, take_all, take-take}
 use Rattle.std.proofs.Math.Seq.{take-add}
@@ -64,6 +63,11 @@ told_end (Some nodes) told_now path old memory before into place at done n count
     piece_end old memory (bytes_from nodes path place) (bytes_from nodes path (place + done)) at done count so_far (later_is (bytes_at nodes path) place done)
     (none_left (bytes_from nodes path (place + done)) before into room reads) within
 
+-- nothing was read so far
+pub gives_nothing : (told : Option Nodes) (memory : List ℕ) (at : ℕ) → IfSome told (λ nodes. GivesPiece [] memory at 0 memory)
+gives_nothing None memory at = tt
+gives_nothing (Some nodes) memory at = record { count = refl; memory = sym (with_nothing memory at) }
+
 -- so many bytes were put in memory, whatever they are
 pub record HasPut (before : List ℕ) (at done : ℕ) (now : List ℕ) : Type 0 where
   pub put : List ℕ
@@ -77,11 +81,6 @@ put_more old memory now piece at done n room so_far size put = record {
   count = omega (arith, length-append so_far.put piece, so_far.count, size);
   memory = put ∙ (λ i. with_bytes (so_far.memory i) (at + sym so_far.count i) piece) ∙ with_more old at so_far.put piece room;
 }
-
--- what holds holds after a stop
-pub on_stop : {A E : Type 0} (result : Result A E) (P : Type 0) → P → OnErr result P
-on_stop (Ok value) P holds = tt
-on_stop (Err stop) P holds = holds
 
 -- nothing was put
 pub puts_nothing : (told : Option (List ℕ)) (most at : ℕ) (memory : List ℕ) → PutsFront told most memory at memory

@@ -1,21 +1,22 @@
 -- Laws of the actions: they change nothing outside the root part, and a device goes on to suit its root.
 use Rattle.std.specs.Prelude.{◌≡◌, ℕ, Bool, true, false, not, ◌&&◌, ◌||◌, List, [], ◌∷◌, ◌++◌, take, drop, map as list_map}
-use Rattle.std.specs.Prelude.{Option, Some, None, IsTrue, if◌then◌else◌}
+use Rattle.std.specs.Prelude.{Option, Some, None, Result, Ok, Err, IsTrue, if◌then◌else◌}
 use Rattle.std.specs.Option.{option_map}
 use Rattle.std.specs.FinMap as map
 use Rattle.std.proofs.Common.{refl, ap, sym, subst, ◌∙◌}
 use Rattle.uxn_io.specs.PathText.{parent_of}
 use Rattle.uxn_io.specs.Files.{Nodes, is_folder, is_folder_at}
-use Rattle.uxn_io.specs.Outside.{Change, ToOut, ToErr, Creates, ToFile, Removes, World, changed_files, changed, changed_by}
-use Rattle.uxn_io.specs.Outside.{files_by, IsCutOff}
+use Rattle.uxn_io.specs.Outside.{Change, ToOut, ToErr, Creates, ToFile, Removes, changed_files, files_by}
 use Rattle.uxn_memory.specs.Bytes.{bank0}
-use Rattle.file_ports.specs.RootPart.{is_in, LiesIn, parent_is_folder, path_changed, is_in_part, IsIn, LieIn}
+use Rattle.file_ports.specs.RootPart.{is_in, LiesIn, below, parent_is_folder, path_changed, is_in_part, IsIn, LieIn}
 use Rattle.file_ports.specs.Device.{FileState, idle_at, suits, Suits, is_writing}
 use Rattle.file_ports.specs.Actions.{FileAction, Outcome, Name, Read, Write, Stat, Delete, is_file, begun, adds, quiet, acts}
-use Rattle.file_ports.specs.Actions.{act, seen_in, count_from}
-use Rattle.file_ports.specs.Answers.{HasMadeFront}
+use Rattle.file_ports.specs.Actions.{act, seen_in, seen_of, count_from}
+use Rattle.file_ports.specs.Answers.{outcome_of, changes_untold, changes_by, device_left, ActedOrStopped}
+use Rattle.file_ports.specs.declared.stop.FileStop.{FileStop}
+use Rattle.uxn_io.specs.Ended.{IsOfTree, AreOfTree}
 use Rattle.file_ports.specs.BeneathLaws.{is_in-Decides, parent_outside}
-use Rattle.file_ports.specs.PartLaws.{changed_elsewhere, named-suits}
+use Rattle.file_ports.specs.PartLaws.{changed_elsewhere, named-suits, outcome-same}
 
 pub lie-front : (root : Option (List ℕ)) (first more : List Change) → LieIn root (first ++ more) → LieIn root first
 lie-front root [] more lie = tt
@@ -144,43 +145,73 @@ pub parent-kept : (root : Option (List ℕ)) (changes : List Change) (nodes : No
 parent-kept None changes nodes lie = refl
 parent-kept (Some root) changes nodes lie = parent_same root (parent_of root) changes nodes refl lie
 
--- changes of files as changes of a world
+-- changes in the root part touch files alone
 no_output : (root : Option (List ℕ)) → IsTrue (is_in_part root None) → ⊥
 no_output None lies = cc
 no_output (Some root) lies = cc
 
-one_change : (root : Option (List ℕ)) (world : World) (change : Change) → IsIn root change
-    → changed world change ≡ record world { files = option_map (changed_files change) world.files }
-one_change root world (ToOut byte) lies = absurd (no_output root lies)
-one_change root world (ToErr byte) lies = absurd (no_output root lies)
-one_change root world (Creates path) lies = refl
-one_change root world (ToFile path byte) lies = refl
-one_change root world (Removes path) lies = refl
+one-of-tree : (root : Option (List ℕ)) (change : Change) → IsIn root change → IsOfTree change
+one-of-tree root (ToOut byte) lies = no_output root lies
+one-of-tree root (ToErr byte) lies = no_output root lies
+one-of-tree root (Creates path) lies = tt
+one-of-tree root (ToFile path byte) lies = tt
+one-of-tree root (Removes path) lies = tt
 
-made_by : (root out err : Option (List ℕ)) (nodes : Nodes) (changes : List Change) → LieIn root changes
-    → record { out = out; err = err; files = Some (files_by nodes changes) }
-    ≡ changed_by (record { out = out; err = err; files = Some nodes }) changes
-made_by root out err nodes [] lie = refl
-made_by root out err nodes (change ∷ changes) lie =
-    made_by root out err (changed_files change nodes) changes lie.1
-    ∙ ap (λ (w : World). changed_by w changes) (sym (one_change root (record { out = out; err = err; files = Some nodes }) change lie.0))
+pub of-tree : (root : Option (List ℕ)) (changes : List Change) → LieIn root changes → AreOfTree changes
+of-tree root [] lie = tt
+of-tree root (change ∷ changes) lie = (one-of-tree root change lie.0, of-tree root changes lie.1)
 
-pub made-files : (root : Option (List ℕ)) (world : World) (nodes : Nodes) (now : Option Nodes) (changes : List Change)
-    → LieIn root changes → world.files ≡ Some nodes → now ≡ Some (files_by nodes changes)
-    → record world { files = now } ≡ changed_by world changes
-made-files root world nodes now changes lie told made =
-    ap (λ (o : Option Nodes). record world { files = o }) made
-    ∙ made_by root world.out world.err nodes changes lie
-    ∙ ap (λ (o : Option Nodes). changed_by (record world { files = o }) changes) (sym told)
+-- so do those of a call
+changes-at : (action : FileAction) (root : Option (List ℕ)) (nodes : Nodes) (device : FileState) (memory : List ℕ)
+    → (acts action None device memory (option_map (seen_of nodes) device.path)).changes
+    ≡ (acts action root device memory (option_map (seen_of nodes) device.path)).changes
+changes-at (Name at) root nodes device memory = refl
+changes-at (Read at length) root nodes device memory = refl
+changes-at (Write at length keep) root nodes device memory = refl
+changes-at (Stat at length) root nodes device memory = refl
+changes-at Delete root nodes device memory = refl
 
-pub cut-files : (root : Option (List ℕ)) (world : World) (nodes : Nodes) (now : Option Nodes) (changes : List Change) → LieIn root changes
-    → world.files ≡ Some nodes → HasMadeFront changes nodes now
-    → IsCutOff world (record world { files = now }) changes
-cut-files root world nodes now changes lie told front = record {
-  made = front.made;
-  rest = front.rest;
-  parts = front.parts;
-  left =
-      let P : List Change → Type 0 = λ z. LieIn root z in
-      made-files root world nodes now front.made (lie-front root front.made front.rest (subst P front.parts lie)) told front.told;
-}
+pub changes-of : (action : FileAction) (root : Option (List ℕ)) (nodes : Nodes) (device : FileState) (memory : List ℕ) → Suits root device
+    → changes_by action (Some nodes) device memory ≡ (outcome_of action root nodes device memory).changes
+changes-of action root nodes device memory suits =
+    changes-at action root nodes device memory
+    ∙ ap (λ (outcome : Outcome). outcome.changes) (sym (outcome-same action root nodes device memory suits))
+
+untold-lies : (action : FileAction) (root path : Option (List ℕ)) → IsTrue (suits root path) → LieIn root (changes_untold action path)
+untold-lies (Name at) root path lies = tt
+untold-lies (Read at length) root path lies = tt
+untold-lies (Write at length keep) root None lies = tt
+untold-lies (Write at length keep) root (Some path) lies = (in_part root path lies, tt)
+untold-lies (Stat at length) root path lies = tt
+untold-lies Delete root path lies = tt
+
+pub changes-lie : (action : FileAction) (root : Option (List ℕ)) (told : Option Nodes) (device : FileState) (memory : List ℕ) → Suits root device
+    → LieIn root (changes_by action told device memory)
+changes-lie action root None device memory suits = untold-lies action root device.path suits
+changes-lie action root (Some nodes) device memory suits =
+    subst (LieIn root) (sym (changes-of action root nodes device memory suits))
+    (act-lies action root (below root nodes) (parent_is_folder root nodes) device memory suits)
+
+-- without a root there are none
+pub lie-none : (changes : List Change) → LieIn None changes → changes ≡ []
+lie-none [] lie = refl
+lie-none (change ∷ changes) lie = absurd (nowhere (path_changed change) lie.0)
+  where
+    nowhere : (path : Option (List ℕ)) → IsTrue (is_in_part None path) → ⊥
+    nowhere None lies = cc
+    nowhere (Some path) lies = cc
+
+-- a device keeps its path
+left-at : (action : FileAction) (device : FileState) → (device_left action device).path ≡ device.path
+left-at (Name at) device = refl
+left-at (Read at length) device = refl
+left-at (Write at length keep) device = refl
+left-at (Stat at length) device = refl
+left-at Delete device = refl
+
+pub path-kept : (action : FileAction) (device : FileState) (memory : List ℕ) (told : Option Nodes) (result : Result ℕ FileStop)
+    (device_now : FileState) (memory_now : List ℕ) → ActedOrStopped action device memory told result device_now memory_now
+    → device_now.path ≡ device.path
+path-kept action device memory told (Ok success) device_now memory_now acted = acted.path
+path-kept action device memory told (Err stop) device_now memory_now stopped =
+    ap (λ (d : FileState). d.path) stopped.device ∙ left-at action device

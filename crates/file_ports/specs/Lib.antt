@@ -9,4 +9,5 @@ pub mod Answers
 pub mod BeneathLaws
 pub mod PartLaws
 pub mod ActLaws
+pub mod CallLaws
 pub mod OutsideLaws

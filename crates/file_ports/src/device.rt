@@ -1,12 +1,12 @@
 //! A file device.
-ghost use Rattle.std.specs.Prelude.{◌≡◌, ℕ, ◌+◌, ◌<◌, ◌≤◌, List, false, None, Err, OnOk, OnErr};
+ghost use Rattle.std.specs.Prelude.{◌≡◌, ℕ, ◌+◌, ◌≤◌, List, None};
 ghost use Rattle.std.specs.Option.{option_copied};
-ghost use Rattle.uxn_io.specs.Faults.{Counted};
-ghost use Rattle.uxn_io.specs.Room.{Leaves};
+ghost use Rattle.uxn_io.specs.State.{tree_state};
+ghost use Rattle.uxn_io.specs.Ended.{TreeEnded, TreeLooked};
 ghost use Rattle.file_ports.specs.Device.{idle_at, Suits};
 ghost use Rattle.file_ports.specs.Names.{path_named};
 ghost use Rattle.file_ports.specs.Actions.{Read, Write, Stat, Delete, count_from};
-ghost use Rattle.file_ports.specs.Answers.{Acted, ActedNowhere, CutOff, HasReadFront, TakesNames, TakesSurely, LeavesSurely, has_failed};
+ghost use Rattle.file_ports.specs.Answers.{changes_by, ActedOrStopped, has_failed};
 
 use crate::mode::Mode;
 use crate::names::path_named;
@@ -75,19 +75,9 @@ impl FileDevice {
         at: u16,
         length: u16,
     ) -> Result<u16, FileStop>
-        ensures ok { OnOk result (Acted (Read at length) self.old memory.old (T.told tree.old) (T.told tree.new) result self.new memory.new) }
-        ensures nowhere { ActedNowhere (Read at length) self.old memory.old result self.new memory.new }
+        ensures tree { TreeLooked (has_failed result) (tree_state T.Tree tree.old) (tree_state T.Tree tree.new) }
+        ensures acted { ActedOrStopped (Read at length) self.old memory.old (T.told tree.old) result self.new memory.new }
         ensures untouched { self.old.path ≡ None → tree.new ≡ tree.old }
-        ensures same { T.told tree.new ≡ T.told tree.old }
-        ensures names { result ≡ Err FileStop.NoMemory → TakesNames self.old (T.told tree.old) }
-        ensures front { OnErr result (HasReadFront at length self.old memory.old (T.told tree.old) memory.new) }
-        ensures stopped { OnErr result (self.new ≡ idle_at self.old.path) }
-        ensures path { self.new.path ≡ self.old.path }
-        ensures ledger { Counted (T.faults tree.old) (T.faults tree.new) (has_failed result) }
-        ensures asked { 0 < (T.sure tree.old).files → has_failed result ≡ false }
-        ensures kept { has_failed result ≡ false → Leaves (T.sure tree.old) (T.sure tree.new) 0 0 }
-        ensures sure { TakesSurely (Read at length) self.old memory.old (T.told tree.old) (T.sure tree.old) (has_failed result) }
-        ensures left { LeavesSurely (Read at length) self.old memory.old (T.told tree.old) (T.sure tree.old) (T.sure tree.new) (has_failed result) }
     {
         match self.path {
             Some(path) => {
@@ -111,17 +101,10 @@ impl FileDevice {
         length: u16,
         keep: bool,
     ) -> Result<u16, FileStop>
-        ensures ok { OnOk result (Acted (Write at length keep) self.old memory.now (T.told tree.old) (T.told tree.new) result self.new memory.now) }
-        ensures err { OnErr result (CutOff (Write at length keep) self.old memory.now (T.told tree.old) (T.told tree.new)) }
-        ensures untold { T.told tree.old ≡ None → T.told tree.new ≡ None }
-        ensures nowhere { ActedNowhere (Write at length keep) self.old memory.now result self.new memory.now }
+        ensures tree { TreeEnded (changes_by (Write at length keep) (T.told tree.old) self.old memory.now) (has_failed result)
+            (tree_state T.Tree tree.old) (tree_state T.Tree tree.new) }
+        ensures acted { ActedOrStopped (Write at length keep) self.old memory.now (T.told tree.old) result self.new memory.now }
         ensures untouched { self.old.path ≡ None → tree.new ≡ tree.old }
-        ensures fault { OnErr result (result ≡ Err FileStop.TreeFault) }
-        ensures stopped { OnErr result (self.new ≡ idle_at self.old.path) }
-        ensures path { self.new.path ≡ self.old.path }
-        ensures ledger { Counted (T.faults tree.old) (T.faults tree.new) (has_failed result) }
-        ensures sure { TakesSurely (Write at length keep) self.old memory.now (T.told tree.old) (T.sure tree.old) (has_failed result) }
-        ensures left { LeavesSurely (Write at length keep) self.old memory.now (T.told tree.old) (T.sure tree.old) (T.sure tree.new) (has_failed result) }
     {
         match self.path {
             Some(path) => {
@@ -146,18 +129,10 @@ impl FileDevice {
         at: u16,
         length: u16,
     ) -> Result<u16, FileStop>
-        ensures ok { OnOk result (Acted (Stat at length) self.old memory.old (T.told tree.old) (T.told tree.new) result self.new memory.new) }
-        ensures nowhere { ActedNowhere (Stat at length) self.old memory.old result self.new memory.new }
+        ensures tree { TreeLooked (has_failed result) (tree_state T.Tree tree.old) (tree_state T.Tree tree.new) }
+        ensures acted { ActedOrStopped (Stat at length) self.old memory.old (T.told tree.old) result self.new memory.new }
         ensures untouched { self.old.path ≡ None → tree.new ≡ tree.old }
-        ensures same { T.told tree.new ≡ T.told tree.old }
-        ensures fault { OnErr result (result ≡ Err FileStop.TreeFault) }
-        ensures stopped { OnErr result (memory.new ≡ memory.old) }
         ensures device { self.new ≡ self.old }
-        ensures ledger { Counted (T.faults tree.old) (T.faults tree.new) (has_failed result) }
-        ensures asked { 0 < (T.sure tree.old).files → has_failed result ≡ false }
-        ensures kept { has_failed result ≡ false → Leaves (T.sure tree.old) (T.sure tree.new) 0 0 }
-        ensures sure { TakesSurely (Stat at length) self.old memory.old (T.told tree.old) (T.sure tree.old) (has_failed result) }
-        ensures left { LeavesSurely (Stat at length) self.old memory.old (T.told tree.old) (T.sure tree.old) (T.sure tree.new) (has_failed result) }
     {
         let count = count_from(at, length);
         if let Some(path) = self.path {
@@ -169,19 +144,10 @@ impl FileDevice {
 
     /// Takes the file away, and answers 1, or 0 where none is there. The device does nothing then.
     pub fn delete<T: Tree>(&mut self, tree: &mut T) -> Result<u16, FileStop>
-        ensures ok { OnOk result ((memory : List ℕ) → Acted Delete self.old memory (T.told tree.old) (T.told tree.new) result self.new memory) }
-        ensures err { OnErr result ((memory : List ℕ) → CutOff Delete self.old memory (T.told tree.old) (T.told tree.new)) }
-        ensures untold { T.told tree.old ≡ None → T.told tree.new ≡ None }
-        ensures nowhere { (memory : List ℕ) → ActedNowhere Delete self.old memory result self.new memory }
+        ensures tree { (memory : List ℕ) → TreeEnded (changes_by Delete (T.told tree.old) self.old memory) (has_failed result)
+            (tree_state T.Tree tree.old) (tree_state T.Tree tree.new) }
+        ensures acted { (memory : List ℕ) → ActedOrStopped Delete self.old memory (T.told tree.old) result self.new memory }
         ensures untouched { self.old.path ≡ None → tree.new ≡ tree.old }
-        ensures fault { OnErr result (result ≡ Err FileStop.TreeFault) }
-        ensures stopped { OnErr result (self.new ≡ idle_at self.old.path) }
-        ensures path { self.new.path ≡ self.old.path }
-        ensures ledger { Counted (T.faults tree.old) (T.faults tree.new) (has_failed result) }
-        ensures asked { 0 < (T.sure tree.old).files → has_failed result ≡ false }
-        ensures kept { has_failed result ≡ false → Leaves (T.sure tree.old) (T.sure tree.new) 0 0 }
-        ensures sure { (memory : List ℕ) → TakesSurely Delete self.old memory (T.told tree.old) (T.sure tree.old) (has_failed result) }
-        ensures left { (memory : List ℕ) → LeavesSurely Delete self.old memory (T.told tree.old) (T.sure tree.old) (T.sure tree.new) (has_failed result) }
     {
         match self.path {
             Some(path) => {

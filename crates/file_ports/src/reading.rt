@@ -1,10 +1,10 @@
 //! Reads: of a file, and of a folder's listing.
-ghost use Rattle.std.specs.Prelude.{◌≡◌, ℕ, ◌+◌, ◌-◌, ◌^◌, ◌<◌, ◌≤◌, false, take, drop, IfOk, IfSome, IsOk, OnOk, OnErr, Err, is_err, min};
+ghost use Rattle.std.specs.Prelude.{◌≡◌, ℕ, ◌+◌, ◌-◌, ◌^◌, ◌<◌, ◌≤◌, false, take, drop, IfOk, IfSome, OnErr, Err, is_err, min};
 ghost use Rattle.std.specs.Option.{option_map};
-ghost use Rattle.uxn_io.specs.Faults.{Counted};
 ghost use Rattle.uxn_io.specs.Files.{bytes_from, kind_at};
 ghost use Rattle.uxn_io.specs.Children.{children};
-ghost use Rattle.uxn_io.specs.Room.{Leaves};
+ghost use Rattle.uxn_io.specs.State.{tree_state};
+ghost use Rattle.uxn_io.specs.Ended.{TreeLooked};
 ghost use Rattle.file_ports.specs.Device.{is_reading};
 ghost use Rattle.file_ports.specs.Listing.{listing_of};
 ghost use Rattle.file_ports.specs.Place.{last_place};
@@ -24,10 +24,7 @@ const CHUNK: usize = 4096;
 /// What a device does that looks at its path to read what is there.
 fn look<T: Tree>(alloc: Global, tree: &mut T, path: &Path) -> Result<Mode, FileStop>
     ensures mode { IfOk result (λ mode. IfSome (T.told tree.old) (λ nodes. mode ≡ looked (kind_at nodes path.now) (children nodes path.now))) }
-    ensures same { T.told tree.new ≡ T.told tree.old }
-    ensures ledger { Counted (T.faults tree.old) (T.faults tree.new) (has_failed result) }
-    ensures sure { 0 < (T.sure tree.old).files → has_failed result ≡ false }
-    ensures left { has_failed result ≡ false → Leaves (T.sure tree.old) (T.sure tree.new) 0 0 }
+    ensures tree { TreeLooked (has_failed result) (tree_state T.Tree tree.old) (tree_state T.Tree tree.new) }
     ensures folder { result ≡ Err FileStop.NoMemory → IfSome (T.told tree.old) (λ nodes. kind_at nodes path.now ≡ Kind.Folder) }
 {
     match tree.kind(path)? {
@@ -44,10 +41,7 @@ fn look<T: Tree>(alloc: Global, tree: &mut T, path: &Path) -> Result<Mode, FileS
 fn list<T: Tree>(alloc: Global, tree: &mut T, folder: &Path) -> Result<Listing, FileStop>
     requires { IfSome (T.told tree.old) (λ nodes. kind_at nodes folder.now ≡ Kind.Folder) }
     ensures listing { IfOk result (λ listing. IfSome (T.told tree.old) (λ nodes. listing ≡ listing_of (children nodes folder.now))) }
-    ensures same { T.told tree.new ≡ T.told tree.old }
-    ensures ledger { Counted (T.faults tree.old) (T.faults tree.new) (has_failed result) }
-    ensures sure { 0 < (T.sure tree.old).files → has_failed result ≡ false }
-    ensures left { has_failed result ≡ false → Leaves (T.sure tree.old) (T.sure tree.new) 0 0 }
+    ensures tree { TreeLooked (has_failed result) (tree_state T.Tree tree.old) (tree_state T.Tree tree.new) }
 {
     match tree.names(alloc, folder) {
         Ok(entries) => {
@@ -67,10 +61,7 @@ pub(crate) fn reading<T: Tree>(
     mode: Mode,
 ) -> Result<Mode, FileStop>
     ensures mode { IfOk result (λ now. IfSome (T.told tree.old) (λ nodes. now ≡ reading mode (seen_of nodes path.now))) }
-    ensures same { T.told tree.new ≡ T.told tree.old }
-    ensures ledger { Counted (T.faults tree.old) (T.faults tree.new) (has_failed result) }
-    ensures sure { 0 < (T.sure tree.old).files → has_failed result ≡ false }
-    ensures left { has_failed result ≡ false → Leaves (T.sure tree.old) (T.sure tree.new) 0 0 }
+    ensures tree { TreeLooked (has_failed result) (tree_state T.Tree tree.old) (tree_state T.Tree tree.new) }
     ensures looks { result ≡ Err FileStop.NoMemory → is_reading mode ≡ false }
     ensures folder { result ≡ Err FileStop.NoMemory → IfSome (T.told tree.old) (λ nodes. kind_at nodes path.now ≡ Kind.Folder) }
 {
@@ -96,10 +87,7 @@ pub(crate) fn read_on<T: Tree>(
     ensures mode { IfOk result (λ read. read.1 ≡ moved mode read.0) }
     ensures stopped { OnErr result (PutsFront (option_map (λ nodes. given mode (seen_of nodes path.now) count) (T.told tree.old))
         count memory.old at memory.new) }
-    ensures same { T.told tree.new ≡ T.told tree.old }
-    ensures ledger { Counted (T.faults tree.old) (T.faults tree.new) (is_err result) }
-    ensures sure { 0 < (T.sure tree.old).files → IsOk result }
-    ensures left { OnOk result (Leaves (T.sure tree.old) (T.sure tree.new) 0 0) }
+    ensures tree { TreeLooked (is_err result) (tree_state T.Tree tree.old) (tree_state T.Tree tree.new) }
 {
     match mode {
         Mode::Idle => Ok((0, Mode::Idle)),
@@ -158,10 +146,7 @@ fn put_file<T: Tree>(
     ensures within { IfOk result (λ n. n ≤ count) }
     ensures stopped { OnErr result (PutsFront (option_map (λ nodes. take count (bytes_from nodes path.now place)) (T.told tree.old))
         count memory.old at memory.new) }
-    ensures same { T.told tree.new ≡ T.told tree.old }
-    ensures ledger { Counted (T.faults tree.old) (T.faults tree.new) (is_err result) }
-    ensures sure { 0 < (T.sure tree.old).files → IsOk result }
-    ensures left { OnOk result (Leaves (T.sure tree.old) (T.sure tree.new) 0 0) }
+    ensures tree { TreeLooked (is_err result) (tree_state T.Tree tree.old) (tree_state T.Tree tree.new) }
 {
     memory.known();
     let mut chunk = [0; CHUNK];

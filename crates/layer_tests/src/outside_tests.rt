@@ -163,7 +163,7 @@ enum Call<'a> {
 }
 
 /// Appends to a file.
-#[tactic(auto, using(crate::proofs::Told::told_file))]
+#[tactic(auto, using(uxn_io::specs::KindLaws::told_file))]
 fn append<T: Tree>(tree: &mut T, path: &Path, piece: &[u8]) -> Result<usize, Failed> {
     match tree.kind(path)? {
         Kind::File(_) => tree.append(path, piece),
@@ -172,7 +172,7 @@ fn append<T: Tree>(tree: &mut T, path: &Path, piece: &[u8]) -> Result<usize, Fai
 }
 
 /// Appends all of a piece to a file.
-#[tactic(auto, using(crate::proofs::Told::told_file))]
+#[tactic(auto, using(uxn_io::specs::KindLaws::told_file))]
 fn append_whole<T: Tree>(tree: &mut T, path: &Path, piece: &[u8]) -> Result<(), Failed> {
     match tree.kind(path)? {
         Kind::File(_) => append_all(tree, path, piece),
@@ -181,7 +181,7 @@ fn append_whole<T: Tree>(tree: &mut T, path: &Path, piece: &[u8]) -> Result<(), 
 }
 
 /// Lists a folder.
-#[tactic(auto, using(crate::proofs::Told::told_folder))]
+#[tactic(auto, using(uxn_io::specs::KindLaws::told_folder))]
 fn names<T: Tree>(alloc: Global, tree: &mut T, path: &Path) -> Result<Vec<Entry>, NamesStop> {
     match tree.kind(path) {
         Ok(Kind::Folder) => tree.names(alloc, path),

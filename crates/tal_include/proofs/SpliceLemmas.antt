@@ -1,6 +1,6 @@
 -- What splicing a source comes to, by what its walk comes to.
 use Rattle.std.proofs.Common.{◌≡◌, ℕ, zero, suc, ◌+◌, Bool, List, [], ◌∷◌, length, ap, sym, ◌∙◌, subst, arith, IfSome}
-use Rattle.std.proofs.Common.{Option, Some, None, Result, Ok, Err}
+use Rattle.std.proofs.Common.{Option, Some, None, Result, Err}
 use Rattle.std.specs.List.{AllByRecursion, list_any}
 use Rattle.uxn_io.specs.Files.{Nodes}
 use Rattle.uxn_io.specs.declared.trees.FileBytes.{FileBytes}
@@ -9,11 +9,12 @@ use Rattle.tal_words.specs.declared.span.Word.{Word}
 use Rattle.tal_words.specs.Source.{word_text}
 use Rattle.tal_words.specs.Comments.{words_of}
 use Rattle.tal_include.specs.declared.faults.SpliceStop.{SpliceStop}
+use Rattle.tal_include.specs.declared.splicing.Cut.{Cut}
 use Rattle.tal_include.specs.Flat.{Flat, empty_flat}
 use Rattle.tal_include.specs.Includes.{is_include}
-use Rattle.tal_include.specs.Splice.{Reading, through_words, has_includes, spliced}
+use Rattle.tal_include.specs.Splice.{Outcome, Reading, through_words, has_includes, spliced}
 use Rattle.tal_include.specs.Answers.{Gives, told_reading}
-use Rattle.tal_include.specs.Parts.{Read, IsTold, Agrees, Along, IsCut, inner_walk}
+use Rattle.tal_include.specs.Parts.{Read, IsTold, Agrees, Along, IsCutTo, IsCut, inner_walk}
 use Rattle.tal_include.proofs.ReadLemmas.{no_read, along_more}
 use Rattle.tal_include.proofs.WalkLemmas.{walk_is, faultless_is, not_cut, gives_along}
 
@@ -56,7 +57,7 @@ told_holds (Some nodes) before Many Holds along = along.along (told_reading node
 
 -- the main source has a fault of words
 pub main_faulty : {X : Type 0} (view : X → Flat) (tree : Option Nodes) (main source : List ℕ) (stop : SpliceStop)
-    → IsCut (λ (ws : List Word). ws) main source (Err stop)
+    → IsCut main source (Err stop)
     → Along tree 0 (λ count. Unit {0}) (λ reading. Gives view (Err stop) (spliced reading main source))
 main_faulty view tree main source stop cut =
     no_read tree 0 _ _ tt
@@ -65,22 +66,23 @@ main_faulty view tree main source stop cut =
     (walk_is reading 15 main source (empty_flat main (has_includes source))))
 
 -- the main source was cut and gone through
-pub main_whole : {X : Type 0} (view : X → Flat) (tree : Option Nodes) (main source : List ℕ) (words given : List Word) (includes : Bool) (flat : Flat)
-    (result : Result X SpliceStop) (Many : ℕ → Type 0) → IsCut (λ (ws : List Word). ws) main source (Ok words) → given ≡ words
-    → includes ≡ list_any (λ word. is_include (word_text source word)) given → flat ≡ empty_flat main includes
-    → Along tree (length flat.paths) Many (λ reading. Gives view result (through_words reading 15 (inner_walk reading 15) main source given flat))
+pub main_whole : {X : Type 0} (view : X → Flat) (tree : Option Nodes) (main source : List ℕ) (file : Cut) (includes : Bool) (flat : Flat)
+    (result : Result X SpliceStop) (Many : ℕ → Type 0) → IsCutTo main source file
+    → includes ≡ list_any (λ word. is_include (word_text source word)) file.words.items → flat ≡ empty_flat main includes
+    → Along tree (length flat.paths) Many
+    (λ reading. Gives view result (through_words reading 15 (inner_walk reading 15) file.path.now file.source.now file.words.items flat))
     → Along tree 0 (λ count. Unit {0}) (λ reading. Gives view result (spliced reading main source))
-main_whole view tree main source words given includes flat result Many cut is_given is_includes is_flat along =
+main_whole view tree main source file includes flat result Many cut is_includes is_flat along =
+    let through : Reading → Flat → Outcome =
+    λ reading flat. through_words reading 15 (inner_walk reading 15) file.path.now file.source.now file.words.items flat in
     let none : length flat.paths ≡ 0 = ap (λ (f : Flat). length f.paths) is_flat in
     let listed : has_includes source ≡ includes =
-    ap (λ (ws : List Word). list_any (λ word. is_include (word_text source word)) ws) (sym (is_given ∙ cut.1)) ∙ sym is_includes
-    in
-    along_more tree 0 Many _ (λ reading. Gives view result (through_words reading 15 (inner_walk reading 15) main source given flat)) _
-    (subst (λ (n : ℕ). Along tree n Many (λ reading. Gives view result (through_words reading 15 (inner_walk reading 15) main source given flat))) none along)
+    ap (λ (ws : List Word). list_any (λ word. is_include (word_text source word)) ws) (sym cut.words) ∙ sym is_includes in
+    along_more tree 0 Many _ (λ reading. Gives view result (through reading flat)) _
+    (subst (λ (n : ℕ). Along tree n Many (λ reading. Gives view result (through reading flat))) none along)
     (λ count n. tt)
     (λ reading gives. gives_along view result _ _
     (walk_is reading 15 main source (empty_flat main (has_includes source))
-    ∙ faultless_is reading 15 main source words (empty_flat main (has_includes source)) cut
-    ∙ ap (λ (ws : List Word). through_words reading 15 (inner_walk reading 15) main source ws (empty_flat main (has_includes source))) (sym is_given)
-    ∙ ap (λ (b : Bool). through_words reading 15 (inner_walk reading 15) main source given (empty_flat main b)) listed
-    ∙ ap (λ (f : Flat). through_words reading 15 (inner_walk reading 15) main source given f) (sym is_flat)) gives)
+    ∙ faultless_is reading 15 main source file (empty_flat main (has_includes source)) cut
+    ∙ ap (λ (b : Bool). through reading (empty_flat main b)) listed
+    ∙ ap (λ (f : Flat). through reading f) (sym is_flat)) gives)

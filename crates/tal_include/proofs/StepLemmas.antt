@@ -1,19 +1,19 @@
 -- The walk through the words of a file, with the files that were read on it.
-use Rattle.std.proofs.Common.{◌≡◌, ℕ, ◌+◌, ◌-◌, ◌<◌, ◌≤◌, true, false, List, [], ◌∷◌, length, drop, ap, sym, ◌∙◌, subst, arith}
+use Rattle.std.proofs.Common.{◌≡◌, ℕ, ◌+◌, ◌-◌, ◌<◌, true, false, List, [], ◌∷◌, length, drop, ap, sym, ◌∙◌, subst, arith}
 use Rattle.std.proofs.Common.{Option, Result, Ok, Err, OnOk}
 use Rattle.std.proofs.lemmas.List.{length-append}
 use Rattle.uxn_io.specs.Files.{Nodes}
-use Rattle.uxn_io.specs.Room.{Room, Leaves}
 use Rattle.tal_words.specs.declared.span.Word.{Word}
 use Rattle.tal_words.specs.Source.{word_text}
 use Rattle.tal_include.specs.declared.faults.Origin.{Origin}
 use Rattle.tal_include.specs.declared.faults.SpliceStop.{SpliceStop}
+use Rattle.tal_include.specs.declared.splicing.Cut.{Cut}
 use Rattle.tal_include.specs.declared.splicing.Opened.{Opened}
 use Rattle.tal_include.specs.Flat.{Flat, with_path}
 use Rattle.tal_include.specs.Includes.{is_include}
 use Rattle.tal_include.specs.Splice.{Outcome, Came, Reading, through, at_plain_word, at_include, at_word, through_words}
 use Rattle.tal_include.specs.Answers.{Gives}
-use Rattle.tal_include.specs.Parts.{Along, IsCut, IsOpened, inner_walk}
+use Rattle.tal_include.specs.Parts.{Along, IsCutTo, IsCut, IsOpened, inner_walk}
 use Rattle.tal_include.proofs.ReadLemmas.{along_more, along_both}
 use Rattle.tal_include.proofs.WalkLemmas.{included_is, included_faulty, stopped_at, next_word, gives_along, include_is, plain_is}
 
@@ -21,59 +21,43 @@ on_ok : {X : Type 0} (result : Result X SpliceStop) (A B : Type 0) → (A → B)
 on_ok (Ok x) A B f a = f a
 on_ok (Err stop) A B f a = tt
 
--- what is sure after two calls that make and remove nothing
-pub leaves_both : (before between now : Room) → Leaves before between 0 0 → Leaves between now 0 0 → Leaves before now 0 0
-leaves_both before between now first later = record {
-  files = λ some.
-      let one : before.files + 0 ≤ between.files + 0 = first.files some in
-      let two : between.files + 0 ≤ now.files + 0 = later.files (omega (arith, some, one)) in
-      omega (arith, one, two);
-  bytes = λ some.
-      let one : before.files + 0 ≤ between.files + 0 = first.files some in
-      let two : between.bytes ≤ now.bytes = later.bytes (omega (arith, some, one)) in
-      omega (arith, first.bytes some, two);
-}
-
 -- a file was opened, but not cut
 pub file_faulty : {X : Type 0} (view : X → Flat) (tree : Option Nodes) (deeper : ℕ) (origin : Origin) (text source : List ℕ) (flat after : Flat)
     (opened : Opened) (stop : SpliceStop) → 0 < deeper
     → Along tree (length flat.paths) (λ count. count ≡ 1) (λ reading. IsOpened reading deeper origin text flat (Ok opened))
-    → source ≡ opened.bytes.list → IsCut (λ (ws : List Word). ws) opened.path source (Err stop)
+    → source ≡ opened.bytes.list → IsCut opened.path source (Err stop)
     → Along tree (length flat.paths) (λ count. OnOk {T = X} (Err stop) (length after.paths ≡ length flat.paths + count))
     (λ reading. Gives view (Err stop) (at_include reading deeper (inner_walk reading deeper) origin text flat))
 file_faulty view tree deeper origin text source flat after opened stop some along is cut =
     along_more tree (length flat.paths) _ _ _ _ along (λ count n. tt)
     (λ reading here. included_faulty view reading deeper origin text flat opened stop some here
-    (subst (λ (s : List ℕ). IsCut (λ (ws : List Word). ws) opened.path s (Err stop)) is cut))
+    (subst (λ (s : List ℕ). IsCut opened.path s (Err stop)) is cut))
 
 -- a file was opened, cut and gone through
 pub file_whole : {X : Type 0} (view : X → Flat) (tree later : Option Nodes) (deeper : ℕ) (origin : Origin) (text source : List ℕ) (flat now after : Flat)
-    (opened : Opened) (words given : List Word) (result : Result X SpliceStop) → 0 < deeper → later ≡ tree
+    (opened : Opened) (file : Cut) (result : Result X SpliceStop) → 0 < deeper → later ≡ tree
     → Along tree (length flat.paths) (λ count. count ≡ 1) (λ reading. IsOpened reading deeper origin text flat (Ok opened))
-    → source ≡ opened.bytes.list → IsCut (λ (ws : List Word). ws) opened.path source (Ok words) → given ≡ words → now ≡ with_path opened.path flat
+    → source ≡ opened.bytes.list → IsCutTo opened.path source file → now ≡ with_path opened.path flat
     → Along later (length now.paths) (λ count. OnOk result (length after.paths ≡ length now.paths + count))
-    (λ reading. Gives view result (through_words reading (deeper - 1) (inner_walk reading (deeper - 1)) opened.path source given now))
+    (λ reading. Gives view result (through_words reading (deeper - 1) (inner_walk reading (deeper - 1)) file.path.now file.source.now file.words.items now))
     → Along tree (length flat.paths) (λ count. OnOk result (length after.paths ≡ length flat.paths + count))
     (λ reading. Gives view result (at_include reading deeper (inner_walk reading deeper) origin text flat))
-file_whole view tree later deeper origin text source flat now after opened words given result some same along is cut is_given is_now inner =
+file_whole view tree later deeper origin text source flat now after opened file result some same along is cut is_now inner =
     let grown : length now.paths ≡ length flat.paths + 1 = ap (λ (f : Flat). length f.paths) is_now ∙ length-append flat.paths (opened.path ∷ []) in
     along_both tree (length flat.paths) (length now.paths)
     (λ count. OnOk result (length after.paths ≡ length now.paths + count))
     (λ count. OnOk result (length after.paths ≡ length flat.paths + count))
     (λ reading. IsOpened reading deeper origin text flat (Ok opened))
-    (λ reading. Gives view result (through_words reading (deeper - 1) (inner_walk reading (deeper - 1)) opened.path source given now))
+    (λ reading. Gives view result (through_words reading (deeper - 1) (inner_walk reading (deeper - 1)) file.path.now file.source.now file.words.items now))
     (λ reading. Gives view result (at_include reading deeper (inner_walk reading deeper) origin text flat))
     (along_more tree (length flat.paths) (λ count. count ≡ 1) (λ count. length now.paths ≡ length flat.paths + count) _ _ along
     (λ count n. omega (arith, grown, n)) (λ reading here. here))
     (subst (λ (t : Option Nodes). Along t (length now.paths) (λ count. OnOk result (length after.paths ≡ length now.paths + count))
-    (λ reading. Gives view result (through_words reading (deeper - 1) (inner_walk reading (deeper - 1)) opened.path source given now))) same inner)
+    (λ reading. Gives view result (through_words reading (deeper - 1) (inner_walk reading (deeper - 1)) file.path.now file.source.now file.words.items now))) same inner)
     (λ count more n m. on_ok result _ _ (λ k. omega (arith, k, n)) m)
     (λ reading here gives. gives_along view result _ _
-    (included_is reading deeper origin text flat opened words some here
-    (subst (λ (s : List ℕ). IsCut (λ (ws : List Word). ws) opened.path s (Ok words)) is cut)
-    ∙ ap (λ (f : Flat). through_words reading (deeper - 1) (inner_walk reading (deeper - 1)) opened.path opened.bytes.list words f) (sym is_now)
-    ∙ ap (λ (ws : List Word). through_words reading (deeper - 1) (inner_walk reading (deeper - 1)) opened.path opened.bytes.list ws now) (sym is_given)
-    ∙ ap (λ (s : List ℕ). through_words reading (deeper - 1) (inner_walk reading (deeper - 1)) opened.path s given now) (sym is)) gives)
+    (included_is reading deeper origin text flat opened file some here (subst (λ (s : List ℕ). IsCutTo opened.path s file) is cut)
+    ∙ ap (λ (f : Flat). through_words reading (deeper - 1) (inner_walk reading (deeper - 1)) file.path.now file.source.now file.words.items f) (sym is_now)) gives)
 
 module _ (tree later : Option Nodes) (before deeper : ℕ) (path source text : List ℕ) (words : List Word) (at : ℕ) (word : Word) (start here : Flat) where
   -- the walk from the start is the walk from here through the words that are left

@@ -10,23 +10,13 @@ use Rattle.tal_include.specs.declared.faults.Origin.{Origin}
 use Rattle.tal_include.specs.declared.faults.IncludeKind.{IncludeKind}
 use Rattle.tal_include.specs.declared.faults.SpliceStop.{SpliceStop}
 use Rattle.tal_include.specs.declared.faults.SpliceStop.TheVariants.{Refused, TreeFault, NoMemory}
+use Rattle.tal_include.specs.declared.splicing.Cut.{Cut}
 use Rattle.tal_include.specs.declared.splicing.Opened.{Opened}
 use Rattle.tal_include.specs.Flat.{Flat, with_path}
 use Rattle.tal_include.specs.Includes.{is_include, included_path, path_or_kind, bytes_or_kind, fault_at}
 use Rattle.tal_include.specs.Splice.{Outcome, Came, Reading, going_on, found_or, faultless_or, through, at_plain_word, at_include, at_word, through_words, through_file, walk}
 use Rattle.tal_include.specs.Answers.{Gives}
-use Rattle.tal_include.specs.Parts.{IsCut, IsOpened, inner_walk}
-
--- an include word whose path is refused
-pub bad_path : (reading : Reading) (deeper : ℕ) (origin : Origin) (text : List ℕ) (flat : Flat) (kind : IncludeKind) (stop : SpliceStop)
-    → Err kind ≡ path_or_kind deeper (length flat.paths) (included_path flat.main text) → stop ≡ Refused (fault_at origin kind text)
-    → IsOpened reading deeper origin text flat (Err stop)
-bad_path reading deeper origin text flat kind stop path is =
-    let P : SpliceStop → Type 0 = λ s. IsOpened reading deeper origin text flat (Err s) in
-    subst P (sym is)
-    (λ inner. ap (λ (r : Result (List ℕ) IncludeKind).
-    found_or origin text r (λ path. found_or origin text (bytes_or_kind (reading (length flat.paths) path)) (λ bytes. inner path bytes (with_path path flat))))
-    (sym path))
+use Rattle.tal_include.specs.Parts.{IsCutTo, IsCut, IsOpened, inner_walk}
 
 -- an include word whose file is refused
 pub bad_file : (reading : Reading) (deeper : ℕ) (origin : Origin) (text : List ℕ) (flat : Flat) (path : List ℕ) (kind : IncludeKind) (stop : SpliceStop)
@@ -69,23 +59,24 @@ inner_is reading (suc deeper) path source flat some =
     ap (λ (n : ℕ). walk reading n path source flat) less
 
 -- through a file without a fault of words
-pub faultless_is : (reading : Reading) (deeper : ℕ) (path source : List ℕ) (words : List Word) (flat : Flat)
-    → IsCut (λ (ws : List Word). ws) path source (Ok words)
-    → through_file reading deeper (inner_walk reading deeper) path source flat ≡ through_words reading deeper (inner_walk reading deeper) path source words flat
-faultless_is reading deeper path source words flat is =
-    ap (λ (fault : Option Fault). faultless_or path source fault (through_words reading deeper (inner_walk reading deeper) path source (words_of source) flat)) is.0
-    ∙ ap (λ (ws : List Word). through_words reading deeper (inner_walk reading deeper) path source ws flat) (sym is.1)
+pub faultless_is : (reading : Reading) (deeper : ℕ) (path source : List ℕ) (file : Cut) (flat : Flat) → IsCutTo path source file
+    → through_file reading deeper (inner_walk reading deeper) path source flat
+    ≡ through_words reading deeper (inner_walk reading deeper) file.path.now file.source.now file.words.items flat
+faultless_is reading deeper path source file flat is =
+    rw (is.path_is, is.source_is, is.words)
+    (ap (λ (fault : Option Fault). faultless_or path source fault (through_words reading deeper (inner_walk reading deeper) path source (words_of source) flat))
+    is.faultless)
 
 -- an include word where its file was read and cut
-pub included_is : (reading : Reading) (deeper : ℕ) (origin : Origin) (text : List ℕ) (flat : Flat) (opened : Opened) (words : List Word) → 0 < deeper
-    → IsOpened reading deeper origin text flat (Ok opened) → IsCut (λ (ws : List Word). ws) opened.path opened.bytes.list (Ok words)
+pub included_is : (reading : Reading) (deeper : ℕ) (origin : Origin) (text : List ℕ) (flat : Flat) (opened : Opened) (file : Cut) → 0 < deeper
+    → IsOpened reading deeper origin text flat (Ok opened) → IsCutTo opened.path opened.bytes.list file
     → at_include reading deeper (inner_walk reading deeper) origin text flat
-    ≡ through_words reading (deeper - 1) (inner_walk reading (deeper - 1)) opened.path opened.bytes.list words (with_path opened.path flat)
-included_is reading deeper origin text flat opened words some is cut =
+    ≡ through_words reading (deeper - 1) (inner_walk reading (deeper - 1)) file.path.now file.source.now file.words.items (with_path opened.path flat)
+included_is reading deeper origin text flat opened file some is cut =
     opened_is reading deeper (inner_walk reading deeper) origin text flat opened is
     ∙ inner_is reading deeper opened.path opened.bytes.list (with_path opened.path flat) some
     ∙ walk_is reading (deeper - 1) opened.path opened.bytes.list (with_path opened.path flat)
-    ∙ faultless_is reading (deeper - 1) opened.path opened.bytes.list words (with_path opened.path flat) cut
+    ∙ faultless_is reading (deeper - 1) opened.path opened.bytes.list file (with_path opened.path flat) cut
 
 -- an include word whose file is not opened
 pub not_opened : {X : Type 0} (view : X → Flat) (reading : Reading) (deeper : ℕ) (inner : List ℕ → List ℕ → Flat → Outcome) (origin : Origin) (text : List ℕ) (flat : Flat)
@@ -96,7 +87,7 @@ not_opened view reading deeper inner origin text flat NoMemory is = tt
 
 -- a file with a fault of words
 pub not_cut : {X : Type 0} (view : X → Flat) (path source : List ℕ) (outcome next : Outcome) (stop : SpliceStop)
-    → IsCut (λ (ws : List Word). ws) path source (Err stop) → outcome ≡ faultless_or path source (word_fault source) next → Gives view (Err stop) outcome
+    → IsCut path source (Err stop) → outcome ≡ faultless_or path source (word_fault source) next → Gives view (Err stop) outcome
 not_cut view path source outcome next (Refused fault) is from = from ∙ is next
 not_cut view path source outcome next TreeFault is from = absurd is
 not_cut view path source outcome next NoMemory is from = tt
@@ -104,7 +95,7 @@ not_cut view path source outcome next NoMemory is from = tt
 -- an include word whose file has a fault of words
 pub included_faulty : {X : Type 0} (view : X → Flat) (reading : Reading) (deeper : ℕ) (origin : Origin) (text : List ℕ) (flat : Flat) (opened : Opened)
     (stop : SpliceStop) → 0 < deeper → IsOpened reading deeper origin text flat (Ok opened)
-    → IsCut (λ (ws : List Word). ws) opened.path opened.bytes.list (Err stop)
+    → IsCut opened.path opened.bytes.list (Err stop)
     → Gives view (Err stop) (at_include reading deeper (inner_walk reading deeper) origin text flat)
 included_faulty view reading deeper origin text flat opened stop some is cut =
     not_cut view opened.path opened.bytes.list (at_include reading deeper (inner_walk reading deeper) origin text flat)

@@ -4,11 +4,11 @@ use Rattle.std.specs.List.{AllByRecursion}
 use Rattle.uxn_io.specs.Files.{Nodes, file_at}
 use Rattle.uxn_io.specs.WholeFile.{whole_file}
 use Rattle.uxn_io.specs.declared.trees.FileBytes.{FileBytes}
-use Rattle.tal_words.specs.declared.span.Word.{Word}
 use Rattle.tal_words.specs.Comments.{source_limit, words_of, word_fault}
 use Rattle.tal_include.specs.declared.faults.Origin.{Origin}
 use Rattle.tal_include.specs.declared.faults.SpliceStop.{SpliceStop}
 use Rattle.tal_include.specs.declared.faults.SpliceStop.TheVariants.{Refused, TreeFault, NoMemory}
+use Rattle.tal_include.specs.declared.splicing.Cut.{Cut}
 use Rattle.tal_include.specs.declared.splicing.Opened.{Opened}
 use Rattle.tal_include.specs.Flat.{Flat}
 use Rattle.tal_include.specs.Includes.{included_path, path_or_kind, bytes_or_kind}
@@ -19,12 +19,19 @@ abbrev pub inner_walk : Reading → ℕ → List ℕ → List ℕ → Flat → O
 inner_walk reading zero path source flat = Came flat
 inner_walk reading (suc deeper) path source flat = walk reading deeper path source flat
 
--- a file was cut into its words, or has a fault of words
-abbrev pub IsCut : {X : Type 0} → (X → List Word) → List ℕ → List ℕ → Result X SpliceStop → Type 0
-IsCut view path source (Ok words) = (word_fault source ≡ None) × (view words ≡ words_of source)
-IsCut view path source (Err (Refused fault)) = (next : Outcome) → faultless_or path source (word_fault source) next ≡ Met fault
-IsCut view path source (Err TreeFault) = ⊥
-IsCut view path source (Err NoMemory) = ⊤
+-- a file was cut into its words, none of which has a fault
+pub record IsCutTo (path source : List ℕ) (file : Cut) : Type 0 where
+  pub faultless : word_fault source ≡ None
+  pub path_is : file.path.now ≡ path
+  pub source_is : file.source.now ≡ source
+  pub words : file.words.items ≡ words_of source
+
+-- or it has a fault of words
+abbrev pub IsCut : List ℕ → List ℕ → Result Cut SpliceStop → Type 0
+IsCut path source (Ok file) = IsCutTo path source file
+IsCut path source (Err (Refused fault)) = (next : Outcome) → faultless_or path source (word_fault source) next ≡ Met fault
+IsCut path source (Err TreeFault) = ⊥
+IsCut path source (Err NoMemory) = ⊤
 
 -- the file that an include word names was read, or a fault was met
 abbrev pub IsOpened : Reading → ℕ → Origin → List ℕ → Flat → Result Opened SpliceStop → Type 0

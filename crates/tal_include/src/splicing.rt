@@ -1,9 +1,9 @@
 //! The walk through a source and the files that it includes.
 
-ghost use Rattle.std.specs.Prelude.{◌≡◌, ℕ, ◌+◌, ◌<◌, ◌≤◌, ◌==◌, ◌&&◌, false, length, nat_lt, IfOk, IfSome, OnOk, if◌then◌else◌};
+ghost use Rattle.std.specs.Prelude.{◌≡◌, ℕ, ◌+◌, ◌<◌, ◌==◌, ◌&&◌, false, length, nat_lt, IfOk, IfSome, OnOk, if◌then◌else◌};
 ghost use Rattle.std.specs.List.{list_any};
-ghost use Rattle.uxn_io.specs.Faults.{Counted};
-ghost use Rattle.uxn_io.specs.Room.{Leaves};
+ghost use Rattle.uxn_io.specs.Ended.{TreeLooked};
+ghost use Rattle.uxn_io.specs.State.{tree_state};
 ghost use Rattle.tal_words.specs.declared.span.Word.{Word};
 ghost use Rattle.tal_words.specs.Source.{word_text};
 ghost use Rattle.tal_include.specs.declared.faults.SpliceStop.TheVariants.{Refused};
@@ -38,15 +38,12 @@ pub fn splice<T: Tree>(
 ) -> Result<Spliced, SpliceStop>
     ensures told { IfSome (T.told tree.old) (λ nodes. Gives (λ flat. flat) result (spliced (told_reading nodes) main.now source.now)) }
     ensures read { (reading : Reading) × Gives (λ flat. flat) result (spliced reading main.now source.now) }
-    ensures same { T.told tree.new ≡ T.told tree.old }
-    ensures ledger { Counted (T.faults tree.old) (T.faults tree.new) (has_failed result) }
-    ensures sure { 0 < (T.sure tree.old).files → has_failed result ≡ false }
-    ensures left { has_failed result ≡ false → Leaves (T.sure tree.old) (T.sure tree.new) 0 0 }
+    ensures looked { TreeLooked (has_failed result) (tree_state T.Tree tree.old) (tree_state T.Tree tree.new) }
 {
-    let words = cut(alloc, main, source)?;
-    let includes = has_include(source, &words);
+    let file = cut_file(alloc, main, source)?;
+    let includes = has_include(source, &file.words);
     let mut flat = Spliced::new(alloc, main, includes);
-    flat.add_words(alloc, tree, main, source, &words, MOST_DEEP)?;
+    flat.add_words(alloc, tree, &file, MOST_DEEP)?;
     Ok(flat)
 }
 
@@ -64,12 +61,25 @@ pub fn has_includes(alloc: Global, source: &[u8]) -> Result<bool, AllocError>
     }
 }
 
-/// The words of a file. Refused with its first fault of words.
-fn cut(alloc: Global, path: &Path, source: &[u8]) -> Result<Vec<Word>, SpliceStop>
-    ensures { IsCut (λ v. v.items) path.now source.now result }
+/// A file that was cut into its words.
+#[derive(Drop)]
+struct Cut<'a> {
+    path: &'a Path,
+    source: &'a [u8],
+    words: Vec<Word>,
+}
+
+/// Cuts a file into its words. Refused with its first fault of words.
+fn cut_file<'a>(alloc: Global, path: &'a Path, source: &'a [u8]) -> Result<Cut<'a>, SpliceStop>
+    ensures cuts { IsCut path.now source.now result }
+    ensures tree { has_failed result ≡ false }
 {
     match words(alloc, source) {
-        Ok(words) => Ok(words),
+        Ok(words) => Ok(Cut {
+            path,
+            source,
+            words,
+        }),
         Err(AsmStop::Refused(fault)) => {
             let origin = Origin {
                 path: *path,
@@ -132,38 +142,33 @@ struct Opened {
 }
 
 impl Spliced {
-    /// Goes through words of the file that was read last.
+    /// Goes through the words of the file that was read last.
     #[cycle(walk)]
     fn add_words<T: Tree>(
         &mut self,
         alloc: Global,
         tree: &mut T,
-        path: &Path,
-        source: &[u8],
-        words: &[Word],
+        file: &Cut<'_>,
         deeper: u32,
     ) -> Result<(), SpliceStop>
         ensures walk { Along (T.told tree.old) (length self.old.paths)
             (λ count. OnOk result (length self.new.paths ≡ length self.old.paths + count))
             (λ reading. Gives (λ _. self.new) result
-            (through_words reading deeper (inner_walk reading deeper) path.now source.now words.now self.old)) }
-        ensures same { T.told tree.new ≡ T.told tree.old }
-        ensures ledger { Counted (T.faults tree.old) (T.faults tree.new) (has_failed result) }
-        ensures sure { 0 < (T.sure tree.old).files → has_failed result ≡ false }
-        ensures left { has_failed result ≡ false → Leaves (T.sure tree.old) (T.sure tree.new) 0 0 }
+            (through_words reading deeper (inner_walk reading deeper) file.now.path.now file.now.source.now file.now.words.items self.old)) }
+        ensures looked { TreeLooked (has_failed result) (tree_state T.Tree tree.old) (tree_state T.Tree tree.new) }
     {
-        let file = self.paths().len();
-        for word in words {
-            let text = word.span.text(source);
+        let number = self.paths().len();
+        for word in &file.words {
+            let text = word.span.text(file.source);
             let origin = Origin {
-                path: *path,
+                path: *file.path,
                 line: word.line,
                 column: word.column,
             };
             if is_include(text) {
                 self.add_include(alloc, tree, origin, text, deeper)?;
             } else {
-                self.add_plain(file, origin, word, text)?;
+                self.add_plain(number, origin, word, text)?;
             }
         }
         Ok(())
@@ -183,16 +188,12 @@ impl Spliced {
         ensures walk { Along (T.told tree.old) (length self.old.paths)
             (λ count. OnOk result (length self.new.paths ≡ length self.old.paths + count))
             (λ reading. Gives (λ _. self.new) result (at_include reading deeper (inner_walk reading deeper) origin text.now self.old)) }
-        ensures same { T.told tree.new ≡ T.told tree.old }
-        ensures ledger { Counted (T.faults tree.old) (T.faults tree.new) (has_failed result) }
-        ensures sure { 0 < (T.sure tree.old).files → has_failed result ≡ false }
-        ensures left { has_failed result ≡ false → Leaves (T.sure tree.old) (T.sure tree.new) 0 0 }
+        ensures looked { TreeLooked (has_failed result) (tree_state T.Tree tree.old) (tree_state T.Tree tree.new) }
     {
         let opened = self.open(alloc, tree, origin, text, deeper)?;
-        let source = opened.bytes.as_slice();
-        let words = cut(alloc, &opened.path, source)?;
+        let file = cut_file(alloc, &opened.path, opened.bytes.as_slice())?;
         self.add_path(&opened.path)?;
-        self.add_words(alloc, tree, &opened.path, source, &words, deeper - 1)
+        self.add_words(alloc, tree, &file, deeper - 1)
     }
 
     /// The path of the file to be read, or what is wrong, where files may be included so many deep.
@@ -228,10 +229,7 @@ impl Spliced {
         ensures walk { Along (T.told tree.old) (length self.now.paths) (λ count. OnOk result (count ≡ 1))
             (λ reading. IsOpened reading deeper origin text.now self.now result) }
         ensures deep { OnOk result (0 < deeper) }
-        ensures same { T.told tree.new ≡ T.told tree.old }
-        ensures ledger { Counted (T.faults tree.old) (T.faults tree.new) (has_failed result) }
-        ensures sure { 0 < (T.sure tree.old).files → has_failed result ≡ false }
-        ensures left { has_failed result ≡ false → Leaves (T.sure tree.old) (T.sure tree.new) 0 0 }
+        ensures looked { TreeLooked (has_failed result) (tree_state T.Tree tree.old) (tree_state T.Tree tree.new) }
     {
         match self.path_or_kind(text, deeper) {
             Err(kind) => Err(refused(origin, kind, text)),

@@ -2,6 +2,7 @@ pub mod References
 pub mod Rom
 pub mod Program
 pub mod Assembly
+pub mod FaultWordLaws
 pub mod Answers
 pub mod PlainWords
 pub mod Holes

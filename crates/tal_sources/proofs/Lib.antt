@@ -1,2 +1,1 @@
-pub mod FaultWordLemmas
 pub mod SourceLemmas

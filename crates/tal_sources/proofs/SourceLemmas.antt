@@ -15,7 +15,7 @@ use Rattle.tal_include.specs.Splice.{Outcome, Came, Met, Reading, has_includes, 
 use Rattle.tal_sources.specs.declared.fault.SourceStop.{SourceStop}
 use Rattle.tal_sources.specs.Answers.{SourceView, Comes}
 use Rattle.tal_sources.specs.Sources.{sourced, walked, own_by, HasOrigin}
-use Rattle.tal_sources.proofs.FaultWordLemmas.{IsAt, fault_at_word}
+use Rattle.tal_rom.specs.FaultWordLaws.{IsAt, fault_at_word}
 
 -- where splicing comes to the same, so does the source
 pub sourced_same : (nodes other : Nodes) (main source : List ℕ) → spliced (told_reading nodes) main source ≡ spliced (told_reading other) main source

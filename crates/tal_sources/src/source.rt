@@ -1,8 +1,8 @@
 //! A source with its includes, assembled.
 
-ghost use Rattle.std.specs.Prelude.{◌≡◌, ◌<◌, Ok, false, IfOk, IfSome};
-ghost use Rattle.uxn_io.specs.Faults.{Counted};
-ghost use Rattle.uxn_io.specs.Room.{Leaves};
+ghost use Rattle.std.specs.Prelude.{◌≡◌, Ok, false, IfOk, IfSome};
+ghost use Rattle.uxn_io.specs.Ended.{TreeLooked};
+ghost use Rattle.uxn_io.specs.State.{tree_state};
 ghost use Rattle.tal_words.specs.Faults.{fault_text};
 ghost use Rattle.tal_rom.specs.Assembly.{IsAssembled, first_fault};
 ghost use Rattle.tal_include.specs.declared.faults.IncludeKind.TheVariants.{Words};
@@ -74,10 +74,7 @@ pub fn read_source<T: Tree>(
     ensures told { IfSome (T.told tree.old) (λ nodes. Comes result (sourced (told_reading nodes) main.now source.list)) }
     ensures read { (reading : Reading) × Comes result (sourced reading main.now source.list) }
     ensures assembled { IfOk result (λ made. IsAssembled made.text (Ok made.assembly)) }
-    ensures same { T.told tree.new ≡ T.told tree.old }
-    ensures ledger { Counted (T.faults tree.old) (T.faults tree.new) (has_failed result) }
-    ensures sure { 0 < (T.sure tree.old).files → has_failed result ≡ false }
-    ensures left { has_failed result ≡ false → Leaves (T.sure tree.old) (T.sure tree.new) 0 0 }
+    ensures looked { TreeLooked (has_failed result) (tree_state T.Tree tree.old) (tree_state T.Tree tree.new) }
 {
     if !has_includes(alloc, source.as_slice())? {
         return assemble_own(alloc, source);

@@ -13,6 +13,8 @@ use Rattle.uxn_io.specs.Outside.{Change, ToOut, ToErr, Creates, ToFile, Removes,
 use Rattle.varvara_bus.specs.Touching.{Each, each-append, each-map, told_at}
 use Rattle.uxn_io.specs.ChangeLaws.{files-told}
 use Rattle.uxn_io.specs.NodeLaws.{same_path, get_put}
+use Rattle.uxn_io.specs.Ended.{IsOfTree, AreOfTree}
+use Rattle.uxn_io.specs.EndedLaws.{changed_by-files}
 use Rattle.uxn_cli.specs.World.{Text}
 use Rattle.uxn_cli.specs.Outcome.{creating, filling, filling_all}
 
@@ -90,27 +92,19 @@ outputs-after a b (Removes other ∷ changes) e = outputs-after (changed a (Remo
 
 -- ---- changes of files put nothing on the outputs
 
-abbrev pub IsOfAFile : Change → Type 0
-IsOfAFile (ToOut byte) = ⊥
-IsOfAFile (ToErr byte) = ⊥
-IsOfAFile (Creates path) = Unit {0}
-IsOfAFile (ToFile path byte) = Unit {0}
-IsOfAFile (Removes path) = Unit {0}
+are-of-tree : (changes : List Change) → Each IsOfTree changes → AreOfTree changes
+are-of-tree [] all = tt
+are-of-tree (change ∷ changes) all = (all.0, are-of-tree changes all.1)
 
-pub quiet : (world : World) (changes : List Change) → Each IsOfAFile changes → HaveSameOutputs (changed_by world changes) world
-quiet world [] all = (refl, refl)
-quiet world (ToOut byte ∷ changes) all = absurd all.0
-quiet world (ToErr byte ∷ changes) all = absurd all.0
-quiet world (Creates path ∷ changes) all = quiet (changed world (Creates path)) changes all.1
-quiet world (ToFile path byte ∷ changes) all = quiet (changed world (ToFile path byte)) changes all.1
-quiet world (Removes path ∷ changes) all = quiet (changed world (Removes path)) changes all.1
+pub quiet : (world : World) (changes : List Change) → Each IsOfTree changes → HaveSameOutputs (changed_by world changes) world
+quiet world changes all = let is = changed_by-files world changes (are-of-tree changes all) in (ap (λ w. w.out) is, ap (λ w. w.err) is)
 
-pub creating-quiet : (paths : List (List ℕ)) → Each IsOfAFile (creating paths)
-creating-quiet paths = each-map IsOfAFile (λ path. Creates path) paths (λ path. tt)
+pub creating-quiet : (paths : List (List ℕ)) → Each IsOfTree (creating paths)
+creating-quiet paths = each-map IsOfTree (λ path. Creates path) paths (λ path. tt)
 
-pub filling-quiet : (texts : List Text) → Each IsOfAFile (filling_all texts)
+pub filling-quiet : (texts : List Text) → Each IsOfTree (filling_all texts)
 filling-quiet [] = tt
-filling-quiet (text ∷ texts) = each-append IsOfAFile (filling text) (filling_all texts) (each-map IsOfAFile (λ byte. ToFile text.path byte) text.bytes (λ byte. tt)) (filling-quiet texts)
+filling-quiet (text ∷ texts) = each-append IsOfTree (filling text) (filling_all texts) (each-map IsOfTree (λ byte. ToFile text.path byte) text.bytes (λ byte. tt)) (filling-quiet texts)
 
 -- ---- root parts
 

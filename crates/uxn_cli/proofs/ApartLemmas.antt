@@ -10,7 +10,7 @@ use Rattle.uxn_io.specs.Changes.{can_create, with_created, with_appended}
 use Rattle.uxn_io.specs.Files.{Nodes, Node, File, file_at, bytes_at, bytes_of, is_folder, is_folder_at, has_parent}
 use Rattle.uxn_io.specs.NodeLaws.{get_put, put_other, put_elsewhere, same_or_other}
 use Rattle.uxn_io.specs.PathLaws.{parent_under}
-use Rattle.uxn_cli.specs.World.{Text, with_empty, with_bytes, with_texts, CanMake, AreFiles, CanFill}
+use Rattle.uxn_cli.specs.World.{Text, with_empty, CanMake, AreFiles, CanFill}
 use Rattle.uxn_words.specs.Places.{meets, clashes}
 use Rattle.varvara_bus.specs.Touching.{differs}
 pub use Rattle.uxn_cli.proofs.PlaceLemmas.{no_clash-fewer}
@@ -138,11 +138,6 @@ are_files (text ∷ texts) nodes made = All-cons (λ (t : Text). IsSome (file_at
 pub made_files : (texts : List Text) (before now : Option Nodes) → now ≡ option_map (with_empty texts) before → IfSome before (CanMake texts) → IfSome now (AreFiles texts)
 made_files texts None now e can = rw e tt
 made_files texts (Some nodes) now e can = rw e (are_files texts (with_empty texts nodes) (are_made texts nodes can))
-
-pub all_written : (texts : List Text) (before made now : Option Nodes) → made ≡ option_map (with_empty texts) before → now ≡ option_map (with_bytes texts) made → now ≡ option_map (with_texts texts) before
-unfolding with_texts
-all_written texts None made now e f = f ∙ ap (option_map (with_bytes texts)) e
-all_written texts (Some nodes) made now e f = f ∙ ap (option_map (with_bytes texts)) e
 
 -- ---- so they can be filled one after the other
 

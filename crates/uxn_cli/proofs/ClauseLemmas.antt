@@ -1,9 +1,9 @@
 -- The clauses of a call, from its outcome.
-use Rattle.std.proofs.Common.{◌≡◌, ℕ, ◌≤◌, ◌⊎◌, List, refl, ap, sym, ◌∙◌, inl, inr, subst, arith}
+use Rattle.std.proofs.Common.{◌≡◌, ℕ, ◌⊎◌, List, refl, ap, sym, ◌∙◌, inl, inr, subst, arith}
 use Rattle.std.proofs.lemmas.Bool.Decides.{nat_tests}
-use Rattle.std.specs.Prelude.{Option, Some, None, Result, Ok, Err, IfErr, IfSome}
+use Rattle.std.specs.Prelude.{Option, Some, None, Result, Ok, Err, IfSome}
 use Rattle.uxn_io.specs.ChangeLaws.{changed_by-err}
-use Rattle.uxn_io.specs.Faults.{Blame, Nobody, TheTree, ASink, Counts, counts, Rose, Ledger}
+use Rattle.uxn_io.specs.Faults.{Nobody, Ledger}
 use Rattle.uxn_io.specs.Files.{Nodes}
 use Rattle.uxn_io.specs.Outside.{World}
 use Rattle.uxn_io.specs.Told.{extended}
@@ -12,11 +12,12 @@ use Rattle.uxn_opcodes.specs.declared.Stop.TheVariants.{TreeFault, SinkFault, No
 use Rattle.uxn_words.specs.declared.task.Task.{Task}
 use Rattle.uxn_cli.specs.declared.refusal.Refusal.{Refusal}
 use Rattle.uxn_cli.specs.Answer.{IsUntold, Judges, HasOutcome, HasEnded, EndsEarly, HasFront, HasCut, IsCut, MayStop, Answers}
-use Rattle.uxn_cli.specs.Blame.{blame_by, blame_at, Stops}
+use Rattle.uxn_cli.specs.Blame.{as_step, blame_at}
 use Rattle.uxn_cli.specs.Call.{Call, asked_by, status_by}
-use Rattle.uxn_cli.specs.Outside.{Outside}
+use Rattle.uxn_io.specs.State.{Outside}
 use Rattle.uxn_cli.specs.Causes.{IsExactly, verdict_on, EndsWith, PutsLine}
-use Rattle.uxn_cli.specs.Clauses.{HasItsOutcome, HasStatuses, EndsEarlyByFaults, AnswersOrStops, ComesOut}
+use Rattle.uxn_cli.specs.Clauses.{HasItsOutcome, HasStatuses, EndsEarlyByFaults, ComesOut}
+use Rattle.uxn_cli.specs.Outside.{DoesWork}
 use Rattle.uxn_cli.specs.Lines.{text_of, line_of}
 use Rattle.uxn_cli.specs.Outcome.{outcome_of}
 use Rattle.uxn_cli.specs.Request.{request}
@@ -232,12 +233,12 @@ ends_early c answers ledger =
 blameless : (answer : ℕ) → (answer ≡ 136 → ⊥) → (answer ≡ 137 → ⊥) → blame_at answer ≡ Nobody
 blameless answer tree sink = grind (arith, nat_tests)
 
-pub comes_out : (words : List (List ℕ)) (before now : Outside) (result : Result ℕ Stop) → AnswersOrStops words before now result
+pub comes_out : (words : List (List ℕ)) (before now : Outside) (result : Result ℕ Stop) → DoesWork (request words) before now (as_step result)
     → ComesOut (record { words = words; before = before; now = now; status = status_by result })
 comes_out words before now (Ok status) e =
-    let usual = ended_usual (request words) before.world now.world status e.ends in
+    let usual = ended_usual (request words) before.world now.world status e.performs in
     record {
-      outcome = inl e.ends;
+      outcome = inl e.performs;
       ledger = subst (Ledger before.faults now.faults) (sym (blameless status (λ is. usual (TreeFault, is)) (λ is. usual (SinkFault, is)))) e.ledger;
       sure = record {
         tree = always before.world.files _ _ (λ is. usual (TreeFault, is));
@@ -245,25 +246,10 @@ comes_out words before now (Ok status) e =
       };
     }
 comes_out words before now (Err stop) e = record {
-  outcome = inr (record { stop = stop; status = refl; stands = e.ends });
+  outcome = inr (record { stop = stop; status = refl; stands = e.performs });
   ledger = subst (Ledger before.faults now.faults) (sym (blame_early stop)) e.ledger;
   sure = record {
     tree = never before.world.files _ _ _ (λ not_blamed is. not_blamed (sym (blame_early stop) ∙ ap blame_at is)) e.sure_tree;
     sinks = never before.world.files _ _ _ (λ not_blamed is. not_blamed (sym (blame_early stop) ∙ ap blame_at is)) e.sure_sinks;
   };
 }
-
--- ---- a refusal's line is put
-
--- whoever is to blame for the line has counted it
-pub put_ledger : (before middle : Counts) (err : ℕ) (blame : Blame) → middle ≡ before → Ledger (counts 0 0 middle.err) (counts 0 0 err) blame
-    → Ledger before (counts middle.tree middle.out err) blame
-put_ledger before middle err Nobody same put = ap (λ (c : Counts). counts middle.tree middle.out c.err) put ∙ same
-put_ledger before middle err TheTree same put = absurd (let rose : 1 ≤ 0 = put.tree.risen in omega (arith, rose))
-put_ledger before middle err ASink same (inl put) = absurd (let rose : 1 ≤ 0 = put.out.risen in omega (arith, rose))
-put_ledger before middle err ASink same (inr put) =
-    inr (record { tree = ap (λ (c : Counts). c.tree) same; out = ap (λ (c : Counts). c.out) same; err = subst (λ e. Rose e err) (ap (λ (c : Counts). c.err) same) put.err })
-
--- which is not the tree
-pub tree_spared : (before now : Option (List ℕ)) (line : List ℕ) (result : Result ℕ Stop) → IfErr result (Stops before now line) → blame_by result ≡ TheTree → ⊥
-tree_spared before now line result stops is = grind arith

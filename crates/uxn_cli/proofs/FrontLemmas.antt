@@ -1,6 +1,6 @@
 -- What a file holds, where the changes that write it were cut off.
 use Rattle.std.proofs.Common.{◌≡◌, ℕ, ◌⊎◌, Bool, true, false, List, [], ◌∷◌, ◌++◌, map, refl, ap, sym, ◌∙◌, subst, inl, inr, append_assoc, append-nil, arith}
-use Rattle.std.specs.Prelude.{Option, Some, None, Result, Ok, Err, IfOk, option_to_list, ◌||◌}
+use Rattle.std.specs.Prelude.{Option, Some, None, Result, Ok, Err, IfOk, ◌||◌}
 use Rattle.std.specs.List.{list_any}
 use Rattle.std.specs.Option.{unwrap_or}
 use Rattle.std.specs.Str.{bytes_eq}
@@ -12,7 +12,9 @@ use Rattle.uxn_io.specs.NodeLaws.{get_put}
 use Rattle.uxn_io.specs.Outside.{Change, ToOut, ToErr, Creates, ToFile, Removes, World, changed_files, files_by, changed, changed_by}
 use Rattle.uxn_io.specs.Told.{extended}
 use Rattle.uxn_opcodes.specs.Rule.{new_core}
-use Rattle.varvara_bus.specs.Touching.{Spares, Each, each-append, each-front, each-map, inserted-other, removed-other, told_at}
+use Rattle.varvara_bus.specs.Bus.{IsOutside}
+use Rattle.varvara_bus.specs.Touching.{Each, each-append, each-front, each-map, inserted-other, removed-other, told_at}
+use Rattle.vector_loop.specs.AppendingLaws.{Adds, run-adds}
 use Rattle.uxn_words.specs.Places.{first_clash, HasApartOutputs}
 use Rattle.uxn_words.specs.Words.{task_of}
 use Rattle.uxn_words.specs.declared.task.Task.{Task}
@@ -20,39 +22,23 @@ use Rattle.uxn_cli.specs.declared.refusal.Refusal.{Refusal}
 use Rattle.uxn_cli.specs.Answer.{Answers}
 use Rattle.uxn_cli.specs.Call.{Call, asked_by}
 use Rattle.uxn_cli.specs.Causes.{verdict_on}
-use Rattle.uxn_cli.specs.Clauses.{IsWrittenWhole, HoldsFileFront, IsFrontOf, StandsCutOff, HasItsOutcome, IsCutShort}
-use Rattle.uxn_cli.specs.Job.{outputs_in, outputs_by, trail_of, log_by, report_of}
+use Rattle.uxn_cli.specs.Clauses.{IsOutputOf, HoldsFileFront, IsFrontOf, StandsCutOff, HasItsOutcome, IsCutShort}
+use Rattle.uxn_cli.specs.Job.{Job, outputs_in, outputs_by, start_with, trail_by, trail_of, log_by, report_of}
 use Rattle.uxn_cli.specs.Outcome.{outcome_of, creating, filling, filling_all, reporting, writing, running}
 use Rattle.uxn_cli.specs.Request.{refused, apart, apart_by, request}
 use Rattle.uxn_cli.specs.Statuses.{IsEarly}
 use Rattle.uxn_cli.specs.Verdict.{and_then, Work, Run, Write, Print, RunLine, view_of, judged}
 use Rattle.uxn_cli.specs.World.{Text}
 use Rattle.uxn_cli.proofs.ClauseLemmas.{where_told, early_told, ends_told, outcome_usual}
-use Rattle.uxn_cli.proofs.OthersLemmas.{any-parts, other-output, trail-spares}
 use Rattle.uxn_cli.proofs.RootLemmas.{outputs-outside}
 use Rattle.uxn_cli.proofs.GivesLemmas.{judged-writes}
 
 module _ (path : List ℕ) where
-  -- a change makes and takes away nothing at the path, but may add to the file there
-  abbrev Adds : Change → Type 0
-  Adds (ToOut byte) = Unit {0}
-  Adds (ToErr byte) = Unit {0}
-  Adds (Creates other) = bytes_eq path other ≡ false
-  Adds (ToFile other byte) = Unit {0}
-  Adds (Removes other) = bytes_eq path other ≡ false
-
-  spares-one : (change : Change) → Spares path change → Adds change
-  spares-one change spares = grind arith
-
-  spares-adds : (changes : List Change) → Each (Spares path) changes → Each Adds changes
-  spares-adds [] spares = tt
-  spares-adds (change ∷ changes) spares = (spares-one change spares.0, spares-adds changes spares.1)
-
-  filling-adds : (texts : List Text) → Each Adds (filling_all texts)
+  filling-adds : (texts : List Text) → Each (Adds path) (filling_all texts)
   filling-adds [] = tt
-  filling-adds (text ∷ texts) = each-append Adds (filling text) (filling_all texts) (each-map Adds (λ byte. ToFile text.path byte) text.bytes (λ byte. tt)) (filling-adds texts)
+  filling-adds (text ∷ texts) = each-append (Adds path) (filling text) (filling_all texts) (each-map (Adds path) (λ byte. ToFile text.path byte) text.bytes (λ byte. tt)) (filling-adds texts)
 
-  each-last : (first last : List Change) → Each Adds (first ++ last) → Each Adds last
+  each-last : (first last : List Change) → Each (Adds path) (first ++ last) → Each (Adds path) last
   each-last [] last adds = adds
   each-last (change ∷ first) last adds = each-last first last adds.1
 
@@ -63,7 +49,7 @@ module _ (path : List ℕ) where
   nothing-more : (bytes : List ℕ) (nodes : Nodes) → fin.get nodes path ≡ Some (File bytes) → GetsMore bytes nodes
   nothing-more bytes nodes is = ([], is ∙ ap (λ b. Some (File b)) (sym (append-nil bytes)))
 
-  added-one : (bytes : List ℕ) (nodes : Nodes) (change : Change) → Adds change → fin.get nodes path ≡ Some (File bytes) → GetsMore bytes (changed_files change nodes)
+  added-one : (bytes : List ℕ) (nodes : Nodes) (change : Change) → Adds path change → fin.get nodes path ≡ Some (File bytes) → GetsMore bytes (changed_files change nodes)
   added-one bytes nodes (ToOut byte) adds is = nothing-more bytes nodes is
   added-one bytes nodes (ToErr byte) adds is = nothing-more bytes nodes is
   added-one bytes nodes (Creates other) adds is = nothing-more bytes (changed_files (Creates other) nodes) (inserted-other nodes path other (File []) adds ∙ is)
@@ -78,7 +64,7 @@ module _ (path : List ℕ) where
             ∙ get_put nodes path (File (bytes_at nodes path ++ byte ∷ [])) ∙ ap (λ (o : Option Node). Some (File (unwrap_or (bytes_of o) [] ++ byte ∷ []))) is,
       )
 
-  added : (bytes : List ℕ) (nodes : Nodes) (changes : List Change) → Each Adds changes → fin.get nodes path ≡ Some (File bytes) → GetsMore bytes (files_by nodes changes)
+  added : (bytes : List ℕ) (nodes : Nodes) (changes : List Change) → Each (Adds path) changes → fin.get nodes path ≡ Some (File bytes) → GetsMore bytes (files_by nodes changes)
   added bytes nodes [] adds is = nothing-more bytes nodes is
   added bytes nodes (change ∷ changes) adds is =
       let one = added-one bytes nodes change adds.0 is in
@@ -90,14 +76,14 @@ module _ (path : List ℕ) where
   IsFront before now whole = (now ≡ before) ⊎ ((bytes : List ℕ) × (rest : List ℕ) × (now ≡ Some (File bytes)) × (whole ≡ Some (File (bytes ++ rest))))
 
   -- a file is made among others, all of which are then added to
-  module _ (later rest : List Change) (adds : Each Adds later) (before : Option Node) where
+  module _ (later rest : List Change) (adds : Each (Adds path) later) (before : Option Node) where
     abbrev Fronts : Nodes → List Change → Type 0
     Fronts nodes made = IsFront before (fin.get (files_by nodes made) path) (fin.get (files_by nodes (made ++ rest)) path)
 
     made-front : (nodes : Nodes) (made : List Change) → later ≡ made ++ rest → fin.get nodes path ≡ Some (File []) → Fronts nodes made
     made-front nodes made parts is =
-        let all : Each Adds (made ++ rest) = subst (Each Adds) parts adds in
-        let first = added [] nodes made (each-front Adds made rest all) is in
+        let all : Each (Adds path) (made ++ rest) = subst (Each (Adds path)) parts adds in
+        let first = added [] nodes made (each-front (Adds path) made rest all) is in
         let last = added first.0 (files_by nodes made) rest (each-last made rest all) first.1 in
         inr (first.0, last.0, first.1, ap (λ n. fin.get n path) (files_by-append nodes made rest) ∙ last.1)
 
@@ -131,22 +117,26 @@ module _ (path : List ℕ) where
         go false apart (inl waits) = inl (inserted-other nodes path other (File []) apart ∙ waits.0, ap (λ b. b || list_any (bytes_eq path) paths) (sym apart) ∙ waits.1)
         go false apart (inr is) = inr (inserted-other nodes path other (File []) apart ∙ is)
 
--- work that writes a file whole
+-- the run of a job only adds to files outside its root
+trail-adds : (path : List ℕ) (job : Job) → IsOutside job.home.root path → Each (Adds path) (trail_of job).changes
+unfolding trail_by
+trail-adds path job outside =
+    run-adds path job.budget (outputs_by job.frames job.samples) job.script (start_with (new_core job.rom) job.script job.home)
+    (record { outside = outside; first = refl; second = refl })
+
+-- work that writes a file
 work-front : (path : List ℕ) (task : Task) (nodes : Nodes) (work : Work) (made rest : List Change) → HasApartOutputs task → judged task (view_of nodes task) ≡ Ok work
-    → IsWrittenWhole (Ok work) path → (outcome_of (Ok work)).changes ≡ made ++ rest
+    → IsOutputOf (Ok work) path → (outcome_of (Ok work)).changes ≡ made ++ rest
     → IsFront path (fin.get nodes path) (fin.get (files_by nodes made) path) (fin.get (files_by nodes (outcome_of (Ok work)).changes) path)
 unfolding running writing
 work-front path task nodes (Run job) made rest apart e whole parts =
     let writes = judged-writes task (view_of nodes task) (Run job) e in
-    let outside = outputs-outside task path apart (ap (list_any (bytes_eq path)) (sym writes.paths) ∙ whole.0) in
-    let streams = any-parts path (option_to_list job.frames) (option_to_list job.samples) whole.1 in
-    let run = trail-spares path job.budget (outputs_by job.frames job.samples) job.script job.home (new_core job.rom) (other-output path job.frames streams.0) (other-output path job.samples streams.1)
-    (rw writes.root outside) in
+    let outside = outputs-outside task path apart (ap (list_any (bytes_eq path)) (sym writes.paths) ∙ whole) in
     let adds = each-append (Adds path) (reporting job.report job.script.version (trail_of job)) (filling_all (log_by job.debug (trail_of job)))
-    (each-append (Adds path) (trail_of job).changes (filling_all (report_of job.report job.script.version (trail_of job).last)) (spares-adds path (trail_of job).changes run)
+    (each-append (Adds path) (trail_of job).changes (filling_all (report_of job.report job.script.version (trail_of job).last)) (trail-adds path job (rw writes.root outside))
     (filling-adds path (report_of job.report job.script.version (trail_of job).last))) (filling-adds path (log_by job.debug (trail_of job))) in
     subst (λ changes. IsFront path (fin.get nodes path) (fin.get (files_by nodes made) path) (fin.get (files_by nodes changes) path)) (sym parts)
-    (front-of path _ rest adds (fin.get nodes path) (outputs_in job) nodes made parts (inl (refl, whole.0)))
+    (front-of path _ rest adds (fin.get nodes path) (outputs_in job) nodes made parts (inl (refl, whole)))
 work-front path task nodes (Write texts) made rest apart e whole parts =
     subst (λ changes. IsFront path (fin.get nodes path) (fin.get (files_by nodes made) path) (fin.get (files_by nodes changes) path)) (sym parts)
     (front-of path (filling_all texts) rest (filling-adds path texts) (fin.get nodes path) (map (λ text. text.path) texts) nodes made parts (inl (refl, whole)))
@@ -155,7 +145,7 @@ work-front path task nodes (RunLine job) made rest apart e whole parts = absurd 
 
 -- so of what was cut off
 pub holds-front : (path : List ℕ) (asked : Result Task Refusal) (before : World) (nodes : Nodes) (made rest : List Change) → IfOk asked HasApartOutputs → before.files ≡ Some nodes
-    → (outcome_of (verdict_on nodes asked)).changes ≡ made ++ rest → IsWrittenWhole (verdict_on nodes asked) path
+    → (outcome_of (verdict_on nodes asked)).changes ≡ made ++ rest → IsOutputOf (verdict_on nodes asked) path
     → HoldsFileFront (told_at path before.files) (told_at path (changed_by before made).files) (told_at path (changed_by before (outcome_of (verdict_on nodes asked)).changes).files)
 holds-front path (Err refusal) before nodes made rest apart told parts whole = absurd whole
 holds-front path (Ok task) before nodes made rest apart told parts whole = go (judged task (view_of nodes task)) refl parts whole
@@ -163,7 +153,7 @@ holds-front path (Ok task) before nodes made rest apart told parts whole = go (j
     stands : (changes : List Change) → told_at path (changed_by before changes).files ≡ Some (fin.get (files_by nodes changes) path)
     stands changes = ap (told_at path) (files-told before changes) ∙ rw told refl
 
-    go : (found : Result Work Refusal) → judged task (view_of nodes task) ≡ found → (outcome_of found).changes ≡ made ++ rest → IsWrittenWhole found path
+    go : (found : Result Work Refusal) → judged task (view_of nodes task) ≡ found → (outcome_of found).changes ≡ made ++ rest → IsOutputOf found path
         → HoldsFileFront (told_at path before.files) (told_at path (changed_by before made).files) (told_at path (changed_by before (outcome_of found).changes).files)
     go (Err refusal) e p w = absurd w
     go (Ok work) e p w = elim (work-front path task nodes work made rest apart e w p) [

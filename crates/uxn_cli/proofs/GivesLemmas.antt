@@ -12,13 +12,11 @@ use Rattle.uxn_words.specs.declared.words.Command.{Command}
 use Rattle.uxn_words.specs.declared.words.Command.TheVariants.{Play, Debug, Assemble, Disassemble, Generate, Line}
 use Rattle.uxn_words.specs.declared.task.Task.{Task}
 use Rattle.uxn_cli.specs.declared.refusal.Refusal.{Refusal}
-use Rattle.uxn_cli.specs.Job.{outputs_in}
+use Rattle.uxn_cli.specs.Prepared.{paths_for}
 use Rattle.uxn_cli.specs.Setup.{InputFile, NamedFiles, setup_in, console_script}
 use Rattle.uxn_cli.specs.Statuses.{reason_of, IsOfWords}
-use Rattle.uxn_cli.specs.Verdict.{and_then, View, Work, Run, Write, Print, RunLine, source_by, source_in, rom_in, labels_at, labels_in, given_in, commands_in, script_from, script_in, program_in, roms_in, line_in, summary_in, home_by, outputs_by, root_by, Plan, plain, work_of, first_unmade, made_by, made_for, outputs_of, judged}
-use Rattle.uxn_cli.proofs.AssemblingLemmas.{paths-texts_of}
-use Rattle.uxn_cli.proofs.ChangeLemmas.{paths_in}
-use Rattle.uxn_cli.proofs.JobLemmas.{play-job, debug-job}
+use Rattle.uxn_cli.specs.Verdict.{and_then, View, Work, Run, Write, Print, RunLine, source_by, source_in, rom_in, labels_at, given_in, commands_in, script_from, script_in, program_in, roms_in, line_in, summary_in, home_by, outputs_by, root_by, Plan, work_of, first_unmade, made_by, made_for, outputs_of, judged}
+use Rattle.uxn_cli.proofs.JobLemmas.{play-job, debug-job, paths-texts_of}
 
 -- a step gives a value of which this holds, or a refusal that the words alone do not decide
 abbrev pub Gives : {A : Type 0} → (A → Type 0) → Result A Refusal → Type 0
@@ -55,9 +53,6 @@ rom-read path file = grind arith
 labels-read : (path : List ℕ) (file : FileBytes) → IsRead (labels_at path file)
 labels-read path file = grind arith
 
-listed-read : (path : Option (List ℕ)) (file : FileBytes) → IsRead (labels_in path file)
-listed-read path file = grind (arith, labels-read)
-
 script-read : (path : Option (List ℕ)) (file : FileBytes) → IsRead (script_in path file)
 script-read path file = grind (arith, script-judged)
 
@@ -91,13 +86,7 @@ summary-read count = search (rules, read-then, source-judged, script-judged)
 
 -- ---- what is written
 
--- the files that work writes, and the root of a run
-abbrev pub paths_by : Work → List (List ℕ)
-paths_by (Run job) = outputs_in job
-paths_by (Write texts) = paths_in texts
-paths_by (Print text) = []
-paths_by (RunLine job) = []
-
+-- the root of a run
 abbrev pub root_in : Work → Option (List ℕ)
 root_in (Run job) = job.home.root
 root_in (Write texts) = None
@@ -105,26 +94,23 @@ root_in (Print text) = None
 root_in (RunLine job) = None
 
 pub record Writes (command : Command) (task : Task) (work : Work) : Type 0 where
-  pub paths : paths_by work ≡ outputs_by command task
+  pub paths : paths_for work ≡ outputs_by command task
   pub root : root_in work ≡ root_by command task
 
 home-root : (root : Option (List ℕ)) (part : Nodes) (parent : Bool) → (home_by root part parent).root ≡ root
 home-root root part parent = grind arith
 
 -- what is planned writes the outputs of the task
-abbrev PlanWrites : Command → Task → Plan → Type 0
+abbrev pub PlanWrites : Command → Task → Plan → Type 0
 PlanWrites command task accepted = Writes command task accepted.work
-
-plain-gives : (P : Work → Type 0) (said : Result Work Refusal) → Gives P said → Gives (λ (accepted : Plan). P accepted.work) (plain said)
-plain-gives P said given = grind arith
 
 pub work-gives : (command : Command) (task : Task) (view : View) → Gives (PlanWrites command task) (work_of command task view)
 work-gives Play task view = search (rules, read-then, program-read, script-read, home-root, play-job)
 work-gives Debug task view = search (rules, read-then, program-read, given-read, script-read, commands-read, home-root, debug-job) depth 8
 work-gives Assemble task view = search (rules, read-then, source-read, paths-texts_of)
-work-gives Disassemble task view = search (rules, plain-gives, read-then, rom-read, listed-read)
-work-gives Generate task view = search (rules, plain-gives, read-then, summary-read)
-work-gives Line task view = search (rules, plain-gives, read-then, setup-read, line-read)
+work-gives Disassemble task view = search (rules, read-then, rom-read, given-read)
+work-gives Generate task view = search (rules, read-then, summary-read)
+work-gives Line task view = search (rules, read-then, setup-read, line-read)
 
 made-gives : (P : Work → Type 0) (first : Option (List ℕ)) (work : Work) → P work → Gives P (made_by first work)
 made-gives P None work given = given

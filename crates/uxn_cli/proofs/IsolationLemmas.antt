@@ -24,14 +24,15 @@ use Rattle.uxn_cli.specs.declared.refusal.Refusal.{Refusal}
 use Rattle.uxn_cli.specs.Answer.{HasOutcome, Answers}
 use Rattle.uxn_words.specs.Places.{root_by}
 use Rattle.uxn_cli.specs.Setup.{InputFile, NamedFiles, setup_in}
-use Rattle.uxn_cli.specs.Verdict.{and_then, View, Work, Run, Write, Print, RunLine, Plan, planned, plain, view_of, judged, work_of, made_for, input_by, input_file, file_input, limit_by, file_seen, source_at, source_by, source_from, source_in, rom_in, loaded_rom, loaded_source, program_in, machine_rom, roms_in, line_in, script_by, named_by, named_in, texts_of}
+use Rattle.uxn_cli.specs.Verdict.{and_then, View, Work, Run, Write, Print, RunLine, Plan, planned, view_of, judged, work_of, made_for, input_by, input_file, file_input, limit_by, file_seen, source_at, source_by, source_from, source_in, rom_in, loaded_rom, loaded_source, program_in, machine_rom, roms_in, line_in, script_by, named_by, named_in, texts_of}
+use Rattle.uxn_cli.specs.Prepared.{paths_for}
 use Rattle.uxn_cli.specs.Outcome.{outcome_of, creating, writing, running}
 use Rattle.uxn_cli.specs.Causes.{verdict_on}
 use Rattle.uxn_cli.specs.Isolation.{IncludeSame, AreSameSource, setup_sources, sources_in, HaveSameView, LookSame, files_after, IsWritten, IsOutcomeOn, GivesAsOn}
 use Rattle.uxn_cli.proofs.AfterLemmas.{made-here, same-node, same-part}
 use Rattle.uxn_cli.proofs.SourceLemmas.{seen-source}
 use Rattle.uxn_cli.proofs.ClauseLemmas.{ends_told}
-use Rattle.uxn_cli.proofs.GivesLemmas.{paths_by, judged-writes}
+use Rattle.uxn_cli.proofs.GivesLemmas.{judged-writes}
 
 -- what stands at a path where a file is made does not depend on what stood there
 made-same : (path : List ℕ) (m n : Nodes) (paths : List (List ℕ)) (rest : List Change) → list_any (bytes_eq path) paths ≡ true
@@ -45,7 +46,7 @@ made-same path m n (other ∷ paths) rest among =
     ] refl among
 
 -- the outputs of work are made first
-work-outputs : (path : List ℕ) (m n : Nodes) (work : Work) → list_any (bytes_eq path) (paths_by work) ≡ true
+work-outputs : (path : List ℕ) (m n : Nodes) (work : Work) → list_any (bytes_eq path) (paths_for work) ≡ true
     → fin.get (files_by m (outcome_of (Ok work)).changes) path ≡ fin.get (files_by n (outcome_of (Ok work)).changes) path
 unfolding running writing
 work-outputs path m n (Run job) among = made-same path m n _ _ among
@@ -82,7 +83,7 @@ module _ (law : SourceLaw) (nodes other : Nodes) where
 
   -- the work of a setup and the files that it names
   abbrev joined : NamedFiles → Result SetupView Refusal → Result Plan Refusal
-  joined named said = plain (and_then said (λ setup. and_then (line_in setup named) (λ job. Ok (RunLine job))))
+  joined named said = and_then said (λ setup. and_then (line_in setup named) (λ job. Ok (planned (RunLine job) [])))
 
   same-joined : (said : Result SetupView Refusal) → AllByRecursion (AreSameSource nodes other) (setup_sources said) → (named_by nodes said).script ≡ (named_by other said).script
       → joined (named_by nodes said) said ≡ joined (named_by other said) said

@@ -12,6 +12,7 @@ use Rattle.uxn_io.specs.Files.{Nodes}
 use Rattle.uxn_io.specs.Outside.{Change, Creates, World, changed_by}
 use Rattle.uxn_io.specs.ChangeLaws.{changed_by-append}
 use Rattle.uxn_io.specs.ChangeLaws.{files-told}
+use Rattle.uxn_io.specs.Ended.{IsOfTree}
 use Rattle.varvara_bus.specs.Touching.{Each, told_at, spared}
 use Rattle.play_script.specs.Scripts.{ScriptView}
 use Rattle.uxn_words.specs.declared.words.Command.TheVariants.{Play, Debug}
@@ -28,7 +29,7 @@ use Rattle.uxn_cli.specs.Answer.{HasOutcome, Answers}
 use Rattle.uxn_cli.specs.Statuses.{IsEarly}
 use Rattle.uxn_cli.specs.Causes.{verdict_on}
 use Rattle.uxn_cli.specs.Observation.{unwatched, watched, with_log, played, HaveSameItems, ComeToOneRun, IsOutcomeButLog, ShowsWhatPlayDoes}
-use Rattle.uxn_cli.proofs.AfterLemmas.{IsOfAFile, quiet, creating-quiet, filling-quiet, HaveSameOutputs, outputs-after, files-after, if-some, parts-same}
+use Rattle.uxn_cli.proofs.AfterLemmas.{quiet, creating-quiet, filling-quiet, HaveSameOutputs, outputs-after, files-after, if-some, parts-same}
 use Rattle.uxn_cli.proofs.ClauseLemmas.{ends_told}
 use Rattle.uxn_cli.proofs.ChangeLemmas.{creating-spares}
 use Rattle.uxn_cli.proofs.FreeLemmas.{are_free}
@@ -200,7 +201,7 @@ module _ (before : World) (job : Job) (debugging : Debugging) where
   parted : shown ≡ changed_by (changed_by (changed_by before first) (running (unwatched job))) last
   parted = ap (changed_by before) (log-around job debugging) ∙ between before first (running (unwatched job)) last
 
-  log-quiet : Each IsOfAFile last
+  log-quiet : Each IsOfTree last
   log-quiet = filling-quiet (log_by (Some debugging) (trail_of job))
 
   same-outputs : HaveSameOutputs shown done

@@ -23,11 +23,12 @@ use Rattle.uxn_cli.specs.Call.{Call, asked_by}
 use Rattle.uxn_cli.specs.Causes.{verdict_on, IsAside, KeepsOthers}
 use Rattle.uxn_cli.specs.Clauses.{HasItsOutcome, LeavesTheRest}
 use Rattle.uxn_cli.specs.Job.{Debugging, Job, Home, log_in, outputs_in, outputs_by as run_outputs_by, trail_of, trail_by, devices_with, start_with, text_at, log_by}
+use Rattle.uxn_cli.specs.Prepared.{paths_for}
 use Rattle.uxn_cli.specs.Outcome.{outcome_of, creating, filling_all, reporting, running, line_bytes}
 use Rattle.uxn_cli.specs.Verdict.{Work, Run, Write, Print, RunLine, view_of, judged}
 use Rattle.uxn_cli.proofs.ChangeLemmas.{creating-spares, filling-spares, writing-spares}
 use Rattle.uxn_cli.proofs.ClauseLemmas.{where_told, early_told, ends_told, line_put, puts_line}
-use Rattle.uxn_cli.proofs.GivesLemmas.{Gives, Writes, paths_by, root_in, judged-gives}
+use Rattle.uxn_cli.proofs.GivesLemmas.{Gives, Writes, root_in, judged-gives}
 
 -- a path that is none of two lists is none of either
 pub any-parts : (path : List ℕ) (first last : List (List ℕ)) → list_any (bytes_eq path) (first ++ last) ≡ false → (list_any (bytes_eq path) first ≡ false) × (list_any (bytes_eq path) last ≡ false)
@@ -50,7 +51,7 @@ pub trail-spares : (path : List ℕ) (budget : ℕ) (outputs : Outputs) (script 
 unfolding trail_by
 trail-spares path budget outputs script home core frames samples outside =
     let apart : StandsApart path (devices_with script home) = record { outside = outside; first = refl; second = refl } in
-    ((run-leaves path outputs frames samples budget script).alone (start_with core script home) apart).0
+    run-leaves path budget outputs script (start_with core script home) frames samples apart
 
 job-spares : (path : List ℕ) (job : Job) → list_any (bytes_eq path) (outputs_in job) ≡ false → IsOutside job.home.root path → Each (Spares path) (running job)
 unfolding running
@@ -67,7 +68,7 @@ job-spares path job none outside =
     (text-spares path job.report _ report.1))
     (log-spares path job.debug (trail_of job) log.0))
 
-work-spares : (path : List ℕ) (work : Work) → list_any (bytes_eq path) (paths_by work) ≡ false → IsOutside (root_in work) path → Each (Spares path) (outcome_of (Ok work)).changes
+work-spares : (path : List ℕ) (work : Work) → list_any (bytes_eq path) (paths_for work) ≡ false → IsOutside (root_in work) path → Each (Spares path) (outcome_of (Ok work)).changes
 work-spares path (Run job) none outside = job-spares path job none outside
 work-spares path (Write texts) none outside = writing-spares path texts none
 work-spares path (Print text) none outside = each-map (Spares path) (λ byte. ToOut byte) text (λ byte. tt)

@@ -1,55 +1,61 @@
 -- The inputs of a run, met one after the other.
-use Rattle.std.proofs.Common.{◌≡◌, ℕ, true, false, List, refl, ap, sym, subst}
-use Rattle.std.specs.Prelude.{Option, Some, None, Result, Ok, Err, IfSome}
+use Rattle.std.proofs.Common.{◌≡◌, ℕ, Bool, List, refl, ap, sym, ◌∙◌}
+use Rattle.std.specs.Prelude.{Option, Some, None, Result, Ok, Err, IfSome, option_map, if◌then◌else◌}
 use Rattle.std.specs.Global.{Vec}
 use Rattle.file_ports.specs.RootPart.{below, parent_is_folder}
-use Rattle.tal_words.specs.declared.name.Label.{Label}
 use Rattle.uxn_io.specs.declared.trees.FileBytes.{FileBytes}
 use Rattle.uxn_io.specs.declared.trees.FileBytes.TheVariants.{Missing as NoFile}
-use Rattle.uxn_io.specs.Files.{Nodes}
+use Rattle.uxn_io.specs.Files.{Nodes, file_at}
+use Rattle.uxn_io.specs.State.{TreeState}
+use Rattle.uxn_io.specs.WholeFile.{whole_file}
+use Rattle.uxn_memory.specs.Bytes.{largest_rom}
+use Rattle.tal_words.specs.declared.name.Label.{Label}
 use Rattle.play_script.specs.Scripts.{ScriptView}
 use Rattle.uxn_debugger.specs.declared.command.DebugCommand.{DebugCommand}
 use Rattle.uxn_words.specs.declared.task.Task.{Task}
 use Rattle.uxn_words.specs.declared.words.Command.{Command}
 use Rattle.uxn_words.specs.declared.words.Command.TheVariants.{Play, Debug, Assemble, Disassemble, Generate, Line}
-use Rattle.uxn_words.specs.Places.{outputs_by, root_by}
+use Rattle.uxn_words.specs.Places.{root_by}
 use Rattle.uxn_words.specs.Tasks.{role_path}
 use Rattle.uxn_words.specs.declared.role.Role.TheVariants as role
+use Rattle.uxn_cli.specs.declared.program.Program.{Program}
 use Rattle.uxn_cli.specs.declared.refusal.Refusal.{Refusal}
 use Rattle.uxn_cli.specs.declared.refusal.Halt.{Halt}
-use Rattle.uxn_cli.specs.Job.{Debugging, Home, home_in, outputs_in, log_in}
+use Rattle.uxn_cli.specs.Job.{Home, home_in}
 use Rattle.uxn_cli.specs.Setup.{InputFile}
-use Rattle.uxn_cli.specs.Verdict.{and_then, View, Run, Loaded, Plan, planned, file_seen, symbols_by, symbols_input, script_by, file_input, limit_by}
-use Rattle.uxn_cli.specs.Verdict.{program_in, script_in, given_in, debug_labels, commands_in, debugging, home_by, job_of, work_of}
-use Rattle.uxn_memory.specs.Bytes.{largest_rom}
-use Rattle.uxn_cli.specs.Prepared.{Sees, Accepts, Loads, inputs_seen, SeesWork, Unready, IsHomeOf, IsPlanned, RunsMachine, debugger_by, commands_input}
-use Rattle.uxn_cli.proofs.JobLemmas.{play-job, debug-job}
-use Rattle.uxn_cli.proofs.SeesLemmas.{Both, both, inputs_or, seen-here, sees-then, sees-refused, sees-work, unready}
+use Rattle.uxn_cli.specs.Verdict.{and_then, View, Run, Loaded, Plan, planned, file_seen, symbols_by, symbols_input, script_by, input_by, input_file, file_input, limit_by}
+use Rattle.uxn_cli.specs.Verdict.{program_in, script_in, given_in, debug_labels, commands_in, commands_input, debugger_by, debugging, home_by, job_of, run_in, work_of}
+use Rattle.uxn_cli.specs.Prepared.{ReadsPlan, inputs_seen, IsHomeOf, RunsMachine, labels_with, loaded_by}
+use Rattle.uxn_cli.specs.Follows.{Follows}
+use Rattle.uxn_cli.specs.Reading.{Reads}
+use Rattle.uxn_cli.proofs.ReadingLemmas.{Both, both, inputs_or, reads-ended, reads-on, reads-then, reads-first, reads-through}
 
--- a command that runs a machine has a root, and reads a program
+-- what holds of `play` and of `debug` holds of each command that runs a machine
+of-runs : (P : Command → Type 0) → P Play → P Debug → (c : Command) → RunsMachine c → P c
+of-runs P play debug Play runs = play
+of-runs P play debug Debug runs = debug
+of-runs P play debug Assemble runs = absurd runs
+of-runs P play debug Disassemble runs = absurd runs
+of-runs P play debug Generate runs = absurd runs
+of-runs P play debug Line runs = absurd runs
+
+-- it has a root, and reads a program
 pub run-root : (task : Task) (c : Command) → RunsMachine c → root_by c task ≡ (role_path task role.Root)
-run-root task Play runs = refl
-run-root task Debug runs = refl
-run-root task Assemble runs = absurd runs
-run-root task Disassemble runs = absurd runs
-run-root task Generate runs = absurd runs
-run-root task Line runs = absurd runs
+run-root task = of-runs (λ c. root_by c task ≡ (role_path task role.Root)) refl refl
 
-pub run-file : (task : Task) (c : Command) → RunsMachine c → file_input c task ≡ Some task.file
-run-file task Play runs = refl
-run-file task Debug runs = refl
-run-file task Assemble runs = absurd runs
-run-file task Disassemble runs = absurd runs
-run-file task Generate runs = absurd runs
-run-file task Line runs = absurd runs
+run-file : (task : Task) (rom : Bool) (nodes : Nodes) (c : Command) → RunsMachine c
+    → input_file nodes (whole_file (file_at nodes task.file) (if rom then largest_rom else 4194304)) ≡ input_file nodes (input_by nodes (file_input c task) (limit_by c rom))
+run-file task rom nodes =
+    of-runs (λ c. input_file nodes (whole_file (file_at nodes task.file) (if rom then largest_rom else 4194304)) ≡ input_file nodes (input_by nodes (file_input c task) (limit_by c rom))) refl refl
 
-pub run-limits : (c : Command) → RunsMachine c → (limit_by c true ≡ largest_rom) × (limit_by c false ≡ 4194304)
-run-limits Play runs = (refl, refl)
-run-limits Debug runs = (refl, refl)
-run-limits Assemble runs = absurd runs
-run-limits Disassemble runs = absurd runs
-run-limits Generate runs = absurd runs
-run-limits Line runs = absurd runs
+-- a program that is read of the file of a task
+pub reads-program : {C : Type 0} (task : Task) → RunsMachine task.command → (is : Bool) → task.rom ≡ is → (view : C → Loaded) (a b : TreeState) (r : Result C Halt)
+    → Reads view (λ nodes. input_file nodes (whole_file (file_at nodes task.file) (if is then largest_rom else 4194304))) (program_in is task.file) a b r
+    → Reads view (λ nodes. file_seen nodes task) (program_in task.rom task.file) a b r
+reads-program task runs is rom view a b r p =
+    reads-through (λ nodes. input_file nodes (whole_file (file_at nodes task.file) (if is then largest_rom else 4194304))) (program_in is task.file)
+    (λ nodes. file_seen nodes task) (program_in task.rom task.file) (λ t file. file) view a b (λ nodes. ap (λ x. input_file nodes (whole_file (file_at nodes task.file) (if x then largest_rom else 4194304))) (sym rom) ∙ run-file task task.rom nodes task.command runs)
+    (λ file. ap (λ x. program_in x task.file file) rom) r p
 
 module _ (task : Task) (tree : Option Nodes) where
   -- the folder of the program's own files
@@ -71,142 +77,129 @@ module _ (task : Task) (tree : Option Nodes) where
       is_told None = tt
       is_told (Some nodes) = rw same (told_by (role_path task role.Root) nodes)
 
-  module _ (c : Command) where
-    abbrev pub job : Loaded → List Label → ScriptView → List DebugCommand → Rattle.uxn_cli.specs.Job.Job
-    job program labels script commands = job_of task home program.rom script (debugger_by c (debugging task commands labels))
+-- what the inputs of a run say: the commands, the script, the symbols and the program, the last one first
+module _ (task : Task) (c : Command) (folder : Home) where
+  abbrev pub by_commands : Loaded → List Label → ScriptView → FileBytes → Result Plan Refusal
+  by_commands program labels script file =
+      and_then (commands_in labels (commands_input c task) file) (λ commands.
+      Ok (planned (Run (job_of task folder program.rom script (debugger_by c (debugging task commands labels)))) program.included))
 
-    -- the work, by what the inputs say: the commands, the script, the symbols and the program, the last one first
-    abbrev by_commands : Loaded → List Label → ScriptView → FileBytes → Result Plan Refusal
-    by_commands program labels script file =
-        and_then (commands_in labels (commands_input c task) file) (λ commands. Ok (planned (Run (job program labels script commands)) program.included))
+  abbrev pub by_script : Loaded → List Label → Both FileBytes FileBytes → Result Plan Refusal
+  by_script program labels f = and_then (script_in (role_path task role.Script) f.first) (λ script. by_commands program labels script f.second)
 
-    abbrev by_script : Loaded → List Label → Both FileBytes FileBytes → Result Plan Refusal
-    by_script program labels f = and_then (script_in (role_path task role.Script) f.first) (λ script. by_commands program labels script f.second)
+  abbrev pub by_symbols : Loaded → Both FileBytes (Both FileBytes FileBytes) → Result Plan Refusal
+  by_symbols program f = and_then (given_in (symbols_input c task) f.first) (λ given. by_script program (debug_labels given program) f.second)
 
-    abbrev by_symbols : Loaded → Both FileBytes (Both FileBytes FileBytes) → Result Plan Refusal
-    by_symbols program f = and_then (given_in (symbols_input c task) f.first) (λ given. by_script program (debug_labels given program) f.second)
+  abbrev pub by_program : Both InputFile (Both FileBytes (Both FileBytes FileBytes)) → Result Plan Refusal
+  by_program f = and_then (program_in task.rom task.file f.first) (λ program. by_symbols program f.second)
 
-    abbrev by_program : Both InputFile (Both FileBytes (Both FileBytes FileBytes)) → Result Plan Refusal
-    by_program f = and_then (program_in task.rom task.file f.first) (λ program. by_symbols program f.second)
+module _ (task : Task) (c : Command) where
+  abbrev pub symbols_seen : Nodes → FileBytes
+  symbols_seen nodes = symbols_by nodes (symbols_input c task)
 
-    abbrev symbols_seen : Nodes → FileBytes
-    symbols_seen nodes = symbols_by nodes (symbols_input c task)
+  abbrev pub script_seen : Nodes → FileBytes
+  script_seen nodes = script_by nodes (role_path task role.Script)
 
-    abbrev script_seen : Nodes → FileBytes
-    script_seen nodes = script_by nodes (role_path task role.Script)
+  abbrev pub commands_seen : Nodes → FileBytes
+  commands_seen nodes = script_by nodes (commands_input c task)
 
-    abbrev commands_seen : Nodes → FileBytes
-    commands_seen nodes = script_by nodes (commands_input c task)
+  abbrev pub script_then : Nodes → Both FileBytes FileBytes
+  script_then nodes = both (script_seen nodes) (commands_seen nodes)
 
-    abbrev run_seen : Nodes → Both InputFile (Both FileBytes (Both FileBytes FileBytes))
-    run_seen nodes = both (file_seen nodes task) (both (symbols_seen nodes) (both (script_seen nodes) (commands_seen nodes)))
+  abbrev pub symbols_then : Nodes → Both FileBytes (Both FileBytes FileBytes)
+  symbols_then nodes = both (symbols_seen nodes) (script_then nodes)
 
-  -- what was seen, as a view
+  abbrev pub run_seen : Nodes → Both InputFile (Both FileBytes (Both FileBytes FileBytes))
+  run_seen nodes = both (file_seen nodes task) (symbols_then nodes)
+
+module _ {C : Type 0} (task : Task) (folder : Home) (view : C → Plan) (a b : TreeState) (r : Result C Halt) where
+  -- what was seen, as a view: `play` has neither symbols nor commands
   abbrev play_view : Option Nodes → Both InputFile (Both FileBytes (Both FileBytes FileBytes)) → View
   play_view t f = record (inputs_or t task) { file = f.first; script = f.second.second.first }
 
   abbrev debug_view : Option Nodes → Both InputFile (Both FileBytes (Both FileBytes FileBytes)) → View
   debug_view t f = record (inputs_or t task) { file = f.first; symbols = f.second.first; script = f.second.second.first; commands = f.second.second.second }
 
-  sees_run : (c : Command) → task.command ≡ c → RunsMachine c → (says : Result Plan Refusal) → Sees tree (run_seen c) (by_program c) says → SeesWork tree task says
-  sees_run Play is runs says sees =
-      sees-work tree task (run_seen Play) (by_program Play) (play_view tree) says (fits tree) (λ f. ap (λ c. work_of c task (play_view tree f)) is) sees
-    where
-      fits : (t : Option Nodes) → IfSome t (λ nodes. play_view t (run_seen Play nodes) ≡ inputs_seen nodes task)
-      fits None = tt
-      fits (Some nodes) = refl
-  sees_run Debug is runs says sees =
-      sees-work tree task (run_seen Debug) (by_program Debug) (debug_view tree) says (fits tree) (λ f. ap (λ c. work_of c task (debug_view tree f)) is) sees
-    where
-      fits : (t : Option Nodes) → IfSome t (λ nodes. debug_view t (run_seen Debug nodes) ≡ inputs_seen nodes task)
-      fits None = tt
-      fits (Some nodes) = ap (λ c. record (inputs_seen nodes task) { symbols = symbols_by nodes (symbols_input c task) }) (sym is)
-  sees_run Assemble is runs says sees = absurd runs
-  sees_run Disassemble is runs says sees = absurd runs
-  sees_run Generate is runs says sees = absurd runs
-  sees_run Line is runs says sees = absurd runs
+  pub reads-run : (c : Command) → task.command ≡ c → RunsMachine c → Reads view (run_seen task c) (by_program task c folder) a b r
+      → Reads view (λ nodes. inputs_seen nodes task) (run_in c task folder) a b r
+  reads-run Play is runs p =
+      reads-through (run_seen task Play) (by_program task Play folder) (λ nodes. inputs_seen nodes task) (run_in Play task folder) play_view
+      view a b (λ nodes. refl) (λ f. refl) r p
+  reads-run Debug is runs p =
+      reads-through (run_seen task Debug) (by_program task Debug folder) (λ nodes. inputs_seen nodes task) (run_in Debug task folder) debug_view
+      view a b (λ nodes. ap (λ c. record (inputs_seen nodes task) { symbols = symbols_by nodes (symbols_input c task) }) (sym is)) (λ f. refl) r p
+  reads-run Assemble is runs p = absurd runs
+  reads-run Disassemble is runs p = absurd runs
+  reads-run Generate is runs p = absurd runs
+  reads-run Line is runs p = absurd runs
 
-  -- what a run writes are the outputs of its task
-  run_paths : (c : Command) → RunsMachine c → (folder : Home) (rom : List ℕ) (script : ScriptView) (commands : List DebugCommand) (labels : List Label)
-      → outputs_by c task ≡ outputs_in (job_of task folder rom script (debugger_by c (debugging task commands labels)))
-  run_paths Play runs folder rom script commands labels = sym (play-job task folder rom script)
-  run_paths Debug runs folder rom script commands labels = sym (debug-job task folder rom script commands labels)
-  run_paths Assemble runs folder rom script commands labels = absurd runs
-  run_paths Disassemble runs folder rom script commands labels = absurd runs
-  run_paths Generate runs folder rom script commands labels = absurd runs
-  run_paths Line runs folder rom script commands labels = absurd runs
+-- a run from the folder that was seen is the work of the task
+module _ {C : Type 0} (task : Task) (runs : RunsMachine task.command) (view : C → Plan) (a b : TreeState) (r : Result C Halt) where
+  abbrev at_home : Option Nodes → View → View
+  at_home t v = record v { part = (inputs_or t task).part; parent = (inputs_or t task).parent }
 
-  module _ (runs : RunsMachine task.command) where
-    abbrev c : Command
-    c = task.command
+  same-work : (v : View) → work_of task.command task (at_home a.told v) ≡ run_in task.command task (home task a.told) v
+  same-work v = of-runs (λ c. work_of c task (at_home a.told v) ≡ run_in c task (home task a.told) v) refl refl task.command runs
 
-    -- the program is refused
-    pub run-unloaded : (halt : Halt) → Loads tree task (Err halt) → Unready tree task halt
-    run-unloaded halt loads =
-        unready tree task (λ (program : Loaded). program) (λ nodes. file_seen nodes task) (program_in task.rom task.file)
-        (λ refusal sees. sees_run c refl runs (Err refusal)
-        (sees-refused tree (λ nodes. file_seen nodes task) (program_in task.rom task.file) _ (by_symbols c) (both NoFile (both NoFile NoFile)) refusal sees))
-        halt tree refl loads
+  pub reads-work : Reads view (λ nodes. inputs_seen nodes task) (run_in task.command task (home task a.told)) a b r → ReadsPlan view task a b r
+  reads-work p =
+      reads-through (λ nodes. inputs_seen nodes task) (run_in task.command task (home task a.told)) (λ nodes. inputs_seen nodes task) (work_of task.command task) at_home
+      view a b (λ nodes. refl) same-work r p
 
-    module _ (program : Loaded) (loads : Sees tree (λ nodes. file_seen nodes task) (program_in task.rom task.file) (Ok program)) where
-      loaded : (says : Result Plan Refusal)
-          → Sees tree (λ nodes. both (symbols_seen c nodes) (both (script_seen c nodes) (commands_seen c nodes))) (by_symbols c program) says → SeesWork tree task says
-      loaded says more =
-          sees_run c refl runs says (sees-then tree (λ nodes. file_seen nodes task) (program_in task.rom task.file) _ (by_symbols c) program says loads more)
+-- the inputs of a run, one after the other
+module _ {C : Type 0} (task : Task) (folder : Home) (runs : RunsMachine task.command) (last : C → Plan) (a b : TreeState) where
+  abbrev c : Command
+  c = task.command
 
-      -- the symbols are refused
-      pub run-ungiven : (view : Option (Vec Label) → Option (List Label)) (halt : Halt) (told : Option Nodes) (path : Option (List ℕ)) → told ≡ tree
-          → path ≡ symbols_input c task → Accepts view told (λ nodes. symbols_by nodes path) (given_in path) (Err halt) → Unready tree task halt
-      run-ungiven view halt told path same is accepts =
-          unready tree task view (symbols_seen c) (given_in (symbols_input c task))
-          (λ refusal sees. loaded (Err refusal) (sees-refused tree (symbols_seen c) (given_in (symbols_input c task)) _
-          (λ given. by_script c program (debug_labels given program)) (both NoFile NoFile) refusal sees)) halt told same
-          (subst (λ p. Accepts view told (λ nodes. symbols_by nodes p) (given_in p) (Err halt)) is accepts)
+  abbrev pub ReadsRun : TreeState → Result C Halt → Type 0
+  ReadsRun now r = Reads last (λ nodes. inputs_seen nodes task) (run_in task.command task folder) a now r
 
-      module _ (given : Option (List Label)) (told : Option Nodes) (once : told ≡ tree) (gives : Sees told (symbols_seen c) (given_in (symbols_input c task)) (Ok given)) where
-        abbrev pub labels : List Label
-        labels = debug_labels given program
+  abbrev pub given_view : Option (Vec Label) → Option (List Label)
+  given_view given = option_map (λ labels. labels.items) given
 
-        taken : (says : Result Plan Refusal) → Sees tree (λ nodes. both (script_seen c nodes) (commands_seen c nodes)) (by_script c program labels) says
-            → SeesWork tree task says
-        taken says more =
-            loaded says (sees-then tree (symbols_seen c) (given_in (symbols_input c task)) _ (λ given. by_script c program (debug_labels given program)) given says
-            (seen-here tree (symbols_seen c) (given_in (symbols_input c task)) (Ok given) told once gives) more)
+  -- the program is denied
+  pub run-unloaded : (halt : Halt) → Reads loaded_by (λ nodes. file_seen nodes task) (program_in task.rom task.file) a b (Err halt) → ReadsRun b (Err halt)
+  run-unloaded halt p =
+      reads-run task folder last a b (Err halt) c refl runs (reads-first _ _ (symbols_then task c) (by_symbols task c folder) _ last _ _ (both NoFile (both NoFile NoFile)) halt p)
 
-        -- the script is refused
-        pub run-unscripted : (halt : Halt) (later : Option Nodes) → later ≡ tree
-            → Accepts {B = ScriptView} (λ script. script) later (script_seen c) (script_in (role_path task role.Script)) (Err halt) → Unready tree task halt
-        run-unscripted halt later same accepts =
-            unready tree task (λ (script : ScriptView). script) (script_seen c) (script_in (role_path task role.Script))
-            (λ refusal sees. taken (Err refusal) (sees-refused tree (script_seen c) (script_in (role_path task role.Script)) (commands_seen c)
-            (by_commands c program labels) NoFile refusal sees)) halt later same accepts
+  module _ (program : Program) (p : Reads loaded_by (λ nodes. file_seen nodes task) (program_in task.rom task.file) a b (Ok program)) (d : TreeState) where
+    loaded : (z : TreeState) (r : Result C Halt) → Reads last (symbols_then task c) (by_symbols task c folder (loaded_by program)) b z r → ReadsRun z r
+    loaded z r q = reads-run task folder last a z r c refl runs (reads-then _ _ (symbols_then task c) (by_symbols task c folder) loaded_by last _ _ _ program _ p q)
 
-        module _ (script : ScriptView) (later : Option Nodes) (twice : later ≡ tree) (scripted : Sees later (script_seen c) (script_in (role_path task role.Script)) (Ok script)) where
-          followed : (says : Result Plan Refusal) → Sees tree (commands_seen c) (by_commands c program labels script) says → SeesWork tree task says
-          followed says more =
-              taken says (sees-then tree (script_seen c) (script_in (role_path task role.Script)) (commands_seen c) (by_commands c program labels) script says
-              (seen-here tree (script_seen c) (script_in (role_path task role.Script)) (Ok script) later twice scripted) more)
+    abbrev on_given : Option (List Label) → Both FileBytes FileBytes → Result Plan Refusal
+    on_given given = by_script task c folder (loaded_by program) (debug_labels given (loaded_by program))
 
-          abbrev after : List DebugCommand → Result Plan Refusal
-          after commands = Ok (planned (Run (job c program labels script commands)) program.included)
+    -- the symbols are denied
+    pub run-ungiven : (halt : Halt) → Reads given_view (symbols_seen task c) (given_in (symbols_input c task)) b d (Err halt) → ReadsRun d (Err halt)
+    run-ungiven halt q = loaded d (Err halt) (reads-first _ _ (script_then task c) on_given _ last _ _ (both NoFile NoFile) halt q)
 
-          -- the commands are refused
-          pub run-uncommanded : (view : Vec DebugCommand → List DebugCommand) (halt : Halt) (last : Option Nodes) (shown : List Label) (path : Option (List ℕ)) → last ≡ tree
-              → shown ≡ labels → path ≡ commands_input c task → Accepts view last (λ nodes. script_by nodes path) (commands_in shown path) (Err halt) → Unready tree task halt
-          run-uncommanded view halt last shown path same is at accepts =
-              unready tree task view (commands_seen c) (commands_in labels (commands_input c task))
-              (λ refusal sees. followed (Err refusal) (record { file = sees.file; seen = sees.seen; said_so = ap (λ s. and_then s after) sees.said_so }))
-              halt last same (subst (λ p. Accepts view last (λ nodes. script_by nodes p) (commands_in labels p) (Err halt)) at
-              (subst (λ l. Accepts view last (λ nodes. script_by nodes path) (commands_in l path) (Err halt)) is accepts))
+    module _ (given : Option (Vec Label)) (q : Reads given_view (symbols_seen task c) (given_in (symbols_input c task)) b d (Ok given)) (e : TreeState) where
+      labelled : (z : TreeState) (r : Result C Halt) → Reads last (script_then task c) (on_given (given_view given)) d z r → ReadsRun z r
+      labelled z r s = loaded z r (reads-then _ _ (script_then task c) on_given given_view last _ _ _ given _ q s)
 
-          -- all is accepted
-          pub run-planned : (commands : List DebugCommand) (last : Option Nodes) (shown : List Label) → last ≡ tree → shown ≡ labels
-              → Sees last (commands_seen c) (commands_in shown (commands_input c task)) (Ok commands)
-              → IsPlanned tree task (Run (job c program labels script commands)) program.included
-          run-planned commands last shown same is there =
-              let sees : Sees tree (commands_seen c) (commands_in labels (commands_input c task)) (Ok commands) =
-              seen-here tree (commands_seen c) (commands_in labels (commands_input c task)) (Ok commands) last same (rw is at there) in
-              record {
-                outputs = run_paths c runs home program.rom script commands labels;
-                sees = followed (after commands) (record { file = sees.file; seen = sees.seen; said_so = ap (λ s. and_then s after) sees.said_so });
-              }
+      abbrev on_script : ScriptView → FileBytes → Result Plan Refusal
+      on_script script = by_commands task c folder (loaded_by program) (labels_with (loaded_by program) given) script
+
+      -- the script is denied
+      pub run-unscripted : (halt : Halt) → Reads {B = ScriptView} (λ script. script) (script_seen task c) (script_in (role_path task role.Script)) d e (Err halt) → ReadsRun e (Err halt)
+      run-unscripted halt s = labelled e (Err halt) (reads-first _ _ (commands_seen task c) on_script _ last _ _ NoFile halt s)
+
+      module _ (script : ScriptView) (s : Reads (λ script. script) (script_seen task c) (script_in (role_path task role.Script)) d e (Ok script)) (f : TreeState) where
+        abbrev commands_said : FileBytes → Result (List DebugCommand) Refusal
+        commands_said = commands_in (labels_with (loaded_by program) given) (commands_input c task)
+
+        abbrev on_commands : List DebugCommand → Result Plan Refusal
+        on_commands commands =
+            Ok (planned (Run (job_of task folder (loaded_by program).rom script (debugger_by c (debugging task commands (labels_with (loaded_by program) given))))) (loaded_by program).included)
+
+        followed : (r : Result C Halt) → Reads last (commands_seen task c) (on_script script) e f r → ReadsRun f r
+        followed r t = labelled f r (reads-then _ _ (commands_seen task c) on_script (λ script. script) last _ _ _ script _ s t)
+
+        -- the commands are denied
+        pub run-uncommanded : (halt : Halt) → Reads (λ (commands : Vec DebugCommand). commands.items) (commands_seen task c) commands_said e f (Err halt) → ReadsRun f (Err halt)
+        run-uncommanded halt t = followed (Err halt) (reads-ended _ _ on_commands _ last _ _ halt t)
+
+        -- all is accepted
+        pub run-read : (commands : Vec DebugCommand) (r : Result C Halt) → Reads (λ (commands : Vec DebugCommand). commands.items) (commands_seen task c) commands_said e f (Ok commands)
+            → Follows last r (on_commands commands.items) → ReadsRun f r
+        run-read commands r t follows = followed r (reads-on _ _ on_commands (λ (commands : Vec DebugCommand). commands.items) last _ _ commands r t follows)

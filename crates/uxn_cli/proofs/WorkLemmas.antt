@@ -1,11 +1,16 @@
 -- The work of a task, from what was judged to what was done.
-use Rattle.std.proofs.Common.{◌≡◌, ℕ, ◌+◌, ◌<◌, ◌≤◌, List, [], length, not, refl, ap, ◌∙◌, subst, inl, arith}
+use Rattle.std.proofs.Common.{◌≡◌, ℕ, ◌+◌, ◌<◌, ◌≤◌, false, List, [], ◌∷◌, ◌++◌, length, not, refl, ap, sym, ◌∙◌, subst, inl, arith}
 use Rattle.std.specs.Prelude.{Option, Some, None, Result, Ok, Err, IfSome, find}
 use Rattle.std.proofs.lemmas.List.Elements.{All-weaker}
 use Rattle.uxn_io.specs.Changes.{can_create}
-use Rattle.uxn_io.specs.Faults.{Counts, Ledger, TheTree, ASink, counts}
+use Rattle.uxn_io.specs.Ended.{Takes, IsLeft, TreeLooked}
+use Rattle.uxn_io.specs.EndedLaws.{looked-same}
+use Rattle.uxn_io.specs.Faults.{Ledger, TheTree, ASink, counts}
 use Rattle.uxn_io.specs.Files.{Nodes}
-use Rattle.uxn_io.specs.Room.{Room, Leaves}
+use Rattle.uxn_io.specs.Outside.{Change, ToFile}
+use Rattle.uxn_io.specs.Room.{Room}
+use Rattle.uxn_io.specs.Taking.{TreeLeft, files_made, files_gone}
+use Rattle.uxn_io.specs.TakingLaws.{takes-later}
 use Rattle.uxn_opcodes.specs.declared.Stop.TheVariants.{TreeFault, SinkFault, NoMemory}
 use Rattle.uxn_words.specs.declared.task.Task.{Task}
 use Rattle.uxn_words.specs.declared.words.Command.{Command}
@@ -16,17 +21,17 @@ use Rattle.uxn_cli.specs.declared.refusal.Halt.{Halt}
 use Rattle.uxn_cli.specs.declared.refusal.Halt.TheVariants.{Refused, Stopped}
 use Rattle.uxn_cli.specs.World.{world, Text}
 use Rattle.uxn_cli.specs.Answer.{IsViewOf, Judges, IsRefused, Performs}
-use Rattle.uxn_cli.specs.Blame.{blame_in}
+use Rattle.uxn_cli.specs.Blame.{blame_in, halt_blame, is_of_tree, tree_failed}
 use Rattle.uxn_cli.specs.Causes.{verdict_on}
-use Rattle.uxn_cli.specs.Outcome.{line_bytes, line_exit}
-use Rattle.uxn_cli.specs.Outside.{TreeSeen, SinkSeen, Outside, outside, DoesWork, Puts}
+use Rattle.uxn_cli.specs.Outcome.{line_bytes, line_exit, running}
+use Rattle.uxn_io.specs.State.{TreeState, SinkState, Outside, outside}
+use Rattle.uxn_cli.specs.Outside.{DoesWork, Puts}
 use Rattle.uxn_cli.specs.Prepared.{inputs_seen, SeesWork, Unready, IsPlanned, AreFree, Blocked}
 use Rattle.uxn_cli.specs.Room.{TreeSuffices, SinksSuffice, TakesFor}
 use Rattle.uxn_cli.specs.Verdict.{and_then, View, Work, Run, Write, Print, RunLine, blocked_seen, Plan, planned, first_unmade, made_by, made_for, work_of}
 use Rattle.uxn_cli.proofs.CauseLemmas.{told_verdict}
 use Rattle.uxn_cli.proofs.ChangeLemmas.{printed, print-cut}
-use Rattle.uxn_cli.proofs.DoneLemmas.{takes-more}
-use Rattle.uxn_cli.proofs.SureLemmas.{always, no-sink, no-tree, of_the_tree, of_the_out}
+use Rattle.uxn_cli.proofs.SureLemmas.{always, no-tree, of_the_out}
 use Rattle.uxn_cli.proofs.VerdictLemmas.{unlooked}
 
 -- ---- what was judged
@@ -119,65 +124,96 @@ none_blocked tree task none = rw none (record { looked = go tree; apart = refl }
 
 -- ---- steps, one after the other
 
--- a step over the tree ended the call, and put nothing on the outputs
-pub halted : (asked : Result Task Refusal) (start now : TreeSeen) (out err : SinkSeen) (halt : Halt)
-    → Performs asked (world start.told out.told err.told) (world now.told out.told err.told) (Err halt)
-    → Ledger (counts start.faults 0 0) (counts now.faults 0 0) (blame_in {A = ℕ} (Err halt))
-    → IfSome start.told (λ nodes. TreeSuffices (verdict_on nodes asked) start.sure nodes → blame_in {A = ℕ} (Err halt) ≡ TheTree → ⊥)
-    → DoesWork asked (outside start out err) (outside now out err) (Err halt)
-halted asked start now out err halt performs ledger sure = record {
-  performs = performs;
-  ledger = of_the_tree start.faults start.faults now.faults out.faults err.faults (blame_in {A = ℕ} (Err halt)) refl ledger;
-  sure_tree = sure;
-  sure_sinks = always start.told (λ nodes. SinksSuffice (verdict_on nodes asked) out.sure err.sure) _
-      (no-sink start.faults now.faults (blame_in {A = ℕ} (Err halt)) ledger);
+-- a tree with room takes nothing
+pub takes-nothing : (room : Room) (nodes : Nodes) → 0 < room.files → Takes room (Some nodes) []
+takes-nothing room nodes some = record {
+  files = λ first rest is. go first rest is;
+  bytes = λ first rest path byte is. absurd (none first rest path byte is);
 }
+  where
+    go : (first rest : List Change) → [] ≡ first ++ rest → files_made nodes first < room.files + files_gone first
+    go [] rest is = omega (arith, some)
+    go (change ∷ first) rest is = absurd cc
+
+    none : (first rest : List Change) (path : List ℕ) (byte : ℕ) → [] ≡ first ++ ToFile path byte ∷ rest → ⊥
+    none [] rest path byte is = cc
+    none (change ∷ first) rest path byte is = cc
+
+-- a step that only looked at the tree
+pub halted-looked : (asked : Result Task Refusal) (start now : TreeState) (out err : SinkState) (halt : Halt)
+    → Performs asked (world start.told out.told err.told) (world now.told out.told err.told) (Err halt) → (halt ≡ Stopped SinkFault → ⊥) → TreeLooked (tree_failed {A = ℕ} (Err halt)) start now
+    → DoesWork asked (outside start out err) (outside now out err) (Err halt)
+halted-looked asked start now out err halt performs other looked = record {
+  performs = performs;
+  ledger = ledger halt other looked;
+  sure_tree = go start.told refl;
+  sure_sinks = always start.told (λ nodes. SinksSuffice (verdict_on nodes asked) out.sure err.sure) _ (spared halt other);
+}
+  where
+    ledger : (halt : Halt) → (halt ≡ Stopped SinkFault → ⊥) → TreeLooked (tree_failed {A = ℕ} (Err halt)) start now
+        → Ledger (counts start.faults out.faults err.faults) (counts now.faults out.faults err.faults) (blame_in {A = ℕ} (Err halt))
+    ledger (Refused refusal) other looked = ap (λ f. counts f out.faults err.faults) looked.counted
+    ledger (Stopped TreeFault) other looked = record { tree = looked.counted; out = refl; err = refl }
+    ledger (Stopped NoMemory) other looked = ap (λ f. counts f out.faults err.faults) looked.counted
+    ledger (Stopped SinkFault) other looked = absurd (other refl)
+
+    spared : (halt : Halt) → (halt ≡ Stopped SinkFault → ⊥) → halt_blame halt ≡ ASink → ⊥
+    spared (Refused refusal) other e = cc
+    spared (Stopped TreeFault) other e = cc
+    spared (Stopped NoMemory) other e = cc
+    spared (Stopped SinkFault) other e = other refl
+
+    go : (t : Option Nodes) → start.told ≡ t → IfSome t (λ nodes. TreeSuffices (verdict_on nodes asked) start.sure nodes → blame_in {A = ℕ} (Err halt) ≡ TheTree → ⊥)
+    go None is = tt
+    go (Some nodes) is = λ s e. looked.blamed (ap is_of_tree e) (subst (λ t. Takes start.sure t []) (sym is) (takes-nothing start.sure nodes s.some))
 
 -- the inputs were refused, or could not be read
-pub halted-unready : (task : Task) (start now : TreeSeen) (out err : SinkSeen) (halt : Halt) → Unready start.told task halt → now.told ≡ start.told
-    → Ledger (counts start.faults 0 0) (counts now.faults 0 0) (blame_in {A = ℕ} (Err halt))
-    → (0 < start.sure.files → blame_in {A = ℕ} (Err halt) ≡ TheTree → ⊥)
-    → DoesWork (Ok task) (outside start out err) (outside now out err) (Err halt)
-halted-unready task start now out err halt unready same ledger sure =
-    halted (Ok task) start now out err halt (unprepared task start.told now.told out.told err.told halt unready same) ledger (go start.told)
+pub halted-unready : (task : Task) (start now : TreeState) (out err : SinkState) (halt : Halt) → Unready start.told task halt
+    → TreeLooked (tree_failed {A = ℕ} (Err halt)) start now → DoesWork (Ok task) (outside start out err) (outside now out err) (Err halt)
+halted-unready task start now out err halt unready looked =
+    halted-looked (Ok task) start now out err halt
+    (unprepared task start.told now.told out.told err.told halt unready (looked-same (tree_failed {A = ℕ} (Err halt)) start now looked)) (other halt unready) looked
   where
-    go : (t : Option Nodes) → IfSome t (λ nodes. TreeSuffices (verdict_on nodes (Ok task)) start.sure nodes → blame_in {A = ℕ} (Err halt) ≡ TheTree → ⊥)
-    go None = tt
-    go (Some nodes) = λ s. sure s.some
+    other : (halt : Halt) → Unready start.told task halt → halt ≡ Stopped SinkFault → ⊥
+    other (Refused refusal) unready is = cc
+    other (Stopped stop) unready is = unready (cc)
 
--- a tree that suffices does so still, once it was read
-suffices-still : (verdict : Result Work Refusal) (start here : Room) (nodes : Nodes) → Leaves start here 0 0 → TreeSuffices verdict start nodes → TreeSuffices verdict here nodes
-suffices-still verdict start here nodes left s =
+-- a tree that suffices does so still, once it was looked at
+suffices-still : (verdict : Result Work Refusal) (start here : TreeState) (nodes : Nodes) → start.told ≡ Some nodes → TreeLooked false start here
+    → TreeSuffices verdict start.sure nodes → TreeSuffices verdict here.sure nodes
+suffices-still verdict start here nodes told looked s =
     let some = s.some in
-    let files = left.files some in
-    let bytes = left.bytes some in
-    record { some = omega (arith, files, some); takes = go verdict files bytes s.takes }
+    let left : TreeLeft start.sure here.sure nodes [] = subst (λ t. Takes start.sure t [] → IsLeft start.sure here.sure t []) told (looked.left refl) (takes-nothing start.sure nodes some) in
+    let files = left.files in
+    record { some = omega (arith, files, some); takes = go verdict left s.takes }
   where
-    go : (v : Result Work Refusal) → start.files + 0 ≤ here.files + 0 → start.bytes ≤ here.bytes → TakesFor v start nodes → TakesFor v here nodes
-    go (Err refusal) files bytes takes = tt
-    go (Ok (Run job)) files bytes takes = takes-more start here nodes _ (omega (arith, files)) bytes takes
-    go (Ok (Write texts)) files bytes takes = record {
-      files = (let few = takes.files in omega (arith, files, few));
-      bytes = All-weaker (λ (text : Text). length text.bytes ≤ start.bytes) (λ text. length text.bytes ≤ here.bytes) (λ text small. omega (arith, bytes, small)) texts takes.bytes;
+    go : (v : Result Work Refusal) → TreeLeft start.sure here.sure nodes [] → TakesFor v start.sure nodes → TakesFor v here.sure nodes
+    go (Err refusal) left takes = tt
+    go (Ok (Run job)) left takes = takes-later start.sure here.sure nodes [] (running job) takes left
+    go (Ok (Write texts)) left takes = record {
+      files = (let few = takes.files in let files = left.files in omega (arith, files, few));
+      bytes = (let bytes = left.bytes in All-weaker (λ (text : Text). length text.bytes ≤ start.sure.bytes) (λ text. length text.bytes ≤ here.sure.bytes) (λ text small. omega (arith, bytes, small)) texts takes.bytes);
     }
-    go (Ok (Print text)) files bytes takes = tt
-    go (Ok (RunLine job)) files bytes takes = tt
+    go (Ok (Print text)) left takes = tt
+    go (Ok (RunLine job)) left takes = tt
 
--- a step that only reads the tree, and then the rest
-pub does-after : (asked : Result Task Refusal) (start here : TreeSeen) (out err : SinkSeen) (now : Outside) (r : Result ℕ Halt) → here.told ≡ start.told
-    → Leaves start.sure here.sure 0 0 → counts here.faults 0 0 ≡ counts start.faults 0 0
+-- a step that only looks at the tree, and then the rest
+pub does-after : (asked : Result Task Refusal) (start here : TreeState) (out err : SinkState) (now : Outside) (r : Result ℕ Halt) → TreeLooked false start here
     → DoesWork asked (outside here out err) now r → DoesWork asked (outside start out err) now r
-does-after asked start here out err now r same left counted does = record {
+does-after asked start here out err now r looked does = record {
   performs = subst (λ t. Performs asked (world t out.told err.told) now.world r) same does.performs;
-  ledger = subst (λ f. Ledger (counts f out.faults err.faults) now.faults (blame_in r)) (ap (λ (c : Counts). c.tree) counted) does.ledger;
-  sure_tree = go start.told (subst (λ t. IfSome t (λ nodes. TreeSuffices (verdict_on nodes asked) here.sure nodes → blame_in r ≡ TheTree → ⊥)) same does.sure_tree);
+  ledger = subst (λ f. Ledger (counts f out.faults err.faults) now.faults (blame_in r)) looked.counted does.ledger;
+  sure_tree = go start.told refl (subst (λ t. IfSome t (λ nodes. TreeSuffices (verdict_on nodes asked) here.sure nodes → blame_in r ≡ TheTree → ⊥)) same does.sure_tree);
   sure_sinks = subst (λ t. IfSome t (λ nodes. SinksSuffice (verdict_on nodes asked) out.sure err.sure → blame_in r ≡ ASink → ⊥)) same does.sure_sinks;
 }
   where
-    go : (t : Option Nodes) → IfSome t (λ nodes. TreeSuffices (verdict_on nodes asked) here.sure nodes → blame_in r ≡ TheTree → ⊥)
+    same : here.told ≡ start.told
+    same = looked-same false start here looked
+
+    go : (t : Option Nodes) → start.told ≡ t → IfSome t (λ nodes. TreeSuffices (verdict_on nodes asked) here.sure nodes → blame_in r ≡ TheTree → ⊥)
         → IfSome t (λ nodes. TreeSuffices (verdict_on nodes asked) start.sure nodes → blame_in r ≡ TheTree → ⊥)
-    go None holds = tt
-    go (Some nodes) holds = λ s. holds (suffices-still (verdict_on nodes asked) start.sure here.sure nodes left s)
+    go None is holds = tt
+    go (Some nodes) is holds = λ s. holds (suffices-still (verdict_on nodes asked) start here nodes is looked s)
 
 -- ---- bytes that are put on the standard output
 
@@ -188,8 +224,8 @@ IsOutput (Write texts) bytes code = ⊥
 IsOutput (Print text) bytes code = (text ≡ bytes) × (code ≡ 0)
 IsOutput (RunLine job) bytes code = (line_bytes job ≡ bytes) × (code ≡ line_exit job)
 
-module _ (task : Task) (tree : TreeSeen) (err : SinkSeen) (work : Work) (plan : IsPlanned tree.told task work []) (none : outputs_of task ≡ [])
-    (bytes : List ℕ) (code : ℕ) (is : IsOutput work bytes code) (out now : SinkSeen) where
+module _ (task : Task) (tree : TreeState) (err : SinkState) (work : Work) (plan : IsPlanned tree.told task work []) (none : outputs_of task ≡ [])
+    (bytes : List ℕ) (code : ℕ) (is : IsOutput work bytes code) (out now : SinkState) where
   puts_performs : (r : Result ℕ Halt) → Puts out now bytes code r
       → Performs (Ok task) (world tree.told out.told err.told) (world tree.told now.told err.told) r
   puts_performs r puts = go work (judges_work task tree.told work [] plan (none_blocked tree.told task none)) is r puts

@@ -107,11 +107,6 @@ Performs asked before now (Ok answer) = HasEnded asked before now answer
 Performs asked before now (Err (Refused refusal)) = IsRefused asked before now refusal
 Performs asked before now (Err (Stopped stop)) = IsCut asked before now stop
 
--- how the call ended: with its outcome, or early
-abbrev pub Ends : Result Task Refusal → World → World → Result ℕ Stop → Type 0
-Ends asked before now (Ok answer) = HasEnded asked before now answer
-Ends asked before now (Err stop) = IsCut asked before now stop
-
 -- the answer is that of the verdict's outcome, or says why the call ended early
 pub record EndsEarly (asked : Result Task Refusal) (before now : World) (answer : ℕ) : Type 0 where
   pub stop : Stop

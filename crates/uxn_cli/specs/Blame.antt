@@ -1,6 +1,5 @@
 -- Who is to blame where a call ended early, and the status that says so.
-use Rattle.std.specs.Prelude.{◌≡◌, ℕ, ◌==◌, List, Option, Result, Ok, Err, if◌then◌else◌}
-use Rattle.uxn_io.specs.Told.{HasTakenFront}
+use Rattle.std.specs.Prelude.{ℕ, ◌==◌, Bool, true, false, Result, Ok, Err, if◌then◌else◌}
 use Rattle.uxn_io.specs.Faults.{Blame, Nobody, TheTree, ASink}
 use Rattle.uxn_io.specs.declared.trees.ReadStop.{ReadStop}
 use Rattle.uxn_io.specs.declared.trees.ReadStop.TheVariants.{Failed, NoMemory as WantsMemory}
@@ -21,15 +20,30 @@ blame_of SinkFault = ASink
 blame_of NoMemory = Nobody
 
 -- of a step that may be refused
+abbrev pub halt_blame : Halt → Blame
+halt_blame (Refused refusal) = Nobody
+halt_blame (Stopped stop) = blame_of stop
+
 abbrev pub blame_in : {A : Type 0} → Result A Halt → Blame
 blame_in (Ok value) = Nobody
-blame_in (Err (Refused refusal)) = Nobody
-blame_in (Err (Stopped stop)) = blame_of stop
+blame_in (Err halt) = halt_blame halt
 
--- of a call that may stop
+-- whether the tree failed in it
+abbrev pub is_of_tree : Blame → Bool
+is_of_tree Nobody = false
+is_of_tree TheTree = true
+is_of_tree ASink = false
+
+abbrev pub tree_failed : {A : Type 0} → Result A Halt → Bool
+tree_failed result = is_of_tree (blame_in result)
+
+-- a call that may stop is a step that is not refused
+abbrev pub as_step : {A : Type 0} → Result A Stop → Result A Halt
+as_step (Ok value) = Ok value
+as_step (Err stop) = Err (Stopped stop)
+
 abbrev pub blame_by : {A : Type 0} → Result A Stop → Blame
-blame_by (Ok value) = Nobody
-blame_by (Err stop) = blame_of stop
+blame_by result = blame_in (as_step result)
 
 -- of a status
 abbrev pub blame_at : ℕ → Blame
@@ -57,9 +71,3 @@ abbrev pub halt_of_source : SourceStop → Halt
 halt_of_source (BadSource fault) = Refused (Faulty fault)
 halt_of_source SourceTree = Stopped TreeFault
 halt_of_source SourceMemory = Stopped NoMemory
-
--- a line that was not put: a sink failed, and has a front of it; or memory was wanting, and nothing was put
-abbrev pub Stops : Option (List ℕ) → Option (List ℕ) → List ℕ → Stop → Type 0
-Stops before now line TreeFault = ⊥
-Stops before now line SinkFault = HasTakenFront before now line
-Stops before now line NoMemory = now ≡ before

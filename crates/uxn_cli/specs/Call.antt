@@ -6,7 +6,7 @@ use Rattle.uxn_opcodes.specs.declared.Stop.{Stop}
 use Rattle.uxn_words.specs.declared.task.Task.{Task}
 use Rattle.uxn_cli.specs.declared.refusal.Refusal.{Refusal}
 use Rattle.uxn_cli.specs.Causes.{verdict_on}
-use Rattle.uxn_cli.specs.Outside.{Outside, outside_of}
+use Rattle.uxn_io.specs.State.{Outside, outside_of}
 use Rattle.uxn_cli.specs.Request.{request}
 use Rattle.uxn_cli.specs.Statuses.{early_status}
 use Rattle.uxn_cli.specs.Verdict.{Work}

@@ -1,19 +1,17 @@
 -- What each call of the program keeps to, in groups.
-use Rattle.std.specs.Prelude.{◌≡◌, ℕ, ◌≤◌, ◌⊎◌, true, false, List, ◌++◌, map, Option, Some, option_to_list, Result, Ok, IfSome}
+use Rattle.std.specs.Prelude.{◌≡◌, ℕ, ◌≤◌, ◌⊎◌, true, false, List, ◌++◌, map, Option, Some, Result, Ok, IfSome}
 use Rattle.std.specs.List.{list_any}
 use Rattle.std.specs.Str.{bytes_eq}
-use Rattle.uxn_io.specs.Faults.{Rose, Ledger, TheTree, ASink}
+use Rattle.uxn_io.specs.Faults.{Rose, Ledger}
 use Rattle.uxn_io.specs.Files.{Nodes, Node, File}
 use Rattle.uxn_io.specs.Outside.{World, changed_by, IsCutOff}
 use Rattle.uxn_io.specs.Told.{extended}
-use Rattle.uxn_opcodes.specs.declared.Stop.{Stop}
 use Rattle.uxn_opcodes.specs.declared.Stop.TheVariants.{NoMemory}
 use Rattle.varvara_bus.specs.Touching.{told_at}
 use Rattle.uxn_cli.specs.declared.refusal.Refusal.{Refusal}
-use Rattle.uxn_cli.specs.Answer.{MayStop, Ends, Answers}
-use Rattle.uxn_cli.specs.Blame.{blame_at, blame_by}
+use Rattle.uxn_cli.specs.Answer.{MayStop, Answers}
+use Rattle.uxn_cli.specs.Blame.{blame_at}
 use Rattle.uxn_cli.specs.Call.{Call, asked_by, OfVerdict}
-use Rattle.uxn_cli.specs.Outside.{Outside}
 use Rattle.uxn_cli.specs.Causes.{IsExactly, verdict_on, EndsWith, KeepsOthers, PutsLine}
 use Rattle.uxn_cli.specs.Isolation.{LookSame, GivesAsOn}
 use Rattle.uxn_cli.specs.Job.{outputs_in}
@@ -72,12 +70,11 @@ pub record HoldsFront (before now whole : Option (List ℕ)) : Type 0 where
   pub kept : IsFrontOf before now
   pub front : IsFrontOf now whole
 
--- an output that is written whole: each one but the pictures and the samples of a run, which are added to while it goes
-abbrev pub IsWrittenWhole : Result Work Refusal → List ℕ → Type 0
-IsWrittenWhole (Ok (Run job)) path = (list_any (bytes_eq path) (outputs_in job) ≡ true)
-    × (list_any (bytes_eq path) (option_to_list job.frames ++ option_to_list job.samples) ≡ false)
-IsWrittenWhole (Ok (Write texts)) path = list_any (bytes_eq path) (map (λ text. text.path) texts) ≡ true
-IsWrittenWhole _ path = ⊥
+-- a file that the work of a verdict writes
+abbrev pub IsOutputOf : Result Work Refusal → List ℕ → Type 0
+IsOutputOf (Ok (Run job)) path = list_any (bytes_eq path) (outputs_in job) ≡ true
+IsOutputOf (Ok (Write texts)) path = list_any (bytes_eq path) (map (λ text. text.path) texts) ≡ true
+IsOutputOf _ path = ⊥
 
 -- at a path stands what stood there, or a file with a front of what it is to hold
 abbrev pub HoldsFileFront : Option (Option Node) → Option (Option Node) → Option (Option Node) → Type 0
@@ -91,8 +88,8 @@ pub record StandsCutOff (verdict : Result Work Refusal) (before now : World) : T
   -- so each output has a front of what the outcome gives it
   pub out : HoldsFront before.out now.out (changed_by before (outcome_of verdict).changes).out
   pub err : HoldsFront before.err now.err (changed_by before (outcome_of verdict).changes).err
-  -- and so has each file that is written whole, or it is as it was
-  pub files : (path : List ℕ) → IsWrittenWhole verdict path
+  -- and so has each file that is written, its pictures and its samples too, or it is as it was
+  pub files : (path : List ℕ) → IsOutputOf verdict path
       → HoldsFileFront (told_at path before.files) (told_at path now.files) (told_at path (changed_by before (outcome_of verdict).changes).files)
 
 abbrev pub IsCutShort : Call → Type 0
@@ -118,12 +115,3 @@ pub record ComesOut (c : Call) : Type 0 where
   pub outcome : HasItsOutcome c
   pub ledger : Ledger c.before.faults c.now.faults (blame_at c.status)
   pub sure : FailsNotWhereSure c
-
--- the same before its status is made: it answered or stopped, and whoever is to blame for a stop has counted it
-pub record AnswersOrStops (words : List (List ℕ)) (before now : Outside) (result : Result ℕ Stop) : Type 0 where
-  pub ends : Ends (request words) before.world now.world result
-  pub ledger : Ledger before.faults now.faults (blame_by result)
-  pub sure_tree : IfSome before.world.files (λ nodes. TreeSuffices (verdict_on nodes (request words)) before.sure.tree nodes
-      → blame_by result ≡ TheTree → ⊥)
-  pub sure_sinks : IfSome before.world.files (λ nodes. SinksSuffice (verdict_on nodes (request words)) before.sure.out before.sure.err
-      → blame_by result ≡ ASink → ⊥)

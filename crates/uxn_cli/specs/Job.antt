@@ -24,6 +24,7 @@ use Rattle.tal_words.specs.declared.name.Label.{Label}
 use Rattle.uxn_debugger.specs.declared.command.DebugCommand.{DebugCommand}
 use Rattle.uxn_debugger.specs.Log.{Shown, log_of}
 use Rattle.uxn_cli.specs.World.{Text}
+use Rattle.uxn_cli.specs.declared.running.RunEnd.{RunEnd}
 
 -- what a debugger does: its commands, the labels that its log names, and the file of the log
 pub record Debugging : Type 0 where
@@ -88,6 +89,10 @@ trail_of job = trail_by job.budget (outputs_by job.frames job.samples) job.scrip
 -- the exit code: the low seven bits of port 0f at the end
 abbrev pub exit_in : State → ℕ
 exit_in state = exit_code_of (stored state.devices.history 0x0f)
+
+-- how a run ended, by its last state
+abbrev pub end_in : State → RunEnd
+end_in state = record { exit = exit_in state; tally = state.tally }
 
 abbrev pub exit_of : Job → ℕ
 exit_of job = exit_in (trail_of job).last

@@ -1,21 +1,21 @@
 -- What is to be done once all inputs are accepted, as the code holds it.
-use Rattle.std.specs.Prelude.{[], Option, Result, Ok, Err}
+use Rattle.std.specs.Prelude.{Option, Result, Ok, Err}
 use Rattle.uxn_io.specs.Files.{Nodes}
 use Rattle.uxn_words.specs.declared.task.Task.{Task}
 use Rattle.uxn_cli.specs.declared.work.Work.{Work as HeldWork}
 use Rattle.uxn_cli.specs.declared.work.Work.TheVariants.{Run as RunIt, Write as WriteIt, Print as PrintIt, Join as JoinIt}
 use Rattle.uxn_cli.specs.declared.refusal.Halt.{Halt}
-use Rattle.uxn_cli.specs.Joined.{IsJoined}
-use Rattle.uxn_cli.specs.Outputs.{seen_texts}
-use Rattle.uxn_cli.specs.Prepared.{IsPlanned, IsReadyRun, Unready}
-use Rattle.uxn_cli.specs.Verdict.{Write, Print}
+use Rattle.uxn_cli.specs.Joined.{IsRunnable, line_plan}
+use Rattle.uxn_cli.specs.Prepared.{IsReadyRun, SeesWork, Unready}
+use Rattle.uxn_cli.specs.Verdict.{text_plan}
+use Rattle.uxn_cli.specs.Written.{writing_plan}
 
 -- it is the work that a task asks for, over what was seen in a tree
 abbrev pub IsWork : Option Nodes → Task → HeldWork → Type 0
 IsWork tree task (RunIt prepared) = IsReadyRun tree task prepared
-IsWork tree task (WriteIt written) = IsPlanned tree task (Write (seen_texts written.outputs.items)) written.source.paths
-IsWork tree task (PrintIt text) = IsPlanned tree task (Print text.items) []
-IsWork tree task (JoinIt joined) = IsJoined tree task joined
+IsWork tree task (WriteIt written) = SeesWork tree task (Ok (writing_plan written))
+IsWork tree task (PrintIt text) = SeesWork tree task (Ok (text_plan text.items))
+IsWork tree task (JoinIt joined) = SeesWork tree task (Ok (line_plan joined)) × IsRunnable joined
 
 abbrev pub Judged : Option Nodes → Task → Result HeldWork Halt → Type 0
 Judged tree task (Ok work) = IsWork tree task work

@@ -7,10 +7,12 @@ pub mod Setup
 pub mod Verdict
 pub mod Follows
 pub mod Blame
+pub mod Reading
 pub mod Job
 pub mod Outcome
 pub mod Room
 pub mod Prepared
+pub mod Runs
 pub mod Joined
 pub mod Answer
 pub mod Causes
@@ -21,6 +23,5 @@ pub mod OpcodeNames
 pub mod Observation
 pub mod Isolation
 pub mod Workload
-pub mod Ended
 pub mod Call
 pub mod Clauses

@@ -98,8 +98,7 @@ file_seen nodes task = input_file nodes (input_by nodes (file_input task.command
 
 -- the file of symbols, where it is an input
 abbrev pub symbols_by : Nodes → Option (List ℕ) → FileBytes
-symbols_by nodes None = NoFile
-symbols_by nodes (Some path) = whole_file (file_at nodes path) 16777216
+symbols_by nodes path = input_by nodes path 16777216
 
 abbrev pub symbols_input : Command → Task → Option (List ℕ)
 symbols_input Play task = None
@@ -114,8 +113,7 @@ symbols_seen nodes task = symbols_by nodes (symbols_input task.command task)
 
 -- the script, where it is an input
 abbrev pub script_by : Nodes → Option (List ℕ) → FileBytes
-script_by nodes None = NoFile
-script_by nodes (Some path) = whole_file (file_at nodes path) 4194304
+script_by nodes path = input_by nodes path 4194304
 
 abbrev pub script_seen : Nodes → Task → FileBytes
 script_seen nodes task = script_by nodes (role_path task role.Script)
@@ -189,7 +187,7 @@ rom_in path NoFile = Err (Missing path)
 rom_in path (TooLong length) = Err (LongRom length)
 rom_in path (Found rom) = Ok rom.list
 
--- the labels of a symbol file that is there (130) and not refused (134); without a symbol file there are none
+-- the labels of a symbol file that is there (130) and not refused (134)
 abbrev pub labels_by : Result (List Label) BadEntry → Result (List Label) Refusal
 labels_by (Ok labels) = Ok labels
 labels_by (Err bad) = Err (BadSymbols bad.entry bad.kind)
@@ -198,10 +196,6 @@ abbrev pub labels_at : List ℕ → FileBytes → Result (List Label) Refusal
 labels_at path NoFile = Err (Missing path)
 labels_at path (TooLong length) = Err (BadSymbols 0 Long)
 labels_at path (Found bytes) = labels_by (symbols_in bytes.list)
-
-abbrev pub labels_in : Option (List ℕ) → FileBytes → Result (List Label) Refusal
-labels_in None file = Ok []
-labels_in (Some path) file = labels_at path file
 
 -- what is run: the ROM, the labels of its source and the files that this includes
 pub record Loaded : Type 0 where
@@ -275,6 +269,15 @@ abbrev pub home_by : Option (List ℕ) → Nodes → Bool → Home
 home_by None part parent = no_home
 home_by (Some root) part parent = record { root = Some root; part = part; parent = parent }
 
+-- `debug` has a debugger, whose commands are an input
+abbrev pub debugger_by : Command → Debugging → Option Debugging
+debugger_by Debug debugging = Some debugging
+debugger_by _ debugging = None
+
+abbrev pub commands_input : Command → Task → Option (List ℕ)
+commands_input Debug task = (role_path task role.Commands)
+commands_input _ task = None
+
 -- a run of a ROM with a script beneath a root, which a debugger may watch
 abbrev pub job_of : Task → Home → List ℕ → ScriptView → Option Debugging → Job
 job_of task home rom script debug = record {
@@ -313,7 +316,7 @@ line_in setup named =
     and_then (script_in setup.script named.script) (λ script.
     and_then (console_script script) (λ given. Ok (line_job setup roms given))))
 
--- what is to be done: a ROM is run, files are written, a text is printed, or machines in a line are run
+-- what is to be done: a ROM is run, files are written, a text is text_plan, or machines in a line are run
 pub data Work : Type 0 where
   Run : (job : Job) → Work
   Write : (texts : List Text) → Work
@@ -328,31 +331,33 @@ pub record Plan : Type 0 where
 abbrev pub planned : Work → List (List ℕ) → Plan
 planned work included = record { work = work; included = included }
 
--- work that is about no source, or writes no file
-abbrev pub plain : Result Work Refusal → Result Plan Refusal
-plain said = and_then said (λ work. Ok (planned work []))
+-- a text that is text_plan, which is about no source
+abbrev pub text_plan : List ℕ → Plan
+text_plan text = planned (Print text) []
 
--- the work of a command, once its inputs are accepted one after the other
+-- a run, once its inputs are accepted one after the other
+abbrev pub run_in : Command → Task → Home → View → Result Plan Refusal
+run_in c task home view =
+    and_then (program_in task.rom task.file view.file) (λ program.
+    and_then (given_in (symbols_input c task) view.symbols) (λ given.
+    and_then (script_in (role_path task role.Script) view.script) (λ script.
+    and_then (commands_in (debug_labels given program) (commands_input c task) view.commands) (λ commands.
+    Ok (planned (Run (job_of task home program.rom script (debugger_by c (debugging task commands (debug_labels given program)))))
+    program.included)))))
+
+-- the work of a command, in the same way
 abbrev pub work_of : Command → Task → View → Result Plan Refusal
-work_of Play task view =
-    and_then (program_in task.rom task.file view.file) (λ program.
-    and_then (script_in (role_path task role.Script) view.script) (λ script.
-    Ok (planned (Run (job_of task (home_by (role_path task role.Root) view.part view.parent) program.rom script None)) program.included)))
-work_of Debug task view =
-    and_then (program_in task.rom task.file view.file) (λ program.
-    and_then (given_in (role_path task role.Symbols) view.symbols) (λ given.
-    and_then (script_in (role_path task role.Script) view.script) (λ script.
-    and_then (commands_in (debug_labels given program) (role_path task role.Commands) view.commands) (λ commands.
-    Ok (planned (Run (job_of task (home_by (role_path task role.Root) view.part view.parent) program.rom script
-    (Some (debugging task commands (debug_labels given program))))) program.included)))))
+work_of Play task view = run_in Play task (home_by (role_path task role.Root) view.part view.parent) view
+work_of Debug task view = run_in Debug task (home_by (role_path task role.Root) view.part view.parent) view
 work_of Assemble task view =
     and_then (source_in task.file view.file) (λ source. Ok (planned (Write (texts_of task source.text)) source.paths))
 work_of Disassemble task view =
-    plain (and_then (rom_in task.file view.file.bytes) (λ rom.
-    and_then (labels_in (role_path task role.Symbols) view.symbols) (λ labels. Ok (Print (disassembly rom labels)))))
-work_of Generate task view = plain (and_then (summary_in task.count) (λ text. Ok (Print text)))
+    and_then (rom_in task.file view.file.bytes) (λ rom.
+    and_then (given_in (role_path task role.Symbols) view.symbols) (λ given. Ok (text_plan (disassembly rom (unwrap_or given [])))))
+work_of Generate task view = and_then (summary_in task.count) (λ text. Ok (text_plan text))
 work_of Line task view =
-    plain (and_then (setup_in task.file view.file.bytes) (λ setup. and_then (line_in setup view.named) (λ job. Ok (RunLine job))))
+    and_then (setup_in task.file view.file.bytes) (λ setup.
+    and_then (line_in setup view.named) (λ job. Ok (planned (RunLine job) [])))
 
 -- then each output can be made and is no included file (135); the first one that is not so counts
 abbrev pub first_unmade : Option (List ℕ) → List (List ℕ) → List (List ℕ) → Option (List ℕ)

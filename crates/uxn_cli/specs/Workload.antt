@@ -1,5 +1,5 @@
 -- The run of a workload, and what is told of it (profile).
-use Rattle.std.specs.Prelude.{ℕ, List, [], length, Some, None, unwrap_or}
+use Rattle.std.specs.Prelude.{◌≡◌, ℕ, List, [], length, Some, None, unwrap_or}
 use Rattle.std.specs.FinMap as nodes_map
 use Rattle.uxn_io.specs.Outside.{World, changed_by}
 use Rattle.uxn_opcodes.specs.declared.Core.{Core}
@@ -7,7 +7,8 @@ use Rattle.uxn_opcodes.specs.Rule.{new_core}
 use Rattle.play_script.specs.Scripts.{ScriptView}
 use Rattle.vector_loop.specs.Trail.{Trail}
 use Rattle.uxn_workload.specs.Summary.{Summary, summary_text}
-use Rattle.uxn_cli.specs.Job.{no_home, outputs_by, trail_by, exit_in}
+use Rattle.uxn_cli.specs.Job.{no_home, outputs_by, trail_by, end_in}
+use Rattle.uxn_cli.specs.declared.running.RunEnd.{RunEnd}
 
 -- its own outside before the run: nothing was put, and there is no file
 abbrev pub empty_world : World
@@ -24,17 +25,25 @@ workload_trail rom script = lone_trail (new_core rom) script
 abbrev pub console_of : Trail → List ℕ
 console_of trail = unwrap_or (changed_by empty_world trail.changes).out []
 
-abbrev pub told_of : List ℕ → List ℕ → Trail → Summary
-told_of source rom trail = record {
+-- a run that is over, and the bytes that it put on an output of its own
+pub record HasRunAlone (trail : Trail) (end : RunEnd) (put : List ℕ) : Type 0 where
+  pub ends : end ≡ end_in trail.last
+  pub bytes : put ≡ console_of trail
+
+abbrev pub told_by : List ℕ → List ℕ → RunEnd → List ℕ → Summary
+told_by source rom end console = record {
   source = length source;
   rom = length rom;
-  instructions = trail.last.tally.instructions;
-  vectors = trail.last.tally.vectors;
-  cuts = trail.last.tally.cuts;
-  frames = trail.last.tally.frames;
-  console = console_of trail;
-  exit = exit_in trail.last;
+  instructions = end.tally.instructions;
+  vectors = end.tally.vectors;
+  cuts = end.tally.cuts;
+  frames = end.tally.frames;
+  console = console;
+  exit = end.exit;
 }
+
+abbrev pub told_of : List ℕ → List ℕ → Trail → Summary
+told_of source rom trail = told_by source rom (end_in trail.last) (console_of trail)
 
 -- the summary of a source, its ROM, and its run over a script
 unfoldable pub workload_text : List ℕ → List ℕ → ScriptView → List ℕ

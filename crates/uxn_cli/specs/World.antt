@@ -1,9 +1,8 @@
 -- What a call can see and change.
-use Rattle.std.specs.Prelude.{◌≡◌, ℕ, ◌+◌, ◌≤◌, true, List, [], ◌∷◌, length, take, fold, All, slice_get}
-use Rattle.std.specs.Prelude.{Option, Some, IsSome}
-use Rattle.std.specs.Prelude.{option_map, ◌⊎◌}
+use Rattle.std.specs.Prelude.{◌≡◌, ℕ, ◌+◌, ◌≤◌, true, List, [], ◌∷◌, length, fold, All}
+use Rattle.std.specs.Prelude.{Option, IsSome}
 use Rattle.uxn_io.specs.Files.{Nodes, file_at, bytes_at}
-use Rattle.uxn_io.specs.Changes.{can_create, with_created, with_appended, HasAppendedFront}
+use Rattle.uxn_io.specs.Changes.{can_create, with_created, with_appended}
 use Rattle.uxn_io.specs.Outside.{World}
 
 -- the files of the tree and the bytes that the two outputs took, where they are told
@@ -18,30 +17,6 @@ pub record Text : Type 0 where
 -- files that are made empty, in order
 abbrev pub with_empty : List Text → Nodes → Nodes
 with_empty texts nodes = fold (λ before text. with_created text.path before) nodes texts
-
--- files that get their bytes, in order
-abbrev pub with_bytes : List Text → Nodes → Nodes
-with_bytes texts nodes = fold (λ before text. with_appended text.path text.bytes before) nodes texts
-
--- files that are written: all are made, and then they get their bytes
-unfoldable pub with_texts : List Text → Nodes → Nodes
-with_texts texts nodes = with_bytes texts (with_empty texts nodes)
-
--- the files of a front were made
-pub record HasMadeFront (before now : Option Nodes) (texts : List Text) : Type 0 where
-  pub count : ℕ
-  pub told : now ≡ option_map (with_empty (take count texts)) before
-
--- those of a front got their bytes, and the next one a front of its own
-pub record HasFilledFront (before now : Option Nodes) (texts : List Text) : Type 0 where
-  pub count : ℕ
-  pub text : Text
-  pub next : slice_get texts count ≡ Some text
-  pub front : HasAppendedFront text.path (option_map (with_bytes (take count texts)) before) now text.bytes
-
--- of files that are written a front was done: some were made; or all were, and some got their bytes
-abbrev pub HasWrittenFront : Option Nodes → Option Nodes → List Text → Type 0
-HasWrittenFront before now texts = HasMadeFront before now texts ⊎ HasFilledFront (option_map (with_empty texts) before) now texts
 
 -- files that can be made one after the other
 unfoldable pub CanMake : List Text → Nodes → Type 0

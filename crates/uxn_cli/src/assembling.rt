@@ -1,18 +1,16 @@
 //! What `asm` does: a source is assembled, and what is asked for is written.
-ghost use Rattle.std.specs.Prelude.{◌≡◌, ◌<◌, ◌++◌, Ok, IfOk, OnOk};
+ghost use Rattle.std.specs.Prelude.{◌≡◌, ◌++◌, Ok, IfOk, OnOk};
 ghost use Rattle.tal_rom.specs.Assembly.{IsAssembled};
 ghost use Rattle.tal_symbols.specs.SymbolFile.{symbol_file};
 ghost use Rattle.tal_listing.specs.Listing.{listing_of};
-ghost use Rattle.uxn_io.specs.Faults.{Ledger, TheTree, counts};
-ghost use Rattle.uxn_io.specs.Room.{Leaves};
 ghost use Rattle.uxn_cli.specs.Outputs.{seen_texts};
 ghost use Rattle.uxn_words.specs.Places.{HasApartOutputs};
 ghost use Rattle.uxn_cli.specs.Job.{text_at};
-ghost use Rattle.uxn_cli.specs.Verdict.{Write, texts_of};
-ghost use Rattle.uxn_cli.specs.Blame.{blame_in};
-ghost use Rattle.uxn_cli.specs.Outside.{SinkSeen, tree_seen, outside, DoesWork};
-ghost use Rattle.uxn_cli.specs.Prepared.{IsPlanned};
-ghost use Rattle.uxn_cli.specs.Written.{Writes};
+ghost use Rattle.uxn_cli.specs.Verdict.{texts_of};
+ghost use Rattle.uxn_io.specs.State.{SinkState, tree_state, outside};
+ghost use Rattle.uxn_cli.specs.Outside.{DoesWork};
+ghost use Rattle.uxn_cli.specs.Prepared.{ReadsPlan, SeesWork};
+ghost use Rattle.uxn_cli.specs.Written.{writing_plan};
 
 use super::commands::accept_source;
 use super::making::look_at;
@@ -116,11 +114,7 @@ pub struct Written {
 /// Assembles the source in a file. All that takes memory is done here, before the first file is made.
 pub fn assemble<T: Tree>(alloc: Global, task: &Task, tree: &mut T) -> Result<Written, Halt>
     requires { task.now.command ≡ Command.Assemble }
-    ensures writes { Writes (T.told tree.old) task.now result }
-    ensures same { T.told tree.new ≡ T.told tree.old }
-    ensures ledger { Ledger (counts (T.faults tree.old) 0 0) (counts (T.faults tree.new) 0 0) (blame_in result) }
-    ensures sure { 0 < (T.sure tree.old).files → blame_in result ≡ TheTree → ⊥ }
-    ensures left { OnOk result (Leaves (T.sure tree.old) (T.sure tree.new) 0 0) }
+    ensures { ReadsPlan writing_plan task.now (tree_state T.Tree tree.old) (tree_state T.Tree tree.new) result }
 {
     let source = accept_source(alloc, &task.file, tree)?;
     let outputs = outputs_of(alloc, task, &source)?;
@@ -129,10 +123,10 @@ pub fn assemble<T: Tree>(alloc: Global, task: &Task, tree: &mut T) -> Result<Wri
 
 /// Writes the files that were asked for.
 pub fn write<T: Tree>(task: &Task, written: &Written, tree: &mut T) -> Result<u8, Halt>
-    requires planned { IsPlanned (T.told tree.old) task.now (Write (seen_texts written.now.outputs.items)) written.now.source.paths }
+    requires planned { SeesWork (T.told tree.old) task.now (Ok (writing_plan written.now)) }
     requires apart { HasApartOutputs task.now }
-    ensures does { (out err : SinkSeen) → DoesWork (Ok task.now) (outside (tree_seen T.told T.sure T.faults tree.old) out err)
-        (outside (tree_seen T.told T.sure T.faults tree.new) out err) result }
+    ensures does { (out err : SinkState) → DoesWork (Ok task.now) (outside (tree_state T.Tree tree.old) out err)
+        (outside (tree_state T.Tree tree.new) out err) result }
 {
     look_at(written.source.paths(), &written.outputs, tree)?;
     match write_all(tree, &written.outputs)? {

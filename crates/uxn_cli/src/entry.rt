@@ -1,19 +1,15 @@
 //! The top call, from the words to the status.
-ghost use Rattle.std.specs.Prelude.{◌≡◌, ◌≤◌, map, string_bytes, IfOk, IfSome};
-ghost use Rattle.uxn_io.specs.Faults.{Ledger, TheTree, ASink, counts};
-ghost use Rattle.uxn_cli.specs.World.{world};
+ghost use Rattle.std.specs.Prelude.{◌≡◌, ◌≤◌, map, string_bytes, IfOk};
 ghost use Rattle.uxn_cli.specs.Request.{request};
 ghost use Rattle.uxn_words.specs.Places.{HasApartOutputs};
 ghost use Rattle.uxn_cli.specs.Follows.{Follows};
-ghost use Rattle.uxn_cli.specs.Answer.{Performs};
-ghost use Rattle.uxn_cli.specs.Blame.{blame_in, OnRefused};
+ghost use Rattle.uxn_cli.specs.Blame.{as_step, OnRefused};
 ghost use Rattle.uxn_cli.specs.Statuses.{early_status};
-ghost use Rattle.uxn_cli.specs.Room.{TreeSuffices, SinksSuffice};
-ghost use Rattle.uxn_cli.specs.Causes.{verdict_on};
 ghost use Rattle.uxn_cli.specs.Call.{call};
-ghost use Rattle.uxn_cli.specs.Outside.{outside_of};
+ghost use Rattle.uxn_io.specs.State.{outside_of};
 ghost use Rattle.uxn_cli.specs.Clauses.{HasItsOutcome, LeavesTheRest, HasStatuses, EndsEarlyByFaults, IsCutShort, GivesTheSame, FailsNotWhereSure};
-ghost use Rattle.uxn_cli.specs.Clauses.{ComesOut, AnswersOrStops};
+ghost use Rattle.uxn_cli.specs.Clauses.{ComesOut};
+ghost use Rattle.uxn_cli.specs.Outside.{DoesWork};
 
 use super::paths::apart;
 use super::refusal::{Halt, Refusal};
@@ -42,15 +38,9 @@ fn perform<T: Tree, O: Sink, E: Sink>(
     out: &mut O,
     err: &mut E,
 ) -> Result<u8, Halt>
-    ensures performs { Performs (request (map string_bytes words.now)) (world (T.told tree.old) (O.told out.old) (E.told err.old))
-        (world (T.told tree.new) (O.told out.new) (E.told err.new)) result }
-    ensures ledger { Ledger (counts (T.faults tree.old) (O.faults out.old) (E.faults err.old))
-        (counts (T.faults tree.new) (O.faults out.new) (E.faults err.new)) (blame_in result) }
+    ensures does { DoesWork (request (map string_bytes words.now)) (outside_of T.Tree O.Sink E.Sink tree.old out.old err.old)
+        (outside_of T.Tree O.Sink E.Sink tree.new out.new err.new) result }
     ensures kept { OnRefused result (err.new ≡ err.old) }
-    ensures sure_tree { IfSome (T.told tree.old) (λ nodes. TreeSuffices (verdict_on nodes (request (map string_bytes words.now))) (T.sure tree.old) nodes
-        → blame_in result ≡ TheTree → ⊥) }
-    ensures sure_sinks { IfSome (T.told tree.old) (λ nodes. SinksSuffice (verdict_on nodes (request (map string_bytes words.now))) (O.sure out.old) (E.sure err.old)
-        → blame_in result ≡ ASink → ⊥) }
 {
     let task = request(alloc, words)?;
     carry_out(alloc, &task, tree, out, err)
@@ -64,8 +54,8 @@ fn answer<T: Tree, O: Sink, E: Sink>(
     out: &mut O,
     err: &mut E,
 ) -> Result<u8, Stop>
-    ensures { AnswersOrStops (map string_bytes words.now) (outside_of T.Tree O.Sink E.Sink tree.old out.old err.old)
-        (outside_of T.Tree O.Sink E.Sink tree.new out.new err.new) result }
+    ensures { DoesWork (request (map string_bytes words.now)) (outside_of T.Tree O.Sink E.Sink tree.old out.old err.old)
+        (outside_of T.Tree O.Sink E.Sink tree.new out.new err.new) (as_step result) }
 {
     match perform(alloc, words, tree, out, err) {
         Ok(status) => Ok(status),
@@ -144,7 +134,7 @@ pub fn uxn<T: Tree, O: Sink, E: Sink>(
     // is done, but where a debugger watches the run or it takes the names of a folder.
     ensures early { EndsEarlyByFaults (call T.Tree O.Sink E.Sink words.now tree.old out.old err.old tree.new out.new err.new result) }
 
-    // What stands after an early end: one of the cut outcomes, so each output, and each file that is written whole, has a front
+    // What stands after an early end: one of the cut outcomes, so each output, and each file that is written, has a front
     // of what the outcome gives it.
     ensures cut_off { IsCutShort (call T.Tree O.Sink E.Sink words.now tree.old out.old err.old tree.new out.new err.new result) }
 

@@ -2,9 +2,8 @@
 ghost use Rattle.std.specs.Prelude.{◌≡◌, ◌≤◌, [], None, Ok, length, IfOk};
 ghost use Rattle.tal_rom.specs.Rom.{rom_limit};
 ghost use Rattle.uxn_workload.specs.Summary.{summary_text};
-ghost use Rattle.uxn_cli.specs.Ended.{told_by_run, HasRunAlone};
 ghost use Rattle.uxn_cli.specs.Prepared.{AreNew};
-ghost use Rattle.uxn_cli.specs.Workload.{lone_trail, workload_text};
+ghost use Rattle.uxn_cli.specs.Workload.{HasRunAlone, lone_trail, told_by, workload_text};
 ghost use Rattle.tal_rom.specs.Assembly.{IsAssembled, first_fault};
 ghost use Rattle.tal_sources.specs.Sources.{own_by};
 ghost use Rattle.uxn_cli.specs.Verdict.{source_by, summary_in};
@@ -12,7 +11,7 @@ ghost use Rattle.uxn_cli.specs.Follows.{Follows};
 
 use super::machine::{Machine, new_machine};
 use super::refusal::{Halt, Refusal};
-use super::running::{Ended, Settings, run_machine};
+use super::running::{RunEnd, Settings, run_machine};
 use super::scripts::script_of;
 use play_script::Script;
 use std::alloc::{AllocError, Global};
@@ -37,20 +36,20 @@ fn sum_up(
     alloc: Global,
     source: &[u8],
     rom: &[u8],
-    ended: &Ended,
+    end: &RunEnd,
     out: &GrowingSink,
 ) -> Result<Vec<u8>, AllocError>
-    ensures { IfOk result (λ text. text.items ≡ summary_text (told_by_run source.now rom.now ended.now out.now.taken)) }
+    ensures { IfOk result (λ text. text.items ≡ summary_text (told_by source.now rom.now end.now out.now.taken)) }
 {
     let ran = Ran {
         source: source.len() as u64,
         rom: rom.len() as u64,
-        instructions: ended.tally.instructions,
-        vectors: ended.tally.vectors,
-        cuts: ended.tally.cuts,
-        frames: ended.tally.frames,
+        instructions: end.tally.instructions,
+        vectors: end.tally.vectors,
+        cuts: end.tally.cuts,
+        frames: end.tally.frames,
         console: out.bytes(),
-        exit: ended.exit,
+        exit: end.exit,
     };
     ran.summary(alloc)
 }
@@ -60,10 +59,10 @@ fn run_alone(
     alloc: Global,
     machine: &mut Machine,
     out: &mut GrowingSink,
-) -> Result<Ended, AllocError>
+) -> Result<RunEnd, AllocError>
     requires devices { AreNew machine.old.devices machine.old.script None }
     requires empty { out.old.taken ≡ [] }
-    ensures { IfOk result (λ ended. HasRunAlone (lone_trail machine.old.core machine.old.script) ended out.new.taken) }
+    ensures { IfOk result (λ end. HasRunAlone (lone_trail machine.old.core machine.old.script) end out.new.taken) }
 {
     let settings = Settings {
         outputs: Outputs {
@@ -75,7 +74,7 @@ fn run_alone(
     let mut tree = MemTree::new(alloc, &[], 0, 0, &[])?;
     let mut err = GrowingSink::new(alloc);
     match run_machine(machine, &settings, &mut tree, out, &mut err, &mut NoWatch) {
-        Ok(ended) => Ok(ended),
+        Ok(end) => Ok(end),
         Err(_) => Err(AllocError),
     }
 }
@@ -92,8 +91,8 @@ fn run_workload(
 {
     let mut machine = new_machine(alloc, None, rom, script)?;
     let mut out = GrowingSink::new(alloc);
-    let ended = run_alone(alloc, &mut machine, &mut out)?;
-    sum_up(alloc, source, rom, &ended, &out)
+    let end = run_alone(alloc, &mut machine, &mut out)?;
+    sum_up(alloc, source, rom, &end, &out)
 }
 
 /// The assembly of a workload.

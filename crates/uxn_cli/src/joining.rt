@@ -1,27 +1,28 @@
 //! What `line` does: the machines of a setup are run in a line.
-ghost use Rattle.std.specs.Prelude.{◌≡◌, ◌<◌, ◌≤◌, length, IfOk, IsOk, OnOk, OnErr, is_err};
+ghost use Rattle.std.specs.Prelude.{◌≡◌, ◌≤◌, map, length, Ok, IfOk, IsOk, OnOk, OnErr, is_err};
 ghost use Rattle.std.specs.List.{All};
-ghost use Rattle.uxn_io.specs.Faults.{Counted, Ledger, TheTree, counts};
-ghost use Rattle.uxn_io.specs.Room.{Leaves};
+ghost use Rattle.uxn_io.specs.Faults.{Counted, Ledger, counts};
+ghost use Rattle.uxn_io.specs.State.{tree_state, sink_state};
 ghost use Rattle.uxn_memory.specs.Bytes.{largest_rom};
+ghost use Rattle.play_script.specs.Held.{bytes_in};
 ghost use Rattle.uxn_cli.specs.Setup.{setup_in};
-ghost use Rattle.uxn_cli.specs.Verdict.{source_at, machine_rom};
-ghost use Rattle.uxn_cli.specs.Prepared.{Accepts};
+ghost use Rattle.uxn_cli.specs.Verdict.{line_in, machine_rom, named_by, roms_in, source_at};
+ghost use Rattle.uxn_cli.specs.Prepared.{ReadsPlan};
+ghost use Rattle.uxn_cli.specs.Reading.{Reads};
 ghost use Rattle.uxn_line.specs.Limits.{AreTurns};
-ghost use Rattle.uxn_line.specs.Moves.{sink_view};
-ghost use Rattle.uxn_line.specs.Streams.{AreOfConsole};
-ghost use Rattle.uxn_cli.specs.Joined.{AcceptsAll, AreMachines, JoinsUp, GoesOn, FallsShort, IsSure, HasDone, job_of_joined};
+ghost use Rattle.uxn_cli.specs.Joined.{IsRunnable, GoesOn, HasDone, job_of_joined, line_plan};
 ghost use Rattle.uxn_cli.specs.Outcome.{line_bytes, line_exit};
-ghost use Rattle.uxn_cli.specs.Outside.{sink_seen, Puts};
+ghost use Rattle.uxn_cli.specs.Outside.{Puts};
 ghost use Rattle.uxn_cli.specs.Follows.{Follows};
 ghost use Rattle.uxn_cli.specs.Blame.{blame_in};
 
 use super::commands::accept_source;
+use super::inputs::read_path;
 use super::refusal::{Halt, Refusal};
 use super::scripts::accept_script;
 use play_script::Script;
 use std::alloc::Global;
-use uxn_io::{Bytes, Failed, FileBytes, Path, Sink, Tree, read_file};
+use uxn_io::{Bytes, Failed, FileBytes, Path, Sink, Tree};
 use uxn_line::{Line, Setup, SetupKind, SetupStop, Turns, are_of_console, read_setup};
 use uxn_opcodes::Stop;
 use uxn_words::{Command, Task};
@@ -40,8 +41,8 @@ pub struct Joined {
     pub script: Script,
 }
 
-/// The setup in a file, unless no file is there or it is refused.
-fn setup_at(alloc: Global, path: &Path, file: FileBytes) -> Result<Setup, Halt>
+/// The setup that a file holds, unless none is there or it is refused.
+fn setup_in(alloc: Global, path: &Path, file: FileBytes) -> Result<Setup, Halt>
     ensures { Follows (λ setup. setup) result (setup_in path.now file) }
 {
     match file {
@@ -57,14 +58,20 @@ fn setup_at(alloc: Global, path: &Path, file: FileBytes) -> Result<Setup, Halt>
     }
 }
 
+/// The setup at a path.
+fn accept_setup<T: Tree>(alloc: Global, path: &Path, tree: &mut T) -> Result<Setup, Halt>
+    ensures { Reads (λ setup. setup) (λ nodes. source_at nodes path.now) (λ file. setup_in path.now file.bytes)
+        (tree_state T.Tree tree.old) (tree_state T.Tree tree.new) result }
+{
+    let file = read_path(alloc, path, SETUP_LIMIT, tree)?;
+    setup_in(alloc, path, file)
+}
+
 /// The ROM of the source in a file, where it is accepted.
 fn accept_machine<T: Tree>(alloc: Global, path: &Path, tree: &mut T) -> Result<Bytes, Halt>
-    ensures rom { Accepts (λ rom. rom.list) (T.told tree.old) (λ nodes. source_at nodes path.now) (machine_rom path.now) result }
+    ensures rom { Reads (λ rom. rom.list) (λ nodes. source_at nodes path.now) (machine_rom path.now)
+        (tree_state T.Tree tree.old) (tree_state T.Tree tree.new) result }
     ensures fits { IfOk result (λ rom. length rom.list ≤ largest_rom) }
-    ensures same { T.told tree.new ≡ T.told tree.old }
-    ensures ledger { Ledger (counts (T.faults tree.old) 0 0) (counts (T.faults tree.new) 0 0) (blame_in result) }
-    ensures sure { 0 < (T.sure tree.old).files → blame_in result ≡ TheTree → ⊥ }
-    ensures left { OnOk result (Leaves (T.sure tree.old) (T.sure tree.new) 0 0) }
 {
     let source = accept_source(alloc, path, tree)?;
     Ok(Bytes::new(alloc, source.assembly().rom())?)
@@ -72,13 +79,10 @@ fn accept_machine<T: Tree>(alloc: Global, path: &Path, tree: &mut T) -> Result<B
 
 /// The ROMs of all machines, one after the other.
 fn accept_machines<T: Tree>(alloc: Global, paths: &[Path], tree: &mut T) -> Result<Vec<Bytes>, Halt>
-    ensures roms { AcceptsAll (T.told tree.old) paths.now result }
+    ensures roms { Reads (λ roms. bytes_in roms.items) (λ nodes. map (source_at nodes) paths.now) (roms_in paths.now)
+        (tree_state T.Tree tree.old) (tree_state T.Tree tree.new) result }
     ensures count { IfOk result (λ roms. length roms.items ≡ length paths.now) }
     ensures fit { IfOk result (λ roms. All (λ rom. length rom.list ≤ largest_rom) roms.items) }
-    ensures same { T.told tree.new ≡ T.told tree.old }
-    ensures ledger { Ledger (counts (T.faults tree.old) 0 0) (counts (T.faults tree.new) 0 0) (blame_in result) }
-    ensures sure { 0 < (T.sure tree.old).files → blame_in result ≡ TheTree → ⊥ }
-    ensures left { OnOk result (Leaves (T.sure tree.old) (T.sure tree.new) 0 0) }
 {
     let mut roms = Vec::new(alloc);
     for path in paths {
@@ -87,17 +91,12 @@ fn accept_machines<T: Tree>(alloc: Global, paths: &[Path], tree: &mut T) -> Resu
     Ok(roms)
 }
 
-/// What a setup joins.
-pub fn join_up<T: Tree>(alloc: Global, task: &Task, tree: &mut T) -> Result<Joined, Halt>
-    requires { task.now.command ≡ Command.Line }
-    ensures joins { JoinsUp (T.told tree.old) task.now result }
-    ensures same { T.told tree.new ≡ T.told tree.old }
-    ensures ledger { Ledger (counts (T.faults tree.old) 0 0) (counts (T.faults tree.new) 0 0) (blame_in result) }
-    ensures sure { 0 < (T.sure tree.old).files → blame_in result ≡ TheTree → ⊥ }
-    ensures left { OnOk result (Leaves (T.sure tree.old) (T.sure tree.new) 0 0) }
+/// What an accepted setup joins.
+fn join<T: Tree>(alloc: Global, setup: Setup, tree: &mut T) -> Result<Joined, Halt>
+    ensures joins { Reads job_of_joined (λ nodes. named_by nodes (Ok setup)) (line_in setup)
+        (tree_state T.Tree tree.old) (tree_state T.Tree tree.new) result }
+    ensures runs { IfOk result IsRunnable }
 {
-    let file = read_file(alloc, tree, &task.file, SETUP_LIMIT)?;
-    let setup = setup_at(alloc, &task.file, file)?;
     let roms = accept_machines(alloc, setup.sources(), tree)?;
     let script = accept_script(alloc, &setup.script(), tree)?;
     if !are_of_console(script.events()) {
@@ -110,13 +109,20 @@ pub fn join_up<T: Tree>(alloc: Global, task: &Task, tree: &mut T) -> Result<Join
     })
 }
 
+/// What the setup of a task joins.
+pub fn join_up<T: Tree>(alloc: Global, task: &Task, tree: &mut T) -> Result<Joined, Halt>
+    requires { task.now.command ≡ Command.Line }
+    ensures joins { ReadsPlan line_plan task.now (tree_state T.Tree tree.old) (tree_state T.Tree tree.new) result }
+    ensures runs { IfOk result IsRunnable }
+{
+    let setup = accept_setup(alloc, &task.file, tree)?;
+    join(alloc, setup, tree)
+}
+
 /// Gives so many turns of one machine.
 fn give_turns<O: Sink>(line: &mut Line<'_>, turns: Turns, out: &mut O) -> Result<(), Failed>
     requires { AreTurns (length line.old.members.items) turns }
-    ensures goes_on { OnOk result (GoesOn line.old (sink_view (O.told out.old) (O.sure out.old)) line.new (sink_view (O.told out.new) (O.sure out.new))) }
-    ensures front { OnErr result (FallsShort line.old (sink_view (O.told out.old) (O.sure out.old)) (O.told out.new)) }
-    ensures sure { IsSure line.old (sink_view (O.told out.old) (O.sure out.old)) (IsOk result) }
-    ensures ledger { Counted (O.faults out.old) (O.faults out.new) (is_err result) }
+    ensures way { GoesOn line.old (sink_state O.Sink out.old) line.new (sink_state O.Sink out.new) (is_err result) }
     ensures machines { OnOk result (length line.new.members.items ≡ length line.old.members.items) }
 {
     for _ in 0..turns.count {
@@ -128,10 +134,7 @@ fn give_turns<O: Sink>(line: &mut Line<'_>, turns: Turns, out: &mut O) -> Result
 /// Gives the turns of a schedule, in order.
 fn follow<O: Sink>(line: &mut Line<'_>, schedule: &[Turns], out: &mut O) -> Result<(), Failed>
     requires { All (AreTurns (length line.old.members.items)) schedule.now }
-    ensures goes_on { OnOk result (GoesOn line.old (sink_view (O.told out.old) (O.sure out.old)) line.new (sink_view (O.told out.new) (O.sure out.new))) }
-    ensures front { OnErr result (FallsShort line.old (sink_view (O.told out.old) (O.sure out.old)) (O.told out.new)) }
-    ensures sure { IsSure line.old (sink_view (O.told out.old) (O.sure out.old)) (IsOk result) }
-    ensures ledger { Counted (O.faults out.old) (O.faults out.new) (is_err result) }
+    ensures way { GoesOn line.old (sink_state O.Sink out.old) line.new (sink_state O.Sink out.new) (is_err result) }
 {
     for turns in schedule {
         give_turns(line, *turns, out)?;
@@ -142,10 +145,7 @@ fn follow<O: Sink>(line: &mut Line<'_>, schedule: &[Turns], out: &mut O) -> Resu
 /// Runs the machines: the turns of the setup first, and then each in turn until all have ended.
 fn run_all<O: Sink>(line: &mut Line<'_>, schedule: &[Turns], out: &mut O) -> Result<u8, Failed>
     requires { All (AreTurns (length line.old.members.items)) schedule.now }
-    ensures done { IfOk result (HasDone line.old (sink_view (O.told out.old) (O.sure out.old)) (O.told out.new)) }
-    ensures front { OnErr result (FallsShort line.old (sink_view (O.told out.old) (O.sure out.old)) (O.told out.new)) }
-    ensures sure { IsSure line.old (sink_view (O.told out.old) (O.sure out.old)) (IsOk result) }
-    ensures ledger { Counted (O.faults out.old) (O.faults out.new) (is_err result) }
+    ensures done { HasDone line.old (sink_state O.Sink out.old) (sink_state O.Sink out.new) result }
 {
     follow(line, schedule, out)?;
     line.finish(out)
@@ -153,9 +153,8 @@ fn run_all<O: Sink>(line: &mut Line<'_>, schedule: &[Turns], out: &mut O) -> Res
 
 /// Runs the machines of a setup in a line, and gives the exit code of the last one.
 pub fn run_line<O: Sink>(alloc: Global, joined: &Joined, out: &mut O) -> Result<u8, Halt>
-    requires machines { AreMachines joined.now.setup.sources joined.now.roms.items }
-    requires events { AreOfConsole joined.now.script.events }
-    ensures puts { Puts (sink_seen O.told O.sure O.faults out.old) (sink_seen O.told O.sure O.faults out.new)
+    requires { IsRunnable joined.now }
+    ensures puts { Puts (sink_state O.Sink out.old) (sink_state O.Sink out.new)
         (line_bytes (job_of_joined joined.now)) (line_exit (job_of_joined joined.now)) result }
     ensures ledger { Ledger (counts 0 (O.faults out.old) 0) (counts 0 (O.faults out.new) 0) (blame_in result) }
 {

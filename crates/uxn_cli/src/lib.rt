@@ -6,6 +6,7 @@ mod commands;
 mod debugging;
 mod entry;
 mod generating;
+mod inputs;
 mod joining;
 mod laws;
 mod machine;
@@ -18,6 +19,7 @@ mod refusal;
 mod report;
 mod running;
 mod scripts;
+mod symbols;
 mod work;
 
 pub use entry::uxn;

@@ -1,16 +1,16 @@
 //! The files that a command writes.
-ghost use Rattle.std.specs.Prelude.{◌≡◌, ◌<◌, None, Some, true, not, ◌++◌, find, length, IfOk, IsOk, IfSome, OnOk, OnErr, MatchOption, is_err};
+ghost use Rattle.std.specs.Prelude.{◌≡◌, Some, not, ◌++◌, find, IfOk, IfSome, is_err};
 ghost use Rattle.std.specs.List.{list_any};
-ghost use Rattle.std.specs.Option.{option_map, option_to_list};
+ghost use Rattle.std.specs.Option.{option_to_list};
 ghost use Rattle.std.specs.Str.{bytes_eq};
 ghost use Rattle.uxn_io.specs.Changes.{can_create};
-ghost use Rattle.uxn_io.specs.Faults.{Counted};
-ghost use Rattle.uxn_io.specs.Files.{is_folder_at, has_parent};
-ghost use Rattle.uxn_io.specs.Room.{Leaves};
-ghost use Rattle.uxn_io.specs.Taking.{TreeTakes, TreeLeft};
-ghost use Rattle.uxn_cli.specs.Outcome.{creating};
-ghost use Rattle.uxn_cli.specs.World.{with_empty, with_bytes, CanMake, AreFiles, HasMadeFront, HasFilledFront, HasWrittenFront, with_texts, CanFill};
+ghost use Rattle.uxn_io.specs.Files.{is_folder_at, has_parent, kind_at};
+ghost use Rattle.uxn_io.specs.Ended.{TreeLooked};
+ghost use Rattle.uxn_io.specs.State.{tree_state};
+ghost use Rattle.uxn_cli.specs.Outcome.{creating, filling_all, writing};
+ghost use Rattle.uxn_cli.specs.World.{CanMake, AreFiles};
 ghost use Rattle.uxn_cli.specs.Outputs.{seen_texts, paths_of};
+ghost use Rattle.uxn_cli.specs.Prepared.{IsUnmade, TreeDid};
 ghost use Rattle.uxn_cli.specs.Verdict.{first_unmade};
 
 use uxn_io::{Failed, Kind, Path, Tree, append_all};
@@ -24,15 +24,20 @@ pub struct Output {
     pub bytes: Vec<u8>,
 }
 
+/// What is at the path.
+fn kind<T: Tree>(tree: &mut T, path: &Path) -> Result<Kind, Failed>
+    ensures answer { IfOk result (λ answer. IfSome (T.told tree.old) (λ nodes. answer ≡ kind_at nodes path.now)) }
+    ensures looked { TreeLooked (is_err result) (tree_state T.Tree tree.old) (tree_state T.Tree tree.new) }
+{
+    tree.kind(path)
+}
+
 /// Whether a folder is at the path.
 fn is_folder<T: Tree>(tree: &mut T, path: &Path) -> Result<bool, Failed>
     ensures answer { IfOk result (λ answer. IfSome (T.told tree.old) (λ nodes. answer ≡ is_folder_at nodes (Some path.now))) }
-    ensures same { T.told tree.new ≡ T.told tree.old }
-    ensures ledger { Counted (T.faults tree.old) (T.faults tree.new) (is_err result) }
-    ensures sure { 0 < (T.sure tree.old).files → IsOk result }
-    ensures left { OnOk result (Leaves (T.sure tree.old) (T.sure tree.new) 0 0) }
+    ensures looked { TreeLooked (is_err result) (tree_state T.Tree tree.old) (tree_state T.Tree tree.new) }
 {
-    match tree.kind(path)? {
+    match kind(tree, path)? {
         Kind::Folder => Ok(true),
         Kind::File(_) | Kind::Missing => Ok(false),
     }
@@ -41,10 +46,7 @@ fn is_folder<T: Tree>(tree: &mut T, path: &Path) -> Result<bool, Failed>
 /// Whether the parent of the path is a folder. The current folder always is.
 fn has_parent<T: Tree>(tree: &mut T, path: &Path) -> Result<bool, Failed>
     ensures answer { IfOk result (λ answer. IfSome (T.told tree.old) (λ nodes. answer ≡ has_parent nodes path.now)) }
-    ensures same { T.told tree.new ≡ T.told tree.old }
-    ensures ledger { Counted (T.faults tree.old) (T.faults tree.new) (is_err result) }
-    ensures sure { 0 < (T.sure tree.old).files → IsOk result }
-    ensures left { OnOk result (Leaves (T.sure tree.old) (T.sure tree.new) 0 0) }
+    ensures looked { TreeLooked (is_err result) (tree_state T.Tree tree.old) (tree_state T.Tree tree.new) }
 {
     match path.parent() {
         Some(parent) => is_folder(tree, &parent),
@@ -55,10 +57,7 @@ fn has_parent<T: Tree>(tree: &mut T, path: &Path) -> Result<bool, Failed>
 /// Whether a file can be made at the path.
 fn can_create<T: Tree>(tree: &mut T, path: &Path) -> Result<bool, Failed>
     ensures answer { IfOk result (λ answer. IfSome (T.told tree.old) (λ nodes. answer ≡ can_create nodes path.now)) }
-    ensures same { T.told tree.new ≡ T.told tree.old }
-    ensures ledger { Counted (T.faults tree.old) (T.faults tree.new) (is_err result) }
-    ensures sure { 0 < (T.sure tree.old).files → IsOk result }
-    ensures left { OnOk result (Leaves (T.sure tree.old) (T.sure tree.new) 0 0) }
+    ensures looked { TreeLooked (is_err result) (tree_state T.Tree tree.old) (tree_state T.Tree tree.new) }
 {
     let parent_is_folder = has_parent(tree, path)?;
     let is_folder = is_folder(tree, path)?;
@@ -69,10 +68,7 @@ fn can_create<T: Tree>(tree: &mut T, path: &Path) -> Result<bool, Failed>
 pub fn first_blocked<T: Tree>(tree: &mut T, outputs: &[Output]) -> Result<Option<Path>, Failed>
     ensures answer { IfOk result (λ answer. IfSome (T.told tree.old) (λ nodes.
         answer ≡ find (λ path. not (can_create nodes path)) (paths_of outputs.now))) }
-    ensures same { T.told tree.new ≡ T.told tree.old }
-    ensures ledger { Counted (T.faults tree.old) (T.faults tree.new) (is_err result) }
-    ensures sure { 0 < (T.sure tree.old).files → IsOk result }
-    ensures left { OnOk result (Leaves (T.sure tree.old) (T.sure tree.new) 0 0) }
+    ensures looked { TreeLooked (is_err result) (tree_state T.Tree tree.old) (tree_state T.Tree tree.new) }
 {
     for output in outputs {
         if !can_create(tree, &output.path)? {
@@ -122,14 +118,8 @@ pub fn first_unmade(blocked: &Option<Path>, included: &[Path], outputs: &[Output
 /// that tells its contents each is made.
 pub fn make_all<T: Tree>(tree: &mut T, outputs: &[Output]) -> Result<Option<Path>, Failed>
     requires { IfSome (T.told tree.old) (CanMake (seen_texts outputs.now)) }
-    ensures ok { IfOk result (λ refused. MatchOption refused
-        (T.told tree.new ≡ option_map (with_empty (seen_texts outputs.now)) (T.told tree.old))
-        (λ path. (T.told tree.old ≡ None) × (T.told tree.new ≡ None) × (list_any (bytes_eq path) (paths_of outputs.now) ≡ true))) }
-    ensures err { OnErr result (HasMadeFront (T.told tree.old) (T.told tree.new) (seen_texts outputs.now)) }
-    ensures ledger { Counted (T.faults tree.old) (T.faults tree.new) (is_err result) }
-    ensures sure { IfSome (T.told tree.old) (λ nodes. TreeTakes (T.sure tree.old) nodes (creating (paths_of outputs.now)) → IsOk result) }
-    ensures left { OnOk result (IfSome (T.told tree.old) (λ nodes. TreeTakes (T.sure tree.old) nodes (creating (paths_of outputs.now))
-        → TreeLeft (T.sure tree.old) (T.sure tree.new) nodes (creating (paths_of outputs.now)))) }
+    ensures did { TreeDid (creating (paths_of outputs.now)) (is_err result) (tree_state T.Tree tree.old) (tree_state T.Tree tree.new) }
+    ensures unmade { IfOk result (λ refused. IfSome refused (IsUnmade (T.told tree.old) (paths_of outputs.now))) }
 {
     for output in outputs {
         if !tree.create(&output.path)? {
@@ -142,11 +132,7 @@ pub fn make_all<T: Tree>(tree: &mut T, outputs: &[Output]) -> Result<Option<Path
 /// Appends to each file its bytes, in order.
 fn fill_all<T: Tree>(tree: &mut T, outputs: &[Output]) -> Result<(), Failed>
     requires { IfSome (T.told tree.old) (AreFiles (seen_texts outputs.now)) }
-    ensures ok { OnOk result (T.told tree.new ≡ option_map (with_bytes (seen_texts outputs.now)) (T.told tree.old)) }
-    ensures err { OnErr result (HasFilledFront (T.told tree.old) (T.told tree.new) (seen_texts outputs.now)) }
-    ensures ledger { Counted (T.faults tree.old) (T.faults tree.new) (is_err result) }
-    ensures sure { IfSome (T.told tree.old) (λ nodes. 0 < (T.sure tree.old).files
-        → CanFill (T.sure tree.old).bytes (seen_texts outputs.now) nodes → IsOk result) }
+    ensures { TreeDid (filling_all (seen_texts outputs.now)) (is_err result) (tree_state T.Tree tree.old) (tree_state T.Tree tree.new) }
 {
     for output in outputs {
         append_all(tree, &output.path, &output.bytes)?;
@@ -158,13 +144,8 @@ fn fill_all<T: Tree>(tree: &mut T, outputs: &[Output]) -> Result<(), Failed>
 /// make, which comes only on a tree that tells nothing.
 pub fn write_all<T: Tree>(tree: &mut T, outputs: &[Output]) -> Result<Option<Path>, Failed>
     requires { IfSome (T.told tree.old) (CanMake (seen_texts outputs.now)) }
-    ensures ok { IfOk result (λ refused. MatchOption refused
-        (T.told tree.new ≡ option_map (with_texts (seen_texts outputs.now)) (T.told tree.old))
-        (λ path. (T.told tree.old ≡ None) × (T.told tree.new ≡ None) × (list_any (bytes_eq path) (paths_of outputs.now) ≡ true))) }
-    ensures err { OnErr result (HasWrittenFront (T.told tree.old) (T.told tree.new) (seen_texts outputs.now)) }
-    ensures ledger { Counted (T.faults tree.old) (T.faults tree.new) (is_err result) }
-    ensures sure { IfSome (T.told tree.old) (λ nodes. length outputs.now < (T.sure tree.old).files
-        → CanFill (T.sure tree.old).bytes (seen_texts outputs.now) (with_empty (seen_texts outputs.now) nodes) → IsOk result) }
+    ensures did { TreeDid (writing (seen_texts outputs.now)) (is_err result) (tree_state T.Tree tree.old) (tree_state T.Tree tree.new) }
+    ensures unmade { IfOk result (λ refused. IfSome refused (IsUnmade (T.told tree.old) (paths_of outputs.now))) }
 {
     match make_all(tree, outputs)? {
         Some(path) => Ok(Some(path)),

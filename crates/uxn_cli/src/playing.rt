@@ -1,24 +1,29 @@
 //! What `play` and `debug` do: a program is run over a script, and a debugger may watch it.
-ghost use Rattle.std.specs.Prelude.{◌≡◌, ◌<◌, ◌≤◌, ◌⊎◌, [], Ok, OnOk, IfOk, IfErr, IfSome, IsSome};
-ghost use Rattle.uxn_io.specs.Faults.{Ledger, TheTree, counts};
-ghost use Rattle.uxn_io.specs.Room.{Leaves};
-ghost use Rattle.uxn_opcodes.specs.Ports.{blame_of};
+ghost use Rattle.std.specs.Prelude.{◌≡◌, ◌≤◌, [], Ok, IfOk, IfSome, IsSome, length};
+ghost use Rattle.uxn_io.specs.Ended.{TreeLooked};
+ghost use Rattle.uxn_memory.specs.Bytes.{largest_rom};
+ghost use Rattle.uxn_cli.specs.Job.{Home};
+ghost use Rattle.uxn_cli.specs.Reading.{Reads};
 ghost use Rattle.uxn_words.specs.Places.{HasApartOutputs};
 ghost use Rattle.uxn_words.specs.Tasks.{role_path};
-ghost use Rattle.vector_loop.specs.Folders.{TakesNames};
 ghost use Rattle.vector_loop.specs.Outputs.{IsOutput};
-ghost use Rattle.uxn_cli.specs.Blame.{blame_in, OnRefused};
-ghost use Rattle.uxn_cli.specs.Verdict.{Loaded, symbols_input, debugging};
-ghost use Rattle.uxn_cli.specs.Outside.{tree_seen, sink_seen, outside, DoesWork};
-ghost use Rattle.uxn_cli.specs.Prepared.{Prepares, IsReadyRun, AreNew, AtHome, around, FellShort, HasFinished, RunFiles, commands_input, debugger_by, debugger_of, debugger_in, labels_with, trail_for, logging_for, RunsMachine};
+ghost use Rattle.uxn_cli.specs.Blame.{OnRefused, tree_failed};
+ghost use Rattle.uxn_cli.specs.Verdict.{Loaded, commands_input, debugger_by, debugging, run_in, symbols_input};
+ghost use Rattle.uxn_io.specs.State.{tree_state, outside_of};
+ghost use Rattle.uxn_cli.specs.Outside.{DoesWork};
+ghost use Rattle.uxn_cli.specs.Prepared.{Prepares, IsReadyRun, AreNew, debugger_of, debugger_in, inputs_seen, labels_with, loaded_by, run_plan, RunsMachine};
+ghost use Rattle.uxn_cli.specs.Runs.{Runs, RunFiles, trail_for, logging_for};
 
-use super::debugging::{Session, accept_commands, debug_made, given_labels, labels_of};
+use super::debugging::{Session, accept_commands, debug_made, labels_of};
 use super::machine::{Machine, new_machine};
-use super::making::make_outputs;
+use super::making::{empty_outputs, make_outputs};
+use super::outputs::Output;
 use super::program::{Program, load};
 use super::refusal::Halt;
-use super::running::run_made;
+use super::running::{RunEnd, run_made};
 use super::scripts::accept_script;
+use super::symbols::accept_symbols;
+use play_script::Script;
 use std::alloc::{AllocError, Global};
 use tal_words::Label;
 use uxn_debugger::{DebugCommand, Debugger};
@@ -37,6 +42,8 @@ pub struct Prepared {
     pub program: Program,
     /// The session of a debugger.
     pub session: Option<Session>,
+    /// The files that it writes, which have no bytes yet.
+    pub outputs: Vec<Output>,
 }
 
 /// The file of symbols that a run is given.
@@ -61,6 +68,39 @@ fn commands_input(task: &Task) -> Option<Path>
         | Command::Generate
         | Command::Line => None,
     }
+}
+
+/// What a run is given, once all of it is accepted.
+#[derive(Drop)]
+pub struct Inputs {
+    /// The program.
+    pub program: Program,
+    /// The labels of a symbol file, where one is given.
+    pub given: Option<Vec<Label>>,
+    /// The script.
+    pub script: Script,
+    /// The commands of a debugger.
+    pub commands: Vec<DebugCommand>,
+}
+
+/// Reads the inputs of a run, one after the other.
+fn read_inputs<T: Tree>(alloc: Global, task: &Task, tree: &mut T) -> Result<Inputs, Halt>
+    requires { RunsMachine task.now.command }
+    ensures reads { (home : Home) → Reads (run_plan task.now home) (λ nodes. inputs_seen nodes task.now) (run_in task.now.command task.now home)
+        (tree_state T.Tree tree.old) (tree_state T.Tree tree.new) result }
+    ensures room { IfOk result (λ inputs. length (loaded_by inputs.program).rom ≤ largest_rom) }
+{
+    let program = load(alloc, task, tree)?;
+    let given = accept_symbols(alloc, &symbols_input(task), tree)?;
+    let script = accept_script(alloc, &task.path(Role::Script), tree)?;
+    let labels = labels_of(&program, &given);
+    let commands = accept_commands(alloc, &commands_input(task), labels, tree)?;
+    Ok(Inputs {
+        program,
+        given,
+        script,
+        commands,
+    })
 }
 
 /// The session of a debugger, with all the memory that it takes, where the command has one.
@@ -95,22 +135,23 @@ fn open_session(
 pub fn prepare<T: Tree>(alloc: Global, task: &Task, tree: &mut T) -> Result<Prepared, Halt>
     requires { RunsMachine task.now.command }
     ensures prepares { Prepares (T.told tree.old) task.now result }
-    ensures same { T.told tree.new ≡ T.told tree.old }
-    ensures ledger { Ledger (counts (T.faults tree.old) 0 0) (counts (T.faults tree.new) 0 0) (blame_in result) }
-    ensures sure { 0 < (T.sure tree.old).files → blame_in result ≡ TheTree → ⊥ }
-    ensures left { OnOk result (Leaves (T.sure tree.old) (T.sure tree.new) 0 0) }
+    ensures looked { TreeLooked (tree_failed result) (tree_state T.Tree tree.old) (tree_state T.Tree tree.new) }
 {
-    let program = load(alloc, task, tree)?;
-    let given = given_labels(alloc, &symbols_input(task), tree)?;
-    let script = accept_script(alloc, &task.path(Role::Script), tree)?;
-    let labels = labels_of(&program, &given);
-    let commands = accept_commands(alloc, &commands_input(task), labels, tree)?;
+    let Inputs {
+        program,
+        given,
+        script,
+        commands,
+    } = read_inputs(alloc, task, tree)?;
+    let paths = task.outputs(alloc)?;
+    let outputs = empty_outputs(alloc, &paths)?;
     let session = open_session(alloc, task.command, commands, given)?;
     let machine = new_machine(alloc, task.path(Role::Root), program.rom(), script)?;
     Ok(Prepared {
         machine,
         program,
         session,
+        outputs,
     })
 }
 
@@ -122,31 +163,21 @@ fn run_prepared<T: Tree, O: Sink, E: Sink>(
     tree: &mut T,
     out: &mut O,
     err: &mut E,
-) -> Result<u8, Stop>
+) -> Result<RunEnd, Stop>
     requires devices { AreNew prepared.machine.devices prepared.machine.script (role_path task.now Role.Root) }
     requires undo { IfSome prepared.session (λ session. session.undo ≡ []) }
     requires budget { 1 ≤ task.now.budget }
     requires files { RunFiles task.now (T.told tree.old) }
-    requires log { IfSome prepared.session (λ session. IfSome (role_path task.now Role.Log) (IsOutput (role_path task.now Role.Root) (T.told tree.old))) }
-    ensures code { IfOk result (λ status. status ≤ 127) }
-    ensures ok { AtHome (role_path task.now Role.Root) (T.told tree.old) (λ home. IfOk result (λ status. HasFinished
-        (around (T.told tree.old) (T.sure tree.old) (O.told out.old) (O.sure out.old) (E.told err.old) (E.sure err.old))
-        (around (T.told tree.new) (T.sure tree.new) (O.told out.new) (O.sure out.new) (E.told err.new) (E.sure err.new))
-        (trail_for task.now prepared.machine home) (logging_for task.now prepared.machine (debugger_in task.now prepared) home) status)) }
-    ensures err { AtHome (role_path task.now Role.Root) (T.told tree.old) (λ home. IfErr result (λ stop. FellShort
-        (around (T.told tree.old) (T.sure tree.old) (O.told out.old) (O.sure out.old) (E.told err.old) (E.sure err.old))
-        (around (T.told tree.new) (T.sure tree.new) (O.told out.new) (O.sure out.new) (E.told err.new) (E.sure err.new))
-        (logging_for task.now prepared.machine (debugger_in task.now prepared) home) stop)) }
-    ensures ledger { Ledger (counts (T.faults tree.old) (O.faults out.old) (E.faults err.old))
-        (counts (T.faults tree.new) (O.faults out.new) (E.faults err.new)) (blame_of result) }
-    ensures memory { IfErr result (λ stop. stop ≡ Stop.NoMemory → IsSome (debugger_in task.now prepared) ⊎ IsSome (role_path task.now Role.Root)) }
-    ensures names { AtHome (role_path task.now Role.Root) (T.told tree.old) (λ home. IfErr result (λ stop. stop ≡ Stop.NoMemory
-        → IsSome (debugger_in task.now prepared) ⊎ TakesNames (trail_for task.now prepared.machine home))) }
+    requires log { IfSome (debugger_in task.now prepared) (λ debug. IfSome debug.log (IsOutput (role_path task.now Role.Root) (T.told tree.old))) }
+    ensures { Runs (role_path task.now Role.Root) (trail_for task.now prepared.machine)
+        (logging_for task.now prepared.machine (debugger_in task.now prepared)) (IsSome (debugger_in task.now prepared))
+        (outside_of T.Tree O.Sink E.Sink tree.old out.old err.old) (outside_of T.Tree O.Sink E.Sink tree.new out.new err.new) result }
 {
     let Prepared {
         machine,
         program,
         session,
+        outputs: _,
     } = prepared;
     match session {
         Some(
@@ -177,14 +208,14 @@ pub fn run<T: Tree, O: Sink, E: Sink>(
     requires apart { HasApartOutputs task.now }
     requires budget { 1 ≤ task.now.budget }
     ensures does { DoesWork (Ok task.now)
-        (outside (tree_seen T.told T.sure T.faults tree.old) (sink_seen O.told O.sure O.faults out.old) (sink_seen E.told E.sure E.faults err.old))
-        (outside (tree_seen T.told T.sure T.faults tree.new) (sink_seen O.told O.sure O.faults out.new) (sink_seen E.told E.sure E.faults err.new))
+        (outside_of T.Tree O.Sink E.Sink tree.old out.old err.old)
+        (outside_of T.Tree O.Sink E.Sink tree.new out.new err.new)
         result }
     ensures kept { OnRefused result (err.new ≡ err.old) }
 {
-    make_outputs(alloc, task, prepared.program.included(), tree)?;
+    make_outputs(prepared.program.included(), &prepared.outputs, tree)?;
     match run_prepared(alloc, task, prepared, tree, out, err) {
-        Ok(status) => Ok(status),
+        Ok(end) => Ok(end.exit),
         Err(stop) => Err(Halt::Stopped(stop)),
     }
 }

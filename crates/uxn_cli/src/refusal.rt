@@ -1,11 +1,12 @@
 //! Why a call ends before its work is done, and the line of a refusal.
-ghost use Rattle.std.specs.Prelude.{◌≡◌, ◌<◌, [], ◌∷◌, ◌++◌, codes, decimal, length, IfOk, IfErr};
-ghost use Rattle.uxn_io.specs.Faults.{Ledger, ASink, counts};
-ghost use Rattle.uxn_io.specs.Told.{extended};
+ghost use Rattle.std.specs.Prelude.{◌≡◌, [], ◌∷◌, ◌++◌, codes, decimal, IfOk};
+ghost use Rattle.uxn_io.specs.Faults.{Ledger, counts};
+ghost use Rattle.uxn_io.specs.State.{sink_state};
 ghost use Rattle.tal_sources.specs.Lines.{message_of};
 ghost use Rattle.uxn_cli.specs.Lines.{line, line_of};
 ghost use Rattle.uxn_cli.specs.Statuses.{status_of};
-ghost use Rattle.uxn_cli.specs.Blame.{blame_by, Stops};
+ghost use Rattle.uxn_cli.specs.Blame.{as_step, blame_by};
+ghost use Rattle.uxn_cli.specs.Outside.{Puts};
 
 use play_script::ScriptKind;
 use std::alloc::{AllocError, AllocFailed, Global};
@@ -172,10 +173,8 @@ impl Refusal {
 
     /// Puts the line that says why, and gives the status.
     pub fn put<E: Sink>(&self, alloc: Global, err: &mut E) -> Result<u8, Stop>
-        ensures ok { IfOk result (λ status. (status ≡ status_of self.now) × (E.told err.new ≡ extended (E.told err.old) (line_of self.now))) }
-        ensures stops { IfErr result (Stops (E.told err.old) (E.told err.new) (line_of self.now)) }
+        ensures puts { Puts (sink_state E.Sink err.old) (sink_state E.Sink err.new) (line_of self.now) (status_of self.now) (as_step result) }
         ensures ledger { Ledger (counts 0 0 (E.faults err.old)) (counts 0 0 (E.faults err.new)) (blame_by result) }
-        ensures sure { length (line_of self.now) < E.sure err.old → blame_by result ≡ ASink → ⊥ }
     {
         let Ok(line) = self.line(alloc) else {
             return Err(Stop::NoMemory);

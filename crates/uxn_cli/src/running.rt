@@ -1,13 +1,12 @@
 //! The run of a machine, and what is written after it.
-ghost use Rattle.std.specs.Prelude.{◌≡◌, ◌≤◌, ◌⊎◌, ℕ, List, Option, IfOk, IfErr, OnOk, OnErr, IfSome, IsSome, is_err};
-ghost use Rattle.uxn_io.specs.Faults.{Counted, Ledger, counts};
-ghost use Rattle.uxn_opcodes.specs.Ports.{blame_of};
-ghost use Rattle.varvara_bus.specs.Bus.{FilesStay, IsFileWhereTold};
-ghost use Rattle.vector_loop.specs.Folders.{TakesNames};
+ghost use Rattle.std.specs.Prelude.{◌≡◌, ◌≤◌, IfOk, OnOk, IfSome, is_err};
+ghost use Rattle.uxn_io.specs.State.{tree_state, outside_of};
+ghost use Rattle.varvara_bus.specs.Bus.{IsFileWhereTold};
 ghost use Rattle.vector_loop.specs.Outputs.{OutputsThere};
-ghost use Rattle.uxn_cli.specs.Job.{trail_by, text_at};
+ghost use Rattle.uxn_cli.specs.Job.{text_at};
 ghost use Rattle.uxn_cli.specs.Outcome.{filling_all};
-ghost use Rattle.uxn_cli.specs.Prepared.{around, AreNew, AtHome, TreeWasDone, TreeFellShort, FellShort, HasRun, HasFinished, WasShown, RunFiles, outputs_for, trail_for, reporting_for};
+ghost use Rattle.uxn_cli.specs.Prepared.{AreNew, TreeDid};
+ghost use Rattle.uxn_cli.specs.Runs.{AtHome, Runs, RunFiles, WasShown, settings_for, trail_from, trail_for, reporting_for};
 ghost use Rattle.uxn_words.specs.Tasks.{role_path};
 
 use super::machine::Machine;
@@ -24,7 +23,7 @@ const STATE: u8 = 0x0f;
 
 /// How a run ended.
 #[derive(Clone, Copy)]
-pub struct Ended {
+pub struct RunEnd {
     /// The exit code.
     pub exit: u8,
     /// What was counted.
@@ -49,52 +48,34 @@ pub fn run_machine<T: Tree, O: Sink, E: Sink, W: Watcher>(
     out: &mut O,
     err: &mut E,
     watcher: &mut W,
-) -> Result<Ended, Stop>
+) -> Result<RunEnd, Stop>
     requires devices { AreNew machine.old.devices machine.old.script machine.old.devices.root }
     requires budget { 1 ≤ settings.now.budget }
     requires outputs { OutputsThere settings.now.outputs machine.old.devices.root (T.told tree.old) }
-    ensures code { IfOk result (λ ended. ended.exit ≤ 127) }
-    ensures ok { AtHome machine.old.devices.root (T.told tree.old) (λ home. IfOk result (λ ended. HasRun
-        (around (T.told tree.old) (T.sure tree.old) (O.told out.old) (O.sure out.old) (E.told err.old) (E.sure err.old))
-        (around (T.told tree.new) (T.sure tree.new) (O.told out.new) (O.sure out.new) (E.told err.new) (E.sure err.new))
-        (trail_by settings.now.budget settings.now.outputs machine.old.script home machine.old.core) ended)) }
+    ensures runs { Runs machine.old.devices.root (trail_from settings.now machine.old) (λ trail. trail.changes) W.may_refuse
+        (outside_of T.Tree O.Sink E.Sink tree.old out.old err.old) (outside_of T.Tree O.Sink E.Sink tree.new out.new err.new) result }
     ensures watcher { AtHome machine.old.devices.root (T.told tree.old) (λ home. OnOk result (WasShown W.shown W.ended (W.held watcher.old)
-        (trail_by settings.now.budget settings.now.outputs machine.old.script home machine.old.core) (W.held watcher.new))) }
-    ensures files { OnOk result (FilesStay machine.old.devices.root (T.told tree.old) (T.told tree.new)) }
-    ensures err { AtHome machine.old.devices.root (T.told tree.old) (λ home. IfErr result (λ stop. FellShort
-        (around (T.told tree.old) (T.sure tree.old) (O.told out.old) (O.sure out.old) (E.told err.old) (E.sure err.old))
-        (around (T.told tree.new) (T.sure tree.new) (O.told out.new) (O.sure out.new) (E.told err.new) (E.sure err.new))
-        (trail_by settings.now.budget settings.now.outputs machine.old.script home machine.old.core).changes stop)) }
-    ensures ledger { Ledger (counts (T.faults tree.old) (O.faults out.old) (E.faults err.old))
-        (counts (T.faults tree.new) (O.faults out.new) (E.faults err.new)) (blame_of result) }
-    ensures memory { IfErr result (λ stop. stop ≡ Stop.NoMemory → W.may_refuse ⊎ IsSome machine.old.devices.root) }
-    ensures names { AtHome machine.old.devices.root (T.told tree.old) (λ home. IfErr result (λ stop. stop ≡ Stop.NoMemory
-        → W.may_refuse ⊎ TakesNames (trail_by settings.now.budget settings.now.outputs machine.old.script home machine.old.core))) }
+        (trail_from settings.now machine.old home) (W.held watcher.new))) }
 {
     let mut bus = Bus::new(&mut machine.devices, tree, out, err);
-    match run_script(
+    let tally = run_script(
         &mut machine.core,
         &mut bus,
         &machine.script,
         &settings.outputs,
         settings.budget,
         watcher,
-    ) {
-        Ok(tally) => Ok(Ended {
-            exit: exit_code(bus.stored(STATE)),
-            tally,
-        }),
-        Err(stop) => Err(stop),
-    }
+    )?;
+    Ok(RunEnd {
+        exit: exit_code(bus.stored(STATE)),
+        tally,
+    })
 }
 
 /// Writes a text to the end of a file, where one is asked for.
 pub fn write_text<T: Tree>(path: &Option<Path>, text: &[u8], tree: &mut T) -> Result<(), Failed>
     requires { IfSome path.now (IsFileWhereTold (T.told tree.old)) }
-    ensures ok { OnOk result (TreeWasDone (T.told tree.old) (T.told tree.new) (T.sure tree.old) (T.sure tree.new) (filling_all (text_at path.now text.now))) }
-    ensures err { OnErr result (TreeFellShort (T.told tree.old) (T.told tree.new) (T.sure tree.old) (T.sure tree.new) (filling_all (text_at path.now text.now))) }
-    ensures files { OnOk result ((root : Option (List ℕ)) → FilesStay root (T.told tree.old) (T.told tree.new)) }
-    ensures ledger { Counted (T.faults tree.old) (T.faults tree.new) (is_err result) }
+    ensures { TreeDid (filling_all (text_at path.now text.now)) (is_err result) (tree_state T.Tree tree.old) (tree_state T.Tree tree.new) }
 {
     match path {
         Some(path) => append_all(tree, path, text),
@@ -104,8 +85,7 @@ pub fn write_text<T: Tree>(path: &Option<Path>, text: &[u8], tree: &mut T) -> Re
 
 /// How a task's machine is run.
 fn settings_of(task: &Task) -> Settings
-    ensures outputs { result.outputs ≡ outputs_for task.now }
-    ensures budget { result.budget ≡ task.now.budget }
+    ensures { result ≡ settings_for task.now }
 {
     Settings {
         outputs: Outputs {
@@ -124,37 +104,20 @@ pub fn run_made<T: Tree, O: Sink, E: Sink, W: Watcher>(
     out: &mut O,
     err: &mut E,
     watcher: &mut W,
-) -> Result<u8, Stop>
+) -> Result<RunEnd, Stop>
     requires devices { AreNew machine.devices machine.script (role_path task.now Role.Root) }
     requires budget { 1 ≤ task.now.budget }
     requires files { RunFiles task.now (T.told tree.old) }
-    ensures code { IfOk result (λ status. status ≤ 127) }
-    ensures ok { AtHome (role_path task.now Role.Root) (T.told tree.old) (λ home. IfOk result (λ status. HasFinished
-        (around (T.told tree.old) (T.sure tree.old) (O.told out.old) (O.sure out.old) (E.told err.old) (E.sure err.old))
-        (around (T.told tree.new) (T.sure tree.new) (O.told out.new) (O.sure out.new) (E.told err.new) (E.sure err.new))
-        (trail_for task.now machine home) (reporting_for task.now machine home) status)) }
+    ensures runs { Runs (role_path task.now Role.Root) (trail_for task.now machine) (reporting_for task.now machine) W.may_refuse
+        (outside_of T.Tree O.Sink E.Sink tree.old out.old err.old) (outside_of T.Tree O.Sink E.Sink tree.new out.new err.new) result }
     ensures watcher { AtHome (role_path task.now Role.Root) (T.told tree.old) (λ home. OnOk result (WasShown W.shown W.ended (W.held watcher.old)
         (trail_for task.now machine home) (W.held watcher.new))) }
-    ensures stay { OnOk result (FilesStay (role_path task.now Role.Root) (T.told tree.old) (T.told tree.new)) }
-    ensures err { AtHome (role_path task.now Role.Root) (T.told tree.old) (λ home. IfErr result (λ stop. FellShort
-        (around (T.told tree.old) (T.sure tree.old) (O.told out.old) (O.sure out.old) (E.told err.old) (E.sure err.old))
-        (around (T.told tree.new) (T.sure tree.new) (O.told out.new) (O.sure out.new) (E.told err.new) (E.sure err.new))
-        (reporting_for task.now machine home) stop)) }
-    ensures ledger { Ledger (counts (T.faults tree.old) (O.faults out.old) (E.faults err.old))
-        (counts (T.faults tree.new) (O.faults out.new) (E.faults err.new)) (blame_of result) }
-    ensures memory { IfErr result (λ stop. stop ≡ Stop.NoMemory → W.may_refuse ⊎ IsSome (role_path task.now Role.Root)) }
-    ensures names { AtHome (role_path task.now Role.Root) (T.told tree.old) (λ home. IfErr result (λ stop. stop ≡ Stop.NoMemory
-        → W.may_refuse ⊎ TakesNames (trail_for task.now machine home))) }
 {
     let mut machine = machine;
     let version = machine.script.version();
-    let ended = run_machine(&mut machine, &settings_of(task), tree, out, err, watcher)?;
-    match write_text(
-        &task.path(Role::Report),
-        &report(version, ended.exit, &ended.tally),
-        tree,
-    ) {
-        Ok(()) => Ok(ended.exit),
-        Err(Failed) => Err(Stop::TreeFault),
-    }
+    let end = run_machine(&mut machine, &settings_of(task), tree, out, err, watcher)?;
+    let text = report(version, end.exit, &end.tally);
+    write_text(&task.path(Role::Report), &text, tree)
+        .and(Ok(end))
+        .or(Err(Stop::TreeFault))
 }

@@ -1,12 +1,11 @@
 //! What is to be done is judged, and then it is done.
-ghost use Rattle.std.specs.Prelude.{◌≡◌, ◌<◌, ◌≤◌, Ok, OnOk, IfOk};
-ghost use Rattle.uxn_io.specs.Faults.{Ledger, TheTree, counts};
-ghost use Rattle.uxn_io.specs.Room.{Leaves};
+ghost use Rattle.std.specs.Prelude.{◌≡◌, ◌≤◌, Ok};
+ghost use Rattle.uxn_io.specs.Ended.{TreeLooked};
 ghost use Rattle.uxn_words.specs.Places.{HasApartOutputs};
-ghost use Rattle.uxn_cli.specs.Blame.{blame_in, OnRefused};
+ghost use Rattle.uxn_cli.specs.Blame.{OnRefused, tree_failed};
 ghost use Rattle.uxn_cli.specs.Judged.{IsWork, Judged};
-ghost use Rattle.uxn_cli.specs.Outside.{tree_seen, sink_seen, outside, DoesWork};
-ghost use Rattle.uxn_cli.specs.Prepared.{PrintsText};
+ghost use Rattle.uxn_io.specs.State.{tree_state, outside_of};
+ghost use Rattle.uxn_cli.specs.Outside.{DoesWork};
 
 use super::assembling::{Written, assemble, write};
 use super::commands::{disassemble_rom, print};
@@ -34,10 +33,7 @@ pub enum Work {
 /// Reads the inputs of a task, one after the other, and gives the work that it asks for.
 fn judge<T: Tree>(alloc: Global, task: &Task, tree: &mut T) -> Result<Work, Halt>
     ensures judged { Judged (T.told tree.old) task.now result }
-    ensures same { T.told tree.new ≡ T.told tree.old }
-    ensures ledger { Ledger (counts (T.faults tree.old) 0 0) (counts (T.faults tree.new) 0 0) (blame_in result) }
-    ensures sure { 0 < (T.sure tree.old).files → blame_in result ≡ TheTree → ⊥ }
-    ensures left { OnOk result (Leaves (T.sure tree.old) (T.sure tree.new) 0 0) }
+    ensures looked { TreeLooked (tree_failed result) (tree_state T.Tree tree.old) (tree_state T.Tree tree.new) }
 {
     match task.command {
         Command::Play | Command::Debug => Ok(Work::Run(prepare(alloc, task, tree)?)),
@@ -61,8 +57,8 @@ fn do_work<T: Tree, O: Sink, E: Sink>(
     requires apart { HasApartOutputs task.now }
     requires budget { 1 ≤ task.now.budget }
     ensures does { DoesWork (Ok task.now)
-        (outside (tree_seen T.told T.sure T.faults tree.old) (sink_seen O.told O.sure O.faults out.old) (sink_seen E.told E.sure E.faults err.old))
-        (outside (tree_seen T.told T.sure T.faults tree.new) (sink_seen O.told O.sure O.faults out.new) (sink_seen E.told E.sure E.faults err.new))
+        (outside_of T.Tree O.Sink E.Sink tree.old out.old err.old)
+        (outside_of T.Tree O.Sink E.Sink tree.new out.new err.new)
         result }
     ensures kept { OnRefused result (err.new ≡ err.old) }
 {
@@ -85,8 +81,8 @@ pub fn carry_out<T: Tree, O: Sink, E: Sink>(
     requires apart { HasApartOutputs task.now }
     requires budget { 1 ≤ task.now.budget }
     ensures does { DoesWork (Ok task.now)
-        (outside (tree_seen T.told T.sure T.faults tree.old) (sink_seen O.told O.sure O.faults out.old) (sink_seen E.told E.sure E.faults err.old))
-        (outside (tree_seen T.told T.sure T.faults tree.new) (sink_seen O.told O.sure O.faults out.new) (sink_seen E.told E.sure E.faults err.new))
+        (outside_of T.Tree O.Sink E.Sink tree.old out.old err.old)
+        (outside_of T.Tree O.Sink E.Sink tree.new out.new err.new)
         result }
     ensures kept { OnRefused result (err.new ≡ err.old) }
 {

@@ -105,3 +105,14 @@ cut-err world now text front = record {
       ∙ map-append (λ byte. ToErr byte) (take front.count text) (drop front.count text);
   left = ap (λ told. record world { err = told }) front.taken ∙ sym (changed_by-err world (take front.count text));
 }
+
+-- a front of a text was put on the standard output
+pub cut-out : (world : World) (now : Option (List ℕ)) (text : List ℕ)
+    → HasTakenFront world.out now text → IsCutOff world (record world { out = now }) (map (λ byte. ToOut byte) text)
+cut-out world now text front = record {
+  made = map (λ byte. ToOut byte) (take front.count text);
+  rest = map (λ byte. ToOut byte) (drop front.count text);
+  parts = ap (λ bytes. map (λ byte. ToOut byte) bytes) (sym (take-append-drop front.count text))
+      ∙ map-append (λ byte. ToOut byte) (take front.count text) (drop front.count text);
+  left = ap (λ told. record world { out = told }) front.taken ∙ sym (changed_by-out world (take front.count text));
+}

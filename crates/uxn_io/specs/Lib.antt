@@ -13,8 +13,12 @@ pub mod WholeFile
 pub mod InMemory
 pub mod PathLaws
 pub mod NodeLaws
+pub mod KindLaws
 pub mod ChangeLaws
 pub mod AppendingLaws
 pub mod Taking
+pub mod State
+pub mod Ended
+pub mod EndedLaws
 pub mod TakingLaws
 pub mod Nothing

@@ -21,7 +21,10 @@ use Rattle.uxn_line.specs.Machines.{Rests, HasDone}
 
 -- what nothing tells, and what it takes
 abbrev pub nothing : Meaning NoTree NoSink NoSink
-nothing = meaning_of told_by_no_tree told_by_no_sink told_by_no_sink sure_of_no_tree sure_of_no_sink sure_of_no_sink
+nothing =
+    meaning_of (record { told = told_by_no_tree; faults = faults_of_no_tree; sure = sure_of_no_tree })
+    (record { told = told_by_no_sink; faults = faults_of_no_sink; sure = sure_of_no_sink })
+    (record { told = told_by_no_sink; faults = faults_of_no_sink; sure = sure_of_no_sink })
 
 pub stands-alone : (bus : Bus NoTree NoSink NoSink) (held : Devices) (state : DeviceState) → bus.devices.now ≡ held → Rests held state
     → BusStandsFor told_by_no_tree bus state
@@ -41,8 +44,7 @@ instruction-alone core core_new before now turn held final same last ran state r
 -- over nothing outside, and without a root, no instruction stops
 never-stops : (core core_new : Core) (before now : Bus NoTree NoSink NoSink) (stop : Stop) (held : Devices)
     → before.devices.now ≡ held → held.root ≡ None → Instruction (bus_rules nothing) core before (Err stop) core_new now
-    → Ledger (bus_faults faults_of_no_tree faults_of_no_sink faults_of_no_sink before)
-    (bus_faults faults_of_no_tree faults_of_no_sink faults_of_no_sink now) (blame_of {T = Turn} (Err stop)) → ⊥
+    → Ledger (bus_faults nothing before) (bus_faults nothing now) (blame_of {T = Turn} (Err stop)) → ⊥
 never-stops core core_new before now TreeFault held same alone stopped ledger = let l = ledger in omega (arith, l)
 never-stops core core_new before now SinkFault held same alone stopped ledger = let l = ledger in omega (arith, l)
 never-stops core core_new before now NoMemory held same alone stopped ledger =
@@ -52,8 +54,7 @@ never-stops core core_new before now NoMemory held same alone stopped ledger =
 
 pub stops-never : (core core_new : Core) (before now : Bus NoTree NoSink NoSink) (stop : Stop) (held : Devices)
     → before.devices.now ≡ held → Instruction (bus_rules nothing) core before (Err stop) core_new now
-    → Ledger (bus_faults faults_of_no_tree faults_of_no_sink faults_of_no_sink before)
-    (bus_faults faults_of_no_tree faults_of_no_sink faults_of_no_sink now) (blame_of {T = Turn} (Err stop))
+    → Ledger (bus_faults nothing before) (bus_faults nothing now) (blame_of {T = Turn} (Err stop))
     → (state : DeviceState) → Rests held state → ⊥
 stops-never core core_new before now stop held same stopped ledger state rests =
     never-stops core core_new before now stop held same (rests.devices.root ∙ rests.alone.0) stopped ledger

@@ -1,23 +1,27 @@
 -- What a line has put is a front of the stream of its last machine.
-use Rattle.std.proofs.Common.{◌≡◌, ℕ, zero, suc, ◌+◌, ◌<◌, ◌≤◌, ◌||◌, inl, inr, Bool, true, false, List, [], ◌∷◌, ◌++◌, take, length, refl, sym, ap, subst, ◌∙◌, arith, append_assoc, length-append}
-use Rattle.std.specs.Prelude.{Some, Option, Result, Ok, Err, OnOk, OnErr, IsOk, slice_get}
-use Rattle.std.proofs.Math.Seq.{take-append_seam}
-use Rattle.uxn_io.specs.Told.{extended, HasTakenFront}
-use Rattle.uxn_io.specs.ChangeLaws.{extended-extended}
+use Rattle.std.proofs.Common.{◌≡◌, ℕ, zero, suc, ◌+◌, ◌<◌, ◌↔◌, ◌||◌, inl, inr, Bool, true, false, List, [], ◌∷◌, ◌++◌, length, refl, sym, ap, subst, ◌∙◌, arith, append_assoc, length-append}
+use Rattle.std.specs.Prelude.{Some, Result, Ok, Err, IfOk, OnErr, is_err, slice_get}
+use Rattle.std.proofs.lemmas.Bool.{true≢false}
+use Rattle.std.proofs.lemmas.List.{take-append-le}
+use Rattle.uxn_io.specs.Ended.{SinkEnded}
+use Rattle.uxn_io.specs.EndedLaws.{sink-as-it-was, sink-then}
+use Rattle.uxn_io.specs.State.{SinkState}
+use Rattle.uxn_io.specs.Told.{extended}
 use Rattle.uxn_io.specs.declared.sinks.Failed.{Failed}
 use Rattle.uxn_line.specs.declared.line.Line.{Line}
 use Rattle.uxn_line.specs.declared.line.Moved.{Moved}
 use Rattle.uxn_line.specs.declared.line.Moved.TheVariants.{Ran, Gave, Waits, Held, Ended}
-use Rattle.uxn_line.specs.Places.{turn, put_in}
+use Rattle.vector_loop.specs.Places.{HasEnded}
+use Rattle.uxn_line.specs.Places.{put_in}
 use Rattle.uxn_line.specs.Machines.{handed_on}
 use Rattle.uxn_line.specs.Streams.{Job, IsJob, stream, after}
 use Rattle.uxn_line.specs.Standing.{Turned, place_in, Stands}
-use Rattle.uxn_line.specs.Moves.{last_of, written_in, SinkView, sink_view, Takes, Adds, IsUnderWay, Fails, turned_by, Cause, Came, is_move, IsStill, Reaches, Stops}
-use Rattle.uxn_line.specs.Work.{work_left, MovesOn}
+use Rattle.uxn_line.specs.Moves.{last_of, written_in, turned_by, is_move, IsWaiting, IsStill, Cause, Leads, Goes, WritesLast, Fails, TurnCame, IsUnderWay, StaysUnderWay, Reaches, GoesOnWith, Stops, Went}
+use Rattle.uxn_line.specs.Work.{work_left, WorksOn}
 use Rattle.uxn_line.proofs.MachineTurns.{run-put}
 use Rattle.uxn_line.proofs.Turning.{follows}
 use Rattle.uxn_line.proofs.Standings.{same-or-not}
-use Rattle.uxn_line.proofs.Running.{adds-nothing}
+use Rattle.uxn_line.proofs.Running.{leads-nowhere}
 
 -- a place within a list has an item
 pub some-there : {X : Type 0} (xs : List X) (place : ℕ) → place < length xs → (x : X) × (slice_get xs place ≡ Some x)
@@ -25,206 +29,202 @@ some-there [] place within = absurd (omega (arith, within))
 some-there (x ∷ xs) zero within = (x, refl)
 some-there (x ∷ xs) (suc place) within = some-there xs place (omega (arith, within))
 
--- one piece after another was taken
-pub takes-more : (first middle last : SinkView) (one two both : List ℕ) → Takes first middle one → Takes middle last two → both ≡ one ++ two → Takes first last both
-takes-more first middle last one two both a b is =
-    let longer : length both ≡ length one + length two = ap length is ∙ length-append one two in
-    record {
-      told = b.told ∙ ap (λ t. extended t two) a.told ∙ extended-extended first.told one two ∙ ap (extended first.told) (sym is);
-      sure = (let x = a.sure in let y = b.sure in omega (arith, x, y, longer));
-    }
-
-pub adds-more : (job : Job) (turned middle last : Turned) (out out_middle out_last : SinkView) → Adds job turned middle out out_middle
-    → Adds job middle last out_middle out_last → Adds job turned last out out_last
-adds-more job turned middle last out out_middle out_last a b = record {
-  more = a.more ++ b.more;
-  written = b.written ∙ ap (λ w. w ++ b.more) a.written ∙ append_assoc (written_in job turned) a.more b.more;
-  added = takes-more out out_middle out_last a.more b.more (a.more ++ b.more) a.added b.added refl;
-}
-
-pub way-on : (job : Job) (begun out out_now : SinkView) (line line_now : Line) (way : IsUnderWay job begun line out) (now : Turned) → Stands job line_now now
-    → Adds job way.turned now out out_now → IsUnderWay job begun line_now out_now
-way-on job begun out out_now line line_now way now stands adds = record {
-  turned = now;
-  stands = stands;
-  added = takes-more begun out out_now (written_in job way.turned) adds.more (written_in job now) way.added adds.added adds.written;
-}
-
 -- what was written is a front of the stream
 pub stream-is : (job : Job) → IsJob job → (machine count : ℕ) → (rest : List ℕ) × (stream job machine ≡ put_in (after job machine count) ++ rest)
 stream-is job is machine count = let run = follows job is machine count in (run.rest, run.front)
 
-pub front-of : (job : Job) (turned : Turned) (before now : Option (List ℕ)) → IsJob job → now ≡ extended before (written_in job turned)
-    → length (written_in job turned) < length (stream job (last_of job)) → HasTakenFront before now (stream job (last_of job))
-front-of job turned before now is told short =
-    let rest = stream-is job is (last_of job) (turned (last_of job)) in
-    record {
-      count = length (written_in job turned);
-      within = short;
-      taken = told ∙ ap (extended before) (sym (ap (take (length (written_in job turned))) rest.1 ∙ take-append_seam (written_in job turned) rest.0));
-    }
+-- where nothing moved the machine is still
+pub move-still : (line : Line) (machine : ℕ) (moved : Moved) → is_move moved ≡ false
+    → ((job : Job) (turned : Turned) → Stands job line turned → Cause job line turned machine moved) → IsStill line machine
+move-still line machine Ran is cause = absurd (cc)
+move-still line machine Gave is cause = absurd (cc)
+move-still line machine Waits is cause = λ job turned stands. inl (cause job turned stands)
+move-still line machine Held is cause = λ job turned stands. inr (inl (cause job turned stands))
+move-still line machine Ended is cause = λ job turned stands. inr (inr (cause job turned stands))
 
--- where the last machine could not put a byte its stream goes on
-pub fails-short : (job : Job) (line : Line) (turned : Turned) (machine : ℕ) (out : SinkView) → Stands job line turned → Fails job turned machine out
-    → length (written_in job turned) < length (stream job (last_of job))
-fails-short job line turned machine out stands fails =
+-- a call, and then another, of which perhaps one moved something
+pub works-then : (moved more : Bool) (a b c : Line) → WorksOn moved a b → WorksOn more b c → WorksOn (moved || more) a c
+works-then true true a b c first last = omega (arith, first, last)
+works-then true false a b c first last = (let same = ap work_left last in omega (arith, first, same))
+works-then false true a b c first last = (let same = ap work_left first in omega (arith, same, last))
+works-then false false a b c first last = last ∙ first
+
+pub works-more : (moved : Bool) (a b c : Line) → WorksOn moved a b → WorksOn true b c → WorksOn true a c
+works-more true a b c first last = works-then true true a b c first last
+works-more false a b c first last = works-then false true a b c first last
+
+-- where the last machine writes a byte its stream goes on with it
+goes-on-with : (job : Job) (line : Line) (turned : Turned) (machine byte : ℕ) → Stands job line turned → WritesLast job turned machine byte
+    → GoesOnWith job turned byte
+goes-on-with job line turned machine byte stands writes =
     let count = stands.machines in
-    let last = fails.last in
+    let last = writes.last in
     let there = some-there line.members.items machine (omega (arith, last, count)) in
     let at = (stands.each machine there.0 there.1).stands.stands in
     let place = place_in job turned machine in
-    let vector = fails.vector in
+    let vector = writes.vector in
     let left = at.left in
     let put = run-put job.budget there.0.machine place (omega (arith, left, vector)) at in
     let rest = stream-is job stands.job_is machine (suc (turned machine)) in
-    let bytes = ap (λ c. handed_on c) at.core ∙ fails.writes in
-    let long : length (stream job machine) ≡ length (put_in place ++ handed_on there.0.machine.core) + length rest.0
-    = ap length rest.1 ∙ length-append (put_in (turn job.budget place)) rest.0 ∙ ap (λ p. length p + length rest.0) put in
-    let one = length-append (put_in place) (handed_on there.0.machine.core) in
-    let byte : length (handed_on there.0.machine.core) ≡ 1 = ap length bytes in
+    let bytes = ap (λ c. handed_on c) at.core ∙ writes.writes in
     let same : machine ≡ last_of job = omega (arith, last) in
-    let P : ℕ → Type 0 = λ m. length (put_in (place_in job turned m)) < length (stream job m) in
-    subst P same (omega (arith, long, one, byte))
+    let P : ℕ → Type 0 = λ m. (rest : List ℕ) × (stream job m ≡ put_in (place_in job turned m) ++ byte ∷ rest) in
+    subst P same (
+      rest.0,
+      rest.1 ∙ ap (λ all. all ++ rest.0) (put ∙ ap (λ b. put_in place ++ b) bytes) ∙ append_assoc (put_in place) (byte ∷ []) rest.0,
+    )
 
--- a turn of a line that is under way
-module _ (line line_now : Line) (machine : ℕ) (out out_now : SinkView) where
-  abbrev pub Turns : Result Moved Failed → Type 0
-  Turns result = (job : Job) (turned : Turned) → Stands job line turned → Came job turned machine line line_now out out_now result
+-- some turns, and then others
+leads-then : (to then : Turned → Turned) (one two : List ℕ) (a b c : Line) → Leads to one a b → Leads then two b c
+    → Leads (λ turned. then (to turned)) (one ++ two) a c
+leads-then to then one two a b c p q = λ job turned stands.
+    let first = p job turned stands in
+    let last = q job (to turned) first.0 in
+    (last.0, last.1 ∙ ap (λ written. written ++ two) first.1 ∙ append_assoc (written_in job turned) one two)
 
-  pub came-failed : (result : Result Moved Failed) → Turns result
-      → OnErr result ((job : Job) (turned : Turned) → Stands job line turned → Fails job turned machine out)
-  came-failed (Ok moved) came = tt
-  came-failed (Err failed) came = λ job turned stands. (came job turned stands).cause
-
-  pub came-on : (result : Result Moved Failed) → Turns result
-      → OnOk result ((job : Job) (begun : SinkView) → IsUnderWay job begun line out → IsUnderWay job begun line_now out_now)
-  came-on (Ok moved) came = λ job begun way.
-      let now = came job way.turned way.stands in
-      way-on job begun out out_now line line_now way (turned_by moved machine way.turned) now.follows.0 now.follows.1
-  came-on (Err failed) came = tt
-
-  pub came-front : (result : Result Moved Failed) → Turns result → OnErr result (out_now.told ≡ out.told)
-      → OnErr result ((job : Job) (begun : SinkView) → IsUnderWay job begun line out → HasTakenFront begun.told out_now.told (stream job (last_of job)))
-  came-front (Ok moved) came same = tt
-  came-front (Err failed) came same = λ job begun way.
-      front-of job way.turned begun.told out_now.told way.stands.job_is (same ∙ way.added.told)
-      (fails-short job line way.turned machine out way.stands (came job way.turned way.stands).cause)
-
-  pub came-sure : (result : Result Moved Failed) → Turns result
-      → (job : Job) (begun : SinkView) → IsUnderWay job begun line out → length (stream job (last_of job)) < begun.sure → IsOk result
-  came-sure (Ok moved) came job begun way enough = refl
-  came-sure (Err failed) came job begun way enough =
-      let fails = (came job way.turned way.stands).cause in
-      let short = fails-short job line way.turned machine out way.stands fails in
-      let sure = way.added.sure in
-      let unsure = fails.unsure in
-      absurd (omega (arith, short, sure, unsure, enough))
-
--- turns one after the other
-pub reach-more : (job : Job) (turned : Turned) (line line_now : Line) (machine : ℕ) (begun out out_now : SinkView) (moved : Moved) → Reaches job turned line begun out
-    → Turns line line_now machine out out_now (Ok moved) → Reaches job turned line_now begun out_now
-reach-more job turned line line_now machine begun out out_now moved reached came =
-    let now = came job reached.last reached.stands in
-    record {
-      last = turned_by moved machine reached.last;
-      stands = now.follows.0;
-      adds = adds-more job turned reached.last (turned_by moved machine reached.last) begun out out_now reached.adds now.follows.1;
-    }
-
-pub reach-none : (job : Job) (turned : Turned) (line : Line) (out : SinkView) → Stands job line turned → Reaches job turned line out out
-reach-none job turned line out stands = record { last = turned; stands = stands; adds = adds-nothing job turned turned out refl }
-
-pub stop-here : (job : Job) (turned : Turned) (line line_now : Line) (machine : ℕ) (begun out out_now : SinkView) (failed : Failed) → Reaches job turned line begun out
-    → Turns line line_now machine out out_now (Err failed) → line_now ≡ line → out_now.told ≡ out.told → Stops job turned line_now begun out_now.told
-stop-here job turned line line_now machine begun out out_now failed reached came same told =
-    let fails = (came job reached.last reached.stands).cause in
-    let P : Line → Type 0 = λ l. Stands job l reached.last in
-    let Q : Option (List ℕ) → Type 0 = λ t. Adds job turned reached.last begun (sink_view t out.sure) in
-    record {
-      last = reached.last;
-      stands = subst P (sym same) reached.stands;
-      sure = out.sure;
-      unsure = fails.unsure;
-      adds = subst Q (sym told) reached.adds;
-      short = fails-short job line reached.last machine out reached.stands fails;
-    }
-
--- a move makes the work less, and where nothing moved the machine is still
-pub move-less : (moved : Moved) (line line_now : Line) → is_move moved ≡ true → MovesOn moved line line_now → work_left line_now < work_left line
-move-less Ran line line_now is on = on
-move-less Gave line line_now is on = on
-move-less Waits line line_now is on = absurd (cc)
-move-less Held line line_now is on = absurd (cc)
-move-less Ended line line_now is on = absurd (cc)
-
-pub move-same : (moved : Moved) (line line_now : Line) → is_move moved ≡ false → MovesOn moved line line_now → line_now ≡ line
-move-same Ran line line_now is on = absurd (cc)
-move-same Gave line line_now is on = absurd (cc)
-move-same Waits line line_now is on = on
-move-same Held line line_now is on = on
-move-same Ended line line_now is on = on
-
-pub move-still : (job : Job) (turned : Turned) (line : Line) (machine : ℕ) (out : SinkView) (moved : Moved) → is_move moved ≡ false
-    → Cause job line turned machine out (Ok moved) → IsStill job line turned machine
-move-still job turned line machine out Ran is cause = absurd (cc)
-move-still job turned line machine out Gave is cause = absurd (cc)
-move-still job turned line machine out Waits is cause = inl cause
-move-still job turned line machine out Held is cause = inr (inl cause)
-move-still job turned line machine out Ended is cause = inr (inr cause)
-
-pub reach-on : (job : Job) (turned : Turned) (line line_now : Line) (begun out out_now : SinkView) (first : Reaches job turned line begun out)
-    → Reaches job first.last line_now out out_now → Reaches job turned line_now begun out_now
-reach-on job turned line line_now begun out out_now first then = record {
-  last = then.last;
-  stands = then.stands;
-  adds = adds-more job turned first.last then.last begun out out_now first.adds then.adds;
+goes-then : (to then : Turned → Turned) (a b c : Line) (o p q : SinkState) → Goes to a b o p → Goes then b c p q → Goes (λ turned. then (to turned)) a c o q
+goes-then to then a b c o p q first last = record {
+  bytes = first.bytes ++ last.bytes;
+  put = sink-then first.bytes last.bytes false o p q first.put last.put;
+  leads = leads-then to then first.bytes last.bytes a b c first.leads last.leads;
 }
 
-pub stop-on : (job : Job) (turned : Turned) (line line_now : Line) (begun out : SinkView) (told : Option (List ℕ)) (first : Reaches job turned line begun out)
-    → Stops job first.last line_now out told → Stops job turned line_now begun told
-stop-on job turned line line_now begun out told first then = record {
-  last = then.last;
-  stands = then.stands;
-  sure = then.sure;
-  unsure = then.unsure;
-  adds = adds-more job turned first.last then.last begun out (sink_view told then.sure) first.adds then.adds;
-  short = then.short;
+pub reach-none : (line : Line) (out : SinkState) → Reaches line line out out
+reach-none line out = (λ turned. turned, record { bytes = []; put = sink-as-it-was out; leads = leads-nowhere line })
+
+pub reach-then : (a b c : Line) (o p q : SinkState) → Reaches a b o p → Reaches b c p q → Reaches a c o q
+reach-then a b c o p q first last = (λ turned. last.0 (first.0 turned), goes-then first.0 last.0 a b c o p q first.1 last.1)
+
+pub stop-then : (a b c : Line) (o p q : SinkState) → Reaches a b o p → Stops b c p q → Stops a c o q
+stop-then a b c o p q first stopped = record {
+  to = λ turned. stopped.to (first.0 turned);
+  here = stopped.here;
+  goes = goes-then first.0 stopped.to a b c o p stopped.here first.1 stopped.goes;
+  byte = stopped.byte;
+  next = λ job turned stands. stopped.next job (first.0 turned) (first.1.leads job turned stands).0;
+  put = stopped.put;
 }
 
--- the work left since some turns, of which perhaps one moved something
-pub since : (moved : Bool) (line begun : Line) → (moved ≡ true → work_left line < work_left begun) → (moved ≡ false → line ≡ begun)
-    → work_left line ≤ work_left begun
-since true line begun less same = (let l = less refl in omega (arith, l))
-since false line begun less same = (let e = ap work_left (same refl) in omega (arith, e))
+-- a turn is such a way
+pub turn-went : (machine : ℕ) (a b : Line) (o p : SinkState) (result : Result Moved Failed) → TurnCame machine a b o p result → Went a b o p result
+turn-went machine a b o p (Ok moved) came = (turned_by moved machine, record { bytes = came.bytes; put = came.put; leads = came.came.leads })
+turn-went machine a b o p (Err failed) fails =
+    let P : Line → Type 0 = λ line. Leads (λ turned. turned) [] a line in
+    record {
+      to = λ turned. turned;
+      here = o;
+      goes = record { bytes = []; put = sink-as-it-was o; leads = subst P (sym fails.same) (leads-nowhere a) };
+      byte = fails.byte;
+      next = λ job turned stands. goes-on-with job a turned machine fails.byte stands (fails.cause job turned stands);
+      put = fails.put;
+    }
 
-pub either-less : (moved more : Bool) (line line_now begun : Line) → (moved ≡ true → work_left line < work_left begun) → (moved ≡ false → line ≡ begun)
-    → (more ≡ true → work_left line_now < work_left line) → (more ≡ false → line_now ≡ line) → (moved || more) ≡ true
-    → work_left line_now < work_left begun
-either-less moved true line line_now begun less same then_less then_same is =
-    let first = since moved line begun less same in let second = then_less refl in omega (arith, first, second)
-either-less true false line line_now begun less same then_less then_same is =
-    let first = less refl in let second = ap work_left (then_same refl) in omega (arith, first, second)
-either-less false false line line_now begun less same then_less then_same is = absurd (cc)
+-- a call that failed, where more was to come
+sink-first : (first more : List ℕ) (a b : SinkState) → SinkEnded first true a b → SinkEnded (first ++ more) true a b
+sink-first first more a b p =
+    let within = p.holds.within in
+    let longer = length-append first more in
+    record {
+      holds = record {
+        count = p.holds.count;
+        within = omega (arith, within, longer);
+        taken = p.holds.taken ∙ ap (extended a.told) (sym (take-append-le p.holds.count first more (omega (arith, within))));
+      };
+      counted = p.counted;
+      blamed = λ is sure. p.blamed is (omega (arith, sure, longer));
+      left = λ is. absurd (true≢false is);
+    }
+
+-- what was put since a line was begun
+module _ (job : Job) (begun : SinkState) (a b : Line) (o p : SinkState) (way : IsUnderWay job begun a o) where
+  pub put-more : (to : Turned → Turned) → Goes to a b o p → SinkEnded (written_in job (to way.turned)) false begun p
+  put-more to goes =
+      let P : List ℕ → Type 0 = λ bytes. SinkEnded bytes false begun p in
+      subst P (sym (goes.leads job way.turned way.stands).1) (sink-then (written_in job way.turned) goes.bytes false begun o p way.put goes.put)
+
+  pub way-on : Reaches a b o p → IsUnderWay job begun b p
+  way-on reached = record {
+    turned = reached.0 way.turned;
+    stands = (reached.1.leads job way.turned way.stands).0;
+    put = put-more reached.0 reached.1;
+  }
+
+pub way-stops : (job : Job) (begun : SinkState) (a b : Line) (o p : SinkState) → IsUnderWay job begun a o → Stops a b o p
+    → SinkEnded (stream job (last_of job)) true begun p
+way-stops job begun a b o p way stopped =
+    let written = written_in job (stopped.to way.turned) in
+    let next = stopped.next job way.turned way.stands in
+    let byte = stopped.byte in
+    let P : List ℕ → Type 0 = λ bytes. SinkEnded bytes true begun p in
+    subst P (append_assoc written (byte ∷ []) next.0 ∙ sym next.1)
+    (sink-first (written ++ byte ∷ []) next.0 begun p
+    (sink-then written (byte ∷ []) true begun stopped.here p (put-more job begun a b o stopped.here way stopped.to stopped.goes) stopped.put))
+
+-- a machine that waits is idle, and its run goes on
+waiting-idle : (job : Job) (line : Line) (turned : Turned) (machine : ℕ) → IsWaiting job line turned machine → (place_in job turned machine).left ≡ 0
+waiting-idle job line turned zero waits = absurd waits
+waiting-idle job line turned (suc before) waits = waits.idle
+
+waiting-goes : (job : Job) (line : Line) (turned : Turned) (machine : ℕ) → IsWaiting job line turned machine → HasEnded (place_in job turned machine) → ⊥
+waiting-goes job line turned zero waits = absurd waits
+waiting-goes job line turned (suc before) waits = waits.goes_on
+
+-- a turn, by what is said of it
+module _ (machine : ℕ) (line line_now : Line) (out out_now : SinkState) where
+  abbrev pub Comes : Result Moved Failed → Type 0
+  Comes result = TurnCame machine line line_now out out_now result
+
+  pub turn-goes : (result : Result Moved Failed) → Comes result → IfOk result (λ moved. Goes (turned_by moved machine) line line_now out out_now)
+  turn-goes (Ok moved) came = record { bytes = came.bytes; put = came.put; leads = came.came.leads }
+  turn-goes (Err failed) fails = tt
+
+  pub turn-fails : (result : Result Moved Failed) → Comes result → OnErr result (Fails machine line line_now out out_now)
+  turn-fails (Ok moved) came = tt
+  turn-fails (Err failed) fails = fails
+
+  pub turn-waits : (result : Result Moved Failed) → Comes result → (job : Job) (turned : Turned) → Stands job line turned
+      → (result ≡ Ok Waits) ↔ IsWaiting job line turned machine
+  turn-waits (Ok Ran) came job turned stands =
+      let vector = (came.came.cause job turned stands).vector in
+      (λ e. absurd (cc), λ waits. absurd (omega (arith, vector, waiting-idle job line turned machine waits)))
+  turn-waits (Ok Gave) came job turned stands = (λ e. absurd (cc), λ waits. absurd ((came.came.cause job turned stands).comes waits))
+  turn-waits (Ok Waits) came job turned stands = (λ e. came.came.cause job turned stands, λ waits. refl)
+  turn-waits (Ok Held) came job turned stands =
+      let vector = (came.came.cause job turned stands).vector in
+      (λ e. absurd (cc), λ waits. absurd (omega (arith, vector, waiting-idle job line turned machine waits)))
+  turn-waits (Ok Ended) came job turned stands =
+      (λ e. absurd (cc), λ waits. absurd (waiting-goes job line turned machine waits (came.came.cause job turned stands)))
+  turn-waits (Err failed) fails job turned stands =
+      let vector = (fails.cause job turned stands).vector in
+      (λ e. absurd (cc), λ waits. absurd (omega (arith, vector, waiting-idle job line turned machine waits)))
+
+  pub turn-same : (result : Result Moved Failed) → Comes result → IfOk result (λ moved. is_move moved ≡ false → line_now ≡ line)
+  turn-same (Ok moved) came = λ is. (let P : Bool → Type 0 = λ b. WorksOn b line line_now in subst P is came.came.works)
+  turn-same (Err failed) fails = tt
+
+  pub turn-machines : (result : Result Moved Failed) → Comes result → length line_now.members.items ≡ length line.members.items
+  turn-machines (Ok moved) came = came.came.machines
+  turn-machines (Err failed) fails = ap (λ (l : Line). length l.members.items) fails.same
+
+  pub turn-way : (result : Result Moved Failed) → Comes result → (job : Job) (begun : SinkState) → IsUnderWay job begun line out
+      → StaysUnderWay job begun line_now out_now (is_err result)
+  turn-way (Ok moved) came job begun way = way-on job begun line line_now out out_now way (turn-went machine line line_now out out_now (Ok moved) came)
+  turn-way (Err failed) fails job begun way =
+      way-stops job begun line line_now out out_now way (turn-went machine line line_now out out_now (Err failed) fails)
 
 pub neither : (moved more : Bool) → (moved || more) ≡ false → (moved ≡ false) × (more ≡ false)
 neither true more is = absurd (cc)
 neither false more is = (refl, is)
 
-pub still-here : (job : Job) (turned : Turned) (line line_now begun : Line) (machine : ℕ) (out out_now : SinkView) (step : Moved) → is_move step ≡ false
-    → line ≡ begun → Turns line line_now machine out out_now (Ok step) → Stands job begun turned → IsStill job begun turned machine
-still-here job turned line line_now begun machine out out_now step is same came stands =
-    let P : Line → Type 0 = λ l. Stands job l turned in
-    let Q : Line → Type 0 = λ l. IsStill job l turned machine in
-    subst Q same (move-still job turned line machine out step is (came job turned (subst P (sym same) stands)).cause)
+-- a machine that is still in a line where nothing was moved so far was so at the beginning
+pub still-since : (moved : Bool) (begun line : Line) (machine : ℕ) → moved ≡ false → WorksOn moved begun line → IsStill line machine → IsStill begun machine
+still-since true begun line machine is works still = absurd (cc)
+still-since false begun line machine is works still = (let P : Line → Type 0 = λ l. IsStill l machine in subst P works still)
 
--- one machine more was given turns, in a line where none moved so far
-pub still-more : (job : Job) (turned : Turned) (line begun : Line) (index : ℕ) → line ≡ begun
-    → ((machine : ℕ) → machine < index → IsStill job begun turned machine) → (Stands job line turned → IsStill job line turned index)
-    → Stands job begun turned → (machine : ℕ) → machine < index + 1 → IsStill job begun turned machine
-still-more job turned line begun index same before last stands machine within = elim (same-or-not machine index) [
-  | inl is ↦
-      let P : ℕ → Type 0 = λ m. IsStill job begun turned m in
-      let Q : Line → Type 0 = λ l. Stands job l turned → IsStill job l turned index in
-      subst P (sym is) (subst Q same last stands)
+-- one machine more was given turns
+pub still-more : (begun : Line) (index : ℕ) → ((machine : ℕ) → machine < index → IsStill begun machine) → IsStill begun index
+    → (machine : ℕ) → machine < index + 1 → IsStill begun machine
+still-more begun index before last machine within = elim (same-or-not machine index) [
+  | inl same ↦ (let P : ℕ → Type 0 = λ m. IsStill begun m in subst P (sym same) last)
   | inr apart ↦ before machine (omega (arith, within, apart))
 ]

@@ -1,25 +1,26 @@
 -- A machine of a line that was given what comes next, or waits for it.
-use Rattle.std.proofs.Common.{◌≡◌, ◌≢◌, ℕ, zero, suc, ◌-◌, ◌≤◌, ◌↔◌, inl, inr, Bool, true, false, List, [], ◌∷◌, ◌++◌, take, drop, length, get_or, refl, sym, ap, subst, ◌∙◌, arith, append-nil}
-use Rattle.std.specs.Prelude.{Some, Ok, slice_get, slice_set}
+use Rattle.std.proofs.Common.{◌≡◌, ◌≢◌, ℕ, zero, suc, ◌-◌, ◌<◌, ◌≤◌, ◌↔◌, inl, inr, Bool, true, false, List, [], ◌∷◌, ◌++◌, take, drop, length, get_or, refl, sym, ap, subst, ◌∙◌, arith, append-nil}
+use Rattle.std.specs.Prelude.{Some, slice_get, slice_set}
 use Rattle.std.proofs.lemmas.List.{length-set}
 use Rattle.std.proofs.lemmas.Option.{slice_get_within, slice_get_read}
-use Rattle.circular_buffer.specs.Buffer.{Buffer, buffer}
+use Rattle.circular_buffer.specs.Buffer.{Buffer}
 use Rattle.vector_loop.specs.State.{is_over}
 use Rattle.uxn_line.specs.declared.line.Line.{Line}
 use Rattle.uxn_line.specs.declared.line.Moved.TheVariants.{Gave, Waits}
 use Rattle.uxn_line.specs.declared.member.Member.{Member}
-use Rattle.vector_loop.specs.declared.gift.Gift.{Gift}
 use Rattle.vector_loop.specs.Places.{Place, HasEnded}
 use Rattle.uxn_line.specs.Places.{turn, IsForConsole, put_in}
 use Rattle.vector_loop.specs.Gifts.{gifts_of}
 use Rattle.uxn_line.specs.Streams.{Job, script_at, stream, after}
 use Rattle.uxn_line.specs.Members.{MemberAt, has_ended, IsOpen, next_gift}
+use Rattle.uxn_line.specs.MemberTurns.{WasGivenNext}
 use Rattle.uxn_line.specs.Standing.{Turned, one_more, place_in, given_after, Between, InLine, Stands}
-use Rattle.uxn_line.specs.Moves.{SinkView, IsWaiting, ring_of, Came}
+use Rattle.uxn_line.specs.Moves.{IsWaiting, ring_of, Came}
+use Rattle.uxn_line.specs.Work.{work, work_left}
 use Rattle.uxn_line.proofs.Turned.{give-gifts, give-put}
-use Rattle.uxn_line.proofs.Working.{bools, idle-open}
+use Rattle.uxn_line.proofs.Working.{bools, idle-open, ring-within, set-less}
 use Rattle.uxn_line.proofs.Standings.{more-here, more-apart, place-apart, ended-is, not-ended, goes-on, set-here, set-apart, stands-more}
-use Rattle.uxn_line.proofs.Running.{found-is, with_member, handed-nothing, put-behind, adds-none, adds-nothing}
+use Rattle.uxn_line.proofs.Running.{found-is, with_member, room-stays, handed-nothing, put-behind, wrote-none, leads-nowhere}
 use Rattle.uxn_line.proofs.Coming.{Comes, comes}
 
 -- the member that was found where a machine is idle and not at its end
@@ -82,32 +83,32 @@ give-stands job line line_now turned machine member now stands gives =
     })
 
 -- a turn of it is a giving, where it does not wait
-pub give-came : (job : Job) (line line_now : Line) (turned : Turned) (machine : ℕ) (member now : Member) (out : SinkView) → Stands job line turned
-    → GivesIn job turned line line_now machine member now → member.machine.left ≡ 0 → has_ended member ≡ false
-    → (IsWaiting job line turned machine → ⊥) → Came job turned machine line line_now out out (Ok Gave)
-give-came job line line_now turned machine member now out stands gives idle goes comes =
-    let at = (stands.each machine member gives.there).stands in
-    record {
-      cause = record {
-        idle = sym at.stands.left ∙ idle;
-        goes_on = not-ended member (place_in job turned machine) at goes;
-        comes = comes;
+pub give-came : (line line_now : Line) (machine : ℕ) (member now : Member) → FoundOpen line machine member
+    → ((job : Job) (turned : Turned) → Stands job line turned → GivesIn job turned line line_now machine member now)
+    → ((job : Job) (turned : Turned) → Stands job line turned → IsWaiting job line turned machine → ⊥)
+    → length line_now.members.items ≡ length line.members.items → work_left line_now < work_left line → Came machine Gave [] line line_now
+give-came line line_now machine member now found gives comes count less = record {
+  cause = λ job turned stands.
+      let at = (stands.each machine member found.there).stands in
+      record {
+        idle = sym at.stands.left ∙ found.idle;
+        goes_on = not-ended member (place_in job turned machine) at found.goes_on;
+        comes = comes job turned stands;
       };
-      follows = (give-stands job line line_now turned machine member now stands gives, adds-none job turned machine out gives.put);
-    }
+  leads = λ job turned stands.
+      let given = gives job turned stands in (
+        give-stands job line line_now turned machine member now stands given,
+        wrote-none job turned machine given.put,
+      );
+  works = less;
+  machines = count;
+}
 
 -- what is left of the script where another machine than the first had a turn
 pub script-apart : (job : Job) (line : Line) (turned : Turned) (before : ℕ) → Stands job line turned
     → line.giver ≡ (place_in job (one_more (suc before) turned) 0).gifts
 script-apart job line turned before stands =
     stands.script ∙ ap (λ (p : Place). p.gifts) (sym (place-apart job (suc before) turned 0 (λ same. omega (arith, same))))
-
--- a machine behind another that was given the first of its ring, or the end
-pub record NextGiven (budget : ℕ) (member now : Member) : Type 0 where
-  pub stands : (place : Place) (gifts : List Gift) → MemberAt member place → place.gifts ≡ next_gift member.ring.items ∷ gifts
-      → (member.ring.items ≡ []) ↔ (gifts ≡ []) → is_over place.done.last ≡ false → MemberAt now (turn budget place)
-  pub kept : has_ended now ≡ false → now.ring ≡ buffer (drop 1 member.ring.items) member.ring.capacity
-  pub dropped : has_ended now ≡ true → now.ring ≡ buffer [] member.ring.capacity
 
 ring-is-for : (ring : List ℕ) → IsForConsole (next_gift ring)
 ring-is-for [] = refl
@@ -117,7 +118,7 @@ shorter : (ring : List ℕ) → length (drop 1 ring) ≤ length ring
 shorter [] = omega arith
 shorter (byte ∷ ring) = omega arith
 
-pub next-own : (job : Job) (turned : Turned) (before : ℕ) (member now : Member) → NextGiven job.budget member now → InLine job turned (suc before) member
+pub next-own : (job : Job) (turned : Turned) (before : ℕ) (member now : Member) → WasGivenNext job.budget member now → InLine job turned (suc before) member
     → IdleAt (place_in job turned (suc before)) → Comes job before (turned before) (turned (suc before)) member.ring.items
     → InLine job (one_more (suc before) turned) (suc before) now
 next-own job turned before member now given inline idle next =
@@ -128,72 +129,72 @@ next-own job turned before member now given inline idle next =
     let gifts = give-gifts job.budget place (next_gift member.ring.items) next.gifts idle.idle next.are idle.goes_on (ring-is-for member.ring.items) in
     let total = length (gifts_of (script_at job (suc before))) in
     let count = ap (λ g. total - length g) gifts ∙ next.given in
-    let room_ring : (has_ended now ≡ false → now.ring.items ≡ drop 1 member.ring.items) = λ goes. ap (λ (r : Buffer ℕ). r.items) (given.kept goes) in
+    let room_ring : (has_ended now ≡ false → now.ring.items ≡ drop 1 member.ring.items) = λ goes. ap (λ (r : Buffer ℕ). r.items) (given.ring.kept goes) in
     let P : ℕ → Type 0 = λ n. MemberAt now (after job (suc before) n) in
     let Q : ℕ → Type 0 = λ n. Between job before n (one_more (suc before) turned (suc before)) now.ring.items in
     let R : ℕ → Type 0 = λ n. Between job before (turned before) n now.ring.items in
     let between : Between job before (turned before) (suc (turned (suc before))) now.ring.items = record {
-      dropped = λ ended. ap (λ (r : Buffer ℕ). r.items) (given.dropped ((ended-is now (turn job.budget place) at).1 ended));
+      dropped = λ ended. ap (λ (r : Buffer ℕ). r.items) (given.ring.dropped ((ended-is now (turn job.budget place) at).1 ended));
       written = λ goes.
           next.written
           ∙ ap (λ k. take k (stream job before) ++ drop 1 member.ring.items) (sym count)
           ∙ ap (λ r. take (given_after job (suc before) (suc (turned (suc before)))) (stream job before) ++ r)
           (sym (room_ring (goes-on now (turn job.budget place) at goes)));
     } in
-    let S : Buffer ℕ → Type 0 = λ r. length r.items ≤ 256 in
     record {
       stands = subst P (sym here) at;
       ring = subst Q (sym there) (subst R (sym here) between);
-      room = elim (bools (has_ended now)) [
-        | inl over ↦ ap (λ (r : Buffer ℕ). r.capacity) (given.dropped over) ∙ inline.room
-        | inr goes ↦ ap (λ (r : Buffer ℕ). r.capacity) (given.kept goes) ∙ inline.room
-      ];
-      within = elim (bools (has_ended now)) [
-        | inl over ↦ subst S (sym (given.dropped over)) (omega arith)
-        | inr goes ↦ (let less = shorter member.ring.items in subst S (sym (given.kept goes)) (omega (arith, less, inline.within)))
-      ];
+      room = room-stays member now (drop 1 member.ring.items) given.ring ∙ inline.room;
+      within =
+          let kept = ring-within member now (drop 1 member.ring.items) given.ring in
+          let less = shorter member.ring.items in
+          omega (arith, kept, less, inline.within);
     }
 
-pub next-came : (job : Job) (line : Line) (turned : Turned) (before : ℕ) (member now last : Member) (out : SinkView) → Stands job line turned
-    → FoundOpen line (suc before) member → NextGiven line.budget member now → slice_get line.members.items before ≡ Some last
-    → (member.ring.items ≡ [] → has_ended last ≡ true)
-    → Came job turned (suc before) line (with_member line (suc before) now) out out (Ok Gave)
-next-came job line turned before member now last out stands found given there ended =
+pub next-came : (line : Line) (before : ℕ) (member now last : Member) → FoundOpen line (suc before) member → WasGivenNext line.budget member now
+    → slice_get line.members.items before ≡ Some last → (member.ring.items ≡ [] → has_ended last ≡ true)
+    → ((left : ℕ) → work line.budget left now < work line.budget left member) → Came (suc before) Gave [] line (with_member line (suc before) now)
+next-came line before member now last found given there ended less =
+    let over : (job : Job) (turned : Turned) → Stands job line turned → member.ring.items ≡ [] → HasEnded (place_in job turned before)
+    = λ job turned stands none. (ended-is last (place_in job turned before) (stands.each before last there).stands).0 (ended none) in
+    give-came line (with_member line (suc before) now) (suc before) member now found
+    (λ job turned stands.
     let place = place_in job turned (suc before) in
     let inline = stands.each (suc before) member found.there in
     let at = inline.stands in
     let idle = idle-at member place at found.idle found.goes_on in
-    let last_at = (stands.each before last there).stands in
-    let over : member.ring.items ≡ [] → HasEnded (place_in job turned before) = λ none. (ended-is last (place_in job turned before) last_at).0 (ended none) in
     let between : Between job before (turned before) (turned (suc before)) member.ring.items = inline.ring in
     let next = comes job before (turned before) (turned (suc before)) member.ring.items stands.job_is
-    (between.written (not-ended member place at found.goes_on)) idle.some over in
-    let P : ℕ → Type 0 = λ b. NextGiven b member now in
-    give-came job line (with_member line (suc before) now) turned (suc before) member now out stands (record {
+    (between.written (not-ended member place at found.goes_on)) idle.some (over job turned stands) in
+    let P : ℕ → Type 0 = λ b. WasGivenNext b member now in
+    record {
       there = found.there;
       items = refl;
       budget = refl;
       script = script-apart job line turned before stands;
       own = next-own job turned before member now (subst P stands.budget given) inline idle next;
       put = give-put job.budget place (next_gift member.ring.items) next.gifts idle.idle next.are idle.goes_on (ring-is-for member.ring.items);
-    }) found.idle found.goes_on
-    (λ waits. waits.comes (over (ap ring_of (sym found.there) ∙ waits.nothing)))
+    })
+    (λ job turned stands waits. waits.comes (over job turned stands (ap ring_of (sym found.there) ∙ waits.nothing)))
+    (length-set line.members.items (suc before) now)
+    (set-less line.budget (length line.giver) line.members.items (suc before) member now found.there less)
 
 -- a machine waits whose ring is empty, where the run of the one before it goes on
-pub wait-came : (job : Job) (line : Line) (turned : Turned) (before : ℕ) (member last : Member) (out : SinkView) → Stands job line turned
-    → FoundOpen line (suc before) member → slice_get line.members.items before ≡ Some last → member.ring.items ≡ [] → has_ended last ≡ false
-    → Came job turned (suc before) line line out out (Ok Waits)
-wait-came job line turned before member last out stands found there none goes =
-    let at = (stands.each (suc before) member found.there).stands in
-    record {
-      cause = record {
+pub wait-came : (line : Line) (before : ℕ) (member last : Member) → FoundOpen line (suc before) member
+    → slice_get line.members.items before ≡ Some last → member.ring.items ≡ [] → has_ended last ≡ false → Came (suc before) Waits [] line line
+wait-came line before member last found there none goes = record {
+  cause = λ job turned stands.
+      let at = (stands.each (suc before) member found.there).stands in
+      record {
         goes_on = not-ended member (place_in job turned (suc before)) at found.goes_on;
         idle = sym at.stands.left ∙ found.idle;
         nothing = ap ring_of found.there ∙ none;
         comes = not-ended last (place_in job turned before) (stands.each before last there).stands goes;
       };
-      follows = (stands, adds-nothing job turned turned out refl);
-    }
+  leads = leads-nowhere line;
+  works = refl;
+  machines = refl;
+}
 
 -- what was found of a machine behind another, of that one, and whether it waits
 pub record Behind (line : Line) (machine : ℕ) (last seen : Member) (none_comes waits : Bool) : Type 0 where
@@ -212,19 +213,20 @@ last-there line before last member read there =
     let within = slice_get_within items (suc before) member there in
     slice_get_read items (length items) before last refl (omega (arith, within)) (read ∙ ap (λ n. get_or items n last) one)
 
-pub behind-waits : (job : Job) (line : Line) (turned : Turned) (machine : ℕ) (last seen : Member) (none_comes waits : Bool) (out : SinkView)
-    → Behind line machine last seen none_comes waits → waits ≡ true → Stands job line turned → Came job turned machine line line out out (Ok Waits)
-behind-waits job line turned zero last seen none_comes waits out at yes_waits stands = (let some = at.behind in absurd (omega (arith, some)))
-behind-waits job line turned (suc before) last seen none_comes waits out at yes_waits stands =
+pub behind-waits : (line : Line) (machine : ℕ) (last seen : Member) (none_comes waits : Bool)
+    → Behind line machine last seen none_comes waits → waits ≡ true → Came machine Waits [] line line
+behind-waits line zero last seen none_comes waits at yes_waits = (let some = at.behind in absurd (omega (arith, some)))
+behind-waits line (suc before) last seen none_comes waits at yes_waits =
     let found = found-open line (suc before) seen at.is_open at.seen_is in
     let is = at.waits_is.0 yes_waits in
-    wait-came job line turned before seen last out stands found (last-there line before last seen at.last_is found.there) is.0 (sym at.none_is ∙ is.1)
+    wait-came line before seen last found (last-there line before last seen at.last_is found.there) is.0 (sym at.none_is ∙ is.1)
 
-pub behind-gives : (job : Job) (line : Line) (turned : Turned) (machine : ℕ) (last seen found now : Member) (none_comes waits : Bool) (out : SinkView)
+pub behind-gives : (line : Line) (machine : ℕ) (last seen found now : Member) (none_comes waits : Bool)
     → Behind line machine last seen none_comes waits → waits ≡ false → found ≡ get_or line.members.items machine found
-    → NextGiven line.budget found now → Stands job line turned → Came job turned machine line (with_member line machine now) out out (Ok Gave)
-behind-gives job line turned zero last seen found now none_comes waits out at goes read given stands = (let some = at.behind in absurd (omega (arith, some)))
-behind-gives job line turned (suc before) last seen found now none_comes waits out at goes read given stands =
+    → WasGivenNext line.budget found now → ((left : ℕ) → work line.budget left now < work line.budget left found)
+    → Came machine Gave [] line (with_member line machine now)
+behind-gives line zero last seen found now none_comes waits at goes read given less = (let some = at.behind in absurd (omega (arith, some)))
+behind-gives line (suc before) last seen found now none_comes waits at goes read given less =
     let first = found-open line (suc before) seen at.is_open at.seen_is in
     let open_found = found-open line (suc before) found at.is_open read in
     let one = first.there in
@@ -232,8 +234,8 @@ behind-gives job line turned (suc before) last seen found now none_comes waits o
     let same : seen ≡ found = cc in
     let P : Member → Type 0 = λ m. (waits ≡ true) ↔ ((m.ring.items ≡ []) × (none_comes ≡ false)) in
     let test = subst P same at.waits_is in
-    next-came job line turned before found now last out stands open_found given (last-there line before last found at.last_is open_found.there)
+    next-came line before found now last open_found given (last-there line before last found at.last_is open_found.there)
     (λ none. elim (bools none_comes) [
       | inl comes ↦ sym at.none_is ∙ comes
       | inr more ↦ absurd (let e = test.1 (none, more) in cc)
-    ])
+    ]) less

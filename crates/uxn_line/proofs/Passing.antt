@@ -1,6 +1,6 @@
 -- A machine of a line that handed a byte on to the next one, or could not.
 use Rattle.std.proofs.Common.{◌≡◌, ◌≢◌, ℕ, suc, ◌+◌, ◌<◌, ◌≤◌, ◌↔◌, inl, inr, Bool, true, false, List, [], ◌∷◌, ◌++◌, length, get_or, refl, sym, ap, subst, ◌∙◌, arith, length-append, add-one}
-use Rattle.std.specs.Prelude.{Some, Ok, slice_get, slice_set}
+use Rattle.std.specs.Prelude.{Some, slice_get, slice_set}
 use Rattle.std.proofs.lemmas.List.{length-set}
 use Rattle.std.proofs.lemmas.Option.{slice_get_within, slice_get_read}
 use Rattle.circular_buffer.specs.Buffer.{buffer}
@@ -8,14 +8,12 @@ use Rattle.uxn_line.specs.declared.line.Line.{Line}
 use Rattle.uxn_line.specs.declared.line.Moved.TheVariants.{Ran, Held}
 use Rattle.uxn_line.specs.declared.member.Member.{Member}
 use Rattle.uxn_line.specs.Machines.{handed_on}
-use Rattle.uxn_line.specs.Streams.{Job}
 use Rattle.uxn_line.specs.Members.{has_ended, IsRunning}
-use Rattle.uxn_line.specs.Standing.{Turned, place_in, Stands}
-use Rattle.uxn_line.specs.Moves.{SinkView, ring_of, Came}
-use Rattle.uxn_line.specs.Work.{work, work_left}
+use Rattle.uxn_line.specs.Standing.{place_in}
+use Rattle.uxn_line.specs.Moves.{ring_of, Came}
 use Rattle.uxn_line.proofs.Working.{bools, pair-less, taken-pays}
 use Rattle.uxn_line.proofs.Standings.{not-ended, goes-on, set-here, set-apart}
-use Rattle.uxn_line.proofs.Running.{found-is, RanFrom, Handed, RunsIn, with_member, Found, run-came, adds-apart, adds-nothing}
+use Rattle.uxn_line.proofs.Running.{found-is, RanFrom, Handed, RunsIn, with_member, Found, run-came, wrote-apart, leads-nowhere}
 
 -- the next machine, as it is found, and what it is once it was handed a byte
 pub record Taken (byte : ℕ) (line : Line) (machine : ℕ) (next now : Member) : Type 0 where
@@ -85,27 +83,19 @@ pass-runs byte line machine member now next next_now found ran taken =
       ran = ran;
     }
 
-pub pass-came : (job : Job) (byte : ℕ) (line : Line) (turned : Turned) (machine : ℕ) (member now next next_now : Member) (out : SinkView) → Stands job line turned
-    → Found (byte ∷ []) line machine member → RanFrom member now → Taken byte line machine next next_now
-    → Came job turned machine line (passed line machine next_now now) out out (Ok Ran)
-pass-came job byte line turned machine member now next next_now out stands found ran taken =
-    let runs = pass-runs byte line machine member now next next_now found ran taken in
-    let inline = stands.each (suc machine) next taken.there in
+pub pass-came : (byte : ℕ) (line : Line) (machine : ℕ) (member now next next_now : Member) → Found (byte ∷ []) line machine member → RanFrom member now
+    → Taken byte line machine next next_now → Came machine Ran [] line (passed line machine next_now now)
+pass-came byte line machine member now next next_now found ran taken =
     let there = slice_get_within line.members.items (suc machine) next taken.there in
-    let count = stands.machines in
-    run-came job line (passed line machine next_now now) turned machine member now out out stands runs
-    (λ held.
+    run-came line (passed line machine next_now now) machine member now [] (pass-runs byte line machine member now next next_now found ran taken)
+    (λ job turned stands held.
+    let inline = stands.each (suc machine) next taken.there in
     let room = taken.room (goes-on next (place_in job turned (suc machine)) inline.stands held.goes_on) in
     let full : length next.ring.items ≡ 256 = ap (λ o. length (ring_of o)) (sym taken.there) ∙ held.full in
     omega (arith, room, full, inline.room))
-    (adds-apart job turned machine out (λ last. omega (arith, last, there, count)))
-
-pub pass-less : (byte : ℕ) (line : Line) (machine : ℕ) (member now next next_now : Member) → Found (byte ∷ []) line machine member
-    → ((left : ℕ) → work line.budget left now < work line.budget left member) → Taken byte line machine next next_now
-    → work_left (passed line machine next_now now) < work_left line
-pass-less byte line machine member now next next_now found less taken =
-    pair-less line.budget (length line.giver) line.members.items machine member now next next_now found.there taken.there less
-    (taken-pays line.budget byte next next_now taken.over taken.kept)
+    (λ job turned stands puts. (let count = stands.machines in wrote-apart job turned machine (λ last. omega (arith, last, there, count))))
+    (pair-less line.budget (length line.giver) line.members.items machine member now next next_now found.there taken.there (ran.work line.budget)
+    (taken-pays line.budget byte next next_now taken.over taken.kept))
 
 -- the machine that is found again once the byte was handed on
 pub found-again : (byte : ℕ) (line : Line) (machine : ℕ) (next_now found : Member) → IsRunning (byte ∷ []) line machine
@@ -118,26 +108,29 @@ found-again byte line machine next_now found running read =
     subst P (sym same) (record { there = running.there; some = running.vector; writes = running.writes })
 
 -- a machine whose byte has no room is held
-pub held-came : (job : Job) (byte : ℕ) (line : Line) (turned : Turned) (machine : ℕ) (next : Member) (out : SinkView) → Stands job line turned
-    → IsRunning (byte ∷ []) line machine → slice_get line.members.items (suc machine) ≡ Some next → has_ended next ≡ false
-    → next.ring.capacity ≤ length next.ring.items → Came job turned machine line line out out (Ok Held)
-held-came job byte line turned machine next out stands running there goes full =
-    let own = (stands.each machine running.member running.there).stands in
-    let inline = stands.each (suc machine) next there in
+pub held-came : (byte : ℕ) (line : Line) (machine : ℕ) (next : Member) → IsRunning (byte ∷ []) line machine
+    → slice_get line.members.items (suc machine) ≡ Some next → has_ended next ≡ false → next.ring.capacity ≤ length next.ring.items
+    → Came machine Held [] line line
+held-came byte line machine next running there goes full =
     let within = slice_get_within line.members.items (suc machine) next there in
-    let count = stands.machines in
-    let some = running.vector in
-    let left = own.stands.left in
-    let length_is : length next.ring.items ≡ 256 = omega (arith, full, inline.room, inline.within) in
     record {
-      cause = record {
-        vector = omega (arith, some, left);
-        writes = λ none. (let e = sym (ap handed_on (sym own.stands.core) ∙ running.writes) ∙ none in cc);
-        there = omega (arith, within, count);
-        goes_on = not-ended next (place_in job turned (suc machine)) inline.stands goes;
-        full = ap (λ o. length (ring_of o)) there ∙ length_is;
-      };
-      follows = (stands, adds-nothing job turned turned out refl);
+      cause = λ job turned stands.
+          let own = (stands.each machine running.member running.there).stands in
+          let inline = stands.each (suc machine) next there in
+          let count = stands.machines in
+          let some = running.vector in
+          let left = own.stands.left in
+          let length_is : length next.ring.items ≡ 256 = omega (arith, full, inline.room, inline.within) in
+          record {
+            vector = omega (arith, some, left);
+            writes = λ none. (let e = sym (ap handed_on (sym own.stands.core) ∙ running.writes) ∙ none in cc);
+            there = omega (arith, within, count);
+            goes_on = not-ended next (place_in job turned (suc machine)) inline.stands goes;
+            full = ap (λ o. length (ring_of o)) there ∙ length_is;
+          };
+      leads = leads-nowhere line;
+      works = refl;
+      machines = refl;
     }
 
 -- what was found of the next machine, and that its ring is not full

@@ -1,11 +1,10 @@
 -- A machine of a line that ran an instruction.
 use Rattle.std.proofs.Common.{◌≡◌, ◌≢◌, ℕ, zero, suc, ◌-◌, ◌<◌, ◌≤◌, inl, inr, true, false, List, [], ◌++◌, take, length, get_or, refl, sym, ap, subst, ◌∙◌, arith, append-nil}
-use Rattle.std.specs.Prelude.{Some, Ok, slice_get}
+use Rattle.std.specs.Prelude.{Some, slice_get}
 use Rattle.std.specs.Vec.{with_item}
 use Rattle.std.proofs.lemmas.List.{length-set}
 use Rattle.std.proofs.lemmas.Option.{get_or_from_slice_get, slice_get_within}
-use Rattle.circular_buffer.specs.Buffer.{Buffer, buffer}
-use Rattle.uxn_io.specs.ChangeLaws.{extended-nothing}
+use Rattle.circular_buffer.specs.Buffer.{Buffer}
 use Rattle.uxn_line.specs.declared.line.Line.{Line}
 use Rattle.uxn_line.specs.declared.line.Moved.TheVariants.{Ran}
 use Rattle.uxn_line.specs.declared.member.Member.{Member}
@@ -15,10 +14,12 @@ use Rattle.uxn_line.specs.Machines.{handed_on}
 use Rattle.vector_loop.specs.Gifts.{gifts_of}
 use Rattle.uxn_line.specs.Streams.{Job, script_at, stream, after}
 use Rattle.uxn_line.specs.Members.{MemberAt, has_ended, IsRunning}
+use Rattle.uxn_line.specs.MemberTurns.{KeepsRing, HasRun}
 use Rattle.uxn_line.specs.Standing.{Turned, one_more, place_in, given_after, Between, RingBefore, InLine, Stands}
-use Rattle.uxn_line.specs.Moves.{last_of, written_in, SinkView, Takes, Adds, IsHeld, Came}
+use Rattle.uxn_line.specs.Moves.{last_of, written_in, IsHeld, Leads, Came}
+use Rattle.uxn_line.specs.Work.{work, work_left}
 use Rattle.uxn_line.proofs.Turned.{run-gifts}
-use Rattle.uxn_line.proofs.Working.{bools}
+use Rattle.uxn_line.proofs.Working.{bools, ring-within, set-less}
 use Rattle.uxn_line.proofs.Standings.{same-or-not, more-here, more-apart, place-more, place-apart, ended-is, goes-on, ring-grows, stands-more, set-here, set-apart}
 
 -- the item that was found at a place
@@ -26,13 +27,11 @@ pub found-is : {X : Type 0} (items : List X) (place : ℕ) (found item : X) → 
     → found ≡ item
 found-is items place found item read there = read ∙ get_or_from_slice_get items place item found there
 
--- what the running of an instruction does to a machine with its ring
+-- a machine in a vector ran an instruction, which makes its work less
 pub record RanFrom (member now : Member) : Type 0 where
   pub some : 0 < member.machine.left
-  pub stands : (budget : ℕ) (place : Place) → MemberAt member place → MemberAt now (turn budget place)
-  pub put : (budget : ℕ) (place : Place) → MemberAt member place → put_in (turn budget place) ≡ put_in place ++ handed_on member.machine.core
-  pub kept : has_ended now ≡ false → now.ring ≡ member.ring
-  pub dropped : has_ended now ≡ true → now.ring ≡ buffer [] member.ring.capacity
+  pub ran : HasRun member now
+  pub work : (budget left : ℕ) → work budget left now < work budget left member
 
 -- what the handing on of bytes does to the next one
 pub record Handed (bytes : List ℕ) (member now : Member) : Type 0 where
@@ -52,26 +51,17 @@ handed-nothing member within = record {
 }
 
 -- a ring that is kept or emptied
-module _ (member now : Member) (kept : has_ended now ≡ false → now.ring ≡ member.ring)
-    (dropped : has_ended now ≡ true → now.ring ≡ buffer [] member.ring.capacity) where
+module _ (member now : Member) (items : List ℕ) (ring : KeepsRing member now items) where
   pub room-stays : now.ring.capacity ≡ member.ring.capacity
   room-stays = elim (bools (has_ended now)) [
-    | inl over ↦ ap (λ (r : Buffer ℕ). r.capacity) (dropped over)
-    | inr goes ↦ ap (λ (r : Buffer ℕ). r.capacity) (kept goes)
+    | inl over ↦ ap (λ (r : Buffer ℕ). r.capacity) (ring.dropped over)
+    | inr goes ↦ ap (λ (r : Buffer ℕ). r.capacity) (ring.kept goes)
   ]
 
-  pub within-stays : (most : ℕ) → length member.ring.items ≤ most → length now.ring.items ≤ most
-  within-stays most within =
-      let P : Buffer ℕ → Type 0 = λ r. length r.items ≤ most in
-      elim (bools (has_ended now)) [
-        | inl over ↦ subst P (sym (dropped over)) (omega arith)
-        | inr goes ↦ subst P (sym (kept goes)) within
-      ]
-
-  pub empty-stays : member.ring.items ≡ [] → now.ring.items ≡ []
+  pub empty-stays : items ≡ [] → now.ring.items ≡ []
   empty-stays none = elim (bools (has_ended now)) [
-    | inl over ↦ ap (λ (r : Buffer ℕ). r.items) (dropped over)
-    | inr goes ↦ ap (λ (r : Buffer ℕ). r.items) (kept goes) ∙ none
+    | inl over ↦ ap (λ (r : Buffer ℕ). r.items) (ring.dropped over)
+    | inr goes ↦ ap (λ (r : Buffer ℕ). r.items) (ring.kept goes) ∙ none
   ]
 
 -- a machine in a vector is not at its end
@@ -83,7 +73,7 @@ same-turns job turned machine other apart = more-apart machine turned other apar
 
 run-ring : (job : Job) (turned : Turned) (machine : ℕ) (member now : Member) → RanFrom member now → InLine job turned machine member
     → MemberAt now (place_in job (one_more machine turned) machine) → RingBefore job (one_more machine turned) machine now.ring.items
-run-ring job turned zero member now ran inline at = empty-stays member now ran.kept ran.dropped inline.ring
+run-ring job turned zero member now ran inline at = empty-stays member now member.ring.items ran.ran.ring inline.ring
 run-ring job turned (suc before) member now ran inline at =
     let place = place_in job turned (suc before) in
     let between : Between job before (turned before) (turned (suc before)) member.ring.items = inline.ring in
@@ -96,12 +86,12 @@ run-ring job turned (suc before) member now ran inline at =
     let total = length (gifts_of (script_at job (suc before))) in
     let given = ap (λ g. total - length g) (run-gifts job.budget member.machine place ran.some inline.stands.stands) in
     let grown : Between job before (turned before) (suc (turned (suc before))) now.ring.items = record {
-      dropped = λ ended. ap (λ (r : Buffer ℕ). r.items) (ran.dropped ((ended-is now (turn job.budget place) at_next).1 ended));
+      dropped = λ ended. ap (λ (r : Buffer ℕ). r.items) (ran.ran.ring.dropped ((ended-is now (turn job.budget place) at_next).1 ended));
       written = λ goes.
           between.written (running-goes member place inline.stands ran.some)
           ∙ ap (λ n. take n (stream job before) ++ member.ring.items) (sym given)
           ∙ ap (λ (r : Buffer ℕ). take (given_after job (suc before) (suc (turned (suc before)))) (stream job before) ++ r.items)
-          (sym (ran.kept (goes-on now (turn job.budget place) at_next goes)));
+          (sym (ran.ran.ring.kept (goes-on now (turn job.budget place) at_next goes)));
     } in
     subst P (sym there) (subst Q (sym here) grown)
 
@@ -110,12 +100,12 @@ pub run-own : (job : Job) (turned : Turned) (machine : ℕ) (member now : Member
     → InLine job (one_more machine turned) machine now
 run-own job turned machine member now ran inline =
     let P : Place → Type 0 = λ p. MemberAt now p in
-    let at = subst P (sym (place-more job machine turned)) (ran.stands job.budget (place_in job turned machine) inline.stands) in
+    let at = subst P (sym (place-more job machine turned)) (ran.ran.stands job.budget (place_in job turned machine) inline.stands) in
     record {
       stands = at;
       ring = run-ring job turned machine member now ran inline at;
-      room = room-stays member now ran.kept ran.dropped ∙ inline.room;
-      within = within-stays member now ran.kept ran.dropped 256 inline.within;
+      room = room-stays member now member.ring.items ran.ran.ring ∙ inline.room;
+      within = (let kept = ring-within member now member.ring.items ran.ran.ring in omega (arith, kept, inline.within));
     }
 
 -- the next one is in line where it was handed the bytes that were written
@@ -140,36 +130,29 @@ put-behind job turned machine bytes next now handed put inline =
       within = handed.within;
     }
 
--- what a sink takes of nothing
-pub takes-nothing : (out : SinkView) → Takes out out []
-takes-nothing out = record { told = sym (extended-nothing out.told); sure = omega arith }
-
-pub adds-nothing : (job : Job) (turned now : Turned) (out : SinkView) → written_in job now ≡ written_in job turned → Adds job turned now out out
-adds-nothing job turned now out same =
-    record { more = []; written = same ∙ sym (append-nil (written_in job turned)); added = takes-nothing out }
-
-pub adds-apart : (job : Job) (turned : Turned) (machine : ℕ) (out : SinkView) → last_of job ≢ machine → Adds job turned (one_more machine turned) out out
-adds-apart job turned machine out apart =
-    adds-nothing job turned (one_more machine turned) out (ap put_in (place-apart job machine turned (last_of job) apart))
-
--- what is put where a machine wrote these bytes more
-pub adds-here : (job : Job) (turned : Turned) (machine : ℕ) (bytes : List ℕ) (out now : SinkView) → last_of job ≡ machine
-    → put_in (turn job.budget (place_in job turned machine)) ≡ put_in (place_in job turned machine) ++ bytes → Takes out now bytes
-    → Adds job turned (one_more machine turned) out now
-adds-here job turned machine bytes out now last put takes =
+-- what the last machine has written where a machine wrote these bytes more
+pub wrote-here : (job : Job) (turned : Turned) (machine : ℕ) (bytes : List ℕ) → last_of job ≡ machine
+    → put_in (turn job.budget (place_in job turned machine)) ≡ put_in (place_in job turned machine) ++ bytes
+    → written_in job (one_more machine turned) ≡ written_in job turned ++ bytes
+wrote-here job turned machine bytes last put =
     let P : ℕ → Type 0 = λ m. put_in (place_in job (one_more machine turned) m) ≡ put_in (place_in job turned m) ++ bytes in
-    record {
-      more = bytes;
-      written = subst P (sym last) (ap put_in (place-more job machine turned) ∙ put);
-      added = takes;
-    }
+    subst P (sym last) (ap put_in (place-more job machine turned) ∙ put)
 
-pub adds-none : (job : Job) (turned : Turned) (machine : ℕ) (out : SinkView)
-    → put_in (turn job.budget (place_in job turned machine)) ≡ put_in (place_in job turned machine) → Adds job turned (one_more machine turned) out out
-adds-none job turned machine out same = elim (same-or-not (last_of job) machine) [
-  | inl last ↦ adds-here job turned machine [] out out last (same ∙ sym (append-nil _)) (takes-nothing out)
-  | inr apart ↦ adds-apart job turned machine out apart
+pub wrote-apart : (job : Job) (turned : Turned) (machine : ℕ) → last_of job ≢ machine
+    → written_in job (one_more machine turned) ≡ written_in job turned ++ []
+wrote-apart job turned machine apart = ap put_in (place-apart job machine turned (last_of job) apart) ∙ sym (append-nil (written_in job turned))
+
+pub wrote-none : (job : Job) (turned : Turned) (machine : ℕ)
+    → put_in (turn job.budget (place_in job turned machine)) ≡ put_in (place_in job turned machine)
+    → written_in job (one_more machine turned) ≡ written_in job turned ++ []
+wrote-none job turned machine same = elim (same-or-not (last_of job) machine) [
+  | inl last ↦ wrote-here job turned machine [] last (same ∙ sym (append-nil _))
+  | inr apart ↦ wrote-apart job turned machine apart
 ]
+
+-- a line that is as it was
+pub leads-nowhere : (line : Line) → Leads (λ turned. turned) [] line line
+leads-nowhere line = λ job turned stands. (stands, sym (append-nil (written_in job turned)))
 
 -- a line in which a machine ran
 pub record RunsIn (line line_now : Line) (machine : ℕ) (member now : Member) : Type 0 where
@@ -188,7 +171,7 @@ pub run-puts : (job : Job) (line line_now : Line) (turned : Turned) (machine : �
     → RunsIn line line_now machine member now
     → put_in (turn job.budget (place_in job turned machine)) ≡ put_in (place_in job turned machine) ++ handed_on member.machine.core
 run-puts job line line_now turned machine member now stands runs =
-    runs.ran.put job.budget (place_in job turned machine) (stands.each machine member runs.at).stands
+    runs.ran.ran.put job.budget (place_in job turned machine) (stands.each machine member runs.at).stands
 
 run-script : (job : Job) (line : Line) (turned : Turned) (machine : ℕ) (member : Member) → Stands job line turned
     → MemberAt member (place_in job turned machine) → 0 < member.machine.left → line.giver ≡ (place_in job (one_more machine turned) 0).gifts
@@ -220,15 +203,23 @@ run-stands job line line_now turned machine member now stands runs =
     })
 
 -- a turn of it is a run, where it is not held
-pub run-came : (job : Job) (line line_now : Line) (turned : Turned) (machine : ℕ) (member now : Member) (out out_now : SinkView) → Stands job line turned
-    → RunsIn line line_now machine member now → (IsHeld job line turned machine → ⊥) → Adds job turned (one_more machine turned) out out_now
-    → Came job turned machine line line_now out out_now (Ok Ran)
-run-came job line line_now turned machine member now out out_now stands runs free adds =
-    let left = (stands.each machine member runs.at).stands.stands.left in
-    record {
-      cause = record { vector = omega (arith, left, runs.ran.some); free = free };
-      follows = (run-stands job line line_now turned machine member now stands runs, adds);
-    }
+pub run-came : (line line_now : Line) (machine : ℕ) (member now : Member) (bytes : List ℕ) → RunsIn line line_now machine member now
+    → ((job : Job) (turned : Turned) → Stands job line turned → IsHeld job line turned machine → ⊥)
+    → ((job : Job) (turned : Turned) → Stands job line turned
+    → put_in (turn job.budget (place_in job turned machine)) ≡ put_in (place_in job turned machine) ++ handed_on member.machine.core
+    → written_in job (one_more machine turned) ≡ written_in job turned ++ bytes)
+    → work_left line_now < work_left line → Came machine Ran bytes line line_now
+run-came line line_now machine member now bytes runs free wrote less = record {
+  cause = λ job turned stands.
+      let left = (stands.each machine member runs.at).stands.stands.left in
+      record { vector = omega (arith, left, runs.ran.some); free = free job turned stands };
+  leads = λ job turned stands. (
+    run-stands job line line_now turned machine member now stands runs,
+    wrote job turned stands (run-puts job line line_now turned machine member now stands runs),
+  );
+  works = less;
+  machines = runs.count;
+}
 
 -- a line with another member at a place
 abbrev pub with_member : Line → ℕ → Member → Line
@@ -267,12 +258,11 @@ quiet-runs line machine member now found ran =
       ran = ran;
     }
 
-pub quiet-came : (job : Job) (line : Line) (turned : Turned) (machine : ℕ) (member now : Member) (out : SinkView) → Stands job line turned
-    → Found [] line machine member → RanFrom member now → Came job turned machine line (with_member line machine now) out out (Ok Ran)
-quiet-came job line turned machine member now out stands found ran =
-    let runs = quiet-runs line machine member now found ran in
-    let puts = run-puts job line (with_member line machine now) turned machine member now stands runs in
-    let core = (stands.each machine member found.there).stands.stands.core in
-    run-came job line (with_member line machine now) turned machine member now out out stands runs
-    (λ held. held.writes (ap handed_on (sym core) ∙ found.writes))
-    (adds-none job turned machine out (puts ∙ ap (λ bytes. put_in (place_in job turned machine) ++ bytes) found.writes ∙ append-nil _))
+pub quiet-came : (line : Line) (machine : ℕ) (member now : Member) → Found [] line machine member → RanFrom member now
+    → Came machine Ran [] line (with_member line machine now)
+quiet-came line machine member now found ran =
+    run-came line (with_member line machine now) machine member now [] (quiet-runs line machine member now found ran)
+    (λ job turned stands held. held.writes (ap handed_on (sym (stands.each machine member found.there).stands.stands.core) ∙ found.writes))
+    (λ job turned stands puts.
+    wrote-none job turned machine (puts ∙ ap (λ bytes. put_in (place_in job turned machine) ++ bytes) found.writes ∙ append-nil _))
+    (set-less line.budget (length line.giver) line.members.items machine member now found.there (ran.work line.budget))

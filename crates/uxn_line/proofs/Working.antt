@@ -6,6 +6,7 @@ use Rattle.std.proofs.lemmas.Bool.Decides.{nat_tests}
 use Rattle.circular_buffer.specs.Buffer.{Buffer, buffer}
 use Rattle.uxn_line.specs.declared.member.Member.{Member}
 use Rattle.uxn_line.specs.Members.{has_ended}
+use Rattle.uxn_line.specs.MemberTurns.{KeepsRing}
 use Rattle.uxn_line.specs.Work.{still_given, work, works}
 
 pub bools : (b : Bool) → (b ≡ true) ⊎ (b ≡ false)
@@ -45,13 +46,12 @@ idle-open member idle goes_on =
     both false b e = (refl, e)
 
 -- the ring holds no more than this where it is kept so or emptied
-pub ring-within : (now : Member) (items : List ℕ) (capacity other : ℕ) → (has_ended now ≡ false → now.ring ≡ buffer items capacity)
-    → (has_ended now ≡ true → now.ring ≡ buffer [] other) → length now.ring.items ≤ length items
-ring-within now items capacity other kept dropped =
+pub ring-within : (before now : Member) (items : List ℕ) → KeepsRing before now items → length now.ring.items ≤ length items
+ring-within before now items ring =
     let P : Buffer ℕ → Type 0 = λ ring. length ring.items ≤ length items in
     elim (bools (has_ended now)) [
-      | inl over ↦ subst P (sym (dropped over)) (omega arith)
-      | inr goes ↦ subst P (sym (kept goes)) (omega arith)
+      | inl over ↦ subst P (sym (ring.dropped over)) (omega arith)
+      | inr goes ↦ subst P (sym (ring.kept goes)) (omega arith)
     ]
 
 abbrev pub until_all : Bool → ℕ

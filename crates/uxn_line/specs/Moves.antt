@@ -1,7 +1,8 @@
 -- What the turns of a line come to, and what they put (profile).
-use Rattle.std.specs.Prelude.{◌≡◌, ◌≢◌, ℕ, zero, suc, ◌+◌, ◌-◌, ◌<◌, ◌≤◌, Bool, true, false, List, [], ◌∷◌, ◌++◌, ◌⊎◌, length, slice_get}
+use Rattle.std.specs.Prelude.{◌≡◌, ◌≢◌, ℕ, zero, suc, ◌-◌, ◌<◌, ◌≤◌, Bool, true, false, List, [], ◌∷◌, ◌++◌, ◌⊎◌, length, slice_get}
 use Rattle.std.specs.Prelude.{Option, Some, None, Result, Ok, Err}
-use Rattle.uxn_io.specs.Told.{extended}
+use Rattle.uxn_io.specs.Ended.{SinkEnded}
+use Rattle.uxn_io.specs.State.{SinkState}
 use Rattle.uxn_io.specs.declared.sinks.Failed.{Failed}
 use Rattle.uxn_line.specs.declared.line.Line.{Line}
 use Rattle.uxn_line.specs.declared.line.Moved.{Moved}
@@ -12,6 +13,7 @@ use Rattle.uxn_line.specs.Places.{put_in}
 use Rattle.uxn_line.specs.Streams.{Job, stream, run_at, exit_code_at}
 use Rattle.uxn_line.specs.Machines.{handed_on}
 use Rattle.uxn_line.specs.Standing.{Turned, one_more, place_in, Stands}
+use Rattle.uxn_line.specs.Work.{WorksOn}
 
 -- the bytes in the ring before a machine, if it is there
 abbrev pub ring_of : Option Member → List ℕ
@@ -64,29 +66,10 @@ last_of job = length job.roms - 1
 abbrev pub written_in : Job → Turned → List ℕ
 written_in job turned = put_in (place_in job turned (last_of job))
 
--- what contracts see of a sink: what it tells, and what it surely takes
-pub record SinkView : Type 0 where
-  pub told : Option (List ℕ)
-  pub sure : ℕ
-
-abbrev pub sink_view : Option (List ℕ) → ℕ → SinkView
-sink_view text number = record { told = text; sure = number }
-
--- these bytes were added
-pub record Takes (before now : SinkView) (bytes : List ℕ) : Type 0 where
-  pub told : now.told ≡ extended before.told bytes
-  pub sure : before.sure ≤ now.sure + length bytes
-
--- what the last machine has written more was added
-pub record Adds (job : Job) (before now : Turned) (out_before out_now : SinkView) : Type 0 where
-  pub more : List ℕ
-  pub written : written_in job now ≡ written_in job before ++ more
-  pub added : Takes out_before out_now more
-
--- no turn of a machine moves anything
-abbrev pub IsStill : Job → Line → Turned → ℕ → Type 0
-IsStill job line turned machine =
-    IsWaiting job line turned machine ⊎ (IsHeld job line turned machine ⊎ HasEnded (place_in job turned machine))
+-- no turn of a machine moves anything, for whatever numbers of turns the line stands
+abbrev pub IsStill : Line → ℕ → Type 0
+IsStill line machine = (job : Job) (turned : Turned) → Stands job line turned
+    → IsWaiting job line turned machine ⊎ (IsHeld job line turned machine ⊎ HasEnded (place_in job turned machine))
 
 -- a machine runs that is in a vector and is not held
 pub record Runs (job : Job) (line : Line) (turned : Turned) (machine : ℕ) : Type 0 where
@@ -99,74 +82,104 @@ pub record IsGiven (job : Job) (line : Line) (turned : Turned) (machine : ℕ) :
   pub goes_on : HasEnded (place_in job turned machine) → ⊥
   pub comes : IsWaiting job line turned machine → ⊥
 
--- a turn fails where the last machine is in a vector and writes a byte that the sink does not surely take
-pub record Fails (job : Job) (turned : Turned) (machine : ℕ) (out : SinkView) : Type 0 where
+-- why a turn came to this
+abbrev pub Cause : Job → Line → Turned → ℕ → Moved → Type 0
+Cause job line turned machine Ran = Runs job line turned machine
+Cause job line turned machine Gave = IsGiven job line turned machine
+Cause job line turned machine Waits = IsWaiting job line turned machine
+Cause job line turned machine Held = IsHeld job line turned machine
+Cause job line turned machine Ended = HasEnded (place_in job turned machine)
+
+-- for all numbers of turns for which a line stood it stands for those that they come to, and its last machine has written these bytes more
+abbrev pub Leads : (Turned → Turned) → List ℕ → Line → Line → Type 0
+Leads to bytes before now = (job : Job) (turned : Turned) → Stands job before turned
+    → Stands job now (to turned) × (written_in job (to turned) ≡ written_in job turned ++ bytes)
+
+-- and these were put
+pub record Goes (to : Turned → Turned) (before now : Line) (out out_now : SinkState) : Type 0 where
+  pub bytes : List ℕ
+  pub put : SinkEnded bytes false out out_now
+  pub leads : Leads to bytes before now
+
+-- all that came of a turn in which the last machine wrote these bytes, but for the output
+pub record Came (machine : ℕ) (moved : Moved) (bytes : List ℕ) (before now : Line) : Type 0 where
+  pub cause : (job : Job) (turned : Turned) → Stands job before turned → Cause job before turned machine moved
+  pub leads : Leads (turned_by moved machine) bytes before now
+  pub works : WorksOn (is_move moved) before now
+  pub machines : length now.members.items ≡ length before.members.items
+
+-- a machine is the last one and in a vector, and its next instruction writes this byte to port 18
+pub record WritesLast (job : Job) (turned : Turned) (machine byte : ℕ) : Type 0 where
   pub vector : 1 ≤ (place_in job turned machine).left
   pub last : suc machine ≡ length job.roms
-  pub byte : ℕ
   pub writes : handed_on (place_in job turned machine).done.last.core ≡ byte ∷ []
-  pub unsure : out.sure ≤ 1
 
--- why a turn came to this
-abbrev pub Cause : Job → Line → Turned → ℕ → SinkView → Result Moved Failed → Type 0
-Cause job line turned machine out (Ok Ran) = Runs job line turned machine
-Cause job line turned machine out (Ok Gave) = IsGiven job line turned machine
-Cause job line turned machine out (Ok Waits) = IsWaiting job line turned machine
-Cause job line turned machine out (Ok Held) = IsHeld job line turned machine
-Cause job line turned machine out (Ok Ended) = HasEnded (place_in job turned machine)
-Cause job line turned machine out (Err failed) = Fails job turned machine out
+-- a turn failed: its byte was not put, and nothing was changed
+pub record Fails (machine : ℕ) (before now : Line) (out out_now : SinkState) : Type 0 where
+  pub same : now ≡ before
+  pub byte : ℕ
+  pub put : SinkEnded (byte ∷ []) true out out_now
+  pub cause : (job : Job) (turned : Turned) → Stands job before turned → WritesLast job turned machine byte
 
--- what is so after it
-abbrev pub Follows : Job → Turned → ℕ → Line → SinkView → SinkView → Result Moved Failed → Type 0
-Follows job turned machine line out out_now (Ok moved) =
-    Stands job line (turned_by moved machine turned) × Adds job turned (turned_by moved machine turned) out out_now
-Follows job turned machine line out out_now (Err failed) = Unit {0}
+-- a turn moved, and what the last machine wrote was put
+pub record HasTurned (machine : ℕ) (moved : Moved) (before now : Line) (out out_now : SinkState) : Type 0 where
+  pub bytes : List ℕ
+  pub put : SinkEnded bytes false out out_now
+  pub came : Came machine moved bytes before now
 
--- all that came of a turn
-pub record Came (job : Job) (turned : Turned) (machine : ℕ) (line line_now : Line) (out out_now : SinkView) (result : Result Moved Failed)
-    : Type 0 where
-  pub cause : Cause job line turned machine out result
-  pub follows : Follows job turned machine line_now out out_now result
+abbrev pub TurnCame : ℕ → Line → Line → SinkState → SinkState → Result Moved Failed → Type 0
+TurnCame machine before now out out_now (Ok moved) = HasTurned machine moved before now out out_now
+TurnCame machine before now out out_now (Err failed) = Fails machine before now out out_now
 
--- a line that was begun over this output stands for some turns, and what its last machine has written was added to the output
-pub record IsUnderWay (job : Job) (begun : SinkView) (line : Line) (now : SinkView) : Type 0 where
+-- a line that was begun over this output stands for some turns, and what its last machine has written was put
+pub record IsUnderWay (job : Job) (begun : SinkState) (line : Line) (now : SinkState) : Type 0 where
   pub turned : Turned
   pub stands : Stands job line turned
-  pub added : Takes begun now (written_in job turned)
+  pub put : SinkEnded (written_in job turned) false begun now
 
--- a line came to stand for other numbers, and what its last machine has written more was added
-pub record Reaches (job : Job) (turned : Turned) (line : Line) (out_before out_now : SinkView) : Type 0 where
-  pub last : Turned
-  pub stands : Stands job line last
-  pub adds : Adds job turned last out_before out_now
+-- after a call that did not fail it is under way still; one that failed has put a front of the stream that is not whole
+abbrev pub StaysUnderWay : Job → SinkState → Line → SinkState → Bool → Type 0
+StaysUnderWay job begun line now false = IsUnderWay job begun line now
+StaysUnderWay job begun line now true = SinkEnded (stream job (last_of job)) true begun now
+
+-- some turns were given, and what the last machine wrote was put
+abbrev pub Reaches : Line → Line → SinkState → SinkState → Type 0
+Reaches before now out out_now = (to : Turned → Turned) × Goes to before now out out_now
 
 -- every machine stands at the end of its run
 abbrev pub AllEnded : Job → Turned → Type 0
 AllEnded job turned = (machine : ℕ) → machine < length job.roms
     → HasEnded (place_in job turned machine) × ((place_in job turned machine).done.last ≡ (run_at job machine).last)
 
--- a line was brought to the end of all its runs: what was left of the stream of its last machine was added
-pub record Finishes (job : Job) (turned : Turned) (line : Line) (out_before out_now : SinkView) (code : ℕ) : Type 0 where
-  pub last : Turned
-  pub stands : Stands job line last
-  pub ended : AllEnded job last
-  pub adds : Adds job turned last out_before out_now
-  pub whole : written_in job last ≡ stream job (last_of job)
+-- all runs are over: the last machine has written its whole stream, and this is its exit code
+pub record IsOver (job : Job) (turned : Turned) (code : ℕ) : Type 0 where
+  pub ended : AllEnded job turned
+  pub whole : written_in job turned ≡ stream job (last_of job)
   pub code_is : code ≡ exit_code_at (run_at job (last_of job)).last
 
--- it was stopped where one more byte of that stream was to be added, which the output did not surely take
-pub record Stops (job : Job) (turned : Turned) (line : Line) (out_before : SinkView) (told_now : Option (List ℕ)) : Type 0 where
-  pub last : Turned
-  pub stands : Stands job line last
-  pub sure : ℕ
-  pub unsure : sure ≤ 1
-  pub adds : Adds job turned last out_before (sink_view told_now sure)
-  pub short : length (written_in job last) < length (stream job (last_of job))
+-- a line was brought to the end of all its runs, and what was left of the stream was put
+pub record Finishes (before now : Line) (out out_now : SinkState) (code : ℕ) : Type 0 where
+  pub to : Turned → Turned
+  pub goes : Goes to before now out out_now
+  pub over : (job : Job) (turned : Turned) → Stands job before turned → IsOver job (to turned) code
+
+-- the stream of the last machine goes on with this byte
+abbrev pub GoesOnWith : Job → Turned → ℕ → Type 0
+GoesOnWith job turned byte = (rest : List ℕ) × (stream job (last_of job) ≡ written_in job turned ++ byte ∷ rest)
+
+-- it was stopped where the next byte of that stream was not taken: all before it was put
+pub record Stops (before now : Line) (out out_now : SinkState) : Type 0 where
+  pub to : Turned → Turned
+  pub here : SinkState
+  pub goes : Goes to before now out here
+  pub byte : ℕ
+  pub next : (job : Job) (turned : Turned) → Stands job before turned → GoesOnWith job (to turned) byte
+  pub put : SinkEnded (byte ∷ []) true here out_now
 
 -- what came of giving machines turns as long as they move
-abbrev pub Went : {X : Type 0} → Job → Turned → Line → SinkView → SinkView → Result X Failed → Type 0
-Went job turned line out out_now (Ok moved) = Reaches job turned line out out_now
-Went job turned line out out_now (Err failed) = Stops job turned line out out_now.told
+abbrev pub Went : {X : Type 0} → Line → Line → SinkState → SinkState → Result X Failed → Type 0
+Went before now out out_now (Ok moved) = Reaches before now out out_now
+Went before now out out_now (Err failed) = Stops before now out out_now
 
 -- whatever turns were given to a line: what each machine has written to port 18 is a front of its stream, and all of it where its run is over
 pub record StreamLaw : Type 0 where

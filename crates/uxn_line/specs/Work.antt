@@ -1,8 +1,6 @@
 -- The work left of a line, which each move makes less (profile).
-use Rattle.std.specs.Prelude.{◌≡◌, ℕ, ◌<◌, ◌+◌, ◌*◌, if◌then◌else◌, List, [], ◌∷◌, length}
+use Rattle.std.specs.Prelude.{◌≡◌, ℕ, ◌<◌, ◌+◌, ◌*◌, if◌then◌else◌, Bool, true, false, List, [], ◌∷◌, length}
 use Rattle.uxn_line.specs.declared.line.Line.{Line}
-use Rattle.uxn_line.specs.declared.line.Moved.{Moved}
-use Rattle.uxn_line.specs.declared.line.Moved.TheVariants.{Ran, Gave, Waits, Held, Ended}
 use Rattle.uxn_line.specs.declared.member.Member.{Member}
 use Rattle.uxn_line.specs.Members.{has_ended}
 
@@ -23,10 +21,7 @@ works budget before (member ∷ members) = work budget before member + works bud
 abbrev pub work_left : Line → ℕ
 work_left line = works line.budget (length line.giver) line.members.items
 
--- a move makes it less, and any other answer leaves the line as it was
-abbrev pub MovesOn : Moved → Line → Line → Type 0
-MovesOn Ran before now = work_left now < work_left before
-MovesOn Gave before now = work_left now < work_left before
-MovesOn Waits before now = now ≡ before
-MovesOn Held before now = now ≡ before
-MovesOn Ended before now = now ≡ before
+-- a call that moved something made it less, and one that did not left the line as it was
+abbrev pub WorksOn : Bool → Line → Line → Type 0
+WorksOn true before now = work_left now < work_left before
+WorksOn false before now = now ≡ before

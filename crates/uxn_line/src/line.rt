@@ -1,28 +1,14 @@
 //! A line of machines, and its turns.
 ghost use Rattle.std.specs.Prelude.{◌≡◌, ◌↔◌, ◌-◌, ◌+◌, ◌<◌, ◌≤◌, ◌∷◌, [], ℕ, suc, true, false, Ok, IfOk, OnOk, OnErr, IsOk, is_err, length, slice_get, Some};
 ghost use Rattle.std.specs.List.{All};
-ghost use Rattle.uxn_io.specs.Faults.{Counted};
-ghost use Rattle.uxn_io.specs.Told.{HasTakenFront};
+ghost use Rattle.uxn_io.specs.State.{SinkState, sink_state};
 ghost use Rattle.uxn_memory.specs.Bytes.{largest_rom};
 ghost use Rattle.vector_loop.specs.Places.{HasEnded};
 ghost use Rattle.vector_loop.specs.Gifts.{gifts_of};
-ghost use Rattle.uxn_line.specs.Streams.{Job, AreOfConsole, rom_at, stream};
+ghost use Rattle.uxn_line.specs.Streams.{Job, AreOfConsole, rom_at};
 ghost use Rattle.uxn_line.specs.Members.{IsOpen, IsRunning};
-ghost use Rattle.uxn_line.specs.Work.{MovesOn};
 ghost use Rattle.uxn_line.specs.Standing.{Turned, none_turned, place_in, InLine, Stands, job_of};
-ghost use Rattle.uxn_line.specs.Moves.{
-  SinkView,
-  sink_view,
-  Adds,
-  Came,
-  Fails,
-  IsHeld,
-  IsUnderWay,
-  IsWaiting,
-  is_move,
-  last_of,
-  turned_by,
-};
+ghost use Rattle.uxn_line.specs.Moves.{Came, Fails, Goes, IsHeld, IsUnderWay, IsWaiting, StaysUnderWay, TurnCame, is_move, turned_by};
 
 use crate::member::Member;
 use crate::output::next_byte;
@@ -79,7 +65,7 @@ impl<'a> Line<'a> {
         requires events { AreOfConsole script.now.events }
         requires some { 1 ≤ budget }
         ensures stands { IfOk result (λ line. Stands (job_of roms.now script.now budget) line none_turned) }
-        ensures under_way { IfOk result (λ line. (out : SinkView) → IsUnderWay (job_of roms.now script.now budget) out line out) }
+        ensures under_way { IfOk result (λ line. (out : SinkState) → IsUnderWay (job_of roms.now script.now budget) out line out) }
     {
         let giver = Giver::new(script);
         let mut members = Vec::with_capacity(alloc, roms.len())?;
@@ -115,11 +101,8 @@ impl<'a> Line<'a> {
 
         // For all numbers of turns for which the line stood it stands for the same ones, but one more of the machine where it moved,
         // and what the last machine has written more was put.
-        ensures stands { IfOk result (λ moved. (job : Job) (turned : Turned) → Stands job self.old turned
-            → Stands job self.new (turned_by moved (machine - 1) turned)) }
-        ensures put { IfOk result (λ moved. (job : Job) (turned : Turned) → Stands job self.old turned
-            → Adds job turned (turned_by moved (machine - 1) turned)
-            (sink_view (O.told out.old) (O.sure out.old)) (sink_view (O.told out.new) (O.sure out.new))) }
+        ensures goes { IfOk result (λ moved. Goes (turned_by moved (machine - 1)) self.old self.new
+            (sink_state O.Sink out.old) (sink_state O.Sink out.new)) }
 
         // Each answer comes exactly where its cause holds; the first two also depend on what `out` takes.
         ensures ran { (job : Job) (turned : Turned) → Stands job self.old turned → result ≡ Ok Moved.Ran
@@ -134,25 +117,15 @@ impl<'a> Line<'a> {
             → (result ≡ Ok Moved.Ended) ↔ HasEnded (place_in job turned (machine - 1)) }
 
         // A failure comes only where the last machine is in a vector, and its next instruction writes a byte to port 18 that `out`
-        // does not surely take.
-        ensures failed { OnErr result ((job : Job) (turned : Turned) → Stands job self.old turned
-            → Fails job turned (machine - 1) (sink_view (O.told out.old) (O.sure out.old))) }
-
-        // The other three change nothing, nor does a failure, which comes only where the count of `out` rose.
+        // does not take; then nothing is changed, nor is it by the other three answers.
+        ensures failed { OnErr result (Fails (machine - 1) self.old self.new (sink_state O.Sink out.old) (sink_state O.Sink out.new)) }
         ensures same { IfOk result (λ moved. is_move moved ≡ false → self.new ≡ self.old) }
-        ensures err { OnErr result (self.new ≡ self.old) }
-        ensures out_err { OnErr result (O.told out.new ≡ O.told out.old) }
-        ensures ledger { Counted (O.faults out.old) (O.faults out.new) (is_err result) }
         ensures machines { length self.new.members.items ≡ length self.old.members.items }
 
         // Of a line that was begun over `out`: what is put is a front of the stream of its last machine, which is not whole where
-        // `out` fails, and a line that surely takes that stream does not fail.
-        ensures under_way { OnOk result ((job : Job) (begun : SinkView) → IsUnderWay job begun self.old (sink_view (O.told out.old) (O.sure out.old))
-            → IsUnderWay job begun self.new (sink_view (O.told out.new) (O.sure out.new))) }
-        ensures front { OnErr result ((job : Job) (begun : SinkView) → IsUnderWay job begun self.old (sink_view (O.told out.old) (O.sure out.old))
-            → HasTakenFront begun.told (O.told out.new) (stream job (last_of job))) }
-        ensures sure { (job : Job) (begun : SinkView) → IsUnderWay job begun self.old (sink_view (O.told out.old) (O.sure out.old))
-            → length (stream job (last_of job)) < begun.sure → IsOk result }
+        // `out` fails, and an `out` that surely takes that stream does not fail.
+        ensures under_way { (job : Job) (begun : SinkState) → IsUnderWay job begun self.old (sink_state O.Sink out.old)
+            → StaysUnderWay job begun self.new (sink_state O.Sink out.new) (is_err result) }
     {
         self.turn_at(usize::from(machine) - 1, out)
     }
@@ -160,13 +133,7 @@ impl<'a> Line<'a> {
     // The same, counted from 0.
     pub(crate) fn turn_at<O: Sink>(&mut self, index: usize, out: &mut O) -> Result<Moved, Failed>
         requires { index < length self.old.members.items }
-        ensures came { (job : Job) (turned : Turned) → Stands job self.old turned
-            → Came job turned index self.old self.new (sink_view (O.told out.old) (O.sure out.old)) (sink_view (O.told out.new) (O.sure out.new)) result }
-        ensures moves { IfOk result (λ moved. MovesOn moved self.old self.new) }
-        ensures err { OnErr result (self.new ≡ self.old) }
-        ensures out_err { OnErr result (O.told out.new ≡ O.told out.old) }
-        ensures ledger { Counted (O.faults out.old) (O.faults out.new) (is_err result) }
-        ensures machines { length self.new.members.items ≡ length self.old.members.items }
+        ensures { TurnCame index self.old self.new (sink_state O.Sink out.old) (sink_state O.Sink out.new) result }
     {
         let member = &self.members[index];
         if member.is_over() {
@@ -184,10 +151,7 @@ impl<'a> Line<'a> {
     // Runs an instruction that writes nothing to port 18.
     fn run_at(&mut self, index: usize) -> Moved
         requires { IsRunning [] self.old index }
-        ensures came { (job : Job) (turned : Turned) (out : SinkView) → Stands job self.old turned
-            → Came job turned index self.old self.new out out (Ok result) }
-        ensures moves { MovesOn result self.old self.new }
-        ensures machines { length self.new.members.items ≡ length self.old.members.items }
+        ensures { Came index result [] self.old self.new }
     {
         self.members[index].run();
         Moved::Ran
@@ -196,13 +160,7 @@ impl<'a> Line<'a> {
     // Runs an instruction that writes a byte to port 18. The byte is handed on first, so where it is not taken nothing is changed.
     fn write_at<O: Sink>(&mut self, index: usize, byte: u8, out: &mut O) -> Result<Moved, Failed>
         requires { IsRunning (byte ∷ []) self.old index }
-        ensures came { (job : Job) (turned : Turned) → Stands job self.old turned
-            → Came job turned index self.old self.new (sink_view (O.told out.old) (O.sure out.old)) (sink_view (O.told out.new) (O.sure out.new)) result }
-        ensures moves { IfOk result (λ moved. MovesOn moved self.old self.new) }
-        ensures err { OnErr result (self.new ≡ self.old) }
-        ensures out_err { OnErr result (O.told out.new ≡ O.told out.old) }
-        ensures ledger { Counted (O.faults out.old) (O.faults out.new) (is_err result) }
-        ensures machines { length self.new.members.items ≡ length self.old.members.items }
+        ensures { TurnCame index self.old self.new (sink_state O.Sink out.old) (sink_state O.Sink out.new) result }
     {
         if index + 1 == self.members.len() {
             console_write(out, &mut NoSink, Output::Standard, byte)?;
@@ -216,10 +174,7 @@ impl<'a> Line<'a> {
     fn hand_on(&mut self, index: usize, byte: u8) -> Moved
         requires running { IsRunning (byte ∷ []) self.old index }
         requires there { index + 1 < length self.old.members.items }
-        ensures came { (job : Job) (turned : Turned) (out : SinkView) → Stands job self.old turned
-            → Came job turned index self.old self.new out out (Ok result) }
-        ensures moves { MovesOn result self.old self.new }
-        ensures machines { length self.new.members.items ≡ length self.old.members.items }
+        ensures { Came index result [] self.old self.new }
     {
         if self.members[index + 1].is_full() {
             return Moved::Held;
@@ -232,10 +187,7 @@ impl<'a> Line<'a> {
     // Gives an idle machine whose run is not over what comes next.
     fn give_at(&mut self, index: usize) -> Moved
         requires { IsOpen self.old index }
-        ensures came { (job : Job) (turned : Turned) (out : SinkView) → Stands job self.old turned
-            → Came job turned index self.old self.new out out (Ok result) }
-        ensures moves { MovesOn result self.old self.new }
-        ensures machines { length self.new.members.items ≡ length self.old.members.items }
+        ensures { Came index result [] self.old self.new }
     {
         if index == 0 {
             self.give_first()
@@ -247,10 +199,7 @@ impl<'a> Line<'a> {
     // Gives the first machine what comes next of the script.
     fn give_first(&mut self) -> Moved
         requires { IsOpen self.old 0 }
-        ensures came { (job : Job) (turned : Turned) (out : SinkView) → Stands job self.old turned
-            → Came job turned 0 self.old self.new out out (Ok result) }
-        ensures moves { MovesOn result self.old self.new }
-        ensures machines { length self.new.members.items ≡ length self.old.members.items }
+        ensures { Came 0 result [] self.old self.new }
     {
         let Some(gift) = self.giver.take() else {
             return Moved::Ended;
@@ -264,10 +213,7 @@ impl<'a> Line<'a> {
     fn give_behind(&mut self, index: usize) -> Moved
         requires behind { 1 ≤ index }
         requires open { IsOpen self.old index }
-        ensures came { (job : Job) (turned : Turned) (out : SinkView) → Stands job self.old turned
-            → Came job turned index self.old self.new out out (Ok result) }
-        ensures moves { MovesOn result self.old self.new }
-        ensures machines { length self.new.members.items ≡ length self.old.members.items }
+        ensures { Came index result [] self.old self.new }
     {
         let none_comes = self.members[index - 1].is_over();
         if self.members[index].must_wait(none_comes) {

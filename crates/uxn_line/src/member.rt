@@ -1,18 +1,16 @@
 //! A machine in a line, with the bytes that were handed to it.
-ghost use Rattle.std.specs.Prelude.{◌≡◌, ◌↔◌, ◌+◌, ◌++◌, ◌∷◌, [], ℕ, List, ◌<◌, ◌≤◌, true, false, IfOk, length, drop};
+ghost use Rattle.std.specs.Prelude.{◌≡◌, ◌↔◌, ◌++◌, ◌∷◌, [], ℕ, ◌<◌, ◌≤◌, true, false, IfOk, length};
 ghost use Rattle.circular_buffer.specs.Buffer.{buffer};
 ghost use Rattle.uxn_memory.specs.Bytes.{largest_rom};
 ghost use Rattle.play_script.specs.Held.{bytes_in};
 ghost use Rattle.play_script.specs.Limits.{IsTime};
 ghost use Rattle.play_script.specs.Scripts.{ScriptView};
-ghost use Rattle.vector_loop.specs.State.{is_over};
-ghost use Rattle.vector_loop.specs.declared.gift.Gift.{Gift};
 ghost use Rattle.vector_loop.specs.Places.{Place, HasEnded};
-ghost use Rattle.uxn_line.specs.Places.{turn, put_in, IsForConsole};
 ghost use Rattle.vector_loop.specs.Gifts.{gifts_of};
 ghost use Rattle.uxn_line.specs.Streams.{first_place};
-ghost use Rattle.uxn_line.specs.Machines.{StandsAt, handed_on};
-ghost use Rattle.uxn_line.specs.Members.{MemberAt, has_ended, next_gift};
+ghost use Rattle.uxn_line.specs.Machines.{StandsAt};
+ghost use Rattle.uxn_line.specs.Members.{MemberAt, has_ended};
+ghost use Rattle.uxn_line.specs.MemberTurns.{KeepsRing, HasRun, WasGiven, WasGivenNext};
 ghost use Rattle.uxn_line.specs.Work.{work};
 
 use crate::machine::Machine;
@@ -75,8 +73,7 @@ impl Member {
     fn settle(&mut self)
         ensures stands { (now : Place) → StandsAt self.old.machine now → (self.old.all_given ≡ true) ↔ (now.gifts ≡ [])
             → MemberAt self.new now }
-        ensures kept { has_ended self.new ≡ false → self.new.ring ≡ self.old.ring }
-        ensures dropped { has_ended self.new ≡ true → self.new.ring ≡ buffer [] self.old.ring.capacity }
+        ensures ring { KeepsRing self.old self.new self.old.ring.items }
         ensures left { self.new.machine.left ≡ self.old.machine.left }
         ensures given { self.new.all_given ≡ self.old.all_given }
     {
@@ -92,11 +89,7 @@ impl Member {
     /// Runs one instruction of the vector that runs.
     pub fn run(&mut self)
         requires { 0 < self.old.machine.left }
-        ensures stands { (budget : ℕ) (now : Place) → MemberAt self.old now → MemberAt self.new (turn budget now) }
-        ensures put { (budget : ℕ) (now : Place) → MemberAt self.old now
-            → put_in (turn budget now) ≡ put_in now ++ handed_on self.old.machine.core }
-        ensures kept { has_ended self.new ≡ false → self.new.ring ≡ self.old.ring }
-        ensures dropped { has_ended self.new ≡ true → self.new.ring ≡ buffer [] self.old.ring.capacity }
+        ensures ran { HasRun self.old self.new }
         ensures work { (budget before : ℕ) → work budget before self.new < work budget before self.old }
     {
         self.machine.run();
@@ -106,13 +99,7 @@ impl Member {
     /// Gives an idle machine whose run is not over what comes next, and says whether that is the last.
     pub fn give(&mut self, gift: Gift, last: bool, budget: u32)
         requires { self.old.machine.left ≡ 0 }
-        ensures stands { (now : Place) (gifts : List Gift) → MemberAt self.old now → now.gifts ≡ gift ∷ gifts
-            → IsForConsole gift → (last ≡ true) ↔ (gifts ≡ []) → is_over now.done.last ≡ false
-            → MemberAt self.new (turn budget now) }
-        ensures kept { has_ended self.new ≡ false → self.new.ring ≡ self.old.ring }
-        ensures dropped { has_ended self.new ≡ true → self.new.ring ≡ buffer [] self.old.ring.capacity }
-        ensures left { self.new.machine.left ≤ budget }
-        ensures given { self.new.all_given ≡ last }
+        ensures { WasGiven budget gift last self.old self.new }
     {
         self.machine.give(gift, budget);
         self.all_given = last;
@@ -130,10 +117,7 @@ impl Member {
     pub fn give_next(&mut self, budget: u32)
         requires idle { self.old.machine.left ≡ 0 }
         requires goes_on { has_ended self.old ≡ false }
-        ensures stands { (now : Place) (gifts : List Gift) → MemberAt self.old now → now.gifts ≡ next_gift self.old.ring.items ∷ gifts
-            → (self.old.ring.items ≡ []) ↔ (gifts ≡ []) → is_over now.done.last ≡ false → MemberAt self.new (turn budget now) }
-        ensures kept { has_ended self.new ≡ false → self.new.ring ≡ buffer (drop 1 self.old.ring.items) self.old.ring.capacity }
-        ensures dropped { has_ended self.new ≡ true → self.new.ring ≡ buffer [] self.old.ring.capacity }
+        ensures given { WasGivenNext budget self.old self.new }
         ensures work { (before : ℕ) → work budget before self.new < work budget before self.old }
     {
         match self.ring.pop_front() {

@@ -2,14 +2,11 @@
 //! the work.
 #![tactic(auto)]
 
-mod folder;
-mod stream;
 mod words;
 
-use folder::CurrentFolder;
 use std::process::ExitCode;
-use stream::Stream;
 use uxn_cli::uxn;
+use uxn_host::{CurrentFolder, Stream};
 use words::{refuse_words, words_of};
 
 fn main(rt: HostRuntime) -> ExitCode {

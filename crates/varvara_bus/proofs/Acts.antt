@@ -1,47 +1,65 @@
-use Rattle.std.proofs.Common.{◌≡◌, Bool, true, false, ℕ, ◌+◌, ◌<◌, ◌≤◌, List, [], ◌∷◌, length, slice_index, slice_set, map, refl, ap, sym, ◌∙◌, arith}
-use Rattle.std.specs.Prelude.{◌==◌, if◌then◌else◌, Option, Some, None, IfSome, Result, Ok, Err, IsOk, OnOk, OnErr, IfErr, is_err}
+-- What the actions of ports do to a bus.
+use Rattle.std.proofs.Common.{◌≡◌, Bool, true, false, ℕ, List, [], ◌∷◌, slice_index, slice_set, refl, ap, sym, ◌∙◌}
+use Rattle.std.specs.Prelude.{◌==◌, if◌then◌else◌, Option, Result, Ok, Err, OnOk, OnErr, IfErr, is_err}
 use Rattle.std.specs.Borrow.{MutBor}
+use Rattle.std.proofs.lemmas.List.{append-nil}
 use Rattle.uxn_io.specs.declared.sinks.Failed.{Failed}
-use Rattle.uxn_opcodes.specs.declared.Stop.TheVariants.{TreeFault, SinkFault, NoMemory}
-use Rattle.varvara_bus.specs.declared.ports.Action.TheVariants.{PutsDebugText}
-use Rattle.varvara_bus.specs.declared.devices.Devices.{Devices}
 use Rattle.uxn_io.specs.Files.{Nodes}
-use Rattle.uxn_io.specs.Told.{extended, HasTakenFront}
-use Rattle.uxn_io.specs.Outside.{Change, ToErr, World, changed_by, files_by}
-use Rattle.uxn_io.specs.ChangeLaws.{changed_by-err, cut-err}
-use Rattle.uxn_io.specs.Room.{Room}
+use Rattle.uxn_io.specs.Faults.{Counted, Ledger, counts}
+use Rattle.uxn_io.specs.Outside.{Change, files_by}
+use Rattle.uxn_io.specs.State.{TreeState, SinkState, Outside, tree_state, sink_state, outside}
+use Rattle.uxn_io.specs.Ended.{TreeEnded, Ended, AreOfTree, blame_of_sink}
+use Rattle.uxn_io.specs.EndedLaws.{outside-of-tree}
+use Rattle.uxn_io.specs.TakingLaws.{remains-all}
+use Rattle.file_ports.specs.declared.stop.FileStop.{FileStop}
+use Rattle.file_ports.specs.declared.stop.FileStop.TheVariants as causes
+use Rattle.file_ports.specs.Device.{Suits}
+use Rattle.file_ports.specs.RootPart.{LieIn}
+use Rattle.file_ports.specs.Actions.{Outcome}
+use Rattle.file_ports.specs.ActLaws.{act-lies, of-tree}
+use Rattle.file_ports.specs.CallLaws.{counts-of-tree}
 use Rattle.uxn_opcodes.specs.declared.Core.{Core}
 use Rattle.uxn_opcodes.specs.declared.Stop.{Stop}
-use Rattle.varvara_bus.specs.declared.ports.Action.{Action}
+use Rattle.uxn_opcodes.specs.declared.Stop.TheVariants.{TreeFault, SinkFault, NoMemory}
+use Rattle.uxn_opcodes.specs.Ports.{blame_of}
 use Rattle.varvara_bus.specs.declared.bus.Bus.{Bus}
-use Rattle.varvara_bus.specs.State.{DeviceState, StandFor, HasFiles, clock_of, storing}
-use Rattle.varvara_bus.specs.Effect.{debug_bytes, action_of, asks_tree, no_effect, act, effect}
-use Rattle.uxn_io.specs.Taking.{files_made, files_gone, bytes_out, bytes_err, TreeTakes, TreeLeft}
-use Rattle.uxn_io.specs.TakingLaws.{remains-all}
-use Rattle.varvara_bus.specs.InstructionLaws.{same-again, makes-both, stops-later}
-use Rattle.file_ports.specs.Actions.{Outcome}
+use Rattle.varvara_bus.specs.declared.devices.Devices.{Devices}
+use Rattle.varvara_bus.specs.declared.ports.Action.{Action}
 use Rattle.varvara_bus.specs.declared.ports.Action.TheVariants.{ActsOnFile}
 use Rattle.varvara_bus.specs.declared.ports.FileAct.{FileAct}
-use Rattle.varvara_bus.specs.declared.ports.FileAct.TheVariants.{Read}
-use Rattle.varvara_bus.specs.FileActs.{file_outcome, file_acted, PortLeft}
-use Rattle.varvara_bus.specs.FileCalls.{FileActed, FileStopped}
 use Rattle.varvara_bus.specs.declared.ports.FileNumber.{FileNumber}
 use Rattle.varvara_bus.specs.declared.ports.FileNumber.TheVariants.{First, Second}
-use Rattle.varvara_bus.specs.Bus.{Meaning, SameBus, Becomes, HasRoot, WantsFolder, StandsTo, ComesTo, Keeps, file_held, held, world_of, sure_of, Makes, Wrote, Stopped, Acted, ActStopped}
+use Rattle.varvara_bus.specs.State.{DeviceState, StandFor, HasFiles, clock_of, storing}
+use Rattle.varvara_bus.specs.Effect.{action_of, asks_tree, no_effect, act, effect}
+use Rattle.varvara_bus.specs.FileActs.{file_base, file_in, file_action, file_outcome, file_acted}
+use Rattle.varvara_bus.specs.FileCalls.{stop_of, tree_failed, FileAnswers, FileEnded}
+use Rattle.varvara_bus.specs.Bus.{Meaning, AreCutShort, SameBus, Becomes, StandsTo, ComesTo, Keeps, Leaves, file_held, held, outside_on, Makes, Wrote, Stopped, Acted, ActEnds}
+use Rattle.varvara_bus.specs.InstructionLaws.{same-again, makes-both, stops-later}
+use Rattle.varvara_bus.proofs.FileCalls.{files-now}
 
--- the debug text put whole
-pub debug_made : (world : World) (byte : ℕ) (core : Core) (now : Option (List ℕ)) → now ≡ extended world.err (debug_bytes byte core)
-    → record world { err = now } ≡ changed_by world (map (λ letter. ToErr letter) (debug_bytes byte core))
-debug_made world byte core now is = ap (λ told. record world { err = told }) is ∙ sym (changed_by-err world (debug_bytes byte core))
+-- who counted a fault, where a sink was to take bytes
+pub sink-ledger : (changes : List Change) (answer : Result (Unit {0}) Stop) (put : Result (Unit {0}) Failed) (before now : Outside)
+    → is_err answer ≡ is_err put → OnErr answer (answer ≡ Err SinkFault) → Ended changes (blame_of_sink (is_err put)) before now
+    → Ledger before.faults now.faults (blame_of answer)
+sink-ledger changes (Ok done) (Err failed) before now same sink ended = cc
+sink-ledger changes (Err stop) (Ok done) before now same sink ended = cc
+sink-ledger changes (Ok done) (Ok put) before now same sink ended = ended.ledger
+sink-ledger changes (Err TreeFault) (Err failed) before now same sink ended = cc
+sink-ledger changes (Err NoMemory) (Err failed) before now same sink ended = cc
+sink-ledger changes (Err SinkFault) (Err failed) before now same sink ended = ended.ledger
 
--- the bytes of a text that is put on the error output
-pub err-bytes : (text : List ℕ) → bytes_err (map (λ letter. ToErr letter) text) ≡ length text
-err-bytes [] = refl
-err-bytes (letter ∷ text) = let later = err-bytes text in omega (arith, later)
+-- and where a file device was to act
+no-sink : (cause : FileStop) → SinkFault ≡ stop_of cause → ⊥
+no-sink causes.TreeFault is = cc
+no-sink causes.NoMemory is = cc
 
-pub out-none : (text : List ℕ) → bytes_out (map (λ letter. ToErr letter) text) ≡ 0
-out-none [] = refl
-out-none (letter ∷ text) = let later = out-none text in omega (arith, later)
+pub file-ledger : (number : FileNumber) (part : FileAct) (held held_now : Devices) (bytes memory : List ℕ) (told : Option Nodes)
+    (answer : Result (Unit {0}) Stop) (a b out err : ℕ) → Counted a b (tree_failed answer)
+    → FileAnswers number part held bytes told answer held_now memory → Ledger (counts a out err) (counts b out err) (blame_of answer)
+file-ledger number part held held_now bytes memory told (Ok done) a b out err counted acted = counts-of-tree false a b out err counted
+file-ledger number part held held_now bytes memory told (Err TreeFault) a b out err counted stopped = counts-of-tree true a b out err counted
+file-ledger number part held held_now bytes memory told (Err NoMemory) a b out err counted stopped = counts-of-tree false a b out err counted
+file-ledger number part held held_now bytes memory told (Err SinkFault) a b out err counted stopped = absurd (no-sink stopped.cause stopped.is)
 
 -- a byte stored leaves the file devices
 pub same-file : (number : FileNumber) (devices : Devices) (port byte : ℕ) → file_held number (record devices { page = slice_set devices.page port byte }) ≡ file_held number devices
@@ -53,7 +71,7 @@ module _ {T O E : Type 0} (meaning : Meaning T O E) where
   devices-same : (before : Bus T O E) (devices : MutBor Devices) → devices.ghost_name ≡ before.devices.ghost_name
       → devices.now.time.frames ≡ before.devices.now.time.frames → clock_of devices.now ≡ clock_of before.devices.now
       → devices.now.root ≡ before.devices.now.root
-      → SameBus meaning.tree before (record { devices = devices; tree = before.tree; out = before.out; err = before.err })
+      → SameBus meaning.tree.told before (record { devices = devices; tree = before.tree; out = before.out; err = before.err })
   devices-same before devices lent frames clock root = record {
     lent = record { devices = lent; tree = refl; out = refl; err = refl };
     files = record { stays = λ path outside there. there };
@@ -64,13 +82,13 @@ module _ {T O E : Type 0} (meaning : Meaning T O E) where
 
   -- a byte was stored in the port, and nothing else was done
   pub record Stored (before now : Bus T O E) (port byte : ℕ) : Type 0 where
-    pub devices : Becomes meaning.tree (λ state. storing ((port, byte) ∷ []) state) before now
+    pub devices : Becomes meaning.tree.told (λ state. storing ((port, byte) ∷ []) state) before now
     pub held : (other : ℕ) → held now other ≡ (if other == port then byte else held before other)
     pub files : (number : FileNumber) → file_held number now.devices.now ≡ file_held number before.devices.now
     pub tree : now.tree.now ≡ before.tree.now
     pub out : now.out.now ≡ before.out.now
     pub err : now.err.now ≡ before.err.now
-    pub same : SameBus meaning.tree before now
+    pub same : SameBus meaning.tree.told before now
 
   pub byte_stored : (before : Bus T O E) (devices : MutBor Devices) (port byte : ℕ) → devices.ghost_name ≡ before.devices.ghost_name
       → devices.now ≡ record before.devices.now { page = slice_set before.devices.now.page port byte }
@@ -96,42 +114,12 @@ module _ {T O E : Type 0} (meaning : Meaning T O E) where
   stored-makes : (before now : Bus T O E) (port byte : ℕ) → Stored before now port byte → Makes meaning before now []
   stored-makes before now port byte stored = record {
     world = rw (stored.tree, stored.out, stored.err) refl;
-    remains = rw (stored.tree, stored.out, stored.err) (remains-all (sure_of meaning before) (meaning.tree before.tree.now));
-  }
-
-  -- a front of the debug text put
-  pub debug_stopped : (before : Bus T O E) (err : MutBor E) (core : Core) (byte : ℕ) (answer : Result (Unit {0}) Stop) (put : Result (Unit {0}) Failed)
-      → is_err answer ≡ is_err put → OnErr answer (answer ≡ Err SinkFault) → OnErr put (HasTakenFront (meaning.err before.err.now) (meaning.err err.now) (debug_bytes byte core))
-      → (length (debug_bytes byte core) < meaning.err_room before.err.now → IsOk put) → err.ghost_name ≡ before.err.ghost_name
-      → IfErr answer (λ stop. ActStopped meaning before core PutsDebugText byte stop (record { devices = before.devices; tree = before.tree; out = before.out; err = err }) core)
-  debug_stopped before err core byte (Ok done) put same sink front sure lent = tt
-  debug_stopped before err core byte (Err TreeFault) (Err failed) same sink front sure lent = cc
-  debug_stopped before err core byte (Err NoMemory) (Err failed) same sink front sure lent = cc
-  debug_stopped before err core byte (Err stop) (Ok done) same sink front sure lent = cc
-  debug_stopped before err core byte (Err SinkFault) (Err failed) same sink front sure lent = record {
-    cut = λ state stands. record {
-      cut = cut-err (world_of meaning before) (meaning.err err.now) (debug_bytes byte core) front;
-      not_sure = λ takes_out takes_err.
-          let no : false ≡ true = sure (let whole = takes_err (omega (arith, front.within, err-bytes (debug_bytes byte core))) in omega (arith, whole, err-bytes (debug_bytes byte core))) in
-          cc;
-    };
-    leaves = λ state stands. stands;
-    keeps = (refl, refl);
-    page = refl;
-    memory = λ wanted. cc;
-    names = λ wanted. cc;
-    same = record {
-      lent = record { devices = refl; tree = refl; out = refl; err = lent };
-      files = record { stays = λ path outside there. there };
-      frames = refl;
-      clock = refl;
-      root = refl;
-    };
+    remains = rw (stored.tree, stored.out, stored.err) (remains-all (outside_on meaning before).sure (meaning.tree.told before.tree.now));
   }
 
   -- the same four are lent where one of the sinks took something
   sinks-same : (before : Bus T O E) (out : MutBor O) (err : MutBor E) → out.ghost_name ≡ before.out.ghost_name → err.ghost_name ≡ before.err.ghost_name
-      → SameBus meaning.tree before (record { devices = before.devices; tree = before.tree; out = out; err = err })
+      → SameBus meaning.tree.told before (record { devices = before.devices; tree = before.tree; out = out; err = err })
   sinks-same before out err lent_out lent_err = record {
     lent = record { devices = refl; tree = refl; out = lent_out; err = lent_err };
     files = record { stays = λ path outside there. there };
@@ -140,41 +128,37 @@ module _ {T O E : Type 0} (meaning : Meaning T O E) where
     root = refl;
   }
 
-  left-alone : (told : Option Nodes) (room : Room) (changes : List Change) → ((nodes : Nodes) → files_made nodes changes ≡ 0) → files_gone changes ≡ 0
-      → IfSome told (λ nodes. TreeTakes room nodes changes → TreeLeft room room nodes changes)
-  left-alone None room changes made gone = tt
-  left-alone (Some nodes) room changes made gone = λ takes. record { files = omega (arith, made nodes, gone); bytes = omega arith }
-
-  err-made-none : (nodes : Nodes) (text : List ℕ) → files_made nodes (map (λ letter. ToErr letter) text) ≡ 0
-  err-made-none nodes [] = refl
-  err-made-none nodes (letter ∷ text) = let later = err-made-none nodes text in omega (arith, later)
-
-  err-gone-none : (text : List ℕ) → files_gone (map (λ letter. ToErr letter) text) ≡ 0
-  err-gone-none [] = refl
-  err-gone-none (letter ∷ text) = let later = err-gone-none text in omega (arith, later)
-
-  -- the debug text put whole
-  pub debug_done : (before : Bus T O E) (err : MutBor E) (core : Core) (byte : ℕ) (answer : Result (Unit {0}) Stop) (put : Result (Unit {0}) Failed)
-      → is_err answer ≡ is_err put → OnOk put (meaning.err err.now ≡ extended (meaning.err before.err.now) (debug_bytes byte core))
-      → OnOk put (meaning.err_room before.err.now ≤ meaning.err_room err.now + length (debug_bytes byte core)) → err.ghost_name ≡ before.err.ghost_name
-      → OnOk answer (Acted meaning before core PutsDebugText byte (record { devices = before.devices; tree = before.tree; out = before.out; err = err }) core)
-  debug_done before err core byte (Err stop) put same told left lent = tt
-  debug_done before err core byte (Ok done) (Err failed) same told left lent = cc
-  debug_done before err core byte (Ok done) (Ok put) same told left lent = record {
-    does = λ state stands. record {
+  -- bytes were put on a sink, and nothing else was done
+  pub sink-ends : (before : Bus T O E) (out : MutBor O) (err : MutBor E) (core : Core) (action : Action) (byte : ℕ) (changes : List Change)
+      (answer : Result (Unit {0}) Stop) (put : Result (Unit {0}) Failed) → asks_tree action ≡ false
+      → ((state : DeviceState) → act action byte state core ≡ record (no_effect state core) { changes = changes })
+      → ((state : DeviceState) → StandFor before.devices.now state
+      → Leaves meaning action state (meaning.tree.told before.tree.now) core (record { devices = before.devices; tree = before.tree; out = out; err = err }) core)
+      → is_err answer ≡ is_err put → OnErr answer (answer ≡ Err SinkFault)
+      → Ended changes (blame_of_sink (is_err put)) (outside_on meaning before)
+      (outside_on meaning (record { devices = before.devices; tree = before.tree; out = out; err = err }))
+      → out.ghost_name ≡ before.out.ghost_name → err.ghost_name ≡ before.err.ghost_name
+      → ActEnds meaning before core action byte (record { devices = before.devices; tree = before.tree; out = out; err = err }) core answer
+  sink-ends before out err core action byte changes (Ok done) (Err failed) none is leaves same sink ended lent_out lent_err = cc
+  sink-ends before out err core action byte changes (Err stop) (Ok done) none is leaves same sink ended lent_out lent_err = cc
+  sink-ends before out err core action byte changes (Ok done) (Ok put) none is leaves same sink ended lent_out lent_err = record {
+    does = rw none (λ state stands. rw (is state) (record {
       core = refl;
       devices = (stands, refl);
-      makes = record {
-        world = debug_made (world_of meaning before) byte core (meaning.err err.now) told;
-        remains = record {
-          tree = left-alone (meaning.tree before.tree.now) (meaning.tree_room before.tree.now) (map (λ letter. ToErr letter) (debug_bytes byte core))
-              (λ nodes. err-made-none nodes (debug_bytes byte core)) (err-gone-none (debug_bytes byte core));
-          out = omega (arith, out-none (debug_bytes byte core));
-          err = omega (arith, left, err-bytes (debug_bytes byte core));
-        };
-      };
-    };
-    same = sinks-same before before.out err refl lent;
+      makes = record { world = ended.world; remains = ended.remains };
+    }));
+    same = sinks-same before out err lent_out lent_err;
+  }
+  sink-ends before out err core action byte changes (Err TreeFault) (Err failed) none is leaves same sink ended lent_out lent_err = cc
+  sink-ends before out err core action byte changes (Err NoMemory) (Err failed) none is leaves same sink ended lent_out lent_err = cc
+  sink-ends before out err core action byte changes (Err SinkFault) (Err failed) none is leaves same sink ended lent_out lent_err = record {
+    cut = λ state stands. rw (is state) (record { cut = ended.cut; not_sure = ended.not_sure });
+    leaves = leaves;
+    keeps = rw none (refl, refl);
+    page = refl;
+    memory = λ wanted. cc;
+    names = λ wanted. cc;
+    same = sinks-same before out err lent_out lent_err;
   }
 
   pub devices_done : (before : Bus T O E) (devices : MutBor Devices) (core : Core) (action : Action) (byte : ℕ) (done : DeviceState → DeviceState)
@@ -188,74 +172,82 @@ module _ {T O E : Type 0} (meaning : Meaning T O E) where
     does = rw none (λ state stood. rw (is state) (record {
       core = refl;
       devices = (stands state stood, refl);
-      makes = record { world = refl; remains = remains-all (sure_of meaning before) (meaning.tree before.tree.now) };
+      makes = record { world = refl; remains = remains-all (outside_on meaning before).sure (meaning.tree.told before.tree.now) };
     }));
     same = devices-same before devices lent frames clock root;
   }
 
-  -- a file device that acted
-  more : (n m : ℕ) → n ≤ n + m
-  more n m = omega arith
-
+  -- a file device acted, or stopped
   state-files : (number : FileNumber) (outcome : Outcome) (state : DeviceState) (told : Option Nodes)
       → HasFiles told state.root (files_by state.part outcome.changes) state.parent
       → HasFiles told (file_acted number outcome state).root (file_acted number outcome state).part (file_acted number outcome state).parent
   state-files First outcome state told has = has
   state-files Second outcome state told has = has
 
-  pub file_done : (before : Bus T O E) (devices : MutBor Devices) (tree : MutBor T) (core : Core) (memory : List ℕ) (number : FileNumber) (part : FileAct)
+  state-suits : (number : FileNumber) (devices : Devices) (state : DeviceState) → StandFor devices state → Suits state.root (file_in number state)
+  state-suits First devices state stands = stands.files.first_suits
+  state-suits Second devices state stands = stands.files.second_suits
+
+  file-lies : (number : FileNumber) (part : FileAct) (devices : Devices) (state : DeviceState) (memory : List ℕ) → StandFor devices state
+      → LieIn state.root (file_outcome number part state memory).changes
+  file-lies number part devices state memory stands =
+      act-lies (file_action part state.history (file_base number)) state.root state.part state.parent (file_in number state) memory
+      (state-suits number devices state stands)
+
+  -- what a tree made short is cut short beside two sinks; one that did not fail made all
+  stops-by : (changes : List Change) (stop : Stop) (cause : FileStop) (a b : TreeState) (out err : SinkState) → stop ≡ stop_of cause
+      → AreOfTree changes → TreeEnded changes (tree_failed (Err stop)) a b
+      → AreCutShort (blame_of {T = Unit {0}} (Err stop)) (outside a out err) (outside b out err) changes
+  stops-by changes TreeFault cause a b out err is of ended =
+      let short = outside-of-tree changes true a b out err of ended in record { cut = short.cut; not_sure = short.not_sure }
+  stops-by changes NoMemory cause a b out err is of ended =
+      let done = outside-of-tree changes false a b out err of ended in
+      record { cut = record { made = changes; rest = []; parts = sym (append-nil changes); left = done.world }; not_sure = tt }
+  stops-by changes SinkFault cause a b out err is of ended = absurd (no-sink cause is)
+
+  pub file-ends : (before : Bus T O E) (devices : MutBor Devices) (tree : MutBor T) (core : Core) (memory : List ℕ) (number : FileNumber) (part : FileAct)
       (byte : ℕ) (answer : Result (Unit {0}) Stop)
-      → OnOk answer ((state : DeviceState) → StandFor before.devices.now state → HasFiles (meaning.tree before.tree.now) state.root state.part state.parent
-      → FileActed number part state core.memory (meaning.tree before.tree.now) (meaning.tree tree.now) (meaning.tree_room before.tree.now) (meaning.tree_room tree.now) devices.now memory)
-      → SameBus meaning.tree before (record { devices = devices; tree = tree; out = before.out; err = before.err })
-      → OnOk answer (Acted meaning before core (ActsOnFile number part) byte (record { devices = devices; tree = tree; out = before.out; err = before.err }) (record core { memory = memory }))
-  file_done before devices tree core memory number part byte (Err stop) acted same = tt
-  file_done before devices tree core memory number part byte (Ok done) acted same = record {
+      → FileEnded number part before.devices.now core.memory (tree_failed answer) (tree_state meaning.tree before.tree.now) (tree_state meaning.tree tree.now)
+      → FileAnswers number part before.devices.now core.memory (meaning.tree.told before.tree.now) answer devices.now memory
+      → SameBus meaning.tree.told before (record { devices = devices; tree = tree; out = before.out; err = before.err })
+      → ActEnds meaning before core (ActsOnFile number part) byte (record { devices = devices; tree = tree; out = before.out; err = before.err })
+      (record core { memory = memory }) answer
+  file-ends before devices tree core memory number part byte (Ok done) ended acted same = record {
     does = λ state stands.
         let outcome = file_outcome number part state core.memory in
         let done = acted state stands.devices stands.files in
+        let made = ended state stands.devices stands.files in
+        let lie = file-lies number part before.devices.now state core.memory stands.devices in
+        let out = sink_state meaning.out before.out.now in
+        let err = sink_state meaning.err before.err.now in
+        let all = outside-of-tree outcome.changes false (tree_state meaning.tree before.tree.now) (tree_state meaning.tree tree.now) out err
+        (of-tree state.root outcome.changes lie) made in
         record {
           core = ap (λ bytes. record core { memory = bytes }) done.memory;
-          devices = record { devices = done.devices; files = state-files number outcome state (meaning.tree tree.now) done.files.files };
-          makes = record {
-            world = done.files.world (world_of meaning before) refl;
-            remains = record {
-              tree = done.files.left;
-              out = more (meaning.out_room before.out.now) (bytes_out outcome.changes);
-              err = more (meaning.err_room before.err.now) (bytes_err outcome.changes);
-            };
+          devices = record {
+            devices = done.devices;
+            files = state-files number outcome state (meaning.tree.told tree.now)
+                (files-now outcome.changes state.root state.part state.parent (meaning.tree.told before.tree.now) (meaning.tree.told tree.now)
+                stands.files lie made.stands);
           };
+          makes = record { world = all.world; remains = all.remains };
         };
     same = same;
   }
-
-  pub file_stopped : (before : Bus T O E) (devices : MutBor Devices) (tree : MutBor T) (core : Core) (memory : List ℕ) (number : FileNumber) (part : FileAct)
-      (byte : ℕ) (answer : Result (Unit {0}) Stop)
-      → IfErr answer (λ stop. (state : DeviceState) → StandFor before.devices.now state → HasFiles (meaning.tree before.tree.now) state.root state.part state.parent
-      → FileStopped (file_outcome number part state core.memory).changes (meaning.tree before.tree.now) (meaning.tree tree.now) (meaning.tree_room before.tree.now) stop)
-      → OnErr answer ((state : DeviceState) → StandFor before.devices.now state
-      → PortLeft number part state core.memory (meaning.tree before.tree.now) devices.now memory)
-      → OnErr answer (devices.now.page ≡ before.devices.now.page) → (answer ≡ Err NoMemory → part ≡ Read)
-      → (answer ≡ Err NoMemory → WantsFolder (file_held number before.devices.now) (meaning.tree before.tree.now))
-      → (answer ≡ Err NoMemory → HasRoot before.devices.now)
-      → SameBus meaning.tree before (record { devices = devices; tree = tree; out = before.out; err = before.err })
-      → IfErr answer (λ stop. ActStopped meaning before core (ActsOnFile number part) byte stop (record { devices = devices; tree = tree; out = before.out; err = before.err }) (record core { memory = memory }))
-  file_stopped before devices tree core memory number part byte (Ok done) stopped left page reads wants has_root same = tt
-  file_stopped before devices tree core memory number part byte (Err stop) stopped left page reads wants has_root same = record {
+  file-ends before devices tree core memory number part byte (Err stop) ended stopped same = record {
     cut = λ state stands.
-        let short = stopped state stands.devices stands.files in
-        record {
-          cut = short.cut (world_of meaning before) refl;
-          not_sure = short.not_sure (meaning.out_room before.out.now) (meaning.err_room before.err.now);
-        };
-    leaves = left;
+        stops-by (file_outcome number part state core.memory).changes stop stopped.cause (tree_state meaning.tree before.tree.now) (tree_state meaning.tree tree.now)
+        (sink_state meaning.out before.out.now) (sink_state meaning.err before.err.now) stopped.is
+        (of-tree state.root (file_outcome number part state core.memory).changes (file-lies number part before.devices.now state core.memory stands.devices))
+        (ended state stands.devices stands.files);
+    leaves = stopped.left;
     keeps = refl;
-    page = page;
-    memory = λ wanting. has_root (ap (λ s. Err s) wanting);
-    names = λ wanting. record {
+    page = stopped.page;
+    memory = λ wanting. stopped.rooted;
+    names = λ wanting. let wants = stopped.wants wanting in record {
       number = number;
-      reads = ap (λ p. ActsOnFile number p) (reads (ap (λ s. Err s) wanting));
-      folder = wants (ap (λ s. Err s) wanting);
+      reads = ap (λ p. ActsOnFile number p) wants.0;
+      folder = wants.1;
     };
     same = same;
   }
@@ -283,7 +275,7 @@ module _ {T O E : Type 0} (meaning : Meaning T O E) where
   -- a write is a byte stored, and then the action of its port
   pub wrote_by_act : (before middle now : Bus T O E) (old new : Core) (port byte : ℕ) (action : Action) (answer : Result (Unit {0}) Stop)
       → action ≡ action_of port → Stored before middle port byte
-      → OnOk answer (Acted meaning middle old action byte now new) → OnOk answer (Wrote meaning before old port byte now new)
+      → ActEnds meaning middle old action byte now new answer → OnOk answer (Wrote meaning before old port byte now new)
   wrote_by_act before middle now old new port byte action (Err stop) is stored acted = tt
   wrote_by_act before middle now old new port byte action (Ok done) is stored acted = record {
     does = λ state stands.
@@ -294,12 +286,12 @@ module _ {T O E : Type 0} (meaning : Meaning T O E) where
           devices = comes-stored asks before middle now port byte stored (effect state old port byte).devices does.devices;
           makes = makes-both meaning before middle now [] (effect state old port byte).changes (stored-makes before middle port byte stored) does.makes;
         });
-    same = same-again meaning.tree before middle now stored.same acted.same;
+    same = same-again meaning.tree.told before middle now stored.same acted.same;
   }
 
   pub stopped_by_act : (before middle now : Bus T O E) (old new : Core) (port byte : ℕ) (action : Action) (answer : Result (Unit {0}) Stop)
       → action ≡ action_of port → Stored before middle port byte
-      → IfErr answer (λ stop. ActStopped meaning middle old action byte stop now new) → IfErr answer (λ stop. Stopped meaning before old port byte stop now new)
+      → ActEnds meaning middle old action byte now new answer → IfErr answer (λ stop. Stopped meaning before old port byte stop now new)
   stopped_by_act before middle now old new port byte action (Ok done) is stored acted = tt
   stopped_by_act before middle now old new port byte action (Err stop) is stored acted = record {
     cut = λ state stands.
@@ -317,5 +309,5 @@ module _ {T O E : Type 0} (meaning : Meaning T O E) where
           reads = sym is ∙ wants.reads;
           folder = rw (stored.files wants.number) at (rw stored.tree at wants.folder);
         };
-    same = same-again meaning.tree before middle now stored.same acted.same;
+    same = same-again meaning.tree.told before middle now stored.same acted.same;
   }

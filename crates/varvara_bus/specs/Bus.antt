@@ -1,10 +1,13 @@
 -- A bus: devices, a tree and two sinks that are lent to it, and its ports.
-use Rattle.std.specs.Prelude.{◌≡◌, ℕ, ◌==◌, Bool, true, false, List, [], ◌∷◌, Option, Some, IfSome, IsSome, Err, slice_index, if◌then◌else◌}
+use Rattle.std.specs.Prelude.{◌≡◌, ℕ, ◌==◌, Bool, true, false, List, [], ◌∷◌, Option, Some, None, Result, Ok, Err}
+use Rattle.std.specs.Prelude.{IfSome, IsSome, slice_index, if◌then◌else◌}
 use Rattle.uxn_io.specs.Files.{Nodes, file_at}
-use Rattle.uxn_io.specs.Faults.{Counts, counts}
-use Rattle.uxn_io.specs.Outside.{Change, World, changed_by, IsCutOff}
-use Rattle.uxn_io.specs.Room.{Room}
-use Rattle.uxn_io.specs.Taking.{Sure, sure, Remains, WasNotSure}
+use Rattle.uxn_io.specs.Faults.{Counts, Blame}
+use Rattle.uxn_io.specs.Outside.{Change, changed_by, IsCutOff}
+use Rattle.uxn_io.specs.State.{Outside, outside_of}
+use Rattle.uxn_io.specs.Taking.{Remains, WasNotSure}
+use Rattle.uxn_io.specs.declared.sinks.Sink as sinks
+use Rattle.uxn_io.specs.declared.trees.Tree as trees
 use Rattle.file_ports.specs.Device.{FileState, suits}
 use Rattle.file_ports.specs.Answers.{TakesNames}
 use Rattle.uxn_opcodes.specs.declared.Core.{Core}
@@ -108,62 +111,60 @@ pub record Becomes {T O E : Type 0} (told_tree : T → Option Nodes) (given : De
 abbrev pub Reads : {T O E : Type 0} → Bus T O E → Core → ℕ → ℕ → Type 0
 Reads bus core port value = (state : DeviceState) → StandFor bus.devices.now state → value ≡ read_of state core port
 
--- the faults counted of what is lent
-abbrev pub bus_faults : {T O E : Type 0} → (T → ℕ) → (O → ℕ) → (E → ℕ) → Bus T O E → Counts
-bus_faults of_tree of_out of_err bus = counts (of_tree bus.tree.now) (of_out bus.out.now) (of_err bus.err.now)
+-- what a tree and two sinks tell, how they count their faults, and what they surely do
+pub record Meaning (T O E : Type 0) : Type 1 where
+  pub tree : trees.Ghosts T
+  pub out : sinks.Ghosts O
+  pub err : sinks.Ghosts E
 
--- what a tree and two sinks tell, and what they surely take
-pub record Meaning (T O E : Type 0) : Type 0 where
-  pub tree : T → Option Nodes
-  pub out : O → Option (List ℕ)
-  pub err : E → Option (List ℕ)
-  pub tree_room : T → Room
-  pub out_room : O → ℕ
-  pub err_room : E → ℕ
+abbrev pub meaning_of : {T O E : Type 0} → trees.Ghosts T → sinks.Ghosts O → sinks.Ghosts E → Meaning T O E
+meaning_of of_tree of_out of_err = record { tree = of_tree; out = of_out; err = of_err }
 
-abbrev pub meaning_of : {T O E : Type 0} → (T → Option Nodes) → (O → Option (List ℕ)) → (E → Option (List ℕ))
-    → (T → Room) → (O → ℕ) → (E → ℕ) → Meaning T O E
-meaning_of tree out err tree_room out_room err_room = record {
-  tree = tree;
-  out = out;
-  err = err;
-  tree_room = tree_room;
-  out_room = out_room;
-  err_room = err_room;
-}
+-- who is to blame for a stop, if it stopped
+abbrev pub blame_for : Result (Unit {0}) Stop → Option Blame
+blame_for (Ok done) = None
+blame_for (Err stop) = Some (blame_of {T = Unit {0}} (Err stop))
+
+-- all of these changes were made outside
+pub record AreMade (before now : Outside) (changes : List Change) : Type 0 where
+  pub world : now.world ≡ changed_by before.world changes
+  pub remains : Remains before.sure now.sure before.world.files changes
+
+-- a front of them was made, and whoever is to blame did not surely make all of them
+pub record AreCutShort (blame : Blame) (before now : Outside) (changes : List Change) : Type 0 where
+  pub cut : IsCutOff before.world now.world changes
+  pub not_sure : WasNotSure blame before.sure before.world.files changes
 
 module _ {T O E : Type 0} (meaning : Meaning T O E) where
-  -- what the outputs and the tree of a bus tell, and what is sure of them
-  abbrev pub world_of : Bus T O E → World
-  world_of bus = record { out = meaning.out bus.out.now; err = meaning.err bus.err.now; files = meaning.tree bus.tree.now }
+  -- what is outside, by what a bus is lent
+  abbrev pub outside_on : Bus T O E → Outside
+  outside_on bus = outside_of meaning.tree meaning.out meaning.err bus.tree.now bus.out.now bus.err.now
 
-  abbrev pub sure_of : Bus T O E → Sure
-  sure_of bus = sure (meaning.tree_room bus.tree.now) (meaning.out_room bus.out.now) (meaning.err_room bus.err.now)
+  -- the faults counted there
+  abbrev pub bus_faults : Bus T O E → Counts
+  bus_faults bus = (outside_on bus).faults
 
-  -- all of these changes were made
-  pub record Makes (before now : Bus T O E) (changes : List Change) : Type 0 where
-    pub world : world_of now ≡ changed_by (world_of before) changes
-    pub remains : Remains (sure_of before) (sure_of now) (meaning.tree before.tree.now) changes
+  -- these changes were made by a bus, or it stopped and a front of them was
+  abbrev pub Makes : Bus T O E → Bus T O E → List Change → Type 0
+  Makes before now changes = AreMade (outside_on before) (outside_on now) changes
 
-  -- a front of them was made, and whoever is to blame for the stop did not surely take all of them
-  pub record StopsShort (before now : Bus T O E) (stop : Stop) (changes : List Change) : Type 0 where
-    pub cut : IsCutOff (world_of before) (world_of now) changes
-    pub not_sure : WasNotSure (blame_of {T = Unit {0}} (Err stop)) (sure_of before) (meaning.tree before.tree.now) changes
+  abbrev pub StopsShort : Bus T O E → Bus T O E → Stop → List Change → Type 0
+  StopsShort before now stop changes = AreCutShort (blame_of {T = Unit {0}} (Err stop)) (outside_on before) (outside_on now) changes
 
   -- the bus and the core are as an effect says
   pub record HasEffect (before now : Bus T O E) (new : Core) (done : Effect) : Type 0 where
     pub core : new ≡ done.core
-    pub devices : BusStandsFor meaning.tree now done.devices
+    pub devices : BusStandsFor meaning.tree.told now done.devices
     pub makes : Makes before now done.changes
 
   -- a state to act from: what the bus stands for where the tree is asked, and else what the devices stand for, whatever the tree tells
   abbrev pub StandsTo : Bool → Bus T O E → DeviceState → Type 0
-  StandsTo true bus state = BusStandsFor meaning.tree bus state
+  StandsTo true bus state = BusStandsFor meaning.tree.told bus state
   StandsTo false bus state = StandFor bus.devices.now state
 
   -- the state that was come to; a tree that is not asked stays as it was
   abbrev pub ComesTo : Bool → Bus T O E → Bus T O E → DeviceState → Type 0
-  ComesTo true before now state = BusStandsFor meaning.tree now state
+  ComesTo true before now state = BusStandsFor meaning.tree.told now state
   ComesTo false before now state = StandFor now.devices.now state × (now.tree.now ≡ before.tree.now)
 
   -- what an action does that asks the tree, or does not
@@ -186,19 +187,19 @@ module _ {T O E : Type 0} (meaning : Meaning T O E) where
   pub record Wrote (before : Bus T O E) (old : Core) (port byte : ℕ) (now : Bus T O E) (new : Core) : Type 0 where
     pub does : (state : DeviceState) → StandsTo (asks_tree (action_of port)) before state
         → Does (asks_tree (action_of port)) before now new (effect state old port byte)
-    pub same : SameBus meaning.tree before now
+    pub same : SameBus meaning.tree.told before now
 
   -- a write that stops has stored its byte and nothing else, and made a front of its changes; memory is wanting only where there is a root
   pub record Stopped (before : Bus T O E) (old : Core) (port byte : ℕ) (stop : Stop) (now : Bus T O E) (new : Core) : Type 0 where
     pub cut : (state : DeviceState) → StandsTo (asks_tree (action_of port)) before state
         → StopsShort before now stop (effect state old port byte).changes
     pub leaves : (state : DeviceState) → StandFor before.devices.now state
-        → Leaves (action_of port) (storing ((port, byte) ∷ []) state) (meaning.tree before.tree.now) old now new
+        → Leaves (action_of port) (storing ((port, byte) ∷ []) state) (meaning.tree.told before.tree.now) old now new
     pub keeps : Keeps (asks_tree (action_of port)) before old now new
     pub stored : (other : ℕ) → held now other ≡ (if other == port then byte else held before other)
     pub memory : stop ≡ NoMemory → HasRoot before.devices.now
-    pub names : stop ≡ NoMemory → WantsNames (action_of port) before.devices.now (meaning.tree before.tree.now)
-    pub same : SameBus meaning.tree before now
+    pub names : stop ≡ NoMemory → WantsNames (action_of port) before.devices.now (meaning.tree.told before.tree.now)
+    pub same : SameBus meaning.tree.told before now
 
   -- the rules of a bus's ports
   abbrev pub bus_rules : Rules (Bus T O E)
@@ -208,7 +209,7 @@ module _ {T O E : Type 0} (meaning : Meaning T O E) where
   pub record Acted (before : Bus T O E) (old : Core) (action : Action) (byte : ℕ) (now : Bus T O E) (new : Core) : Type 0 where
     pub does : (state : DeviceState) → StandsTo (asks_tree action) before state
         → Does (asks_tree action) before now new (act action byte state old)
-    pub same : SameBus meaning.tree before now
+    pub same : SameBus meaning.tree.told before now
 
   -- what an action leaves that stops
   pub record ActStopped (before : Bus T O E) (old : Core) (action : Action) (byte : ℕ) (stop : Stop) (now : Bus T O E) (new : Core)
@@ -216,9 +217,14 @@ module _ {T O E : Type 0} (meaning : Meaning T O E) where
     pub cut : (state : DeviceState) → StandsTo (asks_tree action) before state
         → StopsShort before now stop (act action byte state old).changes
     pub leaves : (state : DeviceState) → StandFor before.devices.now state
-        → Leaves action state (meaning.tree before.tree.now) old now new
+        → Leaves action state (meaning.tree.told before.tree.now) old now new
     pub keeps : Keeps (asks_tree action) before old now new
     pub page : now.devices.now.page ≡ before.devices.now.page
     pub memory : stop ≡ NoMemory → HasRoot before.devices.now
-    pub names : stop ≡ NoMemory → WantsNames action before.devices.now (meaning.tree before.tree.now)
-    pub same : SameBus meaning.tree before now
+    pub names : stop ≡ NoMemory → WantsNames action before.devices.now (meaning.tree.told before.tree.now)
+    pub same : SameBus meaning.tree.told before now
+
+  -- it did what it does, or it stopped
+  abbrev pub ActEnds : Bus T O E → Core → Action → ℕ → Bus T O E → Core → Result (Unit {0}) Stop → Type 0
+  ActEnds before old action byte now new (Ok done) = Acted before old action byte now new
+  ActEnds before old action byte now new (Err stop) = ActStopped before old action byte stop now new

@@ -1,9 +1,9 @@
 -- What the file devices do by their ports (Varvara device reference: File).
-use Rattle.std.specs.Prelude.{◌≡◌, ℕ, ◌+◌, ◌%◌, ◌==◌, Bool, List, map, Option, Some, if◌then◌else◌}
+use Rattle.std.specs.Prelude.{ℕ, ◌+◌, ◌%◌, ◌==◌, Bool, List, map, Option, Some, if◌then◌else◌}
 use Rattle.uxn_io.specs.Files.{Nodes}
 use Rattle.uxn_io.specs.Outside.{ToFile, files_by}
-use Rattle.file_ports.specs.Device.{FileState, idle_at, suits}
-use Rattle.file_ports.specs.Answers.{HasReadFront}
+use Rattle.file_ports.specs.Device.{FileState, suits}
+use Rattle.file_ports.specs.Answers.{device_left, MemoryLeft}
 use Rattle.file_ports.specs.Actions as file
 use Rattle.file_ports.specs.Actions.{FileAction, Outcome}
 use Rattle.input_ports.specs.Page.{short_stores}
@@ -54,22 +54,7 @@ file_acted number outcome state =
     storing (short_stores (file_base number + 0x02) outcome.success)
     (with_file number outcome.device (record state { part = files_by state.part outcome.changes }))
 
--- an action that stops leaves a device that does nothing, but for a stat, which leaves it as it is
-abbrev pub device_left : FileAction → FileState → FileState
-device_left (file.Stat at length) device = device
-device_left _ device = idle_at device.path
-
--- and memory as it was, but for a front of what a read gives
-abbrev pub MemoryLeft : FileAction → FileState → List ℕ → Option Nodes → List ℕ → Type 0
-MemoryLeft (file.Read at length) device memory told memory_now = HasReadFront at length device memory told memory_now
-MemoryLeft _ device memory told memory_now = memory_now ≡ memory
-
-pub record FileLeft (action : FileAction) (was : FileState) (before : List ℕ) (told : Option Nodes) (device_now : FileState)
-    (memory_now : List ℕ) : Type 0 where
-  pub device : device_now ≡ device_left action was
-  pub memory : MemoryLeft action was before told memory_now
-
--- so it is by the ports of a file device, and all other devices are as before
+-- a stop of an action leaves its device and memory so, by the ports of a file device, and all other devices as before
 pub record PortLeft (number : FileNumber) (act : FileAct) (state : DeviceState) (before : List ℕ) (told : Option Nodes)
     (held : Devices) (memory_now : List ℕ) : Type 0 where
   pub devices : StandFor held (with_file number

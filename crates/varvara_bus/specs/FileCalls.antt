@@ -1,16 +1,16 @@
--- What a call leaves that makes a file device act.
-use Rattle.std.specs.Prelude.{◌≡◌, ℕ, Bool, true, List, Option, IfSome, Result, Err}
+-- What a call of a file device does to the devices of a machine, to memory and to the tree.
+use Rattle.std.specs.Prelude.{◌≡◌, ℕ, Bool, true, false, List, Option, Result, Ok, Err}
 use Rattle.uxn_io.specs.Files.{Nodes}
-use Rattle.uxn_io.specs.Room.{Room}
-use Rattle.uxn_io.specs.Outside.{Change, World, changed_by, files_by, IsCutOff}
-use Rattle.uxn_io.specs.Taking.{TreeTakes, TreeLeft, sure, WasNotSure}
+use Rattle.uxn_io.specs.State.{TreeState}
+use Rattle.uxn_io.specs.Ended.{TreeEnded}
 use Rattle.uxn_opcodes.specs.declared.Stop.{Stop}
-use Rattle.uxn_opcodes.specs.Ports.{blame_of}
+use Rattle.uxn_opcodes.specs.declared.Stop.TheVariants as stops
 use Rattle.file_ports.specs.declared.stop.FileStop.{FileStop}
+use Rattle.file_ports.specs.declared.stop.FileStop.TheVariants.{TreeFault, NoMemory}
 use Rattle.file_ports.specs.Device.{FileState}
 use Rattle.file_ports.specs.Actions as file
-use Rattle.file_ports.specs.Actions.{FileAction, Outcome}
-use Rattle.file_ports.specs.Answers.{Answers}
+use Rattle.file_ports.specs.Actions.{FileAction}
+use Rattle.file_ports.specs.Answers.{Answers, Stopped as DeviceStopped}
 use Rattle.varvara_bus.specs.declared.files.Request.{Request}
 use Rattle.varvara_bus.specs.declared.files.Request.TheVariants as asked
 use Rattle.varvara_bus.specs.declared.ports.FileNumber.{FileNumber}
@@ -18,7 +18,8 @@ use Rattle.varvara_bus.specs.declared.ports.FileAct.{FileAct}
 use Rattle.varvara_bus.specs.declared.ports.FileAct.TheVariants.{Stat, Delete, Name, Read, Write}
 use Rattle.varvara_bus.specs.declared.devices.Devices.{Devices}
 use Rattle.varvara_bus.specs.State.{DeviceState, StandFor, HasFiles}
-use Rattle.varvara_bus.specs.FileActs.{file_outcome, file_acted}
+use Rattle.varvara_bus.specs.FileActs.{file_outcome, file_acted, PortLeft}
+use Rattle.varvara_bus.specs.Bus.{HasRoot, WantsFolder, file_held}
 
 -- the action that is asked for
 abbrev pub action_asked : Request → FileAction
@@ -35,32 +36,46 @@ act_asked (asked.Name at) = Name
 act_asked (asked.Read at length) = Read
 act_asked (asked.Write at length keep) = Write
 
--- changes were made to files that are told, and to the part beneath the root
-pub record FilesDone (changes : List Change) (root : Option (List ℕ)) (part : Nodes) (parent : Bool) (before now : Option Nodes)
-    (room room_now : Room) : Type 0 where
-  pub files : HasFiles now root (files_by part changes) parent
-  pub world : (world : World) → world.files ≡ before → record world { files = now } ≡ changed_by world changes
-  pub left : IfSome before (λ nodes. TreeTakes room nodes changes → TreeLeft room room_now nodes changes)
+-- a device answered what an action does by the files of a state beneath a root, or it stopped
+abbrev pub Performed : FileAction → Option (List ℕ) → FileState → List ℕ → Option Nodes → Result ℕ FileStop → FileState → List ℕ → Type 0
+Performed action root device memory told (Ok success) device_now memory_now = (part : Nodes) → (parent : Bool) → HasFiles told root part parent
+    → Answers (file.act action root part parent device memory) (Ok success) device_now memory_now
+Performed action root device memory told (Err stop) device_now memory_now = DeviceStopped action device memory told stop device_now memory_now
 
--- a front of them was made, and a tree that failed did not surely take them
-pub record FilesCut (changes : List Change) (before now : Option Nodes) (room : Room) (failed : Bool) : Type 0 where
-  pub cut : (world : World) → world.files ≡ before → IsCutOff world (record world { files = now }) changes
-  pub not_sure : failed ≡ true → IfSome before (λ nodes. TreeTakes room nodes changes → ⊥)
+-- a stop of a file device as one of a port
+abbrev pub stop_of : FileStop → Stop
+stop_of TreeFault = stops.TreeFault
+stop_of NoMemory = stops.NoMemory
 
--- a device did what an outcome says
-pub record Performed (outcome : Outcome) (root : Option (List ℕ)) (part : Nodes) (parent : Bool) (before now : Option Nodes)
-    (room room_now : Room) (result : Result ℕ FileStop) (device_now : FileState) (memory_now : List ℕ) : Type 0 where
-  pub answers : Answers outcome result device_now memory_now
-  pub files : FilesDone outcome.changes root part parent before now room room_now
+-- the tree failed
+abbrev pub tree_failed : Result (Unit {0}) Stop → Bool
+tree_failed (Ok done) = false
+tree_failed (Err stops.TreeFault) = true
+tree_failed (Err stops.SinkFault) = false
+tree_failed (Err stops.NoMemory) = false
 
--- the devices, memory and the files are as an action of a file device leaves them
-pub record FileActed (number : FileNumber) (act : FileAct) (state : DeviceState) (bytes : List ℕ) (before now : Option Nodes)
-    (room room_now : Room) (held : Devices) (memory_now : List ℕ) : Type 0 where
+-- the devices and memory are as an action of a file device leaves them
+pub record FileActed (number : FileNumber) (act : FileAct) (state : DeviceState) (bytes : List ℕ) (held : Devices) (memory_now : List ℕ)
+    : Type 0 where
   pub memory : memory_now ≡ (file_outcome number act state bytes).memory
   pub devices : StandFor held (file_acted number (file_outcome number act state bytes) state)
-  pub files : FilesDone (file_outcome number act state bytes).changes state.root state.part state.parent before now room room_now
 
--- a front of its changes was made, and a tree that is to blame did not surely take them
-pub record FileStopped (changes : List Change) (before now : Option Nodes) (room : Room) (stop : Stop) : Type 0 where
-  pub cut : (world : World) → world.files ≡ before → IsCutOff world (record world { files = now }) changes
-  pub not_sure : (out err : ℕ) → WasNotSure (blame_of {T = Unit {0}} (Err stop)) (sure room out err) before changes
+-- or as it leaves them where it stopped, which it does only beneath a root: no port is stored, and memory is wanting to a read alone
+pub record FileStopped (number : FileNumber) (act : FileAct) (before : Devices) (bytes : List ℕ) (told : Option Nodes) (stop : Stop)
+    (held : Devices) (memory_now : List ℕ) : Type 0 where
+  pub cause : FileStop
+  pub is : stop ≡ stop_of cause
+  pub left : (state : DeviceState) → StandFor before state → PortLeft number act state bytes told held memory_now
+  pub page : held.page ≡ before.page
+  pub rooted : HasRoot before
+  pub wants : stop ≡ stops.NoMemory → (act ≡ Read) × WantsFolder (file_held number before) told
+
+abbrev pub FileAnswers : FileNumber → FileAct → Devices → List ℕ → Option Nodes → Result (Unit {0}) Stop → Devices → List ℕ → Type 0
+FileAnswers number act before bytes told (Ok done) held memory_now = (state : DeviceState) → StandFor before state
+    → HasFiles told state.root state.part state.parent → FileActed number act state bytes held memory_now
+FileAnswers number act before bytes told (Err stop) held memory_now = FileStopped number act before bytes told stop held memory_now
+
+-- the changes of an action by the ports were made, or a front of them, from each state that the devices stood for beside the files of the tree
+abbrev pub FileEnded : FileNumber → FileAct → Devices → List ℕ → Bool → TreeState → TreeState → Type 0
+FileEnded number act before bytes failed files files_now = (state : DeviceState) → StandFor before state
+    → HasFiles files.told state.root state.part state.parent → TreeEnded (file_outcome number act state bytes).changes failed files files_now

@@ -78,7 +78,7 @@ takes-in action held told devices stands has wants = record {
 module _ {T O E : Type 0} (meaning : Meaning T O E) where
   -- an instruction for which memory was wanting takes the names of a folder, in each state that the bus stood for
   pub instruction-names : (core core_new : Core) (before now : Bus T O E) (devices : DeviceState)
-      → BusStandsFor meaning.tree before devices → Instruction (bus_rules meaning) core before (Err NoMemory) core_new now
+      → BusStandsFor meaning.tree.told before devices → Instruction (bus_rules meaning) core before (Err NoMemory) core_new now
       → InstructionTakesNames devices core
   instruction-names core core_new before now devices stands stopped =
       let at = carried-stopped (bus_rules meaning) (StandsSince meaning before) varvara (carries meaning before) core before
@@ -90,6 +90,6 @@ module _ {T O E : Type 0} (meaning : Meaning T O E) where
         after = at.after;
         goes_on = goes-on meaning core core_new before now NoMemory stopped;
         in_order = at.in_order;
-        takes = takes-in (action_of at.port) at.ports.devices.now (meaning.tree at.ports.tree.now)
+        takes = takes-in (action_of at.port) at.ports.devices.now (meaning.tree.told at.ports.tree.now)
             (devices_after at.before devices core) at.same_ports.devices.devices at.same_ports.devices.files (at.stops.names refl);
       }

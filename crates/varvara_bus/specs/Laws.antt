@@ -1,7 +1,7 @@
 -- What one more store changes: the port that it goes to, and no other; and what new devices hold.
 use Rattle.std.specs.Prelude.{◌≡◌, ℕ, ◌<◌, ◌==◌, false, List, [], ◌∷◌, map, Some}
 use Rattle.std.specs.Prelude.{length, replicate, slice_index, slice_set, refl, if◌then◌else◌}
-use Rattle.std.proofs.Common.{ap, sym, ◌∙◌, arith, inl, inr, lit<}
+use Rattle.std.proofs.Common.{ap, sym, subst, ◌∙◌, arith, inl, inr, lit<}
 use Rattle.std.proofs.lemmas.Bool.{cases_lt}
 use Rattle.std.proofs.lemmas.Bool.Decides.{nat_tests}
 use Rattle.std.proofs.lemmas.Grind.{common_steps}
@@ -9,6 +9,7 @@ use Rattle.std.proofs.lemmas.List.{get_or_past, get_or-replicate, length-replica
 use Rattle.input_ports.specs.declared.Input.{Input}
 use Rattle.input_ports.specs.declared.Input.TheVariants.{Key, Down, Up, Mouse, Press, Release, Scroll, DownOf, UpOf}
 use Rattle.input_ports.specs.Page.{buttons_port, bits_set, bits_cleared, with_bits, without_bits, stores_of, stores_after, with_stores}
+use Rattle.uxn_io.specs.Faults.{Counts, Blame, Nobody, Ledger}
 use Rattle.uxn_io.specs.Files.{Nodes}
 use Rattle.uxn_io.specs.Outside.{ToFile, files_by}
 use Rattle.varvara_bus.specs.Bus.{file_held}
@@ -77,7 +78,8 @@ suits-file FirstFile devices state stands = stands.files.first_suits
 suits-file SecondFile devices state stands = stands.files.second_suits
 
 -- bytes added to a file outside the root part leave a state as it is
-pub appended-outside : (path bytes : List ℕ) (state : DeviceState) → suits state.root (Some path) ≡ false → piece_appended path bytes state ≡ state
+pub appended-outside : (path bytes : List ℕ) (state : DeviceState) → suits state.root (Some path) ≡ false
+    → piece_appended path bytes state ≡ state
 appended-outside path bytes state outside =
     ap (λ inside. if inside then record state { part = files_by state.part (map (λ byte. ToFile path byte) bytes) } else state) outside
 
@@ -108,7 +110,8 @@ page_size page now stores is size = sym (length-with_stores page stores) ∙ ap 
 same_set : (a b : ℕ → ℕ) (port mask : ℕ) → ((port : ℕ) → a port ≡ b port) → bits_set a port mask ≡ bits_set b port mask
 same_set a b port mask same = ap (λ held. (port, with_bits held mask) ∷ []) (same port)
 
-same_cleared : (a b : ℕ → ℕ) (port mask : ℕ) → ((port : ℕ) → a port ≡ b port) → bits_cleared a port mask ≡ bits_cleared b port mask
+same_cleared : (a b : ℕ → ℕ) (port mask : ℕ) → ((port : ℕ) → a port ≡ b port)
+    → bits_cleared a port mask ≡ bits_cleared b port mask
 same_cleared a b port mask same = ap (λ held. (port, without_bits held mask) ∷ []) (same port)
 
 pub same_stores : (a b : ℕ → ℕ) (input : Input) → ((port : ℕ) → a port ≡ b port) → stores_of a input ≡ stores_of b input
@@ -185,3 +188,7 @@ pub first_page : (page : List ℕ) → page ≡ slice_set (slice_set (slice_set 
     → (port : ℕ) → slice_index page port ≡ at_first port
 first_page page is port =
     ap (λ p. slice_index p port) is ∙ page-with_size (replicate 256 0) (length-replicate {A = ℕ} 256 0) (zero-page 256) port
+
+-- who is to blame for a count, one part after another that did not fail
+pub ledger-then : (a b c : Counts) (blame : Blame) → Ledger a b Nobody → Ledger b c blame → Ledger a c blame
+ledger-then a b c blame first more = subst (λ before. Ledger before c blame) first more

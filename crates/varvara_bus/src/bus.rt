@@ -8,9 +8,10 @@ ghost use Rattle.audio_mixer.specs.Sounds.{frame_of, endings};
 ghost use Rattle.audio_mixer.specs.Voices.{all_play_on};
 ghost use Rattle.input_ports.specs.Page.{stores_of, stores_after};
 ghost use Rattle.varvara_bus.specs.History.{stored, stored_short, colour_bytes};
-ghost use Rattle.uxn_io.specs.Faults.{Counted, Ledger};
+ghost use Rattle.uxn_io.specs.Faults.{Ledger};
 ghost use Rattle.uxn_opcodes.specs.Ports.{blame_of};
-ghost use Rattle.uxn_io.specs.Told.{extended, HasTakenFront};
+ghost use Rattle.uxn_io.specs.State.{sink_state};
+ghost use Rattle.uxn_io.specs.Ended.{SinkEnded, Ended};
 ghost use Rattle.uxn_io.specs.Outside.{ToFile};
 ghost use Rattle.varvara_bus.specs.Effect.{debug_bytes};
 ghost use Rattle.varvara_bus.specs.FileActs.{piece_appended};
@@ -26,10 +27,9 @@ ghost use Rattle.varvara_bus.specs.Bus.{
   screen_of,
   bus_faults,
   meaning_of,
-  Makes,
-  StopsShort,
-  Acted,
-  ActStopped,
+  outside_on,
+  blame_for,
+  ActEnds,
 };
 
 use crate::devices::Devices;
@@ -63,20 +63,13 @@ fn answer(put: Result<(), Failed>) -> Result<(), Stop>
     ensures ok { is_err result ≡ is_err put }
     ensures err { OnErr result (result ≡ Err Stop.SinkFault) }
 {
-    match put {
-        Ok(()) => Ok(()),
-        Err(Failed) => Err(Stop::SinkFault),
-    }
+    put.map_err(|_| Stop::SinkFault)
 }
 
 /// Puts the debug text, where the byte is not 0.
 #[inline(never)]
 fn put_debug_text<E: Sink>(core: &Core, err: &mut E, value: u8) -> Result<(), Failed>
-    ensures ok { OnOk result (E.told err.new ≡ extended (E.told err.old) (debug_bytes value core.now)) }
-    ensures err { OnErr result (HasTakenFront (E.told err.old) (E.told err.new) (debug_bytes value core.now)) }
-    ensures ledger { Counted (E.faults err.old) (E.faults err.new) (is_err result) }
-    ensures sure { length (debug_bytes value core.now) < E.sure err.old → IsOk result }
-    ensures left { OnOk result (E.sure err.old ≤ E.sure err.new + length (debug_bytes value core.now)) }
+    ensures { SinkEnded (debug_bytes value core.now) (is_err result) (sink_state E.Sink err.old) (sink_state E.Sink err.new) }
 {
     if value == 0 {
         return Ok(());
@@ -239,12 +232,9 @@ impl<'a, T: Tree, O: Sink, E: Sink> Bus<'a, T, O, E> {
     /// Appends the whole piece to the file at the path. After `TreeFault` a front of it was appended.
     pub fn append(&mut self, path: &Path, piece: &[u8]) -> Result<(), Stop>
         requires { IsFileWhereTold (T.told self.old.tree.now) path.now }
-        ensures ok { OnOk result (Makes (meaning_of T.told O.told E.told T.sure O.sure E.sure) self.old self.new
-            (map (λ byte. ToFile path.now byte) piece.now)) }
+        ensures ended { Ended (map (λ byte. ToFile path.now byte) piece.now) (blame_for result)
+            (outside_on (meaning_of T.Tree O.Sink E.Sink) self.old) (outside_on (meaning_of T.Tree O.Sink E.Sink) self.new) }
         ensures err { OnErr result (result ≡ Err Stop.TreeFault) }
-        ensures cut { OnErr result (StopsShort (meaning_of T.told O.told E.told T.sure O.sure E.sure) self.old self.new Stop.TreeFault
-            (map (λ byte. ToFile path.now byte) piece.now)) }
-        ensures ledger { Ledger (bus_faults T.faults O.faults E.faults self.old) (bus_faults T.faults O.faults E.faults self.new) (blame_of result) }
 
         // The devices stay as they are, and each file that was there is there still.
         ensures devices { self.new.devices.now ≡ self.old.devices.now }
@@ -252,19 +242,16 @@ impl<'a, T: Tree, O: Sink, E: Sink> Bus<'a, T, O, E> {
             → BusStandsFor T.told self.new (piece_appended path.now piece.now state)) }
         ensures same { SameBus T.told self.old self.new }
     {
-        match append_all(self.tree, path, piece) {
-            Ok(()) => Ok(()),
-            Err(Failed) => Err(Stop::TreeFault),
-        }
+        append_all(self.tree, path, piece).map_err(|_| Stop::TreeFault)
     }
 }
 
 impl<'a, T: Tree, O: Sink, E: Sink> Ports for Bus<'a, T, O, E> {
     ghost use Rattle.varvara_bus.specs.Bus.{meaning_of, bus_rules, bus_faults, held_page};
 
-    ghost rules = { bus_rules (meaning_of T.told O.told E.told T.sure O.sure E.sure) };
+    ghost rules = { bus_rules (meaning_of T.Tree O.Sink E.Sink) };
 
-    ghost faults = { bus_faults T.faults O.faults E.faults };
+    ghost faults = { bus_faults (meaning_of T.Tree O.Sink E.Sink) };
 
     ghost stored = { held_page };
 
@@ -298,11 +285,10 @@ impl<'a, T: Tree, O: Sink, E: Sink> Ports for Bus<'a, T, O, E> {
 impl<'a, T: Tree, O: Sink, E: Sink> Bus<'a, T, O, E> {
     /// Does what a write of a byte does once the byte is stored.
     #[inline(always)]
-    #[tactic(auto, using(crate::proofs::Acts::debug_made))]
     fn act(&mut self, core: &mut Core, action: Action, value: u8) -> Result<(), Stop>
-        ensures ok { OnOk result (Acted (meaning_of T.told O.told E.told T.sure O.sure E.sure) self.old core.old action value self.new core.new) }
-        ensures err { IfErr result (λ stop. ActStopped (meaning_of T.told O.told E.told T.sure O.sure E.sure) self.old core.old action value stop self.new core.new) }
-        ensures ledger { Ledger (bus_faults T.faults O.faults E.faults self.old) (bus_faults T.faults O.faults E.faults self.new) (blame_of result) }
+        ensures acted { ActEnds (meaning_of T.Tree O.Sink E.Sink) self.old core.old action value self.new core.new result }
+        ensures ledger { Ledger (bus_faults (meaning_of T.Tree O.Sink E.Sink) self.old)
+            (bus_faults (meaning_of T.Tree O.Sink E.Sink) self.new) (blame_of result) }
     {
         match action {
             Action::Stores => Ok(()),

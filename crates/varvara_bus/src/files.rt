@@ -1,22 +1,21 @@
 //! The ports of the file devices.
-ghost use Rattle.std.specs.Prelude.{◌≡◌, ℕ, Bool, ◌≤◌, OnOk, OnErr, IfErr, Err};
-ghost use Rattle.uxn_io.specs.Files.{Nodes};
-ghost use Rattle.uxn_io.specs.Faults.{Counted, Ledger, counts};
-ghost use Rattle.uxn_opcodes.specs.Ports.{blame_of};
+ghost use Rattle.std.specs.Prelude.{◌≡◌, ◌≤◌};
+ghost use Rattle.uxn_io.specs.Faults.{Counted};
+ghost use Rattle.uxn_io.specs.State.{tree_state};
+ghost use Rattle.uxn_io.specs.Ended.{TreeEnded};
 ghost use Rattle.file_ports.specs.Device.{Suits};
-ghost use Rattle.file_ports.specs.Actions as file;
-ghost use Rattle.file_ports.specs.Answers.{has_failed};
-ghost use Rattle.varvara_bus.specs.State.{DeviceState, StandFor, HasFiles, clock_of};
-ghost use Rattle.varvara_bus.specs.FileActs.{with_file, file_action, file_outcome, FileLeft, PortLeft};
+ghost use Rattle.file_ports.specs.Answers.{changes_by, has_failed};
+ghost use Rattle.varvara_bus.specs.State.{DeviceState, StandFor, clock_of};
+ghost use Rattle.varvara_bus.specs.FileActs.{with_file, file_action};
 ghost use Rattle.varvara_bus.specs.FileCalls.{
   action_asked,
   act_asked,
   Performed,
-  FilesCut,
-  FileActed,
-  FileStopped,
+  FileAnswers,
+  FileEnded,
+  tree_failed,
 };
-ghost use Rattle.varvara_bus.specs.Bus.{FilesStay, HasRoot, WantsFolder, file_held};
+ghost use Rattle.varvara_bus.specs.Bus.{FilesStay, file_held};
 
 use crate::devices::Devices;
 use crate::page::{store_short, stored, stored_short};
@@ -64,18 +63,10 @@ fn perform<T: Tree>(
     request: Request,
 ) -> Result<u16, FileStop>
     requires { Suits root device.old }
-    ensures ok { OnOk result ((part : Nodes) → (parent : Bool) → HasFiles (T.told tree.old) root part parent
-        → Performed (file.act (action_asked request) root part parent device.old memory.old) root part parent
-        (T.told tree.old) (T.told tree.new) (T.sure tree.old) (T.sure tree.new) result device.new memory.new) }
-    ensures err { OnErr result ((part : Nodes) → (parent : Bool) → HasFiles (T.told tree.old) root part parent
-        → FilesCut (file.act (action_asked request) root part parent device.old memory.old).changes
-        (T.told tree.old) (T.told tree.new) (T.sure tree.old) (has_failed result)) }
-    ensures left { OnErr result (FileLeft (action_asked request) device.old memory.old (T.told tree.old) device.new memory.new) }
+    ensures tree { TreeEnded (changes_by (action_asked request) (T.told tree.old) device.old memory.old) (has_failed result)
+        (tree_state T.Tree tree.old) (tree_state T.Tree tree.new) }
+    ensures acted { Performed (action_asked request) root device.old memory.old (T.told tree.old) result device.new memory.new }
     ensures suits { Suits root device.new }
-    ensures stay { FilesStay root (T.told tree.old) (T.told tree.new) }
-    ensures reads { result ≡ Err FileStop.NoMemory → act_asked request ≡ FileAct.Read }
-    ensures names { result ≡ Err FileStop.NoMemory → WantsFolder device.old (T.told tree.old) }
-    ensures ledger { Counted (T.faults tree.old) (T.faults tree.new) (has_failed result) }
 {
     match request {
         Request::Stat(at, length) => device.stat(tree, memory, at, length),
@@ -97,22 +88,12 @@ fn perform_on<T: Tree>(
     number: FileNumber,
     request: Request,
 ) -> Result<u16, FileStop>
-    ensures ok { OnOk result ((part : Nodes) → (parent : Bool) → HasFiles (T.told tree.old) devices.old.root part parent
-        → Performed (file.act (action_asked request) devices.old.root part parent (file_held number devices.old) memory.old)
-        devices.old.root part parent
-        (T.told tree.old) (T.told tree.new) (T.sure tree.old) (T.sure tree.new) result (file_held number devices.new) memory.new) }
-    ensures err { OnErr result ((part : Nodes) → (parent : Bool) → HasFiles (T.told tree.old) devices.old.root part parent
-        → FilesCut (file.act (action_asked request) devices.old.root part parent (file_held number devices.old) memory.old).changes
-        (T.told tree.old) (T.told tree.new) (T.sure tree.old) (has_failed result)) }
-    ensures left { OnErr result (FileLeft (action_asked request) (file_held number devices.old) memory.old (T.told tree.old)
-        (file_held number devices.new) memory.new) }
+    ensures tree { TreeEnded (changes_by (action_asked request) (T.told tree.old) (file_held number devices.old) memory.old) (has_failed result)
+        (tree_state T.Tree tree.old) (tree_state T.Tree tree.new) }
+    ensures acted { Performed (action_asked request) devices.old.root (file_held number devices.old) memory.old (T.told tree.old) result
+        (file_held number devices.new) memory.new }
     ensures stands { (state : DeviceState) → StandFor devices.old state
         → StandFor devices.new (with_file number (file_held number devices.new) state) }
-    ensures stay { FilesStay devices.old.root (T.told tree.old) (T.told tree.new) }
-    ensures reads { result ≡ Err FileStop.NoMemory → act_asked request ≡ FileAct.Read }
-    ensures names { result ≡ Err FileStop.NoMemory → WantsFolder (file_held number devices.old) (T.told tree.old) }
-    ensures has_root { result ≡ Err FileStop.NoMemory → HasRoot devices.old }
-    ensures ledger { Counted (T.faults tree.old) (T.faults tree.new) (has_failed result) }
     ensures page { devices.new.page ≡ devices.old.page }
     ensures frames { devices.new.time.frames ≡ devices.old.time.frames }
     ensures clock { clock_of devices.new ≡ clock_of devices.old }
@@ -134,19 +115,10 @@ pub(crate) fn act_on_file<T: Tree>(
     number: FileNumber,
     act: FileAct,
 ) -> Result<(), Stop>
-    ensures ok { OnOk result ((state : DeviceState) → StandFor devices.old state → HasFiles (T.told tree.old) state.root state.part state.parent
-        → FileActed number act state memory.old (T.told tree.old) (T.told tree.new) (T.sure tree.old) (T.sure tree.new) devices.new memory.new) }
-    ensures err { IfErr result (λ stop. (state : DeviceState) → StandFor devices.old state → HasFiles (T.told tree.old) state.root state.part state.parent
-        → FileStopped (file_outcome number act state memory.old).changes (T.told tree.old) (T.told tree.new) (T.sure tree.old) stop) }
-    ensures left { OnErr result ((state : DeviceState) → StandFor devices.old state
-        → PortLeft number act state memory.old (T.told tree.old) devices.new memory.new) }
-    ensures page { OnErr result (devices.new.page ≡ devices.old.page) }
+    ensures tree { FileEnded number act devices.old memory.old (tree_failed result) (tree_state T.Tree tree.old) (tree_state T.Tree tree.new) }
+    ensures acted { FileAnswers number act devices.old memory.old (T.told tree.old) result devices.new memory.new }
+    ensures counted { Counted (T.faults tree.old) (T.faults tree.new) (tree_failed result) }
     ensures stay { FilesStay devices.old.root (T.told tree.old) (T.told tree.new) }
-    ensures reads { result ≡ Err Stop.NoMemory → act ≡ FileAct.Read }
-    ensures names { result ≡ Err Stop.NoMemory → WantsFolder (file_held number devices.old) (T.told tree.old) }
-    ensures has_root { result ≡ Err Stop.NoMemory → HasRoot devices.old }
-    ensures ledger { (out : ℕ) → (err : ℕ)
-        → Ledger (counts (T.faults tree.old) out err) (counts (T.faults tree.new) out err) (blame_of result) }
     ensures frames { devices.new.time.frames ≡ devices.old.time.frames }
     ensures clock { clock_of devices.new ≡ clock_of devices.old }
     ensures root { devices.new.root ≡ devices.old.root }

@@ -15,7 +15,7 @@ use Rattle.varvara_bus.specs.declared.bus.Bus.{Bus}
 use Rattle.varvara_bus.specs.History.{stored}
 use Rattle.varvara_bus.specs.State.{DeviceState}
 use Rattle.varvara_bus.specs.Reads.{read_of}
-use Rattle.varvara_bus.specs.Bus.{BusStandsFor, Reads, Meaning, Makes, StopsShort, world_of, held_page, bus_rules}
+use Rattle.varvara_bus.specs.Bus.{BusStandsFor, Reads, Meaning, Makes, StopsShort, outside_on, held_page, bus_rules}
 use Rattle.varvara_bus.specs.InstructionLaws.{makes-none, makes-both, instruction-done}
 use Rattle.vector_loop.specs.declared.watch.Moment.{Moment}
 use Rattle.vector_loop.specs.State.{State, counting_instruction}
@@ -45,13 +45,13 @@ module _ {T O E : Type 0} (meaning : Meaning T O E) where
   pub stops-here : (before now : Bus T O E) (first more : List Change) → Makes meaning before now first
       → StopsShort meaning before now NoMemory (first ++ more)
   stops-here before now first more makes = record {
-    cut = cut-here (world_of meaning before) (world_of meaning now) first more makes.world;
+    cut = cut-here (outside_on meaning before).world (outside_on meaning now).world first more makes.world;
     not_sure = tt;
   }
 
 module _ {T O E W H : Type 0} (meaning : Meaning T O E) (held : W → H) (shown : H → Core → Page → Moment → H) where
   -- nothing is done yet
-  pub follows-nothing : (now : Running T O E W) (devices : DeviceState) → BusStandsFor meaning.tree now.bus devices
+  pub follows-nothing : (now : Running T O E W) (devices : DeviceState) → BusStandsFor meaning.tree.told now.bus devices
       → Follows meaning held shown now now (stays (state_of now devices))
   follows-nothing now devices stands = record {
     core = refl;
@@ -104,7 +104,7 @@ module _ {T O E W H : Type 0} (meaning : Meaning T O E) (held : W → H) (shown 
           tally = refl;
           makes = done.makes;
           changes = ([], ([], (sym (append-nil (instruction (state_of now devices)).changes), tt)));
-          watcher = watched (page_in (state_of now devices)) (is_page meaning.tree now.bus (state_of now devices) stands);
+          watcher = watched (page_in (state_of now devices)) (is_page meaning.tree.told now.bus (state_of now devices) stands);
         };
   }
 

@@ -9,7 +9,8 @@ use Rattle.uxn_opcodes.specs.declared.Stop.TheVariants.{NoMemory, TreeFault, Sin
 use Rattle.uxn_opcodes.specs.Ports.{blame_of}
 use Rattle.varvara_bus.specs.declared.bus.Bus.{Bus}
 use Rattle.varvara_bus.specs.State.{DeviceState}
-use Rattle.varvara_bus.specs.Bus.{SameLent, SameBus, FilesStay, HasRoot, IsOutside, ChangesDevices, BusStandsFor, frames_begun}
+use Rattle.varvara_bus.specs.Laws.{ledger-then}
+use Rattle.varvara_bus.specs.Bus.{SameLent, SameBus, FilesStay, HasRoot, IsOutside, ChangesDevices, BusStandsFor, bus_faults, frames_begun}
 use Rattle.vector_loop.specs.declared.runner.Runner.{Runner}
 use Rattle.vector_loop.specs.declared.tally.Tally.{Tally}
 use Rattle.vector_loop.specs.State.{State, is_over}
@@ -20,7 +21,7 @@ use Rattle.vector_loop.specs.Outputs.{IsOutput, OutputsThere, appended_to}
 use Rattle.vector_loop.specs.Making.{MadeOrCut, MadeBy}
 use Rattle.vector_loop.specs.Follows.{Running, running, state_of, FollowsFrom, FallsShortFrom, HasGrown}
 use Rattle.vector_loop.specs.Stops.{StopsInFrom}
-use Rattle.vector_loop.specs.Answers.{Telling, Count, none, both, HasRoom, running_of, HasOutputs, SameRunner, faults_of, Reaches, Answers}
+use Rattle.vector_loop.specs.Answers.{Telling, Count, none, both, HasRoom, running_of, HasOutputs, SameRunner, Reaches, Answers}
 use Rattle.vector_loop.specs.TrailLaws.{followed_by-again, followed_by-at, stays-after}
 use Rattle.vector_loop.proofs.Along.{follows-nothing, follows-both}
 use Rattle.vector_loop.proofs.Stopping.{stopped-first, stopped-later, stopped-append, falls-short-from}
@@ -107,7 +108,7 @@ module _ {T O E W : Type 0} (told_tree : T → Option Nodes) where
 
 module _ {T O E W H : Type 0} (telling : Telling T O E W H) where
   reaches-where : {X : Type 0} (a b : Running T O E W) (part other : State → Trail) (r : Result X Stop)
-      → ((devices : DeviceState) → BusStandsFor telling.meaning.tree a.bus devices → other (state_of a devices) ≡ part (state_of a devices))
+      → ((devices : DeviceState) → BusStandsFor telling.meaning.tree.told a.bus devices → other (state_of a devices) ≡ part (state_of a devices))
       → Reaches telling a b part r → Reaches telling a b other r
   reaches-where a b part other (Ok x) same follows = record { from = λ devices stands. rw (same devices stands) (follows.from devices stands) }
   reaches-where a b part other (Err stop) same stopped = record {
@@ -136,21 +137,20 @@ module _ {T O E W H : Type 0} (telling : Telling T O E W H) where
     ledger = refl;
     grown = grown-none now.tally now.budget;
     frames = omega arith;
-    same = same-itself telling.meaning.tree now;
+    same = same-itself telling.meaning.tree.told now;
   }
 
   -- a part, and then another, whatever that answers
   pub answers-then : {X Y : Type 0} (a b c : Runner T O E W) (part rest : State → Trail) (m n : Count) (x : X) (r : Result Y Stop)
       → Answers telling a b part m (Ok x) → Answers telling b c rest n r → Answers telling a c (λ s. followed_by (part s) rest) (both m n) r
-  answers-then a b c part rest m n x r p q =
-      let faults : faults_of telling b.bus.now ≡ faults_of telling a.bus.now = p.ledger in
-      record {
-        reaches = reaches-then (running_of a) (running_of b) (running_of c) part rest r p.same.root p.reaches q.reaches;
-        ledger = rw (← faults) q.ledger;
-        grown = grown-both a.tally b.tally c.tally m.vectors m.events n.vectors n.events a.budget p.grown (rw p.same.budget at q.grown);
-        frames = omega (arith, p.frames, q.frames);
-        same = same-both telling.meaning.tree a b c p.same q.same;
-      }
+  answers-then a b c part rest m n x r p q = record {
+    reaches = reaches-then (running_of a) (running_of b) (running_of c) part rest r p.same.root p.reaches q.reaches;
+    ledger = ledger-then (bus_faults telling.meaning a.bus.now) (bus_faults telling.meaning b.bus.now) (bus_faults telling.meaning c.bus.now) (blame_of r)
+        p.ledger q.ledger;
+    grown = grown-both a.tally b.tally c.tally m.vectors m.events n.vectors n.events a.budget p.grown (rw p.same.budget at q.grown);
+    frames = omega (arith, p.frames, q.frames);
+    same = same-both telling.meaning.tree.told a b c p.same q.same;
+  }
 
   -- a part that stopped, whatever would follow it
   pub answers-first : {X Y : Type 0} (a b : Runner T O E W) (part rest : State → Trail) (m : Count) (stop : Stop)
@@ -187,7 +187,7 @@ module _ {T O E W H : Type 0} (telling : Telling T O E W H) where
 
   -- the same under another name, in the states that the bus stood for
   pub answers-where : {X : Type 0} (a b : Runner T O E W) (part other : State → Trail) (m : Count) (r : Result X Stop)
-      → ((devices : DeviceState) → BusStandsFor telling.meaning.tree a.bus.now devices
+      → ((devices : DeviceState) → BusStandsFor telling.meaning.tree.told a.bus.now devices
       → other (state_of (running_of a) devices) ≡ part (state_of (running_of a) devices))
       → Answers telling a b part m r → Answers telling a b other m r
   answers-where a b part other m r same p = record {
@@ -221,7 +221,7 @@ module _ {T O E W H : Type 0} (telling : Telling T O E W H) where
 
   -- where the run is over, and where it is not
   pub answers-over : {X : Type 0} (now : Runner T O E W) (rest : State → Trail) (m : Count) (x : X) (is : Bool)
-      → ((devices : DeviceState) → BusStandsFor telling.meaning.tree now.bus.now devices → is ≡ is_over (state_of (running_of now) devices))
+      → ((devices : DeviceState) → BusStandsFor telling.meaning.tree.told now.bus.now devices → is ≡ is_over (state_of (running_of now) devices))
       → is ≡ true → Answers telling now now (unless_over rest) m (Ok x)
   answers-over now rest m x is reads true_now =
       answers-within now now (unless_over rest) none m (Ok x) (omega arith) (omega arith)
@@ -229,7 +229,7 @@ module _ {T O E W H : Type 0} (telling : Telling T O E W H) where
       (λ devices stands. over rest (state_of (running_of now) devices) (sym (reads devices stands) ∙ true_now)) (answers-nothing now x))
 
   pub answers-not_over : {X : Type 0} (a b : Runner T O E W) (rest : State → Trail) (m : Count) (r : Result X Stop) (is : Bool)
-      → ((devices : DeviceState) → BusStandsFor telling.meaning.tree a.bus.now devices → is ≡ is_over (state_of (running_of a) devices))
+      → ((devices : DeviceState) → BusStandsFor telling.meaning.tree.told a.bus.now devices → is ≡ is_over (state_of (running_of a) devices))
       → is ≡ false → Answers telling a b rest m r → Answers telling a b (unless_over rest) m r
   answers-not_over a b rest m r is reads false_now p =
       answers-where a b rest (unless_over rest) m r
@@ -239,9 +239,9 @@ module _ {T O E W H : Type 0} (telling : Telling T O E W H) where
   pub answers-change : {X : Type 0} (a b : Runner T O E W) (prepare : State → State) (m : Count) (x : X)
       → record a { bus = b.bus; tally = b.tally } ≡ b → b.bus.ghost_name ≡ a.bus.ghost_name → ChangesDevices a.bus.now b.bus.now
       → frames_begun b.bus.now ≤ frames_begun a.bus.now + m.events → HasGrown a.tally b.tally m.vectors m.events a.budget
-      → ((devices : DeviceState) → BusStandsFor telling.meaning.tree a.bus.now devices
-      → BusStandsFor telling.meaning.tree b.bus.now (prepare (state_of (running_of a) devices)).devices)
-      → ((devices : DeviceState) → BusStandsFor telling.meaning.tree a.bus.now devices
+      → ((devices : DeviceState) → BusStandsFor telling.meaning.tree.told a.bus.now devices
+      → BusStandsFor telling.meaning.tree.told b.bus.now (prepare (state_of (running_of a) devices)).devices)
+      → ((devices : DeviceState) → BusStandsFor telling.meaning.tree.told a.bus.now devices
       → state_of (running_of b) (prepare (state_of (running_of a) devices)).devices ≡ prepare (state_of (running_of a) devices))
       → Answers telling a b (λ s. stays (prepare s)) m (Ok x)
   answers-change a b prepare m x others_same bus others frames grown devices_now state_now = record {
@@ -255,7 +255,7 @@ module _ {T O E W H : Type 0} (telling : Telling T O E W H) where
         watcher = ap (λ (r : Runner T O E W). telling.held r.watcher.now) (sym others_same);
       };
     };
-    ledger = same_faults telling.tree_faults telling.out_faults telling.err_faults a.bus.now b.bus.now others;
+    ledger = same_faults telling.meaning a.bus.now b.bus.now others;
     grown = grown;
     frames = frames;
     same = record {
@@ -265,7 +265,7 @@ module _ {T O E W H : Type 0} (telling : Telling T O E W H) where
       budget = ap (λ (r : Runner T O E W). r.budget) (sym others_same);
       lent = others.lent;
       root = others.root;
-      files = files-kept telling.meaning.tree a.bus.now b.bus.now others;
+      files = files-kept telling.meaning.tree.told a.bus.now b.bus.now others;
     };
   }
 
@@ -273,7 +273,7 @@ module _ {T O E W H : Type 0} (telling : Telling T O E W H) where
   pub answers-stored : {X : Type 0} (a b : Runner T O E W) (change : DeviceState → DeviceState) (x : X)
       → record a { bus = b.bus; tally = b.tally } ≡ b → b.tally ≡ a.tally → b.bus.ghost_name ≡ a.bus.ghost_name
       → ChangesDevices a.bus.now b.bus.now → frames_begun b.bus.now ≡ frames_begun a.bus.now
-      → ((devices : DeviceState) → BusStandsFor telling.meaning.tree a.bus.now devices → BusStandsFor telling.meaning.tree b.bus.now (change devices))
+      → ((devices : DeviceState) → BusStandsFor telling.meaning.tree.told a.bus.now devices → BusStandsFor telling.meaning.tree.told b.bus.now (change devices))
       → Answers telling a b (λ s. stays (record s { devices = change s.devices })) none (Ok x)
   answers-stored a b change x others_same tally bus others frames devices_now =
       let core : b.core.now ≡ a.core.now = ap (λ (r : Runner T O E W). r.core.now) (sym others_same) in
@@ -304,8 +304,8 @@ module _ {T O E W H : Type 0} (telling : Telling T O E W H) where
   }
 
   pub answers-made : (a b : Runner T O E W) (output : Option (List ℕ)) (bytes : DeviceState → List ℕ) (r : Result (Unit {0}) Stop)
-      → IfSome output (IsOutput a.bus.now.devices.now.root (telling.meaning.tree a.bus.now.tree.now)) → record a { bus = b.bus } ≡ b → b.bus.ghost_name ≡ a.bus.ghost_name
-      → MadeOrCut telling.meaning telling.tree_faults telling.out_faults telling.err_faults a.bus.now b.bus.now
+      → IfSome output (IsOutput a.bus.now.devices.now.root (telling.meaning.tree.told a.bus.now.tree.now)) → record a { bus = b.bus } ≡ b → b.bus.ghost_name ≡ a.bus.ghost_name
+      → MadeOrCut telling.meaning a.bus.now b.bus.now
       (λ s. appended_to output (bytes s)) r
       → Answers telling a b (λ s. makes (appended_to output (bytes s.devices)) s) none r
   answers-made a b output bytes r there others_same bus made =
@@ -329,8 +329,8 @@ module _ {T O E W H : Type 0} (telling : Telling T O E W H) where
 
   -- what instructions answer, by what they leave of the bus
   same-bus : (a b : Runner T O E W) → b.core.ghost_name ≡ a.core.ghost_name → b.bus.ghost_name ≡ a.bus.ghost_name
-      → b.watcher.ghost_name ≡ a.watcher.ghost_name → b.budget ≡ a.budget → SameBus telling.meaning.tree a.bus.now b.bus.now
-      → SameRunner telling.meaning.tree a b
+      → b.watcher.ghost_name ≡ a.watcher.ghost_name → b.budget ≡ a.budget → SameBus telling.meaning.tree.told a.bus.now b.bus.now
+      → SameRunner telling.meaning.tree.told a b
   same-bus a b core bus watcher budget same = record {
     core = core;
     bus = bus;
@@ -344,8 +344,8 @@ module _ {T O E W H : Type 0} (telling : Telling T O E W H) where
   pub answers-ran : {X : Type 0} (a b : Runner T O E W) (part : State → Trail) (m : Count) (x : X)
       → b.core.ghost_name ≡ a.core.ghost_name → b.bus.ghost_name ≡ a.bus.ghost_name → b.watcher.ghost_name ≡ a.watcher.ghost_name
       → b.budget ≡ a.budget → FollowsFrom telling.meaning telling.held telling.shown (running_of a) (running_of b) part
-      → faults_of telling b.bus.now ≡ faults_of telling a.bus.now → HasGrown a.tally b.tally m.vectors m.events a.budget
-      → SameBus telling.meaning.tree a.bus.now b.bus.now → Answers telling a b part m (Ok x)
+      → bus_faults telling.meaning b.bus.now ≡ bus_faults telling.meaning a.bus.now → HasGrown a.tally b.tally m.vectors m.events a.budget
+      → SameBus telling.meaning.tree.told a.bus.now b.bus.now → Answers telling a b part m (Ok x)
   answers-ran a b part m x core bus watcher budget follows faults grown same = record {
     reaches = follows;
     ledger = faults;
@@ -358,9 +358,9 @@ module _ {T O E W H : Type 0} (telling : Telling T O E W H) where
       → b.core.ghost_name ≡ a.core.ghost_name → b.bus.ghost_name ≡ a.bus.ghost_name → b.watcher.ghost_name ≡ a.watcher.ghost_name
       → b.budget ≡ a.budget → StopsInFrom telling.meaning telling.held telling.shown telling.may_refuse (running_of a) (running_of b) stop part
       → (stop ≡ NoMemory → telling.may_refuse ⊎ HasRoot a.bus.now.devices.now)
-      → Ledger (faults_of telling a.bus.now) (faults_of telling b.bus.now) (blame_of {T = X} (Err stop))
+      → Ledger (bus_faults telling.meaning a.bus.now) (bus_faults telling.meaning b.bus.now) (blame_of {T = X} (Err stop))
       → HasGrown a.tally b.tally m.vectors m.events a.budget
-      → SameBus telling.meaning.tree a.bus.now b.bus.now → Answers telling {X = Y} a b part m (Err stop)
+      → SameBus telling.meaning.tree.told a.bus.now b.bus.now → Answers telling {X = Y} a b part m (Err stop)
   answers-cut X {Y = Y} a b part m stop core bus watcher budget within memory ledger grown same = record {
     reaches = record { within = within; memory = memory };
     ledger = rw (blame-same Y X stop) ledger;

@@ -8,11 +8,13 @@ use Rattle.std.specs.Prelude.{Option, Result, Ok, Err, OnOk, OnErr, ℤ, slice_i
 use Rattle.std.specs.List.{flat_map, range_with_len}
 use Rattle.std.specs.Int.{w16, cast_unsigned}
 use Rattle.audio_mixer.specs.Laws.{short_of}
+use Rattle.uxn_io.specs.Ended.{Ended}
 use Rattle.uxn_io.specs.Outside.{Change, ToFile}
 use Rattle.uxn_io.specs.Files.{Nodes}
 use Rattle.uxn_io.specs.TakingLaws.{remains-all}
 use Rattle.uxn_opcodes.specs.declared.Stop.{Stop}
 use Rattle.uxn_opcodes.specs.declared.Stop.TheVariants.{NoMemory, TreeFault}
+use Rattle.uxn_opcodes.specs.Ports.{blame_of}
 use Rattle.screen_frame.specs.Colours.{colours_of}
 use Rattle.screen_frame.specs.Ppm.{head_bytes}
 use Rattle.screen_layers.specs.Pictures.{picture_row_of}
@@ -20,9 +22,9 @@ use Rattle.varvara_bus.specs.declared.bus.Bus.{Bus}
 use Rattle.varvara_bus.specs.declared.devices.Devices.{Devices}
 use Rattle.varvara_bus.specs.History.{colour_bytes}
 use Rattle.varvara_bus.specs.State.{DeviceState, StandFor}
-use Rattle.varvara_bus.specs.Bus.{ChangesDevices, FilesStay, IsOutside, BusStandsFor, Meaning, Makes, StopsShort, bus_faults, frames_begun, screen_of, sure_of}
+use Rattle.varvara_bus.specs.Bus.{ChangesDevices, FilesStay, IsOutside, BusStandsFor, Meaning, Makes, bus_faults, blame_for, SameBus, frames_begun, screen_of, outside_on}
 use Rattle.varvara_bus.specs.FileActs.{piece_appended}
-use Rattle.varvara_bus.specs.Laws.{appended-outside}
+use Rattle.varvara_bus.specs.Laws.{appended-outside, ledger-then}
 use Rattle.varvara_bus.specs.InstructionLaws.{same-itself, same-again, makes-none, makes-both, stops-first, stops-later}
 use Rattle.vector_loop.specs.Making.{MadeBy, MadeOrCut}
 use Rattle.vector_loop.specs.Outputs.{picture_bytes, sample_bytes, samples_bytes}
@@ -87,9 +89,8 @@ pub files-kept : {T O E : Type 0} (told_tree : T → Option Nodes) (before now :
     → FilesStay before.devices.now.root (told_tree before.tree.now) (told_tree now.tree.now)
 files-kept told_tree before now changes = record { stays = λ path outside there. rw changes.tree there }
 
-pub same_faults : {T O E : Type 0} (of_tree : T → ℕ) (of_out : O → ℕ) (of_err : E → ℕ) (a b : Bus T O E) → ChangesDevices a b
-    → bus_faults of_tree of_out of_err b ≡ bus_faults of_tree of_out of_err a
-same_faults of_tree of_out of_err a b others = rw (others.tree, others.out, others.err) refl
+pub same_faults : {T O E : Type 0} (meaning : Meaning T O E) (a b : Bus T O E) → ChangesDevices a b → bus_faults meaning b ≡ bus_faults meaning a
+same_faults meaning a b others = rw (others.tree, others.out, others.err) refl
 
 -- a piece appended outside the root part leaves each state that the bus stood for
 pub appended-still : {T O E : Type 0} (told_tree : T → Option Nodes) (a b : Bus T O E) (path piece : List ℕ) (r : Result (Unit {0}) Stop)
@@ -105,11 +106,11 @@ module _ {T O E : Type 0} (meaning : Meaning T O E) where
   pub makes-nothing : (before now : Bus T O E) → ChangesDevices before now → Makes meaning before now []
   makes-nothing before now changes = record {
     world = rw (changes.tree, changes.out, changes.err) refl;
-    remains = rw (changes.tree, changes.out, changes.err) (remains-all (sure_of meaning before) (meaning.tree before.tree.now));
+    remains = rw (changes.tree, changes.out, changes.err) (remains-all (outside_on meaning before).sure (meaning.tree.told before.tree.now));
   }
 
   by-where : (a b : Bus T O E) (changes other : DeviceState → List Change) (r : Result (Unit {0}) Stop)
-      → ((s : DeviceState) → BusStandsFor meaning.tree a s → other s ≡ changes s) → MadeBy meaning a b changes r → MadeBy meaning a b other r
+      → ((s : DeviceState) → BusStandsFor meaning.tree.told a s → other s ≡ changes s) → MadeBy meaning a b changes r → MadeBy meaning a b other r
   by-where a b changes other (Ok x) same made = record {
     makes = λ s stands. rw (same s stands) (made.makes s stands);
     stands = made.stands;
@@ -136,61 +137,70 @@ module _ {T O E : Type 0} (meaning : Meaning T O E) where
 
   -- the devices stand for the same, whatever was answered
   pub devices-kept : (a b : Bus T O E) (changes : DeviceState → List Change) (r : Result (Unit {0}) Stop) → MadeBy meaning a b changes r
-      → (s : DeviceState) → BusStandsFor meaning.tree a s → StandFor b.devices.now s
+      → (s : DeviceState) → BusStandsFor meaning.tree.told a s → StandFor b.devices.now s
   devices-kept a b changes (Ok x) made s stands = (made.stands s stands).devices
   devices-kept a b changes (Err stop) cut s stands = cut.devices s stands
 
   -- what the bus answered for a piece, with the stop that it names
-  pub appended : (a b : Bus T O E) (changes : List Change) (r : Result (Unit {0}) Stop) → OnOk r (Makes meaning a b changes)
-      → OnOk r ((s : DeviceState) → BusStandsFor meaning.tree a s → BusStandsFor meaning.tree b s) → OnErr r (r ≡ Err TreeFault)
-      → OnErr r (StopsShort meaning a b TreeFault changes) → b.devices.now ≡ a.devices.now → MadeBy meaning a b (λ s. changes) r
-  appended a b changes (Ok x) makes kept err cut devices = record {
-    makes = λ s stands. makes;
-    stands = kept;
-    height = ap (λ (d : Devices). d.screen.height) devices;
+  pub appended : (a b : Bus T O E) (changes : List Change) (r : Result (Unit {0}) Stop)
+      → Ended changes (blame_for r) (outside_on meaning a) (outside_on meaning b)
+      → OnOk r ((s : DeviceState) → BusStandsFor meaning.tree.told a s → BusStandsFor meaning.tree.told b s) → OnErr r (r ≡ Err TreeFault)
+      → b.devices.now ≡ a.devices.now → SameBus meaning.tree.told a b → MadeOrCut meaning a b (λ s. changes) r
+  appended a b changes (Ok x) done kept err devices same = record {
+    made = record {
+      makes = λ s stands. record { world = done.world; remains = done.remains };
+      stands = kept;
+      height = ap (λ (d : Devices). d.screen.height) devices;
+    };
+    ledger = done.ledger;
+    same = same;
   }
-  appended a b changes (Err stop) makes kept err cut devices =
-      let fault : stop ≡ TreeFault = cc in
-      record { cut = λ s stands. rw fault cut; devices = λ s stands. rw devices stands.devices; fault = fault }
+  appended a b changes (Err stop) short kept err devices same = record {
+    made = record {
+      cut = λ s stands. record { cut = short.cut; not_sure = short.not_sure };
+      devices = λ s stands. rw devices stands.devices;
+      fault = cc;
+    };
+    ledger = short.ledger;
+    same = same;
+  }
 
-module _ {T O E : Type 0} (meaning : Meaning T O E) (of_tree : T → ℕ) (of_out : O → ℕ) (of_err : E → ℕ) where
-  pub made-nothing : (bus : Bus T O E) → MadeOrCut meaning of_tree of_out of_err bus bus (λ s. []) (Ok (tt {0}))
+module _ {T O E : Type 0} (meaning : Meaning T O E) where
+  pub made-nothing : (bus : Bus T O E) → MadeOrCut meaning bus bus (λ s. []) (Ok (tt {0}))
   made-nothing bus = record {
     made = record { makes = λ s stands. makes-none meaning bus; stands = λ s stands. stands; height = refl };
     ledger = refl;
-    same = same-itself meaning.tree bus;
+    same = same-itself meaning.tree.told bus;
   }
 
   -- the devices stand for the same still, and nothing else changed
-  pub made-kept : (a b : Bus T O E) → ChangesDevices a b → ((s : DeviceState) → BusStandsFor meaning.tree a s → BusStandsFor meaning.tree b s)
-      → frames_begun b ≡ frames_begun a → (screen_of b).height ≡ (screen_of a).height → MadeOrCut meaning of_tree of_out of_err a b (λ s. []) (Ok (tt {0}))
+  pub made-kept : (a b : Bus T O E) → ChangesDevices a b → ((s : DeviceState) → BusStandsFor meaning.tree.told a s → BusStandsFor meaning.tree.told b s)
+      → frames_begun b ≡ frames_begun a → (screen_of b).height ≡ (screen_of a).height → MadeOrCut meaning a b (λ s. []) (Ok (tt {0}))
   made-kept a b others kept frames height = record {
     made = record { makes = λ s stands. makes-nothing meaning a b others; stands = kept; height = height };
-    ledger = same_faults of_tree of_out of_err a b others;
-    same = record { lent = others.lent; files = files-kept meaning.tree a b others; frames = frames; clock = others.clock; root = others.root };
+    ledger = same_faults meaning a b others;
+    same = record { lent = others.lent; files = files-kept meaning.tree.told a b others; frames = frames; clock = others.clock; root = others.root };
   }
 
   -- the same changes, in the states that the bus stood for
   pub made-where : (a b : Bus T O E) (changes other : DeviceState → List Change) (r : Result (Unit {0}) Stop)
-      → ((s : DeviceState) → BusStandsFor meaning.tree a s → other s ≡ changes s)
-      → MadeOrCut meaning of_tree of_out of_err a b changes r → MadeOrCut meaning of_tree of_out of_err a b other r
+      → ((s : DeviceState) → BusStandsFor meaning.tree.told a s → other s ≡ changes s)
+      → MadeOrCut meaning a b changes r → MadeOrCut meaning a b other r
   made-where a b changes other r same p = record { made = by-where meaning a b changes other r same p.made; ledger = p.ledger; same = p.same }
 
   -- changes, and then others, whatever these answer
   pub made-then : (a b c : Bus T O E) (first more : DeviceState → List Change) (r : Result (Unit {0}) Stop)
-      → MadeOrCut meaning of_tree of_out of_err a b first (Ok (tt {0})) → MadeOrCut meaning of_tree of_out of_err b c more r
-      → MadeOrCut meaning of_tree of_out of_err a c (λ s. first s ++ more s) r
-  made-then a b c first more r p q =
-      let faults : bus_faults of_tree of_out of_err b ≡ bus_faults of_tree of_out of_err a = p.ledger in
-      record {
-        made = by-then meaning a b c first more r p.made q.made;
-        ledger = rw (← faults) q.ledger;
-        same = same-again meaning.tree a b c p.same q.same;
-      }
+      → MadeOrCut meaning a b first (Ok (tt {0})) → MadeOrCut meaning b c more r
+      → MadeOrCut meaning a c (λ s. first s ++ more s) r
+  made-then a b c first more r p q = record {
+    made = by-then meaning a b c first more r p.made q.made;
+    ledger = ledger-then (bus_faults meaning a) (bus_faults meaning b) (bus_faults meaning c) (blame_of r) p.ledger q.ledger;
+    same = same-again meaning.tree.told a b c p.same q.same;
+  }
 
   -- not all of them, whatever would follow
-  pub made-first : (a b : Bus T O E) (first more : DeviceState → List Change) (stop : Stop) → MadeOrCut meaning of_tree of_out of_err a b first (Err stop)
-      → MadeOrCut meaning of_tree of_out of_err a b (λ s. first s ++ more s) (Err stop)
+  pub made-first : (a b : Bus T O E) (first more : DeviceState → List Change) (stop : Stop) → MadeOrCut meaning a b first (Err stop)
+      → MadeOrCut meaning a b (λ s. first s ++ more s) (Err stop)
   made-first a b first more stop p = record {
     made = record {
       cut = λ s stands. stops-first meaning a b stop (first s) (more s) (p.made.cut s stands);
@@ -204,16 +214,16 @@ module _ {T O E : Type 0} (meaning : Meaning T O E) (of_tree : T → ℕ) (of_ou
   -- bytes for one file, after which others are to come
   pub record Putting (before now : Bus T O E) (path : List ℕ) (whole rest : DeviceState → List ℕ) : Type 0 where
     pub done : DeviceState → List ℕ
-    pub made : MadeOrCut meaning of_tree of_out of_err before now (λ s. to_file path (done s)) (Ok (tt {0}))
-    pub parts : (s : DeviceState) → BusStandsFor meaning.tree before s → whole s ≡ done s ++ rest s
+    pub made : MadeOrCut meaning before now (λ s. to_file path (done s)) (Ok (tt {0}))
+    pub parts : (s : DeviceState) → BusStandsFor meaning.tree.told before s → whole s ≡ done s ++ rest s
 
   pub putting-start : (bus : Bus T O E) (path : List ℕ) (whole : DeviceState → List ℕ) → Putting bus bus path whole whole
   putting-start bus path whole = record { done = λ s. []; made = made-nothing bus; parts = λ s stands. refl }
 
   -- the next of them
   pub putting-more : (a b c : Bus T O E) (path : List ℕ) (whole rest piece later : DeviceState → List ℕ)
-      → ((s : DeviceState) → BusStandsFor meaning.tree a s → rest s ≡ piece s ++ later s)
-      → Putting a b path whole rest → MadeOrCut meaning of_tree of_out of_err b c (λ s. to_file path (piece s)) (Ok (tt {0})) → Putting a c path whole later
+      → ((s : DeviceState) → BusStandsFor meaning.tree.told a s → rest s ≡ piece s ++ later s)
+      → Putting a b path whole rest → MadeOrCut meaning b c (λ s. to_file path (piece s)) (Ok (tt {0})) → Putting a c path whole later
   putting-more a b c path whole rest piece later next putting made = record {
     done = λ s. putting.done s ++ piece s;
     made = made-where a c (λ s. to_file path (putting.done s) ++ to_file path (piece s)) (λ s. to_file path (putting.done s ++ piece s)) (Ok (tt {0}))
@@ -225,9 +235,9 @@ module _ {T O E : Type 0} (meaning : Meaning T O E) (of_tree : T → ℕ) (of_ou
 
   -- whatever the rest answers, the whole does
   pub putting-answers : (a b c : Bus T O E) (path : List ℕ) (whole rest : DeviceState → List ℕ) (more : DeviceState → List Change) (r : Result (Unit {0}) Stop)
-      → ((s : DeviceState) → BusStandsFor meaning.tree a s → to_file path (rest s) ≡ more s)
-      → Putting a b path whole rest → MadeOrCut meaning of_tree of_out of_err b c more r
-      → MadeOrCut meaning of_tree of_out of_err a c (λ s. to_file path (whole s)) r
+      → ((s : DeviceState) → BusStandsFor meaning.tree.told a s → to_file path (rest s) ≡ more s)
+      → Putting a b path whole rest → MadeOrCut meaning b c more r
+      → MadeOrCut meaning a c (λ s. to_file path (whole s)) r
   putting-answers a b c path whole rest more r same putting made =
       made-where a c (λ s. to_file path (putting.done s) ++ more s) (λ s. to_file path (whole s)) r
       (λ s stands. ap (to_file path) (putting.parts s stands) ∙ map-append (λ byte. ToFile path byte) (putting.done s) (rest s)
@@ -235,15 +245,15 @@ module _ {T O E : Type 0} (meaning : Meaning T O E) (of_tree : T → ℕ) (of_ou
       (made-then a b c (λ s. to_file path (putting.done s)) more r putting.made made)
 
   pub putting-end : (a b : Bus T O E) (path : List ℕ) (whole rest : DeviceState → List ℕ)
-      → ((s : DeviceState) → BusStandsFor meaning.tree a s → rest s ≡ []) → Putting a b path whole rest
-      → MadeOrCut meaning of_tree of_out of_err a b (λ s. to_file path (whole s)) (Ok (tt {0}))
+      → ((s : DeviceState) → BusStandsFor meaning.tree.told a s → rest s ≡ []) → Putting a b path whole rest
+      → MadeOrCut meaning a b (λ s. to_file path (whole s)) (Ok (tt {0}))
   putting-end a b path whole rest none putting =
       putting-answers a b b path whole rest (λ s. []) (Ok (tt {0})) (λ s stands. ap (to_file path) (none s stands)) putting (made-nothing b)
 
   pub putting-cut : (a b c : Bus T O E) (path : List ℕ) (whole rest piece later : DeviceState → List ℕ) (stop : Stop)
-      → ((s : DeviceState) → BusStandsFor meaning.tree a s → rest s ≡ piece s ++ later s)
-      → Putting a b path whole rest → MadeOrCut meaning of_tree of_out of_err b c (λ s. to_file path (piece s)) (Err stop)
-      → MadeOrCut meaning of_tree of_out of_err a c (λ s. to_file path (whole s)) (Err stop)
+      → ((s : DeviceState) → BusStandsFor meaning.tree.told a s → rest s ≡ piece s ++ later s)
+      → Putting a b path whole rest → MadeOrCut meaning b c (λ s. to_file path (piece s)) (Err stop)
+      → MadeOrCut meaning a c (λ s. to_file path (whole s)) (Err stop)
   putting-cut a b c path whole rest piece later stop next putting cut =
       putting-answers a b c path whole rest (λ s. to_file path (piece s) ++ to_file path (later s)) (Err stop)
       (λ s stands. ap (to_file path) (next s stands) ∙ map-append (λ byte. ToFile path byte) (piece s) (later s)) putting

@@ -72,7 +72,7 @@ module _ {T O E W H : Type 0} (meaning : Meaning T O E) (held : W → H) (shown 
 
   -- the first step of a part stopped
   stopped-here : (now after : Running T O E W) (stop : Stop) (devices : DeviceState) (step : Trail) (later : State → Trail)
-      → BusStandsFor meaning.tree now.bus devices → StepStopped meaning held shown refuses now after stop (state_of now devices) step
+      → BusStandsFor meaning.tree.told now.bus devices → StepStopped meaning held shown refuses now after stop (state_of now devices) step
       → StopsIn meaning held shown refuses now after stop (followed_by step later)
   stopped-here now after stop devices step later stands stopped = record {
     done = stays (state_of now devices);
@@ -99,7 +99,7 @@ module _ {T O E W H : Type 0} (meaning : Meaning T O E) (held : W → H) (shown 
           inr (record {
             stops = stopped;
             tally = refl;
-            watcher = watched (page_in state) (is_page meaning.tree now.bus state stands);
+            watcher = watched (page_in state) (is_page meaning.tree.told now.bus state stands);
             made = instruction-cut meaning now.core core_new now.bus bus_new stop devices stands stopped;
             names = λ wanted. instruction-names meaning now.core core_new now.bus bus_new devices stands (rw wanted at stopped);
           }),

@@ -1,8 +1,7 @@
 -- What a part of a run answers: it was done, or it stopped.
 use Rattle.std.specs.Prelude.{◌≡◌, ℕ, ◌+◌, ◌*◌, ◌^◌, ◌<◌, ◌≤◌, ◌⊎◌, Option, Result, Ok, Err}
 use Rattle.uxn_io.specs.Files.{Nodes}
-use Rattle.uxn_io.specs.Faults.{Counts, Ledger}
-use Rattle.varvara_bus.specs.declared.bus.Bus.{Bus}
+use Rattle.uxn_io.specs.Faults.{Ledger}
 use Rattle.uxn_opcodes.specs.declared.Core.{Core}
 use Rattle.uxn_opcodes.specs.declared.Stop.{Stop}
 use Rattle.uxn_opcodes.specs.declared.Stop.TheVariants.{NoMemory}
@@ -19,27 +18,15 @@ use Rattle.vector_loop.specs.Outputs.{OutputsThere}
 use Rattle.vector_loop.specs.Follows.{Running, running, FollowsFrom, HasGrown}
 use Rattle.vector_loop.specs.Stops.{StopsInFrom}
 
--- what trees, sinks and a watcher tell, and how they count
+-- what trees, sinks and a watcher tell
 pub record Telling (T O E W H : Type 0) : Type 1 where
   pub meaning : Meaning T O E
-  pub tree_faults : T → ℕ
-  pub out_faults : O → ℕ
-  pub err_faults : E → ℕ
   pub held : W → H
   pub shown : H → Core → Page → Moment → H
   pub may_refuse : Type 0
 
-abbrev pub telling_of : {T O E W H : Type 0} → Meaning T O E → (T → ℕ) → (O → ℕ) → (E → ℕ)
-    → (W → H) → (H → Core → Page → Moment → H) → Type 0 → Telling T O E W H
-telling_of meaning tree_faults out_faults err_faults held shown may_refuse = record {
-  meaning = meaning;
-  tree_faults = tree_faults;
-  out_faults = out_faults;
-  err_faults = err_faults;
-  held = held;
-  shown = shown;
-  may_refuse = may_refuse;
-}
+abbrev pub telling_of : {T O E W H : Type 0} → Meaning T O E → (W → H) → (H → Core → Page → Moment → H) → Type 0 → Telling T O E W H
+telling_of meaning held shown may_refuse = record { meaning = meaning; held = held; shown = shown; may_refuse = may_refuse }
 
 -- how much a part counts at most
 pub record Count : Type 0 where
@@ -95,10 +82,6 @@ pub record SameRunner {T O E W : Type 0} (told_tree : T → Option Nodes) (befor
   pub files : FilesStay before.bus.now.devices.now.root (told_tree before.bus.now.tree.now) (told_tree now.bus.now.tree.now)
 
 module _ {T O E W H : Type 0} (telling : Telling T O E W H) where
-  -- the faults counted of what a bus is lent
-  abbrev pub faults_of : Bus T O E → Counts
-  faults_of bus = bus_faults telling.tree_faults telling.out_faults telling.err_faults bus
-
   -- a part stopped within; memory was wanting only to the watcher, or where there is a root
   pub record Stopped (before now : Running T O E W) (part : State → Trail) (stop : Stop) : Type 0 where
     pub within : StopsInFrom telling.meaning telling.held telling.shown telling.may_refuse before now stop part
@@ -113,7 +96,7 @@ module _ {T O E W H : Type 0} (telling : Telling T O E W H) where
   pub record Answers {X : Type 0} (before now : Runner T O E W) (part : State → Trail) (most : Count) (result : Result X Stop)
       : Type 0 where
     pub reaches : Reaches (running_of before) (running_of now) part result
-    pub ledger : Ledger (faults_of before.bus.now) (faults_of now.bus.now) (blame_of result)
+    pub ledger : Ledger (bus_faults telling.meaning before.bus.now) (bus_faults telling.meaning now.bus.now) (blame_of result)
     pub grown : HasGrown before.tally now.tally most.vectors most.events before.budget
     pub frames : frames_begun now.bus.now ≤ frames_begun before.bus.now + most.events
-    pub same : SameRunner telling.meaning.tree before now
+    pub same : SameRunner telling.meaning.tree.told before now

@@ -1,5 +1,5 @@
 -- Where a run stopped: what was done whole before, and the one step that was not (profile).
-use Rattle.std.specs.Prelude.{◌≡◌, ℕ, List, ◌⊎◌, Option, IfSome, Err}
+use Rattle.std.specs.Prelude.{◌≡◌, ℕ, List, ◌++◌, ◌⊎◌, Option, IfSome, Err}
 use Rattle.uxn_io.specs.Files.{Nodes}
 use Rattle.uxn_opcodes.specs.declared.Core.{Core}
 use Rattle.uxn_opcodes.specs.declared.Stop.{Stop}
@@ -16,7 +16,7 @@ use Rattle.vector_loop.specs.State.{State, counting_event}
 use Rattle.vector_loop.specs.Trail.{Trail, makes, followed_by}
 use Rattle.vector_loop.specs.Outputs.{appended_to}
 use Rattle.vector_loop.specs.Vector.{instruction}
-use Rattle.vector_loop.specs.Watch.{Page, page_in, moment_of}
+use Rattle.vector_loop.specs.Watch.{Page, page_in, moment_of, shown_all}
 use Rattle.vector_loop.specs.Follows.{Running, running, state_of, Follows, FollowsFrom}
 
 -- a shot, whatever becomes of its picture, is counted, and else leaves the machine as it was
@@ -76,7 +76,7 @@ module _ {T O E W H : Type 0} (meaning : Meaning T O E) (held : W → H) (shown 
 
   -- the same from each state that the bus stood for
   pub record StopsInFrom (before now : Running T O E W) (stop : Stop) (part : State → Trail) : Type 0 where
-    pub from : (devices : DeviceState) → BusStandsFor meaning.tree before.bus devices
+    pub from : (devices : DeviceState) → BusStandsFor meaning.tree.told before.bus devices
         → StopsIn before now stop (part (state_of before devices))
 
   -- all of a trail was done, and then the watcher refused to be shown the end
@@ -90,3 +90,17 @@ module _ {T O E W H : Type 0} (meaning : Meaning T O E) (held : W → H) (shown 
       : Type 0 where
     pub tally : Tally
     pub stops : StopsInFrom before (running core bus tally watcher) stop part ⊎ EndRefused before (running core bus tally watcher) stop part
+
+  -- what the watcher was shown until a stop: these moments, a front of those of the trail, in order, and not the end. It holds what it is to
+  -- hold then, unless it refused
+  pub record ShownUntil (before now : Running T O E W) (stop : Stop) (trail : Trail) : Type 0 where
+    pub seen : List State
+    pub unseen : List State
+    pub front : trail.moments ≡ seen ++ unseen
+    pub watcher : W
+    pub holds : held watcher ≡ shown_all shown (held before.watcher) seen
+    pub left : (now.watcher ≡ watcher) ⊎ (refuses × (stop ≡ NoMemory))
+
+  pub record ShownUntilFrom (before now : Running T O E W) (stop : Stop) (part : State → Trail) : Type 0 where
+    pub from : (devices : DeviceState) → BusStandsFor meaning.tree.told before.bus devices
+        → ShownUntil before now stop (part (state_of before devices))

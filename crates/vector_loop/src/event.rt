@@ -43,8 +43,7 @@ impl<'r, 'a, T: Tree, O: Sink, E: Sink, W: Watcher> Runner<'r, 'a, T, O, E, W> {
     pub(crate) fn run_vector_in(&mut self, port: u8) -> Result<(), Stop>
         requires port { port < 255 }
         requires room { HasRoom self.old.tally self.old.budget (of_vectors 1) }
-        ensures { Answers (telling_of (meaning_of T.told O.told E.told T.sure O.sure E.sure)
-            T.faults O.faults E.faults W.held W.shown W.may_refuse) self.old self.new
+        ensures { Answers (telling_of (meaning_of T.Tree O.Sink E.Sink) W.held W.shown W.may_refuse) self.old self.new
             (vector_in self.old.budget port) (of_vectors 1) result }
     {
         let at = self.bus.stored_short(port);
@@ -58,8 +57,7 @@ impl<'r, 'a, T: Tree, O: Sink, E: Sink, W: Watcher> Runner<'r, 'a, T, O, E, W> {
     /// Gives the console a byte of a kind.
     pub(crate) fn give_console(&mut self, byte: u8, kind: EventKind) -> Result<(), Stop>
         requires { HasRoom self.old.tally self.old.budget (of_vectors 1) }
-        ensures { Answers (telling_of (meaning_of T.told O.told E.told T.sure O.sure E.sure)
-            T.faults O.faults E.faults W.held W.shown W.may_refuse) self.old self.new
+        ensures { Answers (telling_of (meaning_of T.Tree O.Sink E.Sink) W.held W.shown W.may_refuse) self.old self.new
             (console self.old.budget byte kind) (of_vectors 1) result }
     {
         self.bus.give(byte, kind);
@@ -69,8 +67,7 @@ impl<'r, 'a, T: Tree, O: Sink, E: Sink, W: Watcher> Runner<'r, 'a, T, O, E, W> {
     /// Gives the controller or the mouse an input, which is settled after its vector.
     fn give_device(&mut self, input: &Input) -> Result<(), Stop>
         requires { HasRoom self.old.tally self.old.budget (of_vectors 1) }
-        ensures { Answers (telling_of (meaning_of T.told O.told E.told T.sure O.sure E.sure)
-            T.faults O.faults E.faults W.held W.shown W.may_refuse) self.old self.new
+        ensures { Answers (telling_of (meaning_of T.Tree O.Sink E.Sink) W.held W.shown W.may_refuse) self.old self.new
             (device self.old.budget input.now) (of_vectors 1) result }
     {
         self.bus.apply(input);
@@ -88,8 +85,7 @@ impl<'r, 'a, T: Tree, O: Sink, E: Sink, W: Watcher> Runner<'r, 'a, T, O, E, W> {
         requires outputs { HasOutputs T.told outputs.now self.old }
         requires frames { event.now ≡ events.Frame → frames_begun self.old.bus.now < 1000000 }
         requires room { HasRoom self.old.tally self.old.budget (of_events 1) }
-        ensures answers { Answers (telling_of (meaning_of T.told O.told E.told T.sure O.sure E.sure)
-            T.faults O.faults E.faults W.held W.shown W.may_refuse) self.old self.new
+        ensures answers { Answers (telling_of (meaning_of T.Tree O.Sink E.Sink) W.held W.shown W.may_refuse) self.old self.new
             (give self.old.budget outputs.now event.now) (of_events 1) result }
         ensures shot { event.now ≡ events.Shot → ShotLeaves T.told (running_of self.old) (running_of self.new) }
     {
@@ -160,14 +156,14 @@ pub fn run_event<'a, T: Tree, O: Sink, E: Sink, W: Watcher>(
     requires miss_count { tally.old.misses ≤ 2 ^ 61 }
 
     // From each state that the bus stood for, all of the event was done, or a front of what it does.
-    ensures ok { OnOk result (FollowsFrom (meaning_of T.told O.told E.told T.sure O.sure E.sure) W.held W.shown
+    ensures ok { OnOk result (FollowsFrom (meaning_of T.Tree O.Sink E.Sink) W.held W.shown
         (running core.old bus.old tally.old watcher.old) (running core.new bus.new tally.new watcher.new) (give budget outputs.now event.now)) }
-    ensures err { IfErr result (λ stop. FallsShortFrom (meaning_of T.told O.told E.told T.sure O.sure E.sure) W.may_refuse
+    ensures err { IfErr result (λ stop. FallsShortFrom (meaning_of T.Tree O.Sink E.Sink) W.may_refuse
         (running core.old bus.old tally.old watcher.old) (running core.new bus.new tally.new watcher.new) stop (give budget outputs.now event.now)) }
     ensures grown { HasGrown tally.old tally.new 5 1 budget }
 
     // Where it stopped, all was done up to one instruction, or up to the picture or the samples that were appended.
-    ensures stopped { IfErr result (λ stop. StopsInFrom (meaning_of T.told O.told E.told T.sure O.sure E.sure) W.held W.shown W.may_refuse
+    ensures stopped { IfErr result (λ stop. StopsInFrom (meaning_of T.Tree O.Sink E.Sink) W.held W.shown W.may_refuse
         (running core.old bus.old tally.old watcher.old) (running core.new bus.new tally.new watcher.new) stop (give budget outputs.now event.now)) }
 
     // A shot is counted and changes nothing else of the machine, whatever is answered.
@@ -176,7 +172,8 @@ pub fn run_event<'a, T: Tree, O: Sink, E: Sink, W: Watcher>(
 
     // A fault comes only where its count rose; memory is wanting only to the watcher, or beneath a root where the event takes
     // the names of a folder.
-    ensures ledger { Ledger (bus_faults T.faults O.faults E.faults bus.old) (bus_faults T.faults O.faults E.faults bus.new) (blame_of result) }
+    ensures ledger { Ledger (bus_faults (meaning_of T.Tree O.Sink E.Sink) bus.old)
+        (bus_faults (meaning_of T.Tree O.Sink E.Sink) bus.new) (blame_of result) }
     ensures memory { IfErr result (λ stop. stop ≡ Stop.NoMemory → W.may_refuse ⊎ HasRoot bus.old.devices.now) }
     ensures lent { SameLent bus.old bus.new }
     ensures root { bus.new.devices.now.root ≡ bus.old.devices.now.root }

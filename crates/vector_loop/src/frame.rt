@@ -24,8 +24,7 @@ impl<'r, 'a, T: Tree, O: Sink, E: Sink, W: Watcher> Runner<'r, 'a, T, O, E, W> {
     fn run_ended(&mut self, ended: bool, voice: u8) -> Result<(), Stop>
         requires voice { voice < 4 }
         requires room { HasRoom self.old.tally self.old.budget (of_vectors 1) }
-        ensures { Answers (telling_of (meaning_of T.told O.told E.told T.sure O.sure E.sure)
-            T.faults O.faults E.faults W.held W.shown W.may_refuse) self.old self.new
+        ensures { Answers (telling_of (meaning_of T.Tree O.Sink E.Sink) W.held W.shown W.may_refuse) self.old self.new
             (unless_over (vector_where self.old.budget ended voice)) (of_vectors 1) result }
     {
         if self.is_over() {
@@ -40,8 +39,7 @@ impl<'r, 'a, T: Tree, O: Sink, E: Sink, W: Watcher> Runner<'r, 'a, T, O, E, W> {
     /// Runs the vectors of the voices whose notes have ended, in order, each unless the run is over.
     fn run_all_ended(&mut self, ended: &[bool; 4]) -> Result<(), Stop>
         requires { HasRoom self.old.tally self.old.budget (of_vectors 4) }
-        ensures { Answers (telling_of (meaning_of T.told O.told E.told T.sure O.sure E.sure)
-            T.faults O.faults E.faults W.held W.shown W.may_refuse) self.old self.new
+        ensures { Answers (telling_of (meaning_of T.Tree O.Sink E.Sink) W.held W.shown W.may_refuse) self.old self.new
             (ended_vectors self.old.budget ended.now) (of_vectors 4) result }
     {
         for voice in 0..4u8 {
@@ -54,8 +52,7 @@ impl<'r, 'a, T: Tree, O: Sink, E: Sink, W: Watcher> Runner<'r, 'a, T, O, E, W> {
     fn give_sound(&mut self, outputs: &Outputs) -> Result<(), Stop>
         requires outputs { HasOutputs T.told outputs.now self.old }
         requires room { HasRoom self.old.tally self.old.budget (of_vectors 4) }
-        ensures { Answers (telling_of (meaning_of T.told O.told E.told T.sure O.sure E.sure)
-            T.faults O.faults E.faults W.held W.shown W.may_refuse) self.old self.new
+        ensures { Answers (telling_of (meaning_of T.Tree O.Sink E.Sink) W.held W.shown W.may_refuse) self.old self.new
             (heard self.old.budget outputs.now) (of_vectors 4) result }
     {
         if outputs.samples.is_none() && self.bus.is_endless() {
@@ -71,8 +68,7 @@ impl<'r, 'a, T: Tree, O: Sink, E: Sink, W: Watcher> Runner<'r, 'a, T, O, E, W> {
     fn give_samples(&mut self, outputs: &Outputs) -> Result<(), Stop>
         requires outputs { HasOutputs T.told outputs.now self.old }
         requires room { HasRoom self.old.tally self.old.budget (of_vectors 4) }
-        ensures { Answers (telling_of (meaning_of T.told O.told E.told T.sure O.sure E.sure)
-            T.faults O.faults E.faults W.held W.shown W.may_refuse) self.old self.new
+        ensures { Answers (telling_of (meaning_of T.Tree O.Sink E.Sink) W.held W.shown W.may_refuse) self.old self.new
             (heard self.old.budget outputs.now) (of_vectors 4) result }
     {
         let mut samples = [0; 1470];
@@ -85,8 +81,7 @@ impl<'r, 'a, T: Tree, O: Sink, E: Sink, W: Watcher> Runner<'r, 'a, T, O, E, W> {
     pub(crate) fn show_and_sound(&mut self, outputs: &Outputs) -> Result<(), Stop>
         requires outputs { HasOutputs T.told outputs.now self.old }
         requires room { HasRoom self.old.tally self.old.budget (of_vectors 5) }
-        ensures { Answers (telling_of (meaning_of T.told O.told E.told T.sure O.sure E.sure)
-            T.faults O.faults E.faults W.held W.shown W.may_refuse) self.old self.new
+        ensures { Answers (telling_of (meaning_of T.Tree O.Sink E.Sink) W.held W.shown W.may_refuse) self.old self.new
             (shown_and_heard self.old.budget outputs.now) (of_vectors 5) result }
     {
         self.run_vector_in(SCREEN_VECTOR)?;

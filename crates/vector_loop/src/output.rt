@@ -34,7 +34,7 @@ fn append_to<'a, T: Tree, O: Sink, E: Sink>(
     bytes: &[u8],
 ) -> Result<(), Stop>
     requires there { IsOutput bus.old.devices.now.root (T.told bus.old.tree.now) path.now }
-    ensures { MadeOrCut (meaning_of T.told O.told E.told T.sure O.sure E.sure) T.faults O.faults E.faults bus.old bus.new
+    ensures { MadeOrCut (meaning_of T.Tree O.Sink E.Sink) bus.old bus.new
         (λ state. map (λ byte. ToFile path.now byte) bytes.now) result }
 {
     bus.append(path, bytes)
@@ -50,7 +50,7 @@ fn append_row<'a, T: Tree, O: Sink, E: Sink>(
 ) -> Result<(), Stop>
     requires there { IsOutput bus.old.devices.now.root (T.told bus.old.tree.now) path.now }
     requires row { y < (screen_of bus.old).height }
-    ensures { MadeOrCut (meaning_of T.told O.told E.told T.sure O.sure E.sure) T.faults O.faults E.faults bus.old bus.new
+    ensures { MadeOrCut (meaning_of T.Tree O.Sink E.Sink) bus.old bus.new
         (λ state. map (λ byte. ToFile path.now byte) (picture_row_of palette.now.colours state.picture y)) result }
 {
     let count = bus.screen().picture_row(y, palette, row);
@@ -63,7 +63,7 @@ fn append_picture<'a, T: Tree, O: Sink, E: Sink>(
     path: &Path,
 ) -> Result<(), Stop>
     requires there { IsOutput bus.old.devices.now.root (T.told bus.old.tree.now) path.now }
-    ensures { MadeOrCut (meaning_of T.told O.told E.told T.sure O.sure E.sure) T.faults O.faults E.faults bus.old bus.new
+    ensures { MadeOrCut (meaning_of T.Tree O.Sink E.Sink) bus.old bus.new
         (λ state. map (λ byte. ToFile path.now byte) (picture_bytes state)) result }
 {
     let palette = bus.palette();
@@ -84,7 +84,7 @@ pub(crate) fn keep_picture<'a, T: Tree, O: Sink, E: Sink>(
     output: &Option<Path>,
 ) -> Result<(), Stop>
     requires there { IfSome output.now (IsOutput bus.old.devices.now.root (T.told bus.old.tree.now)) }
-    ensures { MadeOrCut (meaning_of T.told O.told E.told T.sure O.sure E.sure) T.faults O.faults E.faults bus.old bus.new
+    ensures { MadeOrCut (meaning_of T.Tree O.Sink E.Sink) bus.old bus.new
         (λ state. appended_to output.now (picture_bytes state)) result }
 {
     match output {
@@ -115,7 +115,7 @@ pub(crate) fn keep_samples<'a, T: Tree, O: Sink, E: Sink>(
     samples: &[i16; 1470],
 ) -> Result<(), Stop>
     requires there { IfSome output.now (IsOutput bus.old.devices.now.root (T.told bus.old.tree.now)) }
-    ensures { MadeOrCut (meaning_of T.told O.told E.told T.sure O.sure E.sure) T.faults O.faults E.faults bus.old bus.new
+    ensures { MadeOrCut (meaning_of T.Tree O.Sink E.Sink) bus.old bus.new
         (λ state. appended_to output.now (samples_bytes (map short_of samples.now))) result }
 {
     match output {

@@ -47,8 +47,7 @@ impl<'r, 'a, T: Tree, O: Sink, E: Sink, W: Watcher> Runner<'r, 'a, T, O, E, W> {
         requires outputs { HasOutputs T.told outputs.now self.old }
         requires frames { frames_begun self.old.bus.now + (count_of gift).events ≤ 1000000 }
         requires room { HasRoom self.old.tally self.old.budget (count_of gift) }
-        ensures { Answers (telling_of (meaning_of T.told O.told E.told T.sure O.sure E.sure)
-            T.faults O.faults E.faults W.held W.shown W.may_refuse) self.old self.new
+        ensures { Answers (telling_of (meaning_of T.Tree O.Sink E.Sink) W.held W.shown W.may_refuse) self.old self.new
             (unless_over (given self.old.budget outputs.now gift)) (count_of gift) result }
     {
         if self.is_over() {
@@ -65,8 +64,7 @@ impl<'r, 'a, T: Tree, O: Sink, E: Sink, W: Watcher> Runner<'r, 'a, T, O, E, W> {
         requires outputs { HasOutputs T.told outputs.now self.old }
         requires frames { frames_begun self.old.bus.now + (counts_of giver).events ≤ 1000000 }
         requires room { HasRoom self.old.tally self.old.budget (counts_of giver) }
-        ensures { Answers (telling_of (meaning_of T.told O.told E.told T.sure O.sure E.sure)
-            T.faults O.faults E.faults W.held W.shown W.may_refuse) self.old self.new
+        ensures { Answers (telling_of (meaning_of T.Tree O.Sink E.Sink) W.held W.shown W.may_refuse) self.old self.new
             (give_each (given self.old.budget outputs.now) giver.entry) (counts_of giver.entry) result }
     {
         while let Some(gift) = giver.take() {
@@ -80,8 +78,7 @@ impl<'r, 'a, T: Tree, O: Sink, E: Sink, W: Watcher> Runner<'r, 'a, T, O, E, W> {
         requires outputs { HasOutputs T.told outputs.now self.old }
         requires frames { frames_begun self.old.bus.now + length script.now.events ≤ 1000000 }
         requires room { HasRoom self.old.tally self.old.budget (most_of script.now) }
-        ensures { Answers (telling_of (meaning_of T.told O.told E.told T.sure O.sure E.sure)
-            T.faults O.faults E.faults W.held W.shown W.may_refuse) self.old self.new
+        ensures { Answers (telling_of (meaning_of T.Tree O.Sink E.Sink) W.held W.shown W.may_refuse) self.old self.new
             (run self.old.budget outputs.now script.now) (most_of script.now) result }
     {
         make_ready(self.bus, script.args());
@@ -102,11 +99,9 @@ impl<'r, 'a, T: Tree, O: Sink, E: Sink, W: Watcher> Runner<'r, 'a, T, O, E, W> {
             instructions: self.tally.instructions,
             address: self.core.at,
         };
-        // Written out, since a watcher's want of memory has to become a `Stop`, which no conversion does.
-        match self.watcher.finish(self.core, self.bus, moment) {
-            Ok(()) => Ok(()),
-            Err(_) => Err(Stop::NoMemory),
-        }
+        self.watcher
+            .finish(self.core, self.bus, moment)
+            .map_err(|_| Stop::NoMemory)
     }
 }
 
@@ -137,18 +132,19 @@ pub fn run_script<'a, T: Tree, O: Sink, E: Sink, W: Watcher>(
     requires budget { 1 ≤ budget }
 
     // From each state that the bus stood for, all of the run was done, or a front of what it does.
-    ensures ok { IfOk result (λ tally. EndsFrom (meaning_of T.told O.told E.told T.sure O.sure E.sure) W.held W.shown W.ended
+    ensures ok { IfOk result (λ tally. EndsFrom (meaning_of T.Tree O.Sink E.Sink) W.held W.shown W.ended
         (running core.old bus.old new_tally watcher.old) (running core.new bus.new tally watcher.new) (run budget outputs.now script.now)) }
-    ensures err { IfErr result (λ stop. FallsShortFrom (meaning_of T.told O.told E.told T.sure O.sure E.sure) W.may_refuse
+    ensures err { IfErr result (λ stop. FallsShortFrom (meaning_of T.Tree O.Sink E.Sink) W.may_refuse
         (running core.old bus.old new_tally watcher.old) (running core.new bus.new new_tally watcher.new) stop (run budget outputs.now script.now)) }
 
     // Where it stopped, all was done up to one instruction, or to the picture or the samples that were appended, or to the end.
-    ensures stopped { IfErr result (λ stop. RunStops (meaning_of T.told O.told E.told T.sure O.sure E.sure) W.held W.shown W.may_refuse
+    ensures stopped { IfErr result (λ stop. RunStops (meaning_of T.Tree O.Sink E.Sink) W.held W.shown W.may_refuse
         (running core.old bus.old new_tally watcher.old) core.new bus.new watcher.new stop (run budget outputs.now script.now)) }
 
     // A fault comes only where its count rose; memory is wanting only to the watcher, or beneath a root where the run takes
     // the names of a folder.
-    ensures ledger { Ledger (bus_faults T.faults O.faults E.faults bus.old) (bus_faults T.faults O.faults E.faults bus.new) (blame_of result) }
+    ensures ledger { Ledger (bus_faults (meaning_of T.Tree O.Sink E.Sink) bus.old)
+        (bus_faults (meaning_of T.Tree O.Sink E.Sink) bus.new) (blame_of result) }
     ensures memory { IfErr result (λ stop. stop ≡ Stop.NoMemory → W.may_refuse ⊎ HasRoot bus.old.devices.now) }
     ensures lent { SameLent bus.old bus.new }
     ensures files { OnOk result (FilesStay bus.old.devices.now.root (T.told bus.old.tree.now) (T.told bus.new.tree.now)) }

@@ -37,26 +37,27 @@ fn run_instructions<'a, T: Tree, O: Sink, E: Sink, W: Watcher>(
     requires budget { 1 ≤ budget }
     requires room { start + budget < 2 ^ 64 }
     ensures left { result.left ≤ budget }
-    ensures whole { RanWhole (bus_rules (meaning_of T.told O.told E.told T.sure O.sure E.sure)) W.may_refuse budget core.old bus.old
+    ensures whole { RanWhole (bus_rules (meaning_of T.Tree O.Sink E.Sink)) W.may_refuse budget core.old bus.old
         result.end core.new bus.new (with_break result.end (budget - result.left)) }
     ensures broke { result.end ≡ Ok VectorEnd.Broke → (before : Tally) → before.instructions ≡ start
-        → FollowsFrom (meaning_of T.told O.told E.told T.sure O.sure E.sure) W.held W.shown (running core.old bus.old before watcher.old)
+        → FollowsFrom (meaning_of T.Tree O.Sink E.Sink) W.held W.shown (running core.old bus.old before watcher.old)
         (running core.new bus.new (record before { instructions = start + (budget - result.left) + 1 }) watcher.new) (instructions budget) }
     ensures broke_end { result.end ≡ Ok VectorEnd.Broke → (before : Tally) → before.instructions ≡ start
         → (devices : DeviceState) → BusStandsFor T.told bus.old devices
         → breaks budget (state_of (running core.old bus.old before watcher.old) devices) ≡ true }
     ensures cut { result.end ≡ Ok VectorEnd.Cut → (before : Tally) → before.instructions ≡ start
-        → FollowsFrom (meaning_of T.told O.told E.told T.sure O.sure E.sure) W.held W.shown (running core.old bus.old before watcher.old)
+        → FollowsFrom (meaning_of T.Tree O.Sink E.Sink) W.held W.shown (running core.old bus.old before watcher.old)
         (running core.new bus.new (record before { instructions = start + (budget - result.left); cuts = before.cuts + 1 }) watcher.new)
         (instructions budget) }
     ensures cut_end { result.end ≡ Ok VectorEnd.Cut → (before : Tally) → before.instructions ≡ start
         → (devices : DeviceState) → BusStandsFor T.told bus.old devices
         → breaks budget (state_of (running core.old bus.old before watcher.old) devices) ≡ false }
     ensures err { IfErr result.end (λ stop. (before : Tally) → before.instructions ≡ start
-        → StopsInFrom (meaning_of T.told O.told E.told T.sure O.sure E.sure) W.held W.shown W.may_refuse
+        → StopsInFrom (meaning_of T.Tree O.Sink E.Sink) W.held W.shown W.may_refuse
         (running core.old bus.old before watcher.old)
         (running core.new bus.new (record before { instructions = start + (budget - result.left) }) watcher.new) stop (instructions budget)) }
-    ensures ledger { Ledger (bus_faults T.faults O.faults E.faults bus.old) (bus_faults T.faults O.faults E.faults bus.new) (blame_of result.end) }
+    ensures ledger { Ledger (bus_faults (meaning_of T.Tree O.Sink E.Sink) bus.old)
+        (bus_faults (meaning_of T.Tree O.Sink E.Sink) bus.new) (blame_of result.end) }
     ensures memory { IfErr result.end (λ stop. stop ≡ Stop.NoMemory → W.may_refuse ⊎ HasRoot bus.old.devices.now) }
     ensures same { SameBus T.told bus.old bus.new }
 {
@@ -102,12 +103,11 @@ impl<'r, 'a, T: Tree, O: Sink, E: Sink, W: Watcher> Runner<'r, 'a, T, O, E, W> {
     /// Runs instructions from an address on, up to and with the first BRK, or as many as the budget allows.
     pub(crate) fn run_vector(&mut self, at: u16) -> Result<VectorEnd, Stop>
         requires { HasRoom self.old.tally self.old.budget (of_vectors 1) }
-        ensures answers { Answers (telling_of (meaning_of T.told O.told E.told T.sure O.sure E.sure)
-            T.faults O.faults E.faults W.held W.shown W.may_refuse) self.old self.new
+        ensures answers { Answers (telling_of (meaning_of T.Tree O.Sink E.Sink) W.held W.shown W.may_refuse) self.old self.new
             (vector self.old.budget at) (of_vectors 1) result }
         ensures end { IfOk result (λ end. (devices : DeviceState) → BusStandsFor T.told self.old.bus.now devices
             → end ≡ vector_end self.old.budget at (state_of (running_of self.old) devices)) }
-        ensures counted { CountsWhole (bus_rules (meaning_of T.told O.told E.told T.sure O.sure E.sure)) W.may_refuse self.old.budget
+        ensures counted { CountsWhole (bus_rules (meaning_of T.Tree O.Sink E.Sink)) W.may_refuse self.old.budget
             (record self.old.core.now { at = at }) self.old.bus.now result self.new.core.now self.new.bus.now self.old.tally self.new.tally }
         ensures same { SameBus T.told self.old.bus.now self.new.bus.now }
     {
@@ -150,23 +150,24 @@ pub fn run_vector<'a, T: Tree, O: Sink, E: Sink, W: Watcher>(
     requires cuts { tally.old.cuts ≤ 2 ^ 62 }
 
     // From each state that the bus stood for, all of the vector was done, or a front of what it does.
-    ensures ok { OnOk result (FollowsFrom (meaning_of T.told O.told E.told T.sure O.sure E.sure) W.held W.shown
+    ensures ok { OnOk result (FollowsFrom (meaning_of T.Tree O.Sink E.Sink) W.held W.shown
         (running core.old bus.old tally.old watcher.old) (running core.new bus.new tally.new watcher.new) (vector budget at)) }
     ensures end { IfOk result (λ end. (devices : DeviceState) → BusStandsFor T.told bus.old devices
         → end ≡ vector_end budget at (state_of (running core.old bus.old tally.old watcher.old) devices)) }
-    ensures err { IfErr result (λ stop. FallsShortFrom (meaning_of T.told O.told E.told T.sure O.sure E.sure) W.may_refuse
+    ensures err { IfErr result (λ stop. FallsShortFrom (meaning_of T.Tree O.Sink E.Sink) W.may_refuse
         (running core.old bus.old tally.old watcher.old) (running core.new bus.new tally.new watcher.new) stop (vector budget at)) }
 
     // Where it stopped, all was done up to one instruction, before which the watcher refused, or which stopped at a write.
-    ensures stopped { IfErr result (λ stop. StopsInFrom (meaning_of T.told O.told E.told T.sure O.sure E.sure) W.held W.shown W.may_refuse
+    ensures stopped { IfErr result (λ stop. StopsInFrom (meaning_of T.Tree O.Sink E.Sink) W.held W.shown W.may_refuse
         (running core.old bus.old tally.old watcher.old) (running core.new bus.new tally.new watcher.new) stop (vector budget at)) }
 
     // Whatever the ports are and whatever is answered, at most `budget` instructions ran whole, and exactly so many are counted.
-    ensures counted { CountsWhole (bus_rules (meaning_of T.told O.told E.told T.sure O.sure E.sure)) W.may_refuse budget
+    ensures counted { CountsWhole (bus_rules (meaning_of T.Tree O.Sink E.Sink)) W.may_refuse budget
         (record core.old { at = at }) bus.old result core.new bus.new tally.old tally.new }
 
     // Memory is wanting only to the watcher or where there is a root, and a fault comes only where its count rose.
-    ensures ledger { Ledger (bus_faults T.faults O.faults E.faults bus.old) (bus_faults T.faults O.faults E.faults bus.new) (blame_of result) }
+    ensures ledger { Ledger (bus_faults (meaning_of T.Tree O.Sink E.Sink) bus.old)
+        (bus_faults (meaning_of T.Tree O.Sink E.Sink) bus.new) (blame_of result) }
     ensures memory { IfErr result (λ stop. stop ≡ Stop.NoMemory → W.may_refuse ⊎ HasRoot bus.old.devices.now) }
     ensures same { SameBus T.told bus.old bus.new }
 {

@@ -1,7 +1,8 @@
--- So many bytes of the file are in memory, and the tree is as it was.
-use Rattle.std.proofs.Common.{◌≡◌, ◌≤◌, ◌-◌, IfSome, take}
+-- So many bytes of the file are in memory, and the tree was only looked at.
+use Rattle.std.proofs.Common.{◌≤◌, ◌-◌, IfSome, take, false}
 use Rattle.uxn_io.specs.Files.{bytes_from}
-use Rattle.uxn_io.specs.Room.{Leaves}
+use Rattle.uxn_io.specs.State.{tree_state}
+use Rattle.uxn_io.specs.Ended.{TreeLooked}
 use Rattle.file_ports.specs.Answers.{GivesPiece}
 use Rattle.file_ports.proofs.ReadLemmas.{HasPut}
 use Rattle.file_ports.proofs.reading.put_file.Given as goal
@@ -11,9 +12,7 @@ invariant-loop-done g l = record {
   within : l.done ≤ l.count;
   told : IfSome (g.T.Tree.told l.fn.tree) (λ nodes. GivesPiece (take l.done (bytes_from nodes l.path l.place)) l.fn.memory l.at l.done l.memory);
   put : HasPut l.fn.memory l.at l.done l.memory;
-  same : g.T.Tree.told l.tree ≡ g.T.Tree.told l.fn.tree;
-  faults : g.T.Tree.faults l.tree ≡ g.T.Tree.faults l.fn.tree;
-  left : Leaves (g.T.Tree.sure l.fn.tree) (g.T.Tree.sure l.tree) 0 0;
+  tree : TreeLooked false (tree_state g.T.Tree l.fn.tree) (tree_state g.T.Tree l.tree);
 }
 
 abbrev pub decreases-loop-done : goal.decreases-loop-done

@@ -1,33 +1,27 @@
-use Rattle.std.proofs.Common.{map as list_map}
-use Rattle.uxn_io.specs.Outside.{ToFile}
-use Rattle.uxn_io.proofs.AppendLemmas.{on_err}
-use Rattle.file_ports.proofs.WriteLemmas.{begin-more, all-added, front-added}
-use Rattle.file_ports.proofs.RoomLemmas.{takes_start, adds_surely, adds_left}
+use Rattle.std.proofs.Common.{◌≡◌, Err, Ok, rules}
+use Rattle.file_ports.specs.CallLaws.{appending}
+use Rattle.file_ports.proofs.ChangeLemmas.{added-first, added-none, added-all}
 use Rattle.file_ports.proofs.writing.add.Goals as goal
 
-pub returns-in_err-begin-clause-front : goal.returns-in_err-begin-clause-front
-returns-in_err-begin-clause-front g c =
-    on_err c.from_residual.result _
-    (begin-more _ _ c.args.path.now c.args.is_writing c.args.keep (list_map (λ byte. ToFile c.args.path.now byte) c.args.piece.now) c.in_err-begin.ensures.front)
+pub returns-in_err-begin-clause-tree : goal.returns-in_err-begin-clause-tree
+returns-in_err-begin-clause-tree g c =
+    let result : c.from_residual.result ≡ Err c.in_err-begin.field-0.0 = search rules in
+    rw result (added-first c.args.path.now c.args.is_writing c.args.keep _ _ (appending c.args.path.now c.args.piece.now) c.in_err-begin.ensures.tree)
 
-pub returns-in_err-append_all-clause-front : goal.returns-in_err-append_all-clause-front
-returns-in_err-append_all-clause-front g c =
-    on_err c.from_residual-in_err-append_all.result _
-    (front-added _ _ _ c.args.path.now c.args.piece.now c.args.is_writing c.args.keep c.in_ok-begin.field-0 c.in_ok-begin.ensures.begun c.if-not-branch.false c.in_err-append_all.ensures.err)
+pub returns-then-not-branch-clause-tree : goal.returns-then-not-branch-clause-tree
+returns-then-not-branch-clause-tree g c =
+    added-none c.args.path.now c.args.is_writing c.args.keep _ _ (appending c.args.path.now c.args.piece.now) c.in_ok-begin.field-0 c.in_ok-begin.ensures.begun
+    c.if-not-branch.true c.in_ok-begin.ensures.tree
 
-pub returns-clause-added : goal.returns-clause-added
-returns-clause-added g c =
-    all-added _ _ _ c.args.path.now c.args.piece.now c.args.is_writing c.args.keep c.in_ok-begin.field-0 c.in_ok-begin.ensures.begun c.if-not-branch.false c.in_ok-append_all.ensures.ok
+pub returns-in_err-append_all-clause-tree : goal.returns-in_err-append_all-clause-tree
+returns-in_err-append_all-clause-tree g c =
+    let result : c.from_residual-in_err-append_all.result ≡ Err c.in_err-append_all.field-0.0 = search rules in
+    rw result (added-all c.args.path.now c.args.is_writing c.args.keep _ _ _ c.args.piece.now c.in_ok-begin.field-0 (Err c.in_err-append_all.field-0.0)
+    c.in_ok-begin.ensures.begun c.if-not-branch.false c.in_ok-begin.ensures.tree tt c.in_err-append_all.ensures.err c.in_err-append_all.ensures.ledger
+    c.in_err-append_all.ensures.sure tt)
 
-pub returns-in_err-begin-clause-sure : goal.returns-in_err-begin-clause-sure
-returns-in_err-begin-clause-sure g c =
-    takes_start _ c.args.path.now c.args.is_writing c.args.keep (list_map (λ byte. ToFile c.args.path.now byte) c.args.piece.now) _ _ c.in_err-begin.ensures.sure
-
-pub returns-in_err-append_all-clause-sure : goal.returns-in_err-append_all-clause-sure
-returns-in_err-append_all-clause-sure g c =
-    adds_surely _ _ c.args.path.now c.args.piece.now c.args.is_writing c.args.keep c.in_ok-begin.field-0 _ _ _ c.in_ok-begin.ensures.begun c.if-not-branch.false c.in_ok-begin.ensures.left
-    c.in_err-append_all.ensures.sure
-
-pub returns-clause-left : goal.returns-clause-left
-returns-clause-left g c =
-    adds_left _ _ c.args.path.now c.args.piece.now c.args.is_writing c.args.keep c.in_ok-begin.field-0 _ _ _ c.in_ok-begin.ensures.begun c.in_ok-begin.ensures.left c.in_ok-append_all.ensures.left
+pub returns-clause-tree : goal.returns-clause-tree
+returns-clause-tree g c =
+    added-all c.args.path.now c.args.is_writing c.args.keep _ _ _ c.args.piece.now c.in_ok-begin.field-0 (Ok c.in_ok-append_all.field-0)
+    c.in_ok-begin.ensures.begun c.if-not-branch.false c.in_ok-begin.ensures.tree c.in_ok-append_all.ensures.ok tt c.in_ok-append_all.ensures.ledger
+    c.in_ok-append_all.ensures.sure c.in_ok-append_all.ensures.left

@@ -19,11 +19,7 @@ pub returns-in-Ok : goal.returns-in-Ok
 returns-in-Ok c =
     let machine = c.args.machine.now in
     let root : machine.devices.root ≡ None = (c.requires.devices fin.empty false).root in
-    let ran = c.in-Ok.ensures.ok no_home (sym root) (refl, refl) in
+    let ran = c.in-Ok.ensures.runs.from no_home (sym root) (refl, refl) in
     let before = world_now c.in_ok-tree.tree.held.nodes c.args.out.now.taken c.new-err.result.taken in
     let begun : before ≡ empty_world = rw (c.in_ok-tree.ensures, c.requires.empty, c.new-err.ensures) refl in
-    record {
-      exit = ran.exit;
-      tally = ran.tally;
-      bytes = has-console (lone_trail machine.core machine.script) _ before _ ran.done.world begun refl;
-    }
+    record { ends = ran.ends; bytes = has-console (lone_trail machine.core machine.script) _ before _ ran.made.world begun refl }

@@ -2,9 +2,7 @@ use Rattle.std.proofs.Common.{◌≡◌, ◌∙◌, ap, refl, subst}
 use Rattle.std.proofs.lemmas.Result.{IfOk-weaker}
 use Rattle.vector_loop.specs.Trail.{Trail}
 use Rattle.uxn_workload.specs.Summary.{summary_text}
-use Rattle.uxn_cli.specs.Ended.{HasRunAlone}
-use Rattle.uxn_cli.specs.Workload.{lone_trail, workload_trail, workload_text}
-use Rattle.uxn_cli.proofs.WorkloadLemmas.{same-told}
+use Rattle.uxn_cli.specs.Workload.{HasRunAlone, lone_trail, workload_trail, workload_text, told_by, told_of}
 use Rattle.uxn_cli.proofs.generating.run_workload.Goals as goal
 
 pub run_alone-requires-clause-devices : goal.run_alone-requires-clause-devices
@@ -15,8 +13,8 @@ unfolding workload_text
 returns c =
     let trail : lone_trail c.in_ok-machine.machine.core c.in_ok-machine.machine.script ≡ workload_trail c.args.rom.now c.args.script =
     rw (c.in_ok-machine.ensures.script, c.in_ok-machine.ensures.core) refl in
-    let Ran : Trail → Type 0 = λ t. HasRunAlone t c.in_ok-ended.ended c.run_alone.new.out.taken in
-    let ran = subst Ran trail c.in_ok-ended.ensures in
-    let told = same-told c.args.source.now c.args.rom.now c.run_alone.new.out.taken c.in_ok-ended.ended
-    (workload_trail c.args.rom.now c.args.script) ran.exit ran.tally ran.bytes in
+    let Ran : Trail → Type 0 = λ t. HasRunAlone t c.in_ok-end.end c.run_alone.new.out.taken in
+    let ran = subst Ran trail c.in_ok-end.ensures in
+    let told : told_by c.args.source.now c.args.rom.now c.in_ok-end.end c.run_alone.new.out.taken ≡ told_of c.args.source.now c.args.rom.now (workload_trail c.args.rom.now c.args.script) =
+    rw (ran.ends, ran.bytes) refl in
     IfOk-weaker c.sum_up.result _ _ (λ text is. is ∙ ap summary_text told) c.sum_up.ensures

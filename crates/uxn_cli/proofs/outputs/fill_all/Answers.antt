@@ -1,34 +1,45 @@
-use Rattle.std.proofs.Common.{◌≡◌, ◌∙◌, ap, rules}
-use Rattle.std.specs.Prelude.{Err, option_map}
-use Rattle.uxn_io.specs.Changes.{with_appended}
+use Rattle.std.proofs.Common.{◌≡◌, true, false, sym, subst, append-nil, rules}
+use Rattle.std.specs.Prelude.{Ok, Err}
+use Rattle.std.proofs.lemmas.List.{take_all}
+use Rattle.uxn_io.specs.State.{tree_state}
 use Rattle.uxn_cli.specs.Outputs.{seen_texts}
-use Rattle.uxn_cli.proofs.OutputLemmas.{file_here, filled_more, filled_front, keep_files}
-use Rattle.uxn_cli.proofs.SureLemmas.{leaves_same, sure_filled}
+use Rattle.uxn_cli.specs.Prepared.{TreeDid}
+use Rattle.uxn_cli.proofs.DidLemmas.{did-none, did-next, did-stop, appended, fills, fills-both}
+use Rattle.uxn_cli.proofs.OutputLemmas.{file_here, keep_files}
 use Rattle.uxn_cli.proofs.outputs.fill_all.Goals as goal
+
+pub loop-output-init : goal.loop-output-init
+loop-output-init g c = record { did = did-none (tree_state g.T.Tree c.args.tree.now); files = c.requires }
 
 pub append_all-requires : goal.append_all-requires
 append_all-requires g c =
     file_here c.args.outputs.now c.loop-output.output-index c.output-item.result c.loop-output-test.true c.output-item.is (g.T.Tree.told c.loop-output.tree) c.loop-output.invariant.files
 
-pub returns-in_err-append_all-clause-err : goal.returns-in_err-append_all-clause-err
-returns-in_err-append_all-clause-err g c =
+pub returns-in_err-append_all : goal.returns-in_err-append_all
+returns-in_err-append_all g c =
+    let output = c.output-item.result in
+    let put = rw c.deref.ensures.value at c.in_err-append_all.ensures in
+    let here = tree_state g.T.Tree c.loop-output.tree in
+    let now = tree_state g.T.Tree c.append_all.new.tree in
     let result : c.from_residual.result ≡ Err c.in_err-append_all.field-0.0 = search rules in
-    rw result (filled_front c.args.outputs.now c.loop-output.output-index c.output-item.result c.loop-output-test.true c.output-item.is _ _ _ _
-    c.loop-output.invariant.filled c.deref.ensures.value c.in_err-append_all.ensures.err)
+    rw result (did-stop c.args.outputs.now c.loop-output.output-index output c.loop-output-test.true c.output-item.is fills fills-both _ here now c.loop-output.invariant.did
+    (subst (λ all. TreeDid all true here now) (sym (append-nil _))
+    (appended output.path output.bytes.items here now (Err c.in_err-append_all.field-0.0) put.ok put.err put.ledger put.sure put.left)))
 
 pub loop-output-preserved : goal.loop-output-preserved
 loop-output-preserved g c =
     let output = c.output-item.result in
-    let told = c.in_ok-append_all.ensures.ok ∙ ap (λ piece. option_map (with_appended output.path piece) (g.T.Tree.told c.loop-output.tree)) c.deref.ensures.value in
+    let put = rw c.deref.ensures.value at c.in_ok-append_all.ensures in
+    let here = tree_state g.T.Tree c.loop-output.tree in
+    let now = tree_state g.T.Tree c.append_all.new.tree in
     record {
-      filled = filled_more c.args.outputs.now c.loop-output.output-index output c.loop-output-test.true c.output-item.is _ _ _ c.loop-output.invariant.filled told;
-      files = keep_files (seen_texts c.args.outputs.now) output.path output.bytes.items _ _ told c.loop-output.invariant.files;
-      faults = c.in_ok-append_all.ensures.ledger ∙ c.loop-output.invariant.faults;
-      left = leaves_same _ _ _ c.loop-output.invariant.left c.in_ok-append_all.ensures.left;
+      did = did-next c.args.outputs.now c.loop-output.output-index output c.loop-output-test.true c.output-item.is fills fills-both _ here now c.loop-output.invariant.did
+          (subst (λ all. TreeDid all false here now) (sym (append-nil _))
+          (appended output.path output.bytes.items here now (Ok tt) put.ok put.err put.ledger put.sure put.left));
+      files = keep_files (seen_texts c.args.outputs.now) output.path output.bytes.items _ _ put.ok c.loop-output.invariant.files;
     }
 
-pub returns-in_err-append_all-clause-sure : goal.returns-in_err-append_all-clause-sure
-returns-in_err-append_all-clause-sure g c =
-    let result : c.from_residual.result ≡ Err c.in_err-append_all.field-0.0 = search rules in
-    rw result (sure_filled c.args.outputs.now c.loop-output.output-index c.output-item.result c.loop-output-test.true c.output-item.is _ _ _ _ _ _
-    c.loop-output.invariant.filled c.deref.ensures.value c.loop-output.invariant.left c.in_err-append_all.ensures.sure)
+pub returns : goal.returns
+returns g c =
+    subst (λ os. TreeDid (fills os) false (tree_state g.T.Tree c.args.tree.now) (tree_state g.T.Tree c.loop-output.tree))
+    (take_all c.loop-output.output-index c.args.outputs.now c.loop-output-test.false) c.loop-output.invariant.did

@@ -1,48 +1,46 @@
-use Rattle.std.proofs.Common.{◌≡◌, rules}
-use Rattle.std.specs.Prelude.{Err}
-use Rattle.uxn_cli.specs.Outside.{tree_seen, sink_seen, outside}
-use Rattle.uxn_cli.specs.Prepared.{debugger_in}
-use Rattle.uxn_cli.proofs.RunLemmas.{does-unmade, does-run, does-cut, ready-files, session-log, same-blame}
+use Rattle.std.proofs.Common.{◌≡◌, ◌∙◌, ap, subst, rules}
+use Rattle.std.specs.Prelude.{Err, Ok}
+use Rattle.uxn_io.specs.State.{tree_state, sink_state}
+use Rattle.uxn_cli.specs.Outputs.{paths_of}
+use Rattle.uxn_cli.specs.Prepared.{MakesOutputs}
+use Rattle.uxn_cli.proofs.RunLemmas.{does-unmade, does-run, ready-files, ready-log}
 use Rattle.uxn_cli.proofs.playing.run.Goals as goal
 
 pub returns-in_err-make_outputs-clause-does : goal.returns-in_err-make_outputs-clause-does
 returns-in_err-make_outputs-clause-does g c =
     let ready = rw (← c.included.ensures) at c.requires.ready.ready in
     let result : c.from_residual.result ≡ Err c.in_err-make_outputs.field-0.0 = search rules in
-    rw result (does-unmade c.args.task.now (tree_seen g.T.Tree.told g.T.Tree.sure g.T.Tree.faults c.args.tree.now) _ c.included.result.now ready.planned
-    (tree_seen g.T.Tree.told g.T.Tree.sure g.T.Tree.faults c.make_outputs.new.tree)
-    (sink_seen g.O.Sink.told g.O.Sink.sure g.O.Sink.faults c.args.out.now) (sink_seen g.E.Sink.told g.E.Sink.sure g.E.Sink.faults c.args.err.now)
-    c.in_err-make_outputs.field-0.0 c.in_err-make_outputs.ensures.makes c.in_err-make_outputs.ensures.ledger c.in_err-make_outputs.ensures.sure c.in_err-make_outputs.ensures.takes)
+    rw result (does-unmade c.args.task.now (tree_state g.T.Tree c.args.tree.now) _ c.included.result.now ready.planned
+    (tree_state g.T.Tree c.make_outputs.new.tree) (sink_state g.O.Sink c.args.out.now) (sink_state g.E.Sink c.args.err.now)
+    c.in_err-make_outputs.field-0.0 (subst (λ paths. MakesOutputs c.included.result.now paths (tree_state g.T.Tree c.args.tree.now) (tree_state g.T.Tree c.make_outputs.new.tree) (Err c.in_err-make_outputs.field-0.0))
+    (ap paths_of c.deref.ensures.value ∙ c.requires.ready.outputs) c.in_err-make_outputs.ensures))
 
 pub run_prepared-requires-clause-devices : goal.run_prepared-requires-clause-devices
 run_prepared-requires-clause-devices g c = c.requires.ready.ready.devices
 
 pub run_prepared-requires-clause-files : goal.run_prepared-requires-clause-files
 run_prepared-requires-clause-files g c =
-    ready-files c.args.task.now (tree_seen g.T.Tree.told g.T.Tree.sure g.T.Tree.faults c.args.tree.now) (tree_seen g.T.Tree.told g.T.Tree.sure g.T.Tree.faults c.make_outputs.new.tree)
-    (debugger_in c.args.task.now c.args.prepared) c.included.result.now c.args.prepared.machine (rw (← c.included.ensures) at c.requires.ready.ready) c.requires.apart c.in_ok-make_outputs.ensures.makes
+    ready-files c.args.task.now (tree_state g.T.Tree c.args.tree.now) (tree_state g.T.Tree c.make_outputs.new.tree) c.args.prepared c.requires.ready c.requires.apart
+    (rw (c.deref.ensures.value, c.requires.ready.outputs, c.included.ensures) at c.in_ok-make_outputs.ensures)
 
 pub run_prepared-requires-clause-log : goal.run_prepared-requires-clause-log
 run_prepared-requires-clause-log g c =
-    session-log c.args.task.now (tree_seen g.T.Tree.told g.T.Tree.sure g.T.Tree.faults c.args.tree.now) (tree_seen g.T.Tree.told g.T.Tree.sure g.T.Tree.faults c.make_outputs.new.tree)
-    c.args.prepared c.included.result.now (rw (← c.included.ensures) at c.requires.ready.ready) c.requires.apart c.in_ok-make_outputs.ensures.makes
+    ready-log c.args.task.now (tree_state g.T.Tree c.args.tree.now) (tree_state g.T.Tree c.make_outputs.new.tree) c.args.prepared c.requires.ready c.requires.apart
+    (rw (c.deref.ensures.value, c.requires.ready.outputs, c.included.ensures) at c.in_ok-make_outputs.ensures)
 
 pub returns-in-Ok-clause-does : goal.returns-in-Ok-clause-does
 returns-in-Ok-clause-does g c =
-    does-run c.args.task.now (tree_seen g.T.Tree.told g.T.Tree.sure g.T.Tree.faults c.args.tree.now) (tree_seen g.T.Tree.told g.T.Tree.sure g.T.Tree.faults c.make_outputs.new.tree)
-    (debugger_in c.args.task.now c.args.prepared) c.included.result.now c.args.prepared.machine (rw (← c.included.ensures) at c.requires.ready.ready) c.requires.apart c.in_ok-make_outputs.ensures.makes
-    (sink_seen g.O.Sink.told g.O.Sink.sure g.O.Sink.faults c.args.out.now) (sink_seen g.E.Sink.told g.E.Sink.sure g.E.Sink.faults c.args.err.now)
-    c.in_ok-make_outputs.ensures.ledger c.in_ok-make_outputs.ensures.left
-    (outside (tree_seen g.T.Tree.told g.T.Tree.sure g.T.Tree.faults c.run_prepared.new.tree) (sink_seen g.O.Sink.told g.O.Sink.sure g.O.Sink.faults c.run_prepared.new.out)
-    (sink_seen g.E.Sink.told g.E.Sink.sure g.E.Sink.faults c.run_prepared.new.err))
-    c.in-Ok.status c.in-Ok.ensures.code c.in-Ok.ensures.ok c.in-Ok.ensures.ledger
+    does-run c.args.task.now (tree_state g.T.Tree c.args.tree.now) (tree_state g.T.Tree c.make_outputs.new.tree) c.args.prepared c.requires.ready c.requires.apart
+    (rw (c.deref.ensures.value, c.requires.ready.outputs, c.included.ensures) at c.in_ok-make_outputs.ensures) (sink_state g.O.Sink c.args.out.now) (sink_state g.E.Sink c.args.err.now) _ (Ok c.in-Ok.end) c.in-Ok.ensures
 
 pub returns-in-Err-clause-does : goal.returns-in-Err-clause-does
 returns-in-Err-clause-does g c =
-    does-cut c.args.task.now (tree_seen g.T.Tree.told g.T.Tree.sure g.T.Tree.faults c.args.tree.now) (tree_seen g.T.Tree.told g.T.Tree.sure g.T.Tree.faults c.make_outputs.new.tree)
-    (debugger_in c.args.task.now c.args.prepared) c.included.result.now c.args.prepared.machine (rw (← c.included.ensures) at c.requires.ready.ready) c.requires.apart c.in_ok-make_outputs.ensures.makes
-    (sink_seen g.O.Sink.told g.O.Sink.sure g.O.Sink.faults c.args.out.now) (sink_seen g.E.Sink.told g.E.Sink.sure g.E.Sink.faults c.args.err.now)
-    c.in_ok-make_outputs.ensures.ledger c.in_ok-make_outputs.ensures.left
-    (outside (tree_seen g.T.Tree.told g.T.Tree.sure g.T.Tree.faults c.run_prepared.new.tree) (sink_seen g.O.Sink.told g.O.Sink.sure g.O.Sink.faults c.run_prepared.new.out)
-    (sink_seen g.E.Sink.told g.E.Sink.sure g.E.Sink.faults c.run_prepared.new.err))
-    c.in-Err.stop c.in-Err.ensures.memory c.in-Err.ensures.names c.in-Err.ensures.err (rw (← same-blame c.in-Err.stop) c.in-Err.ensures.ledger)
+    does-run c.args.task.now (tree_state g.T.Tree c.args.tree.now) (tree_state g.T.Tree c.make_outputs.new.tree) c.args.prepared c.requires.ready c.requires.apart
+    (rw (c.deref.ensures.value, c.requires.ready.outputs, c.included.ensures) at c.in_ok-make_outputs.ensures) (sink_state g.O.Sink c.args.out.now) (sink_state g.E.Sink c.args.err.now) _ (Err c.in-Err.stop) c.in-Err.ensures
+
+pub make_outputs-requires : goal.make_outputs-requires
+make_outputs-requires g c = record {
+  task = c.args.task.now;
+  apart = c.requires.apart;
+  outputs = ap paths_of c.deref.ensures.value ∙ c.requires.ready.outputs;
+}

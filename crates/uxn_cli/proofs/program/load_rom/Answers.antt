@@ -1,13 +1,16 @@
-use Rattle.std.proofs.Common.{◌≡◌, rules}
+use Rattle.std.proofs.Common.{◌≡◌, true, refl, rules}
 use Rattle.std.specs.Prelude.{Ok, Err}
-use Rattle.uxn_cli.proofs.SourceLemmas.{loads-rom, unloads-rom}
+use Rattle.uxn_cli.specs.Verdict.{loaded_rom}
+use Rattle.uxn_cli.proofs.ReadingLemmas.{reads-ended, reads-on}
+use Rattle.uxn_cli.proofs.ReadyLemmas.{reads-program}
 use Rattle.uxn_cli.proofs.program.load_rom.Goals as goal
 
 pub returns-in_err-rom-clause-loads : goal.returns-in_err-rom-clause-loads
 returns-in_err-rom-clause-loads g c =
-    let result : c.from_residual-in_err-rom.result ≡ Err c.in_err-rom.field-0.0 = search rules in
-    rw result (unloads-rom c.args.task.now (g.T.Tree.told c.args.tree.now) c.requires.file c.requires.rom c.requires.limit c.in_ok-file.file c.in_ok-file.ensures.answer c.in_err-rom.field-0.0 c.in_err-rom.ensures.follows)
+    let result : c.from_residual.result ≡ Err c.in_err-rom.field-0.0 = search rules in
+    rw result (reads-program c.args.task.now c.requires.runs true c.requires.rom _ _ _ _
+    (reads-ended _ _ (λ rom. Ok (loaded_rom rom)) _ _ _ _ _ c.in_err-rom.ensures.rom))
 
 pub returns-clause-loads : goal.returns-clause-loads
 returns-clause-loads g c =
-    loads-rom c.args.task.now (g.T.Tree.told c.args.tree.now) c.requires.file c.requires.rom c.requires.limit c.in_ok-file.file c.in_ok-file.ensures.answer (Ok c.in_ok-rom.rom.list) c.in_ok-rom.ensures.follows
+    reads-program c.args.task.now c.requires.runs true c.requires.rom _ _ _ _ (reads-on _ _ (λ rom. Ok (loaded_rom rom)) _ _ _ _ _ _ c.in_ok-rom.ensures.rom refl)

@@ -1,5 +1,5 @@
-use Rattle.std.proofs.Common.{◌∙◌, ap, rules}
-use Rattle.std.specs.Prelude.{false}
+use Rattle.std.proofs.Common.{◌≡◌, ◌∙◌, refl, ap, rules, arith}
+use Rattle.std.specs.Prelude.{Err, false}
 use Rattle.std.specs.FinMap as fin
 use Rattle.system_port.specs.DebugText.{exit_code_of}
 use Rattle.uxn_cli.specs.Job.{devices_with, trail_by}
@@ -9,46 +9,65 @@ use Rattle.uxn_cli.proofs.running.run_machine.Goals as goal
 pub run_script-requires-clause-frames : goal.run_script-requires-clause-frames
 run_script-requires-clause-frames g c = ap (λ devices. devices.time.frames) c.new-bus.ensures.devices_now ∙ (c.requires.devices fin.empty false).frames
 
-pub returns-in-Ok-clause-ok : goal.returns-in-Ok-clause-ok
+pub returns-clause-runs : goal.returns-clause-runs
 unfolding trail_by
-returns-in-Ok-clause-ok g c = λ home root files.
-    let start = devices_with c.args.machine.now.script home in
-    let stands = at-start g.T.Tree.told c.new-bus.result c.args.machine.now.devices c.args.tree.now c.args.machine.now.script home
-    c.new-bus.ensures.devices_now c.new-bus.ensures.tree_now root c.requires.devices files in
-    let ends = c.in-Ok.ensures.ok.from start stands in
-    let makes = ends.makes in
+returns-clause-runs g c =
+    let devices = c.new-bus.ensures.devices_now in
     let tree = c.new-bus.ensures.tree_now in
     let out = c.new-bus.ensures.out_now in
     let err = c.new-bus.ensures.err_now in
+    let ledger = c.in_ok-tally.ensures.ledger in
+    let stay = c.in_ok-tally.ensures.files in
     record {
-      done = record { world = (let w = makes.world in search (rules, w)); remains = (let r = makes.remains in search (rules, r)) };
-      exit = c.exit_code.ensures ∙ ap exit_code_of (c.stored.ensures.stored _ ends.devices.devices);
-      tally = ends.tally;
+      from = λ home root files.
+          let machine = c.args.machine.now in
+          let stands = at-start g.T.Tree.told c.new-bus.result machine.devices c.args.tree.now machine.script home devices tree root c.requires.devices files in
+          let ends = c.in_ok-tally.ensures.ok.from (devices_with machine.script home) stands in
+          let w = ends.makes.world in
+          let r = ends.makes.remains in
+          record {
+            made = record { world = search (rules, w); ledger = search (rules, ledger); remains = search (rules, r) };
+            ends = rw (c.exit_code.ensures ∙ ap exit_code_of (c.stored.ensures.stored _ ends.devices.devices), ends.tally) refl;
+            names = tt;
+          };
+      ledger = search (rules, ledger);
+      memory = tt;
+      files = search (rules, stay);
+      code = rw c.exit_code.ensures (omega arith);
     }
 
-pub returns-in-Ok-clause-watcher : goal.returns-in-Ok-clause-watcher
+pub returns-clause-watcher : goal.returns-clause-watcher
 unfolding trail_by
-returns-in-Ok-clause-watcher g c = λ home root files.
-    let start = devices_with c.args.machine.now.script home in
-    let stands = at-start g.T.Tree.told c.new-bus.result c.args.machine.now.devices c.args.tree.now c.args.machine.now.script home
+returns-clause-watcher g c = λ home root files.
+    let machine = c.args.machine.now in
+    let stands = at-start g.T.Tree.told c.new-bus.result machine.devices c.args.tree.now machine.script home
     c.new-bus.ensures.devices_now c.new-bus.ensures.tree_now root c.requires.devices files in
-    (c.in-Ok.ensures.ok.from start stands).watcher
+    (c.in_ok-tally.ensures.ok.from (devices_with machine.script home) stands).watcher
 
-pub returns-in-Err-clause-err : goal.returns-in-Err-clause-err
+pub returns-in_err-tally-clause-runs : goal.returns-in_err-tally-clause-runs
 unfolding trail_by
-returns-in-Err-clause-err g c = λ home root files.
-    let start = devices_with c.args.machine.now.script home in
-    let stands = at-start g.T.Tree.told c.new-bus.result c.args.machine.now.devices c.args.tree.now c.args.machine.now.script home
-    c.new-bus.ensures.devices_now c.new-bus.ensures.tree_now root c.requires.devices files in
-    let short = (c.in-Err.ensures.err.from start stands).made in
-    let cut = short.cut in
-    let not_sure = short.not_sure in
-    record { cut = search (rules, cut); not_sure = search (rules, not_sure) }
-
-pub returns-in-Err-clause-names : goal.returns-in-Err-clause-names
-unfolding trail_by
-returns-in-Err-clause-names g c = λ home root files.
-    let start = devices_with c.args.machine.now.script home in
-    let stands = at-start g.T.Tree.told c.new-bus.result c.args.machine.now.devices c.args.tree.now c.args.machine.now.script home
-    c.new-bus.ensures.devices_now c.new-bus.ensures.tree_now root c.requires.devices files in
-    (c.in-Err.ensures.err.from start stands).names
+returns-in_err-tally-clause-runs g c =
+    let result : c.from_residual.result ≡ Err c.in_err-tally.field-0.0 = search rules in
+    let devices = c.new-bus.ensures.devices_now in
+    let tree = c.new-bus.ensures.tree_now in
+    let out = c.new-bus.ensures.out_now in
+    let err = c.new-bus.ensures.err_now in
+    let ledger = c.in_err-tally.ensures.ledger in
+    let memory = c.in_err-tally.ensures.memory in
+    rw result (record {
+      from = λ home root files.
+          let machine = c.args.machine.now in
+          let stands = at-start g.T.Tree.told c.new-bus.result machine.devices c.args.tree.now machine.script home devices tree root c.requires.devices files in
+          let short = c.in_err-tally.ensures.err.from (devices_with machine.script home) stands in
+          let cut = short.made.cut in
+          let not_sure = short.made.not_sure in
+          record {
+            made = record { cut = search (rules, cut); ledger = search (rules, ledger); not_sure = search (rules, not_sure) };
+            ends = tt;
+            names = short.names;
+          };
+      ledger = search (rules, ledger);
+      memory = search (rules, memory);
+      files = tt;
+      code = tt;
+    })

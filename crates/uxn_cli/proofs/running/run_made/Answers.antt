@@ -1,10 +1,10 @@
-use Rattle.std.proofs.Common.{◌≡◌, ◌∙◌, sym, subst, rules}
+use Rattle.std.proofs.Common.{◌≡◌, ◌∙◌, ap, sym, subst, rules}
 use Rattle.std.specs.Prelude.{Err, false}
 use Rattle.std.specs.FinMap as fin
-use Rattle.uxn_opcodes.specs.declared.Stop.TheVariants.{TreeFault}
-use Rattle.uxn_cli.specs.Prepared.{AreNew, trail_for}
-use Rattle.uxn_cli.proofs.DoneLemmas.{short-first}
-use Rattle.uxn_cli.proofs.RunLemmas.{stays-if, stays-both, reported, report-cut-after}
+use Rattle.uxn_io.specs.State.{sink_state}
+use Rattle.uxn_cli.specs.Job.{exit_in, report_text}
+use Rattle.uxn_cli.specs.Prepared.{AreNew}
+use Rattle.uxn_cli.proofs.RunLemmas.{runs-at, runs-first, runs-then, shown-then, stays-if}
 use Rattle.uxn_cli.proofs.running.run_made.Goals as goal
 use Rattle.uxn_words.specs.Tasks.{role_path}
 use Rattle.uxn_words.specs.declared.role.Role.TheVariants as role
@@ -15,53 +15,29 @@ run_machine-requires-clause-devices g c =
 
 pub run_machine-requires-clause-outputs : goal.run_machine-requires-clause-outputs
 run_machine-requires-clause-outputs g c =
-    rw (c.settings_of.ensures.outputs, (c.requires.devices fin.empty false).root) (record { frames = c.requires.files.frames; samples = c.requires.files.samples })
+    rw (c.settings_of.ensures, (c.requires.devices fin.empty false).root) (record { frames = c.requires.files.frames; samples = c.requires.files.samples })
 
-pub returns-in_err-ended-clause-err : goal.returns-in_err-ended-clause-err
-returns-in_err-ended-clause-err g c = λ home root files.
-    let result : c.from_residual.result ≡ Err c.in_err-ended.field-0.0 = search rules in
+pub returns-in_err-end-clause-runs : goal.returns-in_err-end-clause-runs
+returns-in_err-end-clause-runs g c =
+    let result : c.from_residual.result ≡ Err c.in_err-end.field-0.0 = search rules in
     let held = (c.requires.devices fin.empty false).root in
-    rw result (short-first _ _ (trail_for c.args.task.now c.args.machine home).changes _ _
-    (rw (c.settings_of.ensures.outputs, c.settings_of.ensures.budget) at (c.in_err-ended.ensures.err home (root ∙ sym held) files)))
-
-pub returns-in_err-ended-clause-memory : goal.returns-in_err-ended-clause-memory
-returns-in_err-ended-clause-memory g c =
-    let result : c.from_residual.result ≡ Err c.in_err-ended.field-0.0 = search rules in
-    let held = (c.requires.devices fin.empty false).root in
-    rw result (rw held at c.in_err-ended.ensures.memory)
-
-pub returns-in_err-ended-clause-names : goal.returns-in_err-ended-clause-names
-returns-in_err-ended-clause-names g c = λ home root files.
-    let result : c.from_residual.result ≡ Err c.in_err-ended.field-0.0 = search rules in
-    let held = (c.requires.devices fin.empty false).root in
-    rw result (rw (c.settings_of.ensures.outputs, c.settings_of.ensures.budget) at
-    (c.in_err-ended.ensures.names home (root ∙ sym held) files))
+    rw result (runs-first _ _ _ _ _ _ _ _ (runs-at _ _ _ _ _ _ _ _ held (rw c.settings_of.ensures at c.in_err-end.ensures.runs)))
 
 pub write_text-requires : goal.write_text-requires
 write_text-requires g c =
     let held = (c.requires.devices fin.empty false).root in
-    rw c.path.ensures (stays-if (role_path c.args.task.now role.Root) (role_path c.args.task.now role.Report) _ _ (rw held at c.in_ok-ended.ensures.files) c.requires.files.report)
+    rw c.path.ensures (stays-if (role_path c.args.task.now role.Root) (role_path c.args.task.now role.Report) _ _ (rw held at c.in_ok-end.ensures.runs.files) c.requires.files.report)
 
-pub returns-in-Ok-clause-ok : goal.returns-in-Ok-clause-ok
-returns-in-Ok-clause-ok g c = λ home root files.
+pub returns-clause-runs : goal.returns-clause-runs
+returns-clause-runs g c =
     let held = (c.requires.devices fin.empty false).root in
-    reported _ _ _ (role_path c.args.task.now role.Report) c.args.machine.script.version (trail_for c.args.task.now c.args.machine home) c.in_ok-ended.ended
-    (rw (c.settings_of.ensures.outputs, c.settings_of.ensures.budget) at (c.in_ok-ended.ensures.ok home (root ∙ sym held) files))
-    (rw (c.path.ensures, c.deref.ensures.0 ∙ c.report.ensures c.args.machine.script.version c.version-version.ensures) at (c.in-Ok.ensures.ok (g.O.Sink.told c.run_machine.new.out) (g.E.Sink.told c.run_machine.new.err) (g.O.Sink.sure c.run_machine.new.out) (g.E.Sink.sure c.run_machine.new.err)))
+    let version = c.args.machine.script.version in
+    let runs = runs-at _ _ _ _ _ _ _ _ held (rw c.settings_of.ensures at c.in_ok-end.ensures.runs) in
+    rw (c.or.ensures, c.and.ensures) (runs-then _ _ _ _ _ (role_path c.args.task.now role.Report) _ (λ trail. report_text version (exit_in trail.last) trail.last.tally) _ _ c.in_ok-end.end runs
+    (λ home root files. ap (λ end. report_text version end.exit end.tally) (runs.from home root files).ends) c.write_text.result
+    (rw (c.path.ensures, c.deref.ensures.0 ∙ c.report-text.ensures version c.version-version.ensures) at (c.write_text.ensures (sink_state g.O.Sink c.run_machine.new.out) (sink_state g.E.Sink c.run_machine.new.err))))
 
-pub returns-in-Ok-clause-watcher : goal.returns-in-Ok-clause-watcher
-returns-in-Ok-clause-watcher g c = λ home root files.
+pub returns-clause-watcher : goal.returns-clause-watcher
+returns-clause-watcher g c = λ home root files.
     let held = (c.requires.devices fin.empty false).root in
-    rw (c.settings_of.ensures.outputs, c.settings_of.ensures.budget) at (c.in_ok-ended.ensures.watcher home (root ∙ sym held) files)
-
-pub returns-in-Ok-clause-stay : goal.returns-in-Ok-clause-stay
-returns-in-Ok-clause-stay g c =
-    let held = (c.requires.devices fin.empty false).root in
-    stays-both (role_path c.args.task.now role.Root) _ _ _ (rw held at c.in_ok-ended.ensures.files) (c.in-Ok.ensures.files (role_path c.args.task.now role.Root))
-
-pub returns-clause-err : goal.returns-clause-err
-returns-clause-err g c = λ home root files.
-    let held = (c.requires.devices fin.empty false).root in
-    report-cut-after _ _ _ (role_path c.args.task.now role.Report) c.args.machine.script.version (trail_for c.args.task.now c.args.machine home) c.in_ok-ended.ended TreeFault
-    (rw (c.settings_of.ensures.outputs, c.settings_of.ensures.budget) at (c.in_ok-ended.ensures.ok home (root ∙ sym held) files))
-    (rw (c.path.ensures, c.deref.ensures.0 ∙ c.report.ensures c.args.machine.script.version c.version-version.ensures) at (c.in-Err.ensures.err (g.O.Sink.told c.run_machine.new.out) (g.E.Sink.told c.run_machine.new.err) (g.O.Sink.sure c.run_machine.new.out) (g.E.Sink.sure c.run_machine.new.err)))
+    rw (c.or.ensures, c.and.ensures) (shown-then _ c.write_text.result c.in_ok-end.end (rw c.settings_of.ensures at (c.in_ok-end.ensures.watcher home (root ∙ sym held) files)))

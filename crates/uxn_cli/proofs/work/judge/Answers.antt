@@ -1,15 +1,16 @@
-use Rattle.std.proofs.Common.{◌≡◌, ℕ, rules}
-use Rattle.std.specs.Prelude.{Err}
-use Rattle.std.specs.Global.{Vec}
-use Rattle.uxn_cli.proofs.WorkloadLemmas.{own-unready, own-planned}
+use Rattle.std.proofs.Common.{◌≡◌, rules}
+use Rattle.std.specs.Prelude.{Ok, Err}
+use Rattle.uxn_io.specs.State.{tree_state}
+use Rattle.uxn_cli.proofs.PlanLemmas.{reads-own}
 use Rattle.uxn_cli.proofs.work.judge.Goals as goal
 
-pub returns-in_err-summarize-in-Generate-clause-judged : goal.returns-in_err-summarize-in-Generate-clause-judged
-returns-in_err-summarize-in-Generate-clause-judged g c =
+pub returns-in_err-summarize-in-Generate : goal.returns-in_err-summarize-in-Generate
+returns-in_err-summarize-in-Generate g c =
     let result : c.from_residual-in_err-summarize-in-Generate.result ≡ Err c.in_err-summarize-in-Generate.field-0.0 = search rules in
-    rw result (own-unready c.args.task.now (g.T.Tree.told c.args.tree.now) c.in-Generate.is (λ (text : Vec ℕ). text.items) c.in_err-summarize-in-Generate.field-0.0
-    c.in_err-summarize-in-Generate.ensures)
+    let read = reads-own c.args.task.now c.in-Generate.is (tree_state g.T.Tree c.args.tree.now) (Err c.in_err-summarize-in-Generate.field-0.0) c.in_err-summarize-in-Generate.ensures in
+    rw result (record { judged = read.accepts; looked = read.looked })
 
-pub returns-in_ok-summarize-in-Generate-clause-judged : goal.returns-in_ok-summarize-in-Generate-clause-judged
-returns-in_ok-summarize-in-Generate-clause-judged g c =
-    own-planned c.args.task.now (g.T.Tree.told c.args.tree.now) c.in-Generate.is c.in_ok-summarize-in-Generate.field-0.items c.in_ok-summarize-in-Generate.ensures
+pub returns-in_ok-summarize-in-Generate : goal.returns-in_ok-summarize-in-Generate
+returns-in_ok-summarize-in-Generate g c =
+    let read = reads-own c.args.task.now c.in-Generate.is (tree_state g.T.Tree c.args.tree.now) (Ok c.in_ok-summarize-in-Generate.field-0) c.in_ok-summarize-in-Generate.ensures in
+    record { judged = read.accepts; looked = read.looked }

@@ -8,6 +8,6 @@ use Rattle.vector_loop.proofs.output.append_picture.Given as goal
 
 abbrev pub invariant-loop-y : goal.invariant-loop-y
 invariant-loop-y g l = record {
-  putting : Putting (meaning_of g.T.Tree.told g.O.Sink.told g.E.Sink.told g.T.Tree.sure g.O.Sink.sure g.E.Sink.sure) g.T.Tree.faults g.O.Sink.faults g.E.Sink.faults l.fn.bus l.bus l.path picture_bytes
+  putting : Putting (meaning_of g.T.Tree g.O.Sink g.E.Sink) l.fn.bus l.bus l.path picture_bytes
       (λ s. flat_map (picture_row_of l.palette.colours s.picture) (range_with_len l.y (l.height - l.y)));
 }

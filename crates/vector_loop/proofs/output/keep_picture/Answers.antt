@@ -2,8 +2,8 @@ use Rattle.vector_loop.proofs.Makings.{made-nothing, made-kept, made-then}
 use Rattle.vector_loop.proofs.output.keep_picture.Goals as goal
 
 pub returns-in-None : goal.returns-in-None
-returns-in-None g c = rw c.in-None.is (made-nothing _ _ _ _ _)
+returns-in-None g c = rw c.in-None.is (made-nothing _ _)
 
 pub returns-in-Some : goal.returns-in-Some
 returns-in-Some g c = rw c.in-Some.is
-    (made-then _ _ _ _ _ _ _ _ _ _ (made-kept _ _ _ _ _ _ c.refresh.ensures.others c.refresh.ensures.devices.bus c.refresh.ensures.frames c.refresh.ensures.screen.pixels.height) c.append_picture.ensures)
+    (made-then _ _ _ _ _ _ _ (made-kept _ _ _ c.refresh.ensures.others c.refresh.ensures.devices.bus c.refresh.ensures.frames c.refresh.ensures.screen.pixels.height) c.append_picture.ensures)

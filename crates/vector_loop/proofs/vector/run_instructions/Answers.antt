@@ -1,4 +1,7 @@
-use Rattle.std.proofs.Common.{◌≡◌, suc, ◌+◌, ◌-◌, refl, ◌∙◌, inl, inr, arith}
+use Rattle.std.proofs.Common.{◌≡◌, suc, ◌+◌, ◌-◌, refl, inl, inr, arith}
+use Rattle.uxn_io.specs.Faults.{Nobody}
+use Rattle.varvara_bus.specs.Bus.{meaning_of, bus_faults}
+use Rattle.varvara_bus.specs.Laws.{ledger-then}
 use Rattle.varvara_bus.specs.InstructionLaws.{same-itself, same-again, instruction-lent, instruction-fault}
 use Rattle.vector_loop.specs.Budget.{runs-none, runs-more}
 use Rattle.vector_loop.specs.Follows.{running}
@@ -12,7 +15,7 @@ loop-core-init g c = record {
       (along-start _ _ _ _ c.args.budget);
   runs = runs-none _ _ c.args.core.now c.args.bus.now (omega arith);
   same = same-itself _ c.args.bus.now;
-  faults = refl;
+  ledger = refl;
   some = c.requires.budget;
   within = omega arith;
 }
@@ -27,7 +30,9 @@ loop-core-preserved g c =
           (along-ran _ _ _ (running c.args.core.now c.args.bus.now before c.args.watcher.now) (running c.loop-core.core c.loop-core.bus (record before { instructions = c.args.start + (c.args.budget - c.loop-core.left) }) c.loop-core.watcher) c.args.budget _ _ _ _ (along-left _ _ _ (running c.args.core.now c.args.bus.now before c.args.watcher.now) (running c.loop-core.core c.loop-core.bus (record before { instructions = c.args.start + (c.args.budget - c.loop-core.left) }) c.loop-core.watcher) c.args.budget c.loop-core.left (suc (c.loop-core.left - 1)) one (c.loop-core.invariant.along before started)) c.in-Ok.ensures.ok ran (not-break _ _ _ _ _ ran));
       runs = runs-more _ (c.args.budget - c.loop-core.left) _ _ _ _ _ _ _ (omega (arith, c.loop-core.invariant.some, c.loop-core.invariant.within)) c.loop-core.invariant.runs ran;
       same = same-again _ _ _ _ c.loop-core.invariant.same (instruction-lent _ _ _ _ _ _ ran);
-      faults = c.in-Ok-Ran.ensures.ledger ∙ c.loop-core.invariant.faults;
+      ledger =
+          let meaning = meaning_of g.T.Tree g.O.Sink g.E.Sink in
+          ledger-then (bus_faults meaning c.args.bus.now) (bus_faults meaning c.loop-core.bus) _ Nobody c.loop-core.invariant.ledger c.in-Ok-Ran.ensures.ledger;
       some = omega (arith, c.loop-core.invariant.some, c.if-left-eq0.false);
       within = omega (arith, c.loop-core.invariant.within);
     }

@@ -1,4 +1,5 @@
 use Rattle.std.proofs.Common.{◌≡◌, ◌+◌, ◌-◌, ◌≤◌}
+use Rattle.uxn_io.specs.Faults.{Nobody, Ledger}
 use Rattle.varvara_bus.specs.Bus.{SameBus, meaning_of, bus_faults, bus_rules}
 use Rattle.vector_loop.specs.declared.tally.Tally.{Tally}
 use Rattle.vector_loop.specs.Budget.{RunsOn}
@@ -9,11 +10,11 @@ use Rattle.vector_loop.proofs.vector.run_instructions.Given as goal
 abbrev pub invariant-loop-core : goal.invariant-loop-core
 invariant-loop-core g l = record {
   along : (before : Tally) → before.instructions ≡ l.start
-      → Along (meaning_of g.T.Tree.told g.O.Sink.told g.E.Sink.told g.T.Tree.sure g.O.Sink.sure g.E.Sink.sure) g.W.Watcher.held g.W.Watcher.shown (running l.fn.core l.fn.bus before l.fn.watcher)
+      → Along (meaning_of g.T.Tree g.O.Sink g.E.Sink) g.W.Watcher.held g.W.Watcher.shown (running l.fn.core l.fn.bus before l.fn.watcher)
       (running l.core l.bus (record before { instructions = l.start + (l.budget - l.left) }) l.watcher) l.budget l.left;
-  runs : RunsOn (bus_rules (meaning_of g.T.Tree.told g.O.Sink.told g.E.Sink.told g.T.Tree.sure g.O.Sink.sure g.E.Sink.sure)) (l.budget - l.left) l.fn.core l.fn.bus l.core l.bus;
+  runs : RunsOn (bus_rules (meaning_of g.T.Tree g.O.Sink g.E.Sink)) (l.budget - l.left) l.fn.core l.fn.bus l.core l.bus;
   same : SameBus g.T.Tree.told l.fn.bus l.bus;
-  faults : bus_faults g.T.Tree.faults g.O.Sink.faults g.E.Sink.faults l.bus ≡ bus_faults g.T.Tree.faults g.O.Sink.faults g.E.Sink.faults l.fn.bus;
+  ledger : Ledger (bus_faults (meaning_of g.T.Tree g.O.Sink g.E.Sink) l.fn.bus) (bus_faults (meaning_of g.T.Tree g.O.Sink g.E.Sink) l.bus) Nobody;
   some : 1 ≤ l.left;
   within : l.left ≤ l.budget;
 }

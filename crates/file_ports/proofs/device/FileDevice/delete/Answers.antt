@@ -1,24 +1,21 @@
-use Rattle.std.proofs.Common.{◌≡◌, true, false, rules}
-use Rattle.uxn_io.proofs.AppendLemmas.{on_err}
-use Rattle.file_ports.proofs.ActLemmas.{delete-done, delete-cut}
-use Rattle.file_ports.specs.Actions.{Delete}
-use Rattle.file_ports.proofs.RoomLemmas.{surely_quiet, leaves_delete}
+use Rattle.std.proofs.Common.{◌≡◌, Some, Err, Ok, rules, true, false, ap, sym, ◌∙◌}
+use Rattle.file_ports.specs.Device.{FileState}
+use Rattle.file_ports.specs.Answers.{has_failed}
+use Rattle.file_ports.specs.CallLaws.{ended-as, removed-by}
+use Rattle.file_ports.proofs.ChangeLemmas.{delete-changes}
 use Rattle.file_ports.proofs.device.FileDevice.delete.Goals as goal
 
-pub returns-in_ok-gone-in-Some-clause-ok : goal.returns-in_ok-gone-in-Some-clause-ok
-returns-in_ok-gone-in-Some-clause-ok g c = λ memory.
-    delete-done c.in-Some.path c.self.inside.path c.self.inside.mode c.args.self.now memory _ _ c.in_ok-gone-in-Some.gone c.from.result (search rules) c.self.view_is c.in_ok-gone-in-Some.ensures.answer c.in_ok-gone-in-Some.ensures.ok c.from.ensures
+pub returns-in_err-gone-in-Some-clause-tree : goal.returns-in_err-gone-in-Some-clause-tree
+returns-in_err-gone-in-Some-clause-tree g c = λ memory.
+    let failed : has_failed c.from_residual.result ≡ true = search rules in
+    let is : c.args.self.now.path ≡ Some c.in-Some.path = ap (λ (d : FileState). d.path) (sym c.self.view_is) ∙ search rules in
+    rw failed (ended-as _ _ true _ _ (delete-changes c.in-Some.path c.args.self.now memory _ is)
+    (removed-by c.in-Some.path (Err c.in_err-gone-in-Some.field-0.0) _ _ tt tt c.in_err-gone-in-Some.ensures.err c.in_err-gone-in-Some.ensures.ledger
+    c.in_err-gone-in-Some.ensures.sure tt))
 
-pub returns-in_err-gone-in-Some-clause-err : goal.returns-in_err-gone-in-Some-clause-err
-returns-in_err-gone-in-Some-clause-err g c =
-    on_err c.from_residual.result _
-    (λ memory. delete-cut c.in-Some.path c.self.inside.path c.self.inside.mode c.args.self.now memory _ _ (search rules) c.self.view_is c.in_err-gone-in-Some.ensures.err)
-
-pub returns-in_err-gone-in-Some-clause-sure : goal.returns-in_err-gone-in-Some-clause-sure
-returns-in_err-gone-in-Some-clause-sure g c = λ memory.
-    surely_quiet Delete c.args.self.now memory _ _ _ (λ some. let no : false ≡ true = c.in_err-gone-in-Some.ensures.sure some in cc)
-
-pub returns-in_ok-gone-in-Some-clause-left : goal.returns-in_ok-gone-in-Some-clause-left
-returns-in_ok-gone-in-Some-clause-left g c = λ memory.
-    leaves_delete c.in-Some.path c.self.inside.path c.self.inside.mode c.args.self.now memory _ _ _ c.in_ok-gone-in-Some.gone false (search rules) c.self.view_is c.in_ok-gone-in-Some.ensures.answer
-    c.in_ok-gone-in-Some.ensures.left
+pub returns-in_ok-gone-in-Some-clause-tree : goal.returns-in_ok-gone-in-Some-clause-tree
+returns-in_ok-gone-in-Some-clause-tree g c = λ memory.
+    let is : c.args.self.now.path ≡ Some c.in-Some.path = ap (λ (d : FileState). d.path) (sym c.self.view_is) ∙ search rules in
+    ended-as _ _ false _ _ (delete-changes c.in-Some.path c.args.self.now memory _ is)
+    (removed-by c.in-Some.path (Ok c.in_ok-gone-in-Some.gone) _ _ c.in_ok-gone-in-Some.ensures.answer c.in_ok-gone-in-Some.ensures.ok tt
+    c.in_ok-gone-in-Some.ensures.ledger c.in_ok-gone-in-Some.ensures.sure c.in_ok-gone-in-Some.ensures.left)

@@ -1,50 +1,47 @@
-use Rattle.std.proofs.Common.{◌≡◌, rules, sym, ap, ◌∙◌, arith}
-use Rattle.std.specs.Prelude.{Err}
-use Rattle.uxn_line.specs.Work.{work_left}
-use Rattle.uxn_line.proofs.Ending.{reach-more, stop-here, move-less, move-same, since, still-here}
+use Rattle.std.proofs.Common.{◌≡◌, rules, length, refl, sym, ap, subst, ◌∙◌}
+use Rattle.std.specs.Prelude.{Ok, Err}
+use Rattle.uxn_line.specs.declared.line.Line.{Line}
+use Rattle.uxn_line.specs.Work.{WorksOn}
+use Rattle.uxn_line.proofs.Ending.{turn-went, reach-none, reach-then, stop-then, works-more, still-since, move-still}
 use Rattle.uxn_line.proofs.line.Line.go_on.Goals as goal
 
-pub returns-in_err-turn_at-clause-went : goal.returns-in_err-turn_at-clause-went
-returns-in_err-turn_at-clause-went g c job turned stands =
+pub returns-in_err-turn_at : goal.returns-in_err-turn_at
+returns-in_err-turn_at g c =
     let result : c.from_residual.result ≡ Err c.in_err-turn_at.field-0.0 = search rules in
-    rw result (stop-here job turned c.turns.self c.turn_at.new.self c.args.index _ _ _ c.in_err-turn_at.field-0.0 (c.turns.invariant.went job turned stands)
-    c.in_err-turn_at.ensures.came c.in_err-turn_at.ensures.err c.in_err-turn_at.ensures.out_err)
+    let fails = c.in_err-turn_at.ensures in
+    rw result
+    (record {
+      went = stop-then _ _ _ _ _ _ c.turns.invariant.went (turn-went c.args.index _ _ _ _ (Err c.in_err-turn_at.field-0.0) fails);
+      works = tt;
+      still = tt;
+      machines = ap (λ (line : Line). length line.members.items) fails.same ∙ c.turns.invariant.machines;
+    })
+
+pub turns-init : goal.turns-init
+turns-init g c = record { went = reach-none _ _; works = refl; machines = refl }
 
 pub turns-preserved : goal.turns-preserved
 turns-preserved g c =
-    let is = sym c.is_move.ensures ∙ c.if-is_move.true in
-    let before = since c.turns.moved c.turns.self c.args.self.now c.turns.invariant.less c.turns.invariant.same in
-    let less = move-less c.in_ok-turn_at.field-0 c.turns.self c.turn_at.new.self is c.in_ok-turn_at.ensures.moves in
+    let came = c.in_ok-turn_at.ensures in
+    let works = rw (sym c.is_move.ensures ∙ c.if-is_move.true) at came.came.works in
     record {
-      went = λ job turned stands.
-          reach-more job turned c.turns.self c.turn_at.new.self c.args.index _ _ _ c.in_ok-turn_at.field-0 (c.turns.invariant.went job turned stands)
-          c.in_ok-turn_at.ensures.came;
-      less = λ e. omega (arith, before, less);
-      same = λ e. absurd (cc);
-      ledger = c.in_ok-turn_at.ensures.ledger ∙ c.turns.invariant.ledger;
-      machines = c.in_ok-turn_at.ensures.machines ∙ c.turns.invariant.machines;
+      went = reach-then _ _ _ _ _ _ c.turns.invariant.went (turn-went c.args.index _ _ _ _ (Ok c.in_ok-turn_at.field-0) came);
+      works = works-more c.turns.moved c.args.self.now c.turns.self c.turn_at.new.self c.turns.invariant.works works;
+      machines = came.came.machines ∙ c.turns.invariant.machines;
     }
 
 pub returns : goal.returns
 returns g c =
     let is = sym c.is_move.ensures ∙ c.if-is_move.false in
-    let same = move-same c.in_ok-turn_at.field-0 c.turns.self c.turn_at.new.self is c.in_ok-turn_at.ensures.moves in
+    let came = c.in_ok-turn_at.ensures in
+    let same = rw is at came.came.works in
+    let P : Line → Type 0 = λ line. WorksOn c.turns.moved c.args.self.now line in
     record {
-      went = λ job turned stands.
-          reach-more job turned c.turns.self c.turn_at.new.self c.args.index _ _ _ c.in_ok-turn_at.field-0 (c.turns.invariant.went job turned stands)
-          c.in_ok-turn_at.ensures.came;
-      less = λ e. (let less = c.turns.invariant.less (cc) in let as_before = ap work_left same in omega (arith, less, as_before));
-      still = λ e. (
-        same ∙ c.turns.invariant.same (cc),
-        λ job turned stands.
-            still-here job turned c.turns.self c.turn_at.new.self c.args.self.now c.args.index _ _ c.in_ok-turn_at.field-0 is (c.turns.invariant.same (cc))
-            c.in_ok-turn_at.ensures.came stands,
-      );
-      machines = c.in_ok-turn_at.ensures.machines ∙ c.turns.invariant.machines;
-      ledger = c.in_ok-turn_at.ensures.ledger ∙ c.turns.invariant.ledger;
+      went = reach-then _ _ _ _ _ _ c.turns.invariant.went (turn-went c.args.index _ _ _ _ (Ok c.in_ok-turn_at.field-0) came);
+      works = subst P (sym same) c.turns.invariant.works;
+      still = λ e. still-since c.turns.moved _ c.turns.self c.args.index e c.turns.invariant.works (move-still c.turns.self c.args.index _ is came.came.cause);
+      machines = came.came.machines ∙ c.turns.invariant.machines;
     }
 
 pub turns-smaller : goal.turns-smaller
-turns-smaller g c =
-    let is = sym c.is_move.ensures ∙ c.if-is_move.true in
-    move-less c.in_ok-turn_at.field-0 c.turns.self c.turn_at.new.self is c.in_ok-turn_at.ensures.moves
+turns-smaller g c = rw (sym c.is_move.ensures ∙ c.if-is_move.true) at c.in_ok-turn_at.ensures.came.works

@@ -1,10 +1,8 @@
-use Rattle.std.proofs.Common.{ℕ, ◌<◌, sym, subst, add-one}
-use Rattle.std.specs.Prelude.{Ok}
+use Rattle.std.proofs.Common.{ℕ, [], sym, subst, add-one}
 use Rattle.uxn_line.specs.declared.line.Moved.TheVariants.{Ran}
 use Rattle.uxn_line.specs.Moves.{Came}
-use Rattle.uxn_line.specs.Work.{work_left}
 use Rattle.uxn_line.proofs.Running.{RanFrom, with_member}
-use Rattle.uxn_line.proofs.Passing.{taken-of, read-behind, found-again, pass-came, pass-less, held-came, full-goes, room-left}
+use Rattle.uxn_line.proofs.Passing.{taken-of, read-behind, found-again, pass-came, held-came, full-goes, room-left}
 use Rattle.uxn_line.proofs.line.Line.hand_on.Goals as goal
 
 pub take-requires : goal.take-requires
@@ -18,41 +16,20 @@ pub run-requires : goal.run-requires
 run-requires c =
     (found-again c.args.byte c.args.self.now c.args.index c.take.new.self c.index_mut-2.result.now c.requires.running c.index_mut-2.ensures.value).some
 
-pub returns-then-is_full-clause-came : goal.returns-then-is_full-clause-came
-returns-then-is_full-clause-came c job turned out stands =
-    let line = c.args.self.now in
-    let there = read-behind line.members.items c.args.index c.index.result.now c.requires.there c.index.ensures in
+pub returns-then-is_full : goal.returns-then-is_full
+returns-then-is_full c =
+    let there = read-behind c.args.self.now.members.items c.args.index c.index.result.now c.requires.there c.index.ensures in
     let goes = full-goes c.index.result.now c.is_full.result c.is_full.ensures.over c.if-is_full.true in
-    held-came job c.args.byte line turned c.args.index c.index.result.now out stands c.requires.running there goes
-    ((c.is_full.ensures.full goes).0 c.if-is_full.true)
+    held-came c.args.byte c.args.self.now c.args.index c.index.result.now c.requires.running there goes ((c.is_full.ensures.full goes).0 c.if-is_full.true)
 
-pub returns-clause-came : goal.returns-clause-came
-returns-clause-came c job turned out stands =
+pub returns : goal.returns
+returns c =
     let line = c.args.self.now in
     let at = c.args.index in
     let member = c.index_mut-2.result.now in
     let found = found-again c.args.byte line at c.take.new.self member c.requires.running c.index_mut-2.ensures.value in
     let taken = taken-of c.args.byte line at c.index.result.now c.index_mut.result.now c.take.new.self c.is_full.result c.requires.there c.index.ensures
     c.index_mut.ensures.value c.is_full.ensures.full c.if-is_full.false c.take.ensures.over c.take.ensures.kept in
-    let ran : RanFrom member c.run.new.self = record {
-      some = found.some;
-      stands = c.run.ensures.stands;
-      put = c.run.ensures.put;
-      kept = c.run.ensures.kept;
-      dropped = c.run.ensures.dropped;
-    } in
-    let P : ℕ → Type 0 = λ n. Came job turned at line (with_member (with_member line n c.take.new.self) at c.run.new.self) out out (Ok Ran) in
-    subst P (sym (add-one at))
-    (pass-came job c.args.byte line turned at member c.run.new.self c.index_mut.result.now c.take.new.self out stands found ran taken)
-
-pub returns-clause-moves : goal.returns-clause-moves
-returns-clause-moves c =
-    let line = c.args.self.now in
-    let at = c.args.index in
-    let member = c.index_mut-2.result.now in
-    let found = found-again c.args.byte line at c.take.new.self member c.requires.running c.index_mut-2.ensures.value in
-    let taken = taken-of c.args.byte line at c.index.result.now c.index_mut.result.now c.take.new.self c.is_full.result c.requires.there c.index.ensures
-    c.index_mut.ensures.value c.is_full.ensures.full c.if-is_full.false c.take.ensures.over c.take.ensures.kept in
-    let P : ℕ → Type 0 = λ n. work_left (with_member (with_member line n c.take.new.self) at c.run.new.self) < work_left line in
-    subst P (sym (add-one at))
-    (pass-less c.args.byte line at member c.run.new.self c.index_mut.result.now c.take.new.self found (λ left. c.run.ensures.work line.budget left) taken)
+    let ran : RanFrom member c.run.new.self = record { some = found.some; ran = c.run.ensures.ran; work = c.run.ensures.work } in
+    let P : ℕ → Type 0 = λ n. Came at Ran [] line (with_member (with_member line n c.take.new.self) at c.run.new.self) in
+    subst P (sym (add-one at)) (pass-came c.args.byte line at member c.run.new.self c.index_mut.result.now c.take.new.self found ran taken)

@@ -2,10 +2,10 @@ use Rattle.std.proofs.Common.{◌+◌, [], ◌∷◌, length, refl, sym, ap, ◌
 use Rattle.std.specs.Prelude.{slice_get}
 use Rattle.std.proofs.lemmas.List.{length-map}
 use Rattle.uxn_io.specs.ByteList.{ByteList}
+use Rattle.uxn_io.specs.EndedLaws.{sink-as-it-was}
 use Rattle.uxn_line.specs.declared.line.Line.{Line}
 use Rattle.uxn_line.specs.Standing.{none_turned, Stands, job_of}
 use Rattle.uxn_line.proofs.NewLines.{rom-there, member-more}
-use Rattle.uxn_line.proofs.Running.{takes-nothing}
 use Rattle.uxn_line.proofs.line.Line.new.Goals as goal
 
 pub loop-index-preserved : goal.loop-index-preserved
@@ -38,5 +38,5 @@ returns c =
     } in
     record {
       stands = stands;
-      under_way = λ out. record { turned = none_turned; stands = stands; added = takes-nothing out };
+      under_way = λ out. record { turned = none_turned; stands = stands; put = sink-as-it-was out };
     }

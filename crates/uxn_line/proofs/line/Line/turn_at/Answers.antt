@@ -1,20 +1,28 @@
-use Rattle.std.proofs.Common.{length, refl, sym, ap, ◌∙◌, arith}
+use Rattle.std.proofs.Common.{[], length, refl, sym, ap, ◌∙◌, arith}
 use Rattle.std.specs.Prelude.{option_to_list}
 use Rattle.std.proofs.lemmas.Option.{slice_get_read}
+use Rattle.uxn_io.specs.EndedLaws.{sink-as-it-was}
 use Rattle.uxn_line.specs.Standing.{place_in}
 use Rattle.uxn_line.proofs.Standings.{ended-is}
-use Rattle.uxn_line.proofs.Running.{adds-nothing}
+use Rattle.uxn_line.proofs.Running.{leads-nowhere}
 use Rattle.uxn_line.proofs.line.Line.turn_at.Goals as goal
 
-pub returns-then-is_over-clause-came : goal.returns-then-is_over-clause-came
-returns-then-is_over-clause-came g c job turned stands =
+pub returns-then-is_over : goal.returns-then-is_over
+returns-then-is_over g c =
     let items = c.args.self.now.members.items in
     let member = c.index-member.result.now in
     let there = slice_get_read items (length items) c.args.index member refl c.requires c.index-member.ensures in
-    let at = (stands.each c.args.index member there).stands in
     record {
-      cause = (ended-is member (place_in job turned c.args.index) at).0 (sym c.is_over.ensures.value ∙ c.if-is_over.true);
-      follows = (stands, adds-nothing job turned turned _ refl);
+      bytes = [];
+      put = sink-as-it-was _;
+      came = record {
+        cause = λ job turned stands.
+            (ended-is member (place_in job turned c.args.index) (stands.each c.args.index member there).stands).0
+            (sym c.is_over.ensures.value ∙ c.if-is_over.true);
+        leads = leads-nowhere c.args.self.now;
+        works = refl;
+        machines = refl;
+      };
     }
 
 pub give_at-requires : goal.give_at-requires
@@ -27,8 +35,8 @@ give_at-requires g c =
       goes_on = sym c.is_over.ensures.value ∙ c.if-is_over.false;
     }
 
-pub returns-then-member-eq0-clause-came : goal.returns-then-member-eq0-clause-came
-returns-then-member-eq0-clause-came g c job turned stands = c.give_at.ensures.came job turned _ stands
+pub returns-then-member-eq0 : goal.returns-then-member-eq0
+returns-then-member-eq0 g c = record { bytes = []; put = sink-as-it-was _; came = c.give_at.ensures }
 
 pub run_at-requires : goal.run_at-requires
 run_at-requires g c =
@@ -50,5 +58,5 @@ write_at-requires g c =
       writes = sym c.next_byte.ensures ∙ ap option_to_list c.in-Some.is;
     }
 
-pub returns-in-None-clause-came : goal.returns-in-None-clause-came
-returns-in-None-clause-came g c job turned stands = c.run_at.ensures.came job turned _ stands
+pub returns-in-None : goal.returns-in-None
+returns-in-None g c = record { bytes = []; put = sink-as-it-was _; came = c.run_at.ensures }

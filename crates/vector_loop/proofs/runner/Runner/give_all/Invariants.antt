@@ -9,7 +9,7 @@ use Rattle.vector_loop.proofs.runner.Runner.give_all.Given as goal
 abbrev pub invariant-loop-gift : goal.invariant-loop-gift
 invariant-loop-gift g l = record {
   begun : Count;
-  going : Going (telling_of (meaning_of g.T.Tree.told g.O.Sink.told g.E.Sink.told g.T.Tree.sure g.O.Sink.sure g.E.Sink.sure) g.T.Tree.faults g.O.Sink.faults g.E.Sink.faults g.W.Watcher.held g.W.Watcher.shown g.W.Watcher.may_refuse)
+  going : Going (telling_of (meaning_of g.T.Tree g.O.Sink g.E.Sink) g.W.Watcher.held g.W.Watcher.shown g.W.Watcher.may_refuse)
       l.fn.self l.self (give_each (given l.fn.self.budget l.outputs) l.fn.giver) (give_each (given l.fn.self.budget l.outputs) l.giver) begun;
   counted : both begun (counts_of l.giver) ≡ counts_of l.fn.giver;
 }

@@ -7,6 +7,6 @@ use Rattle.vector_loop.proofs.runner.Runner.run_all_ended.Given as goal
 
 abbrev pub invariant-loop-voice : goal.invariant-loop-voice
 invariant-loop-voice g l =
-    Going (telling_of (meaning_of g.T.Tree.told g.O.Sink.told g.E.Sink.told g.T.Tree.sure g.O.Sink.sure g.E.Sink.sure) g.T.Tree.faults g.O.Sink.faults g.E.Sink.faults g.W.Watcher.held g.W.Watcher.shown g.W.Watcher.may_refuse)
+    Going (telling_of (meaning_of g.T.Tree g.O.Sink g.E.Sink) g.W.Watcher.held g.W.Watcher.shown g.W.Watcher.may_refuse)
     l.fn.self l.self (ended_vectors l.fn.self.budget l.ended)
     (give_each (λ voice. vector_where l.fn.self.budget (slice_index_or l.ended voice false) voice) (drop l.voice (0 ∷ 1 ∷ 2 ∷ 3 ∷ []))) (of_vectors l.voice)

@@ -1,0 +1,8 @@
+//! The outside of a process: the files beneath its current folder as a tree, and a standard stream as a sink.
+#![tactic(auto)]
+
+mod folder;
+mod stream;
+
+pub use folder::CurrentFolder;
+pub use stream::Stream;
