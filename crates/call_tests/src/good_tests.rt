@@ -1,6 +1,8 @@
 //! Each option of each command once, where nothing fails: the call is done, and so memory was not wanting, and this is what it leaves.
 
 use super::calls::{Call, Contents, GOOD, gives};
+use std::alloc::Global;
+use std::process::Abort;
 
 /// A source that puts a byte, its ROM, its symbols, and commands that show the first moment.
 const PUTS: Contents = &[
@@ -337,34 +339,30 @@ static OTHERS: [Call; 7] = [
     },
 ];
 
+/// Each call gives what its row says.
+fn give_each(rt: &impl Abort, alloc: Global, calls: &[Call]) {
+    for call in calls {
+        let shows = call.shows;
+        assert!(rt; gives(alloc, call), "{shows}");
+    }
+}
+
 #[test]
 fn each_option_of_play_is_done(rt: HostRuntime) {
-    for call in &PLAYED {
-        let shows = call.shows;
-        assert!(rt; gives(rt.alloc(), call), "{shows}");
-    }
+    give_each(&rt, rt.alloc(), &PLAYED);
 }
 
 #[test]
 fn each_option_of_debug_is_done(rt: HostRuntime) {
-    for call in &WATCHED {
-        let shows = call.shows;
-        assert!(rt; gives(rt.alloc(), call), "{shows}");
-    }
+    give_each(&rt, rt.alloc(), &WATCHED);
 }
 
 #[test]
 fn what_debug_writes_beside_its_log_is_there(rt: HostRuntime) {
-    for call in &KEPT {
-        let shows = call.shows;
-        assert!(rt; gives(rt.alloc(), call), "{shows}");
-    }
+    give_each(&rt, rt.alloc(), &KEPT);
 }
 
 #[test]
 fn each_option_of_the_other_commands_is_done(rt: HostRuntime) {
-    for call in &OTHERS {
-        let shows = call.shows;
-        assert!(rt; gives(rt.alloc(), call), "{shows}");
-    }
+    give_each(&rt, rt.alloc(), &OTHERS);
 }
