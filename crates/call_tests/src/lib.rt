@@ -12,4 +12,8 @@ mod order_tests;
 #[cfg(test)]
 mod outside;
 #[cfg(test)]
+mod retry_tests;
+#[cfg(test)]
+mod retrying;
+#[cfg(test)]
 mod turn_tests;

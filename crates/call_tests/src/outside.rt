@@ -1,7 +1,8 @@
-//! A tree and outputs that tell nothing, whose calls are numbered in one row. One of these calls fails.
+//! A tree and outputs that tell nothing and count exactly, whose calls are numbered in one row. One of these calls fails.
 ghost use Rattle.std.specs.Prelude.{◌≡◌, ◌<◌, ◌≤◌, length, drop, IfOk, is_err};
 ghost use Rattle.std.specs.List.{All};
 ghost use Rattle.uxn_io.specs.Faults.{Counted};
+ghost use Rattle.uxn_io.specs.Untold.{exactly};
 ghost use Rattle.uxn_io.specs.Children.{IsEntry};
 
 use std::alloc::Global;
@@ -169,14 +170,11 @@ impl Output<'_> {
 }
 
 impl Sink for Output<'_> {
-    ghost use Rattle.std.specs.Prelude.{None};
+    ghost use Rattle.uxn_io.specs.Untold.{untold_sink};
 
-    ghost told = { λ _. None };
+    ghost state = { λ output. untold_sink output.faults };
 
-    ghost faults = { λ output. output.faults };
-
-    ghost sure = { λ _. 0 };
-
+    #[tactic(auto, using(uxn_io::specs::UntoldLaws::sink_took, uxn_io::specs::UntoldLaws::sink_failed))]
     fn put(&mut self, piece: &[u8]) -> Result<usize, Failed> {
         match Output::take(self.calls, &mut self.taken, piece) {
             Ok(share) => Ok(share),
@@ -301,6 +299,8 @@ pub struct Files<'a> {
     held: Held<'a>,
     /// How many of its calls have failed.
     pub faults: u64,
+    /// How many files it refused to create.
+    pub refusals: u64,
 }
 
 impl<'a> Files<'a> {
@@ -313,7 +313,11 @@ impl<'a> Files<'a> {
             unmade,
             changes,
         };
-        Files { held, faults: 0 }
+        Files {
+            held,
+            faults: 0,
+            refusals: 0,
+        }
     }
 
     /// The changes that were made: `+` and a path that was made, `-` and one that was taken away, and `>` and one to
@@ -328,8 +332,10 @@ impl<'a> Files<'a> {
     }
 
     /// What was done, or one fault more.
+    #[tactic(auto, using(uxn_io::specs::UntoldLaws::nothing_counted, uxn_io::specs::UntoldLaws::fault_counted))]
     fn counted<T>(&mut self, done: Result<T, Failed>) -> Result<T, Failed>
-        ensures ledger { Counted self.old.faults self.new.faults (is_err result) }
+        ensures counted { Counted (exactly self.old.faults) (exactly self.new.faults) (is_err result) }
+        ensures refusals { self.new.refusals ≡ self.old.refusals }
         ensures value { IfOk result (λ value. done ≡ Ok value) }
     {
         match done {
@@ -343,40 +349,45 @@ impl<'a> Files<'a> {
 }
 
 impl Tree for Files<'_> {
-    ghost use Rattle.std.specs.Prelude.{None};
-    ghost use Rattle.uxn_io.specs.Room.{no_promise};
+    ghost use Rattle.uxn_io.specs.Untold.{untold_tree};
 
-    ghost told = { λ _. None };
+    ghost state = { λ files. untold_tree files.faults files.refusals };
 
-    ghost faults = { λ files. files.faults };
-
-    ghost sure = { λ _. no_promise };
-
+    #[tactic(auto, using(uxn_io::specs::UntoldLaws::looked))]
     fn kind(&mut self, path: &Path) -> Result<Kind, Failed> {
         let kind = self.held.kind(path);
         self.counted(kind)
     }
 
+    #[tactic(auto, using(uxn_io::specs::UntoldLaws::looked))]
     fn read(&mut self, path: &Path, from: u64, into: &mut [u8]) -> Result<usize, Failed> {
         let taken = self.held.read(path, from, into);
         self.counted(taken)
     }
 
+    #[tactic(auto, using(uxn_io::specs::UntoldLaws::ended))]
     fn create(&mut self, path: &Path) -> Result<bool, Failed> {
         let made = self.held.create(path);
-        self.counted(made)
+        let made = self.counted(made)?;
+        if !made {
+            self.refusals = self.refusals.saturating_add(1);
+        }
+        Ok(made)
     }
 
+    #[tactic(auto, using(uxn_io::specs::UntoldLaws::ended))]
     fn append(&mut self, path: &Path, piece: &[u8]) -> Result<usize, Failed> {
         let taken = self.held.append(path, piece);
         self.counted(taken)
     }
 
+    #[tactic(auto, using(uxn_io::specs::UntoldLaws::ended))]
     fn remove(&mut self, path: &Path) -> Result<bool, Failed> {
         let gone = self.held.remove(path);
         self.counted(gone)
     }
 
+    #[tactic(auto, using(uxn_io::specs::UntoldLaws::looked))]
     fn names(&mut self, alloc: Global, folder: &Path) -> Result<Vec<Entry>, NamesStop> {
         match self.held.names(alloc, folder) {
             Ok(entries) => Ok(entries),

@@ -2,7 +2,6 @@
 #![tactic(auto)]
 
 ghost use Rattle.std.specs.Prelude.{◌≡◌, [], ◌∷◌, is_err};
-ghost use Rattle.uxn_io.specs.State.{sink_state};
 ghost use Rattle.uxn_io.specs.Ended.{SinkEnded};
 ghost use Rattle.console_port.specs.declared.Output.TheVariants.{Standard, Error};
 ghost use Rattle.console_port.specs.Console.{event_byte, given};
@@ -16,7 +15,7 @@ const READ: usize = 0x12;
 pub const KIND: u8 = 0x17;
 
 /// Where a program writes bytes.
-#[derive(Debug, Clone, Copy)]
+#[derive(Clone, Copy)]
 pub enum Output {
     /// The standard output.
     Standard,
@@ -25,7 +24,7 @@ pub enum Output {
 }
 
 /// What a byte of an event is.
-#[derive(Debug, Clone, Copy)]
+#[derive(Clone, Copy)]
 pub enum EventKind {
     /// A byte of the input.
     Input,
@@ -58,8 +57,8 @@ pub fn console_write<O: Sink, E: Sink>(
     output: Output,
     value: u8,
 ) -> Result<(), Failed>
-    ensures standard { output ≡ Standard → SinkEnded (value ∷ []) (is_err result) (sink_state O.Sink out.old) (sink_state O.Sink out.new) }
-    ensures error { output ≡ Error → SinkEnded (value ∷ []) (is_err result) (sink_state E.Sink err.old) (sink_state E.Sink err.new) }
+    ensures standard { output ≡ Standard → SinkEnded (value ∷ []) (is_err result) (O.state out.old) (O.state out.new) }
+    ensures error { output ≡ Error → SinkEnded (value ∷ []) (is_err result) (E.state err.old) (E.state err.new) }
     ensures out_alone { output ≡ Standard → err.new ≡ err.old }
     ensures err_alone { output ≡ Error → out.new ≡ out.old }
 {
@@ -71,7 +70,7 @@ pub fn console_write<O: Sink, E: Sink>(
 
 /// Puts one byte. After `Failed` the sink has taken nothing.
 fn put_byte<S: Sink>(sink: &mut S, value: u8) -> Result<(), Failed>
-    ensures { SinkEnded (value ∷ []) (is_err result) (sink_state S.Sink sink.old) (sink_state S.Sink sink.new) }
+    ensures { SinkEnded (value ∷ []) (is_err result) (S.state sink.old) (S.state sink.new) }
 {
     sink.put(&[value])?;
     Ok(())

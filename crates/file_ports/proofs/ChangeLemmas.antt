@@ -1,24 +1,22 @@
 -- What a write and a delete change: what a write begins with, and what is added behind that.
-use Rattle.std.proofs.Common.{◌≡◌, ℕ, ◌+◌, ◌<◌, ◌≤◌, ◌⊎◌, inl, inr, Bool, true, false, not, ◌&&◌, ◌||◌, List, [], ◌∷◌, ◌++◌, length, take, drop, refl, ap, sym, subst, ◌∙◌}
-use Rattle.std.specs.Prelude.{Option, Some, None, IfSome, IsSome, IsTrue, IsOk, Result, Ok, Err, OnOk, OnErr, IfOk, is_err, is_some, if◌then◌else◌}
+use Rattle.std.proofs.Common.{◌≡◌, ℕ, ◌⊎◌, inl, inr, Bool, true, false, not, ◌&&◌, ◌||◌, List, [], ◌∷◌, ◌++◌, take, drop, refl, ap, sym, subst, ◌∙◌}
+use Rattle.std.specs.Prelude.{Option, Some, None, IfSome, IsSome, IsTrue, Result, Ok, Err, IfOk, is_err, is_some, if◌then◌else◌}
 use Rattle.std.specs.Option.{option_map}
 use Rattle.std.specs.FinMap as map
 use Rattle.std.proofs.lemmas.List.{append-nil}
 use Rattle.uxn_io.specs.declared.sinks.Failed.{Failed}
-use Rattle.uxn_io.specs.Files.{Node, Nodes, File, Folder, kind_at, kind_of, file_at, bytes_at, bytes_of}
-use Rattle.uxn_io.specs.Faults.{Counted}
-use Rattle.uxn_io.specs.Room.{Leaves}
-use Rattle.uxn_io.specs.Changes.{can_create, with_created, with_appended, HasAppendedFront}
+use Rattle.uxn_io.specs.Files.{Node, Nodes, File, Folder, kind_at, kind_of, file_at, bytes_of}
+use Rattle.uxn_io.specs.CallLaws.{untold-as, told_by-creating}
+use Rattle.uxn_io.specs.Changes.{can_create, with_created}
 use Rattle.uxn_io.specs.NodeLaws.{get_put}
-use Rattle.uxn_io.specs.Outside.{Change, Creates, Removes, files_by}
+use Rattle.uxn_io.specs.Outside.{Change, Creates, Removes}
 use Rattle.uxn_io.specs.State.{TreeState}
-use Rattle.uxn_io.specs.Ended.{told_by, TreeEnded, TreeLooked}
-use Rattle.uxn_io.specs.EndedLaws.{told_by-some, looked-same, tree-then, tree-first}
+use Rattle.uxn_io.specs.Ended.{TreeEnded, TreeLooked, creating, appending, removing}
+use Rattle.uxn_io.specs.EndedLaws.{looked-ended, looked-tree, tree-then, tree-first}
 use Rattle.uxn_memory.specs.Bytes.{bank0}
 use Rattle.file_ports.specs.Device.{FileState, idle_at, is_writing}
 use Rattle.file_ports.specs.Actions.{Write, Delete, Outcome, Seen, seen_of, is_file, begun, adds, quiet, deletes, acts, count_from}
 use Rattle.file_ports.specs.Answers.{changes_untold, changes_by, and_then, changes_written}
-use Rattle.file_ports.specs.CallLaws.{untold-ended, creating, appending, appended-by, removing}
 
 -- how a write begins, by what decides it
 abbrev chosen : Bool → Bool → Bool → List ℕ → Option (List Change)
@@ -45,19 +43,19 @@ module _ (path : List ℕ) (writing keep : Bool) where
     where
       by : (told : Option Nodes) → a.told ≡ told → IfSome told (λ nodes. goes ≡ ((writing || keep) && is_file (kind_at nodes path)))
           → TreeEnded (changes_written writing keep told path []) false a b
-      by None told answer = untold-ended (Creates path) [] false a b told (looked-same false a b looked ∙ told) looked.counted
+      by None told answer = untold-as [] (Creates path) [] false a b told (looked-ended false a b looked)
       by (Some nodes) told answer =
           let on = (writing || keep) && is_file (kind_at nodes path) in
           let decides : (on ≡ true) ⊎ (writing ≡ true) = elim either [ inl is ↦ inl (sym answer ∙ is) | inr is ↦ inr is ] in
-          subst (λ changes. TreeEnded changes false a b) (chosen-quiet on writing (can_create nodes path) path decides) looked
+          subst (λ changes. TreeEnded changes false a b) (chosen-quiet on writing (can_create nodes path) path decides) (looked-ended false a b looked)
 
   -- or a file is made
   pub begin-new : (a b c : TreeState) (goes failed : Bool) → IfSome a.told (λ nodes. goes ≡ ((writing || keep) && is_file (kind_at nodes path)))
       → goes ≡ false → writing ≡ false → TreeLooked false a b → TreeEnded (creating b.told path) failed b c
       → TreeEnded (changes_written writing keep a.told path []) failed a c
   begin-new a b c goes failed answer off idle looked made =
-      subst (λ changes. TreeEnded changes failed a c) (ap (λ told. creating told path) (looked-same false a b looked) ∙ by a.told answer)
-      (tree-then [] (creating b.told path) failed a b c looked made)
+      subst (λ changes. TreeEnded changes failed a c) (ap (λ told. creating told path) looked.told ∙ by a.told answer)
+      (looked-tree (creating b.told path) failed a b c looked made)
     where
       by : (told : Option Nodes) → IfSome told (λ nodes. goes ≡ ((writing || keep) && is_file (kind_at nodes path)))
           → creating told path ≡ changes_written writing keep told path []
@@ -95,54 +93,41 @@ module _ (path : List ℕ) (writing keep : Bool) where
       by (Some nodes) begins p = behind (begun writing keep (seen_of nodes path)) begins p
 
   -- bytes behind a beginning
-  pub added-all : (a b c : TreeState) (piece : List ℕ) (goes : Bool) (result : Result (Unit {0}) Failed)
+  pub added-all : (a b c : TreeState) (piece : List ℕ) (goes failed : Bool)
       → IfSome a.told (λ nodes. goes ≡ is_some (begun writing keep (seen_of nodes path))) → goes ≡ true
-      → TreeEnded (changes_written writing keep a.told path []) false a b
-      → OnOk result (c.told ≡ option_map (with_appended path piece) b.told)
-      → OnErr result (HasAppendedFront path b.told c.told piece)
-      → Counted b.faults c.faults (is_err result)
-      → IfSome b.told (λ nodes. 0 < b.sure.files → (0 < length piece → length (bytes_at nodes path) + length piece ≤ b.sure.bytes) → IsOk result)
-      → OnOk result (Leaves b.sure c.sure 0 0)
-      → TreeEnded (changes_written writing keep a.told path (appending path piece)) (is_err result) a c
-  added-all a b c piece goes result begins on ended ok err counted sure left = by a.told refl begins ended
+      → TreeEnded (changes_written writing keep a.told path []) false a b → TreeEnded (appending path piece) failed b c
+      → TreeEnded (changes_written writing keep a.told path (appending path piece)) failed a c
+  added-all a b c piece goes failed begins on ended added = by a.told refl begins ended
     where
-      untold : (r : Result (Unit {0}) Failed) → OnOk r (c.told ≡ option_map (with_appended path piece) b.told)
-          → OnErr r (HasAppendedFront path b.told c.told piece) → b.told ≡ None → c.told ≡ None
-      untold (Ok done) ok err none = ok ∙ ap (option_map (with_appended path piece)) none
-      untold (Err failed) ok err none = err.told ∙ ap (option_map (with_appended path (take err.count piece))) none
-
-      behind : (nodes : Nodes) (first : Option (List Change)) → a.told ≡ Some nodes → goes ≡ is_some first → TreeEnded (and_then first []) false a b
-          → TreeEnded (and_then first (appending path piece)) (is_err result) a c
-      behind nodes None told begins p = let no : true ≡ false = sym on ∙ begins in cc
-      behind nodes (Some first) told begins p =
-          let now : b.told ≡ Some (files_by nodes (first ++ [])) = p.stands ∙ ap (told_by (first ++ [])) told ∙ told_by-some nodes (first ++ []) in
-          subst (λ changes. TreeEnded (changes ++ appending path piece) (is_err result) a c) (append-nil first)
-          (tree-then (first ++ []) (appending path piece) (is_err result) a b c p
-          (appended-by path piece (files_by nodes (first ++ [])) result b c now ok err counted sure left))
+      behind : (first : Option (List Change)) → goes ≡ is_some first → TreeEnded (and_then first []) false a b
+          → TreeEnded (and_then first (appending path piece)) failed a c
+      behind None begins p = let no : true ≡ false = sym on ∙ begins in cc
+      behind (Some first) begins p =
+          subst (λ changes. TreeEnded (changes ++ appending path piece) failed a c) (append-nil first)
+          (tree-then (first ++ []) (appending path piece) failed a b c p added)
 
       by : (told : Option Nodes) → a.told ≡ told → IfSome told (λ nodes. goes ≡ is_some (begun writing keep (seen_of nodes path)))
           → TreeEnded (changes_written writing keep told path []) false a b
-          → TreeEnded (changes_written writing keep told path (appending path piece)) (is_err result) a c
+          → TreeEnded (changes_written writing keep told path (appending path piece)) failed a c
       by None told begins p =
-          let none : b.told ≡ None = p.stands ∙ ap (told_by (Creates path ∷ [])) told in
-          let none_now = untold result ok err none in
-          let both = tree-then (Creates path ∷ []) (Creates path ∷ []) (is_err result) a b c p
-          (untold-ended (Creates path) [] (is_err result) b c none none_now counted) in
-          untold-ended (Creates path) [] (is_err result) a c told none_now both.counted
-      by (Some nodes) told begins p = behind nodes (begun writing keep (seen_of nodes path)) told begins p
+          untold-as _ (Creates path) [] failed a c told (tree-then (Creates path ∷ []) (appending path piece) failed a b c p added)
+      by (Some nodes) told begins p = behind (begun writing keep (seen_of nodes path)) begins p
 
 made_file : (can : Bool) (path : List ℕ) (nodes : Nodes) → can ≡ true → IsSome (file_at (if can then map.insert nodes path (File []) else nodes) path)
 made_file true path nodes h = ap (λ (node : Option Node). is_some (bytes_of node)) (get_put nodes path (File []))
 made_file false path nodes h = cc
 
 -- where a file was made one is there
-pub file_made : (before now : Option Nodes) (path : List ℕ) (r : Result Bool Failed) → IfOk r (λ made. IfSome before (λ nodes. made ≡ can_create nodes path)) → OnOk r (now ≡ option_map (with_created path) before)
-    → IfOk r (λ goes. IsTrue goes → IfSome now (λ nodes. IsSome (file_at nodes path)))
-file_made before now path (Err fault) answers told = tt
-file_made None now path (Ok made) answers told = λ h. let P : Option Nodes → Type 0 = λ o. IfSome o (λ nodes. IsSome (file_at nodes path)) in subst P (sym told) tt
-file_made (Some nodes) now path (Ok made) answers told = λ h.
-    let P : Option Nodes → Type 0 = λ o. IfSome o (λ nodes. IsSome (file_at nodes path)) in
-    subst P (sym told) (made_file (can_create nodes path) path nodes (sym answers ∙ h))
+pub file_made : (before now : TreeState) (path : List ℕ) (r : Result Bool Failed)
+    → IfOk r (λ made. IfSome before.told (λ nodes. made ≡ can_create nodes path)) → TreeEnded (creating before.told path) (is_err r) before now
+    → IfOk r (λ goes. IsTrue goes → IfSome now.told (λ nodes. IsSome (file_at nodes path)))
+file_made before now path (Err fault) answers ended = tt
+file_made before now path (Ok made) answers ended = λ on. by before.told on answers (ended.stands ∙ told_by-creating path before.told)
+  where
+    by : (told : Option Nodes) → made ≡ true → IfSome told (λ nodes. made ≡ can_create nodes path)
+        → now.told ≡ option_map (with_created path) told → IfSome now.told (λ nodes. IsSome (file_at nodes path))
+    by None on answers is = rw is tt
+    by (Some nodes) on answers is = rw is (made_file (can_create nodes path) path nodes (sym answers ∙ on))
 
 -- what the device did then
 adds-changes : (first : Option (List Change)) (path memory piece : List ℕ) → and_then first (appending path piece) ≡ (adds path memory piece first).changes

@@ -185,7 +185,8 @@ untold-lies (Write at length keep) root (Some path) lies = (in_part root path li
 untold-lies (Stat at length) root path lies = tt
 untold-lies Delete root path lies = tt
 
-pub changes-lie : (action : FileAction) (root : Option (List ℕ)) (told : Option Nodes) (device : FileState) (memory : List ℕ) → Suits root device
+pub changes-lie : (action : FileAction) (root : Option (List ℕ)) (told : Option Nodes) (device : FileState) (memory : List ℕ)
+    → Suits root device
     → LieIn root (changes_by action told device memory)
 changes-lie action root None device memory suits = untold-lies action root device.path suits
 changes-lie action root (Some nodes) device memory suits =

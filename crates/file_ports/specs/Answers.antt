@@ -1,5 +1,6 @@
 -- What a call of a file device answers, and what it leaves.
-use Rattle.std.specs.Prelude.{◌≡◌, ℕ, ◌++◌, ◌≤◌, Bool, true, false, List, [], ◌∷◌, Option, Some, None, IfSome, IsSome, Result, Ok, Err}
+use Rattle.std.specs.Prelude.{◌≡◌, ℕ, ◌++◌, ◌≤◌, Bool, true, false, List, [], ◌∷◌, Option, Some}
+use Rattle.std.specs.Prelude.{None, IfSome, IsSome, Result, Ok, Err}
 use Rattle.std.specs.Prelude.{length, take, is_none, if◌then◌else◌}
 use Rattle.std.specs.Option.{option_map}
 use Rattle.uxn_io.specs.declared.trees.Kind.TheVariants.{Folder}

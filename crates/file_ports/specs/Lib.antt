@@ -9,5 +9,4 @@ pub mod Answers
 pub mod BeneathLaws
 pub mod PartLaws
 pub mod ActLaws
-pub mod CallLaws
 pub mod OutsideLaws

@@ -218,7 +218,8 @@ files_by-file nodes path (byte ∷ piece) =
     files_by-file (with_appended path (byte ∷ []) nodes) path piece ∙ appended_both nodes path (byte ∷ []) piece
 
 -- a name names a path of the root part
-suited : (root : List ℕ) (path : Option (List ℕ)) → ((p : List ℕ) → path ≡ Some p → is_in root p ≡ true) → IsTrue (suits (Some root) path)
+suited : (root : List ℕ) (path : Option (List ℕ)) → ((p : List ℕ) → path ≡ Some p → is_in root p ≡ true)
+    → IsTrue (suits (Some root) path)
 suited root None is = refl
 suited root (Some p) is = is p refl
 

@@ -1,7 +1,6 @@
 //! A file device.
 ghost use Rattle.std.specs.Prelude.{◌≡◌, ℕ, ◌+◌, ◌≤◌, List, None};
 ghost use Rattle.std.specs.Option.{option_copied};
-ghost use Rattle.uxn_io.specs.State.{tree_state};
 ghost use Rattle.uxn_io.specs.Ended.{TreeEnded, TreeLooked};
 ghost use Rattle.file_ports.specs.Device.{idle_at, Suits};
 ghost use Rattle.file_ports.specs.Names.{path_named};
@@ -75,8 +74,8 @@ impl FileDevice {
         at: u16,
         length: u16,
     ) -> Result<u16, FileStop>
-        ensures tree { TreeLooked (has_failed result) (tree_state T.Tree tree.old) (tree_state T.Tree tree.new) }
-        ensures acted { ActedOrStopped (Read at length) self.old memory.old (T.told tree.old) result self.new memory.new }
+        ensures tree { TreeLooked (has_failed result) (T.state tree.old) (T.state tree.new) }
+        ensures acted { ActedOrStopped (Read at length) self.old memory.old (T.state tree.old).told result self.new memory.new }
         ensures untouched { self.old.path ≡ None → tree.new ≡ tree.old }
     {
         match self.path {
@@ -101,9 +100,9 @@ impl FileDevice {
         length: u16,
         keep: bool,
     ) -> Result<u16, FileStop>
-        ensures tree { TreeEnded (changes_by (Write at length keep) (T.told tree.old) self.old memory.now) (has_failed result)
-            (tree_state T.Tree tree.old) (tree_state T.Tree tree.new) }
-        ensures acted { ActedOrStopped (Write at length keep) self.old memory.now (T.told tree.old) result self.new memory.now }
+        ensures tree { TreeEnded (changes_by (Write at length keep) (T.state tree.old).told self.old memory.now) (has_failed result)
+            (T.state tree.old) (T.state tree.new) }
+        ensures acted { ActedOrStopped (Write at length keep) self.old memory.now (T.state tree.old).told result self.new memory.now }
         ensures untouched { self.old.path ≡ None → tree.new ≡ tree.old }
     {
         match self.path {
@@ -129,8 +128,8 @@ impl FileDevice {
         at: u16,
         length: u16,
     ) -> Result<u16, FileStop>
-        ensures tree { TreeLooked (has_failed result) (tree_state T.Tree tree.old) (tree_state T.Tree tree.new) }
-        ensures acted { ActedOrStopped (Stat at length) self.old memory.old (T.told tree.old) result self.new memory.new }
+        ensures tree { TreeLooked (has_failed result) (T.state tree.old) (T.state tree.new) }
+        ensures acted { ActedOrStopped (Stat at length) self.old memory.old (T.state tree.old).told result self.new memory.new }
         ensures untouched { self.old.path ≡ None → tree.new ≡ tree.old }
         ensures device { self.new ≡ self.old }
     {
@@ -144,9 +143,9 @@ impl FileDevice {
 
     /// Takes the file away, and answers 1, or 0 where none is there. The device does nothing then.
     pub fn delete<T: Tree>(&mut self, tree: &mut T) -> Result<u16, FileStop>
-        ensures tree { (memory : List ℕ) → TreeEnded (changes_by Delete (T.told tree.old) self.old memory) (has_failed result)
-            (tree_state T.Tree tree.old) (tree_state T.Tree tree.new) }
-        ensures acted { (memory : List ℕ) → ActedOrStopped Delete self.old memory (T.told tree.old) result self.new memory }
+        ensures tree { (memory : List ℕ) → TreeEnded (changes_by Delete (T.state tree.old).told self.old memory) (has_failed result)
+            (T.state tree.old) (T.state tree.new) }
+        ensures acted { (memory : List ℕ) → ActedOrStopped Delete self.old memory (T.state tree.old).told result self.new memory }
         ensures untouched { self.old.path ≡ None → tree.new ≡ tree.old }
     {
         match self.path {

@@ -3,7 +3,6 @@ ghost use Rattle.std.specs.Prelude.{◌≡◌, ℕ, ◌+◌, ◌-◌, ◌^◌, �
 ghost use Rattle.std.specs.Option.{option_map};
 ghost use Rattle.uxn_io.specs.Files.{bytes_from, kind_at};
 ghost use Rattle.uxn_io.specs.Children.{children};
-ghost use Rattle.uxn_io.specs.State.{tree_state};
 ghost use Rattle.uxn_io.specs.Ended.{TreeLooked};
 ghost use Rattle.file_ports.specs.Device.{is_reading};
 ghost use Rattle.file_ports.specs.Listing.{listing_of};
@@ -23,9 +22,9 @@ const CHUNK: usize = 4096;
 
 /// What a device does that looks at its path to read what is there.
 fn look<T: Tree>(alloc: Global, tree: &mut T, path: &Path) -> Result<Mode, FileStop>
-    ensures mode { IfOk result (λ mode. IfSome (T.told tree.old) (λ nodes. mode ≡ looked (kind_at nodes path.now) (children nodes path.now))) }
-    ensures tree { TreeLooked (has_failed result) (tree_state T.Tree tree.old) (tree_state T.Tree tree.new) }
-    ensures folder { result ≡ Err FileStop.NoMemory → IfSome (T.told tree.old) (λ nodes. kind_at nodes path.now ≡ Kind.Folder) }
+    ensures mode { IfOk result (λ mode. IfSome (T.state tree.old).told (λ nodes. mode ≡ looked (kind_at nodes path.now) (children nodes path.now))) }
+    ensures tree { TreeLooked (has_failed result) (T.state tree.old) (T.state tree.new) }
+    ensures folder { result ≡ Err FileStop.NoMemory → IfSome (T.state tree.old).told (λ nodes. kind_at nodes path.now ≡ Kind.Folder) }
 {
     match tree.kind(path)? {
         Kind::Missing => Ok(Mode::Idle),
@@ -39,9 +38,9 @@ fn look<T: Tree>(alloc: Global, tree: &mut T, path: &Path) -> Result<Mode, FileS
 
 /// The listing of a folder.
 fn list<T: Tree>(alloc: Global, tree: &mut T, folder: &Path) -> Result<Listing, FileStop>
-    requires { IfSome (T.told tree.old) (λ nodes. kind_at nodes folder.now ≡ Kind.Folder) }
-    ensures listing { IfOk result (λ listing. IfSome (T.told tree.old) (λ nodes. listing ≡ listing_of (children nodes folder.now))) }
-    ensures tree { TreeLooked (has_failed result) (tree_state T.Tree tree.old) (tree_state T.Tree tree.new) }
+    requires { IfSome (T.state tree.old).told (λ nodes. kind_at nodes folder.now ≡ Kind.Folder) }
+    ensures listing { IfOk result (λ listing. IfSome (T.state tree.old).told (λ nodes. listing ≡ listing_of (children nodes folder.now))) }
+    ensures tree { TreeLooked (has_failed result) (T.state tree.old) (T.state tree.new) }
 {
     match tree.names(alloc, folder) {
         Ok(entries) => {
@@ -60,10 +59,10 @@ pub(crate) fn reading<T: Tree>(
     path: &Path,
     mode: Mode,
 ) -> Result<Mode, FileStop>
-    ensures mode { IfOk result (λ now. IfSome (T.told tree.old) (λ nodes. now ≡ reading mode (seen_of nodes path.now))) }
-    ensures tree { TreeLooked (has_failed result) (tree_state T.Tree tree.old) (tree_state T.Tree tree.new) }
+    ensures mode { IfOk result (λ now. IfSome (T.state tree.old).told (λ nodes. now ≡ reading mode (seen_of nodes path.now))) }
+    ensures tree { TreeLooked (has_failed result) (T.state tree.old) (T.state tree.new) }
     ensures looks { result ≡ Err FileStop.NoMemory → is_reading mode ≡ false }
-    ensures folder { result ≡ Err FileStop.NoMemory → IfSome (T.told tree.old) (λ nodes. kind_at nodes path.now ≡ Kind.Folder) }
+    ensures folder { result ≡ Err FileStop.NoMemory → IfSome (T.state tree.old).told (λ nodes. kind_at nodes path.now ≡ Kind.Folder) }
 {
     match mode {
         Mode::Idle | Mode::Writing => look(alloc, tree, path),
@@ -82,12 +81,12 @@ pub(crate) fn read_on<T: Tree>(
     count: u16,
 ) -> Result<(u16, Mode), Failed>
     requires { at + count ≤ 65536 }
-    ensures piece { IfOk result (λ read. IfSome (T.told tree.old) (λ nodes.
+    ensures piece { IfOk result (λ read. IfSome (T.state tree.old).told (λ nodes.
         GivesPiece (given mode (seen_of nodes path.now) count) memory.old at read.0 memory.new)) }
     ensures mode { IfOk result (λ read. read.1 ≡ moved mode read.0) }
-    ensures stopped { OnErr result (PutsFront (option_map (λ nodes. given mode (seen_of nodes path.now) count) (T.told tree.old))
+    ensures stopped { OnErr result (PutsFront (option_map (λ nodes. given mode (seen_of nodes path.now) count) (T.state tree.old).told)
         count memory.old at memory.new) }
-    ensures tree { TreeLooked (is_err result) (tree_state T.Tree tree.old) (tree_state T.Tree tree.new) }
+    ensures tree { TreeLooked (is_err result) (T.state tree.old) (T.state tree.new) }
 {
     match mode {
         Mode::Idle => Ok((0, Mode::Idle)),
@@ -141,12 +140,12 @@ fn put_file<T: Tree>(
 ) -> Result<u16, Failed>
     requires room { at + count ≤ 65536 }
     requires places { place + count < 2 ^ 64 }
-    ensures piece { IfOk result (λ n. IfSome (T.told tree.old) (λ nodes.
+    ensures piece { IfOk result (λ n. IfSome (T.state tree.old).told (λ nodes.
         GivesPiece (take count (bytes_from nodes path.now place)) memory.old at n memory.new)) }
     ensures within { IfOk result (λ n. n ≤ count) }
-    ensures stopped { OnErr result (PutsFront (option_map (λ nodes. take count (bytes_from nodes path.now place)) (T.told tree.old))
+    ensures stopped { OnErr result (PutsFront (option_map (λ nodes. take count (bytes_from nodes path.now place)) (T.state tree.old).told)
         count memory.old at memory.new) }
-    ensures tree { TreeLooked (is_err result) (tree_state T.Tree tree.old) (tree_state T.Tree tree.new) }
+    ensures tree { TreeLooked (is_err result) (T.state tree.old) (T.state tree.new) }
 {
     memory.known();
     let mut chunk = [0; CHUNK];

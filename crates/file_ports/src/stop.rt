@@ -3,7 +3,7 @@ use std::alloc::AllocError;
 use uxn_io::{Failed, NamesStop};
 
 /// Why an action stopped.
-#[derive(Clone, Copy, Debug, PartialEq, Eq)]
+#[derive(Clone, Copy, PartialEq, Eq)]
 pub enum FileStop {
     /// The tree failed.
     TreeFault,

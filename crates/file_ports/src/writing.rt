@@ -1,6 +1,5 @@
 //! Writes.
 ghost use Rattle.std.specs.Prelude.{◌≡◌, ◌&&◌, ◌||◌, [], map, IfOk, IfSome, IsTrue, IsSome, is_err, is_some};
-ghost use Rattle.uxn_io.specs.State.{tree_state};
 ghost use Rattle.uxn_io.specs.Ended.{TreeEnded, TreeLooked};
 ghost use Rattle.uxn_io.specs.Files.{kind_at, file_at};
 ghost use Rattle.uxn_io.specs.Outside.{ToFile};
@@ -11,9 +10,9 @@ use uxn_io::{Failed, Kind, Path, Tree, append_all};
 
 /// Whether a write goes on with a file that is there.
 fn goes_on<T: Tree>(tree: &mut T, path: &Path, is_writing: bool, keep: bool) -> Result<bool, Failed>
-    ensures answer { IfOk result (λ goes. IfSome (T.told tree.old) (λ nodes.
+    ensures answer { IfOk result (λ goes. IfSome (T.state tree.old).told (λ nodes.
         goes ≡ ((is_writing || keep) && is_file (kind_at nodes path.now)))) }
-    ensures tree { TreeLooked (is_err result) (tree_state T.Tree tree.old) (tree_state T.Tree tree.new) }
+    ensures tree { TreeLooked (is_err result) (T.state tree.old) (T.state tree.new) }
 {
     if !is_writing && !keep {
         return Ok(false);
@@ -27,10 +26,10 @@ fn goes_on<T: Tree>(tree: &mut T, path: &Path, is_writing: bool, keep: bool) -> 
 /// Begins a write, and says whether bytes can be added to the file then. One that is writing goes on with the
 /// file, and so does one that keeps a file which is there; else the file is made empty.
 fn begin<T: Tree>(tree: &mut T, path: &Path, is_writing: bool, keep: bool) -> Result<bool, Failed>
-    ensures begun { IfOk result (λ goes. IfSome (T.told tree.old) (λ nodes. goes ≡ is_some (begun is_writing keep (seen_of nodes path.now)))) }
-    ensures file { IfOk result (λ goes. IsTrue goes → IfSome (T.told tree.new) (λ nodes. IsSome (file_at nodes path.now))) }
-    ensures tree { TreeEnded (changes_written is_writing keep (T.told tree.old) path.now []) (is_err result)
-        (tree_state T.Tree tree.old) (tree_state T.Tree tree.new) }
+    ensures begun { IfOk result (λ goes. IfSome (T.state tree.old).told (λ nodes. goes ≡ is_some (begun is_writing keep (seen_of nodes path.now)))) }
+    ensures file { IfOk result (λ goes. IsTrue goes → IfSome (T.state tree.new).told (λ nodes. IsSome (file_at nodes path.now))) }
+    ensures tree { TreeEnded (changes_written is_writing keep (T.state tree.old).told path.now []) (is_err result)
+        (T.state tree.old) (T.state tree.new) }
 {
     if goes_on(tree, path, is_writing, keep)? {
         return Ok(true);
@@ -49,9 +48,9 @@ pub(crate) fn add<T: Tree>(
     is_writing: bool,
     keep: bool,
 ) -> Result<bool, Failed>
-    ensures begun { IfOk result (λ goes. IfSome (T.told tree.old) (λ nodes. goes ≡ is_some (begun is_writing keep (seen_of nodes path.now)))) }
-    ensures tree { TreeEnded (changes_written is_writing keep (T.told tree.old) path.now (map (λ byte. ToFile path.now byte) piece.now))
-        (is_err result) (tree_state T.Tree tree.old) (tree_state T.Tree tree.new) }
+    ensures begun { IfOk result (λ goes. IfSome (T.state tree.old).told (λ nodes. goes ≡ is_some (begun is_writing keep (seen_of nodes path.now)))) }
+    ensures tree { TreeEnded (changes_written is_writing keep (T.state tree.old).told path.now (map (λ byte. ToFile path.now byte) piece.now))
+        (is_err result) (T.state tree.old) (T.state tree.new) }
 {
     if !begin(tree, path, is_writing, keep)? {
         return Ok(false);

@@ -26,7 +26,7 @@ const SCROLL_X: usize = 0x9a;
 const SCROLL_Y: usize = 0x9c;
 
 /// What a player does at the controller or the mouse (Varvara device reference).
-#[derive(Debug, Clone, Copy, PartialEq, Eq)]
+#[derive(Clone, Copy, PartialEq, Eq)]
 pub enum Input {
     /// A key is struck; the byte is its character.
     Key(u8),

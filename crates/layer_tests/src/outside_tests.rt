@@ -372,14 +372,10 @@ fn whole_files_are_read_up_to_the_limit(rt: HostRuntime) -> Result<(), Fail> {
 struct Endless;
 
 impl Tree for Endless {
-    ghost use Rattle.std.specs.Prelude.{None};
+    ghost use Rattle.std.specs.Prelude.{true, None};
     ghost use Rattle.uxn_io.specs.Room.{no_promise};
 
-    ghost told = { λ _. None };
-
-    ghost faults = { λ _. 0 };
-
-    ghost sure = { λ _. no_promise };
+    ghost state = { λ _. record { told = None; tally = record { faults = 0; exact = true }; refusals = 0; sure = no_promise } };
 
     fn kind(&mut self, _path: &Path) -> Result<Kind, Failed> {
         Ok(Kind::File(1))

@@ -7,7 +7,7 @@ ghost use Rattle.line_texts.specs.Rows.{rows_in, row_of, counted, counted_by};
 use crate::words::first_word;
 
 /// How many values a line takes behind its first word.
-#[derive(Clone, Copy, Debug)]
+#[derive(Clone, Copy)]
 pub enum Counts {
     /// So many.
     Exactly(usize),
@@ -18,11 +18,11 @@ pub enum Counts {
 }
 
 /// A row of a table of lines: a first word, how many values it takes, and what it stands for.
-#[derive(Clone, Copy, Debug)]
+#[derive(Clone, Copy)]
 pub struct Row<K>(pub &'static str, pub Counts, pub K);
 
 /// What can be wrong with the words of a line.
-#[derive(Clone, Copy, Debug, PartialEq, Eq)]
+#[derive(Clone, Copy, PartialEq, Eq)]
 pub enum LineFault {
     /// The first word is in no row.
     Unknown,

@@ -8,7 +8,7 @@ use clap::{Arg, ArgAction, Command};
 use std::alloc::{AllocError, Global};
 
 /// A row of a table: the name of an option, without the `--` before it, and what the option is.
-#[derive(Clone, Copy, Debug)]
+#[derive(Clone, Copy)]
 pub enum Choice {
     /// An option without a value, as `--name`.
     Switch(&'static str),

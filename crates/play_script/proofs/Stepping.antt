@@ -98,14 +98,6 @@ refused number at before (Ok None) left (Faulty kind) after takes = absurd takes
 refused number at before (Ok (Some m)) left (Faulty kind) after takes = rw (same_fault number before m ∙ takes) refl
 refused number at before (Err found) left (Faulty kind) after takes = rw takes refl
 
-pub stop_at : (text line : List ℕ) (lines next : LinesView) (so_far after : GatheredView) (stop : LineStop) → Standing text lines so_far → lines.left ≡ line ∷ next.left
-    → next.number ≡ lines.number + 1 → TakesLine so_far (line_of so_far.version (words_of line)) (Err stop) after → Reads (Err (at_line next.number stop)) (script_in (lines_of text))
-stop_at text line lines next so_far after stop standing cut counted takes =
-    let number = version_in (lines_of text) in
-    let here = rw standing.gathers at takes in
-    let all = ap (λ left. given fault_behind (lines.number + 1) standing.before (read_by number left)) (sym cut) ∙ standing.rest in
-    rw (counted, ← all) (refused number (lines.number + 1) standing.before (line_of number (words_of line)) (read_by number next.left) stop after here)
-
 -- all lines are taken
 first_same : {A : Type 0} (other : A) (xs : List A) → unwrap_or (slice_get xs 0) other ≡ first_or other xs
 first_same other [] = refl

@@ -1,5 +1,6 @@
 -- What holds of every script that was read (profile).
-use Rattle.std.specs.Prelude.{ℕ, ◌+◌, ◌<◌, ◌≤◌, ◌≡◌, ◌==◌, Bool, true, pos, neg_ℤ, ◌≤ℤ◌, [], ◌∷◌, length, List}
+use Rattle.std.specs.Prelude.{ℕ, ◌+◌, ◌<◌, ◌≤◌, ◌≡◌, ◌==◌, Bool, true, pos, neg_ℤ, ◌≤ℤ◌}
+use Rattle.std.specs.Prelude.{[], ◌∷◌, length, List}
 use Rattle.std.specs.List.{All, AllByRecursion, list_all, list_any, sum_by}
 use Rattle.input_ports.specs.declared.Input.TheVariants.{DownOf, UpOf}
 use Rattle.play_script.specs.declared.script.Clock.{Clock}

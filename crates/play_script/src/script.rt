@@ -9,7 +9,7 @@ use thiserror::Error;
 use uxn_io::Bytes;
 
 /// The moment at which a script begins.
-#[derive(Debug, Clone, Copy, PartialEq, Eq)]
+#[derive(Clone, Copy, PartialEq, Eq)]
 pub struct Clock {
     /// Seconds since 1970-01-01 00:00:00 UTC, 0 to 253,370,000,000.
     pub seconds: i64,
@@ -18,7 +18,7 @@ pub struct Clock {
 }
 
 /// Which lines a script may have.
-#[derive(Debug, Clone, Copy, PartialEq, Eq)]
+#[derive(Clone, Copy, PartialEq, Eq)]
 pub enum Version {
     /// Version 1.
     First,
@@ -27,7 +27,7 @@ pub enum Version {
 }
 
 /// What a program is given.
-#[derive(Debug, Clone, Copy, PartialEq, Eq)]
+#[derive(Clone, Copy, PartialEq, Eq)]
 pub enum Event {
     /// A byte of the console's input.
     Input(u8),
@@ -44,7 +44,7 @@ pub enum Event {
 }
 
 /// A script: its version, a clock, the arguments of the program and the events.
-#[derive(Debug, Drop)]
+#[derive(Drop)]
 pub struct Script {
     version: Version,
     clock: Clock,

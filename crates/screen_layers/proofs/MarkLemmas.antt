@@ -10,9 +10,6 @@ use Rattle.screen_layers.specs.declared.control.Layer.TheVariants.{Background, F
 use Rattle.screen_layers.specs.Drawings.{Shape, Drawing, fill, dot, tile, painted, paint, covers, distance, row_painted}
 use Rattle.screen_layers.specs.Layers.{Layers, MarksMore, Draws, pixel_at, pixels_of, mark_at}
 
-row-past : (at_x low high : ℕ) (flip_x : Bool) (blend x : ℕ) → nat_lt (distance at_x x) 8 ≡ false → row_painted at_x low high flip_x blend x ≡ None
-row-past at_x low high flip_x blend x e = rw e refl
-
 -- a shape paints nothing where it does not cover
 pub covers-painted : (shape : Shape) (x y : ℕ) → covers shape x y ≡ false → painted shape x y ≡ None
 unfolding covers painted

@@ -78,13 +78,6 @@ included_is reading deeper origin text flat opened file some is cut =
     ∙ walk_is reading (deeper - 1) opened.path opened.bytes.list (with_path opened.path flat)
     ∙ faultless_is reading (deeper - 1) opened.path opened.bytes.list file (with_path opened.path flat) cut
 
--- an include word whose file is not opened
-pub not_opened : {X : Type 0} (view : X → Flat) (reading : Reading) (deeper : ℕ) (inner : List ℕ → List ℕ → Flat → Outcome) (origin : Origin) (text : List ℕ) (flat : Flat)
-    (stop : SpliceStop) → IsOpened reading deeper origin text flat (Err stop) → Gives view (Err stop) (at_include reading deeper inner origin text flat)
-not_opened view reading deeper inner origin text flat (Refused fault) is = is inner
-not_opened view reading deeper inner origin text flat TreeFault is = tt
-not_opened view reading deeper inner origin text flat NoMemory is = tt
-
 -- a file with a fault of words
 pub not_cut : {X : Type 0} (view : X → Flat) (path source : List ℕ) (outcome next : Outcome) (stop : SpliceStop)
     → IsCut path source (Err stop) → outcome ≡ faultless_or path source (word_fault source) next → Gives view (Err stop) outcome

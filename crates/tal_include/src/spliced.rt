@@ -11,7 +11,7 @@ use uxn_io::Path;
 
 /// A word of the flat text: the offset of its first byte there, its file by its number in the order of
 /// reading, where the main source has 0, and its line and column in that file.
-#[derive(Clone, Copy, Debug)]
+#[derive(Clone, Copy)]
 pub(crate) struct Place {
     pub(crate) at: usize,
     pub(crate) file: usize,
@@ -21,7 +21,7 @@ pub(crate) struct Place {
 
 /// The flat text of a source: its words, with those of its files in place of the words that include them,
 /// each with a newline behind it.
-#[derive(Debug, Drop)]
+#[derive(Drop)]
 pub struct Spliced {
     main: Path,
     includes: bool,

@@ -3,7 +3,6 @@
 ghost use Rattle.std.specs.Prelude.{◌≡◌, ℕ, ◌+◌, ◌<◌, ◌==◌, ◌&&◌, false, length, nat_lt, IfOk, IfSome, OnOk, if◌then◌else◌};
 ghost use Rattle.std.specs.List.{list_any};
 ghost use Rattle.uxn_io.specs.Ended.{TreeLooked};
-ghost use Rattle.uxn_io.specs.State.{tree_state};
 ghost use Rattle.tal_words.specs.declared.span.Word.{Word};
 ghost use Rattle.tal_words.specs.Source.{word_text};
 ghost use Rattle.tal_include.specs.declared.faults.SpliceStop.TheVariants.{Refused};
@@ -36,9 +35,9 @@ pub fn splice<T: Tree>(
     main: &Path,
     source: &[u8],
 ) -> Result<Spliced, SpliceStop>
-    ensures told { IfSome (T.told tree.old) (λ nodes. Gives (λ flat. flat) result (spliced (told_reading nodes) main.now source.now)) }
+    ensures told { IfSome (T.state tree.old).told (λ nodes. Gives (λ flat. flat) result (spliced (told_reading nodes) main.now source.now)) }
     ensures read { (reading : Reading) × Gives (λ flat. flat) result (spliced reading main.now source.now) }
-    ensures looked { TreeLooked (has_failed result) (tree_state T.Tree tree.old) (tree_state T.Tree tree.new) }
+    ensures looked { TreeLooked (has_failed result) (T.state tree.old) (T.state tree.new) }
 {
     let file = cut_file(alloc, main, source)?;
     let includes = has_include(source, &file.words);
@@ -151,11 +150,11 @@ impl Spliced {
         file: &Cut<'_>,
         deeper: u32,
     ) -> Result<(), SpliceStop>
-        ensures walk { Along (T.told tree.old) (length self.old.paths)
+        ensures walk { Along (T.state tree.old).told (length self.old.paths)
             (λ count. OnOk result (length self.new.paths ≡ length self.old.paths + count))
             (λ reading. Gives (λ _. self.new) result
             (through_words reading deeper (inner_walk reading deeper) file.now.path.now file.now.source.now file.now.words.items self.old)) }
-        ensures looked { TreeLooked (has_failed result) (tree_state T.Tree tree.old) (tree_state T.Tree tree.new) }
+        ensures looked { TreeLooked (has_failed result) (T.state tree.old) (T.state tree.new) }
     {
         let number = self.paths().len();
         for word in &file.words {
@@ -185,10 +184,10 @@ impl Spliced {
         deeper: u32,
     ) -> Result<(), SpliceStop>
         requires { 0 < length text.now }
-        ensures walk { Along (T.told tree.old) (length self.old.paths)
+        ensures walk { Along (T.state tree.old).told (length self.old.paths)
             (λ count. OnOk result (length self.new.paths ≡ length self.old.paths + count))
             (λ reading. Gives (λ _. self.new) result (at_include reading deeper (inner_walk reading deeper) origin text.now self.old)) }
-        ensures looked { TreeLooked (has_failed result) (tree_state T.Tree tree.old) (tree_state T.Tree tree.new) }
+        ensures looked { TreeLooked (has_failed result) (T.state tree.old) (T.state tree.new) }
     {
         let opened = self.open(alloc, tree, origin, text, deeper)?;
         let file = cut_file(alloc, &opened.path, opened.bytes.as_slice())?;
@@ -226,10 +225,10 @@ impl Spliced {
         deeper: u32,
     ) -> Result<Opened, SpliceStop>
         requires { 0 < length text.now }
-        ensures walk { Along (T.told tree.old) (length self.now.paths) (λ count. OnOk result (count ≡ 1))
+        ensures walk { Along (T.state tree.old).told (length self.now.paths) (λ count. OnOk result (count ≡ 1))
             (λ reading. IsOpened reading deeper origin text.now self.now result) }
         ensures deep { OnOk result (0 < deeper) }
-        ensures looked { TreeLooked (has_failed result) (tree_state T.Tree tree.old) (tree_state T.Tree tree.new) }
+        ensures looked { TreeLooked (has_failed result) (T.state tree.old) (T.state tree.new) }
     {
         match self.path_or_kind(text, deeper) {
             Err(kind) => Err(refused(origin, kind, text)),

@@ -12,7 +12,7 @@ use crate::labels::{FIRST_SCOPE, scope_of};
 use tal_words::{Form, Span};
 
 /// A scope as a part of the source, or the scope before the first label.
-#[derive(Clone, Copy, Debug)]
+#[derive(Clone, Copy)]
 pub struct Scope {
     span: Option<Span>,
 }

@@ -12,7 +12,9 @@ use Rattle.tal_words.specs.Faults.{Judged, fault_or, least, phase_fault, or_late
 use Rattle.tal_words.specs.Order.{each, collected}
 use Rattle.tal_words.specs.Source.{word_text, expanded_text}
 use Rattle.tal_words.specs.Forms.{form}
-use Rattle.tal_macros.specs.Expansion.{Macro, Part, Plain, Head, Inside, Visited, depth_limit, body_named, body_defined, part_of, parts_from, head_length, known_at, visits, visits_given, visit_list, without_uses, judged_visits, judged_part, parts_of, expanded_of, expansion_fault}
+use Rattle.tal_macros.specs.Expansion.{Macro, Part, Plain, Head, Inside, Visited, depth_limit, body_named, body_defined}
+use Rattle.tal_macros.specs.Expansion.{part_of, parts_from, head_length, known_at, visits, visits_given, visit_list}
+use Rattle.tal_macros.specs.Expansion.{without_uses, judged_visits, judged_part, parts_of, expanded_of, expansion_fault}
 use Rattle.tal_labels.specs.declared.placed.PlacedWord.{PlacedWord}
 use Rattle.tal_labels.specs.Shapes.{shape_fault, judged_shape}
 use Rattle.tal_labels.specs.Placing.{placing_fault, judged_place, place_fault, placed_of, placed_with, placed_given}
@@ -32,14 +34,16 @@ all_each P Q make one before [] all = tt
 all_each P Q make one before (x ∷ xs) all = (one before x xs all.0, all_each P Q make one (before ++ x ∷ []) xs all.1)
 
 all_collected : {X Y : Type 0} (P : X → Type 0) (Q : Y → Type 0) (give : List X → X → List X → List Y)
-    → ((before : List X) (x : X) (after : List X) → P x → AllByRecursion Q (give before x after)) → (before xs : List X) → AllByRecursion P xs
+    → ((before : List X) (x : X) (after : List X) → P x → AllByRecursion Q (give before x after)) → (before xs : List X)
+    → AllByRecursion P xs
     → AllByRecursion Q (collected give before xs)
 all_collected P Q give one before [] all = tt
 all_collected P Q give one before (x ∷ xs) all =
     let rest = all_collected P Q give one (before ++ x ∷ []) xs all.1 in
     all_joined Q (give before x xs) (collected give (before ++ x ∷ []) xs) (one before x xs all.0) rest
 
-all_flat : {X Y : Type 0} (Q : Y → Type 0) (f : X → List Y) → ((x : X) → AllByRecursion Q (f x)) → (xs : List X) → AllByRecursion Q (flat_map f xs)
+all_flat : {X Y : Type 0} (Q : Y → Type 0) (f : X → List Y) → ((x : X) → AllByRecursion Q (f x)) → (xs : List X)
+    → AllByRecursion Q (flat_map f xs)
 all_flat Q f one [] = tt
 all_flat Q f one (x ∷ xs) = all_joined Q (f x) (flat_map f xs) (one x) (all_flat Q f one xs)
 

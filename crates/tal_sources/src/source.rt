@@ -2,7 +2,6 @@
 
 ghost use Rattle.std.specs.Prelude.{◌≡◌, Ok, false, IfOk, IfSome};
 ghost use Rattle.uxn_io.specs.Ended.{TreeLooked};
-ghost use Rattle.uxn_io.specs.State.{tree_state};
 ghost use Rattle.tal_words.specs.Faults.{fault_text};
 ghost use Rattle.tal_rom.specs.Assembly.{IsAssembled, first_fault};
 ghost use Rattle.tal_include.specs.declared.faults.IncludeKind.TheVariants.{Words};
@@ -71,10 +70,10 @@ pub fn read_source<T: Tree>(
     main: &Path,
     source: Bytes,
 ) -> Result<AssembledSource, SourceStop>
-    ensures told { IfSome (T.told tree.old) (λ nodes. Comes result (sourced (told_reading nodes) main.now source.list)) }
+    ensures told { IfSome (T.state tree.old).told (λ nodes. Comes result (sourced (told_reading nodes) main.now source.list)) }
     ensures read { (reading : Reading) × Comes result (sourced reading main.now source.list) }
     ensures assembled { IfOk result (λ made. IsAssembled made.text (Ok made.assembly)) }
-    ensures looked { TreeLooked (has_failed result) (tree_state T.Tree tree.old) (tree_state T.Tree tree.new) }
+    ensures looked { TreeLooked (has_failed result) (T.state tree.old) (T.state tree.new) }
 {
     if !has_includes(alloc, source.as_slice())? {
         return assemble_own(alloc, source);

@@ -92,15 +92,6 @@ between_more source start at line column next_line next_column within blank here
       ∙ append-nil _ ∙ here.tokens;
 }
 
--- no blank behind it
-pub between_token : (source : List ℕ) (at : ℕ) → is_between source at ≡ true → is_blank (get_or source at 0) ≡ false → begins_token source at ≡ true
-between_token source at between plain = by (is_after_blank source at) (is_blank (get_or source at 0)) plain between
-  where
-    by : (after blank : Bool) → blank ≡ false → (after || blank) ≡ true → (after && not blank) ≡ true
-    by true true plain between = cc
-    by true false plain between = refl
-    by false blank plain between = cc
-
 -- a token has a byte, which is no blank
 begins_plain : (source : List ℕ) (at : ℕ) → begins_token source at ≡ true → is_blank (get_or source at 0) ≡ false
 begins_plain source at begins = by (is_after_blank source at) (is_blank (get_or source at 0)) begins

@@ -11,7 +11,7 @@ use std::alloc::{AllocError, Global};
 use std::marker::Model;
 
 /// A name, which is a list of bytes.
-#[derive(Debug, Drop)]
+#[derive(Drop)]
 pub struct Name {
     text: Vec<u8>,
 }
@@ -54,7 +54,7 @@ impl Name {
 }
 
 /// A label: its full name, and the address that it names.
-#[derive(Debug, Drop)]
+#[derive(Drop)]
 pub struct Label {
     pub name: Name,
     pub address: u16,

@@ -15,8 +15,8 @@ use Rattle.uxn_io.specs.ChangeLaws.{files-told}
 use Rattle.uxn_io.specs.NodeLaws.{same_path, get_put}
 use Rattle.uxn_io.specs.Ended.{IsOfTree, AreOfTree}
 use Rattle.uxn_io.specs.EndedLaws.{changed_by-files}
-use Rattle.uxn_cli.specs.World.{Text}
-use Rattle.uxn_cli.specs.Outcome.{creating, filling, filling_all}
+use Rattle.task_files.specs.World.{Text}
+use Rattle.task_files.specs.Writing.{creating, filling, filling_all}
 
 -- ---- files
 

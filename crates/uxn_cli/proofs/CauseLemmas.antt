@@ -1,24 +1,26 @@
 -- Which status a verdict has, and who is to blame for one.
-use Rattle.std.proofs.Common.{◌≡◌, ℕ, ◌≤◌, ◌⊎◌, nat_le, ◌==◌, if◌then◌else◌, refl, ap, sym, ◌∙◌, inl, inr, subst, arith}
+use Rattle.std.proofs.Common.{◌≡◌, ℕ, true, false, ◌≤◌, ◌⊎◌, nat_le, ◌==◌, if◌then◌else◌, refl, ap, sym, ◌∙◌, inl, inr, subst, arith}
 use Rattle.std.proofs.lemmas.Bool.{le-leb}
 use Rattle.std.specs.Prelude.{Some, Result, Ok, Err}
 use Rattle.system_port.specs.DebugText.{exit_code_of}
-use Rattle.uxn_io.specs.Faults.{Counts, Rose, Ledger, TreeRose, OutRose, ErrRose}
+use Rattle.uxn_io.specs.Faults.{Counts, Rose, Ledger, AllCounted}
 use Rattle.uxn_io.specs.Files.{Nodes}
 use Rattle.uxn_line.specs.Moves.{last_of}
-use Rattle.uxn_line.specs.Streams.{run_at}
+use Rattle.uxn_line.specs.Streams.{Job as LineJob, run_at}
 use Rattle.uxn_opcodes.specs.declared.Stop.{Stop}
 use Rattle.uxn_opcodes.specs.declared.Stop.TheVariants.{TreeFault, SinkFault, NoMemory}
 use Rattle.uxn_words.specs.declared.task.Task.{Task}
 use Rattle.varvara_bus.specs.History.{stored}
-use Rattle.uxn_cli.specs.declared.refusal.Refusal.{Refusal}
+use Rattle.task_files.specs.declared.refusal.Refusal.{Refusal}
 use Rattle.uxn_cli.specs.Answer.{IsViewOf, Judges}
-use Rattle.uxn_cli.specs.Blame.{blame_of, blame_at}
+use Rattle.task_files.specs.Blame.{blame_of, blame_at}
 use Rattle.uxn_cli.specs.Causes.{verdict_on, EndsWith}
 use Rattle.uxn_cli.specs.Job.{trail_of}
-use Rattle.uxn_cli.specs.Outcome.{outcome_of}
-use Rattle.uxn_cli.specs.Statuses.{Reason, Illegal, Pathless, NoInput, FaultySource, FaultyScript, FaultyCommands, Unfit, Blocked, FaultySetup, Status, Exits, Refuses, EndsBy, number, reason_of, early_status, IsRefusedFor}
-use Rattle.uxn_cli.specs.Verdict.{View, Work, Run, Write, Print, RunLine, view_of, judged}
+use Rattle.uxn_cli.specs.Outcome.{line_exit, outcome_of}
+use Rattle.task_files.specs.Statuses.{Reason, Illegal, Pathless, NoInput, FaultySource, FaultyScript, FaultyCommands, Unfit, FaultySetup, Status, Exits, Refuses, EndsBy, number, reason_of, early_status, IsRefusedFor}
+use Rattle.task_files.specs.Statuses.{Blocked}
+use Rattle.task_files.specs.Views.{View, view_of}
+use Rattle.uxn_cli.specs.Verdict.{Work, Run, Write, Print, RunLine, judged}
 
 -- ---- the verdict on what stands in a tree that tells its contents
 
@@ -48,11 +50,14 @@ IsStatus (EndsBy stop) = Unit {0}
 code-small : (state : ℕ) → exit_code_of state ≤ 127
 code-small state = omega arith
 
+pub line-small : (job : LineJob) → line_exit job ≤ 127
+line-small job = code-small (stored (run_at job (last_of job)).last.devices.history 0x0f)
+
 is_code : (work : Work) → (outcome_of (Ok work)).status ≤ 127
 is_code (Run job) = code-small (stored (trail_of job).last.devices.history 0x0f)
 is_code (Write texts) = omega arith
 is_code (Print text) = omega arith
-is_code (RunLine job) = code-small (stored (run_at job (last_of job)).last.devices.history 0x0f)
+is_code (RunLine job) = line-small job
 
 pub is_status : (found : Result Work Refusal) → IsStatus (status_in found)
 is_status (Ok work) = is_code work
@@ -118,9 +123,10 @@ pub blame_early : (stop : Stop) → blame_at (early_status stop) ≡ blame_of st
 blame_early stop = grind arith
 
 -- which counts rose with a status
-pub tree-rose : (before now : Counts) (status : ℕ) → Ledger before now (blame_at status) → status ≡ 136 → Rose before.tree now.tree
-tree-rose before now status ledger is = (let rose : TreeRose before now = rw is at ledger in rose.tree)
+pub tree-rose : (before now : Counts) (status : ℕ) → Ledger before now (blame_at status) → status ≡ 136 → Rose before.tree.faults now.tree.faults
+tree-rose before now status ledger is = (let rose : AllCounted before now true false false = rw is at ledger in rose.tree.rose refl)
 
-pub sink-rose : (before now : Counts) (status : ℕ) → Ledger before now (blame_at status) → status ≡ 137 → Rose before.out now.out ⊎ Rose before.err now.err
+pub sink-rose : (before now : Counts) (status : ℕ) → Ledger before now (blame_at status) → status ≡ 137 → Rose before.out.faults now.out.faults ⊎ Rose before.err.faults now.err.faults
 sink-rose before now status ledger is =
-    (let rose : OutRose before now ⊎ ErrRose before now = rw is at ledger in elim rose [ inl rise ↦ inl rise.out | inr rise ↦ inr rise.err ])
+    (let rose : AllCounted before now false true false ⊎ AllCounted before now false false true = rw is at ledger in
+    elim rose [ inl rise ↦ inl (rise.out.rose refl) | inr rise ↦ inr (rise.err.rose refl) ])

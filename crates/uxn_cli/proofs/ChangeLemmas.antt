@@ -1,34 +1,40 @@
 -- Files that are written and texts that are put, as changes in order.
-use Rattle.std.proofs.Common.{◌≡◌, ◌≢◌, ℕ, ◌<◌, false, cond, List, [], ◌∷◌, map, take, drop, length, refl, ap, sym, ◌∙◌, arith, take-append-drop, length-drop}
-use Rattle.std.specs.Prelude.{Option, Some, None, IfSome, option_map}
+use Rattle.std.proofs.Common.{◌≡◌, ◌≢◌, ℕ, ◌<◌, false, List, [], ◌∷◌, ◌++◌, map, take, drop, length, refl, ap, sym, ◌∙◌, arith, take-append-drop, length-drop}
+use Rattle.std.specs.Prelude.{Option}
 use Rattle.std.specs.List.{list_any}
 use Rattle.std.specs.Str.{bytes_eq}
-use Rattle.std.specs.FinMap as fin
 use Rattle.std.proofs.lemmas.Bool.{or_parts}
 use Rattle.std.proofs.lemmas.List.{map-append}
 use Rattle.uxn_io.specs.Told.{extended, HasTakenFront}
-use Rattle.uxn_io.specs.Files.{Nodes, File}
-use Rattle.uxn_io.specs.Changes.{with_created}
+use Rattle.uxn_io.specs.Ended.{AreOfTree}
+use Rattle.uxn_io.specs.Files.{Nodes}
 use Rattle.uxn_io.specs.Outside.{Change, ToOut, ToErr, ToFile, World, changed_by, IsCutOff}
 use Rattle.uxn_io.specs.ChangeLaws.{changed_by-out, changed_by-err}
 use Rattle.varvara_bus.specs.Touching.{Spares, Each, each-append, each-map}
-use Rattle.uxn_cli.specs.World.{world, Text, with_empty, CanMake}
-use Rattle.uxn_cli.specs.Outcome.{creating, filling, filling_all, writing, printing}
+use Rattle.task_files.specs.World.{world, Text, paths_in}
+use Rattle.task_files.specs.Writing.{creating, filling, filling_all, writing}
+use Rattle.uxn_cli.specs.Outcome.{printing}
 
-abbrev pub paths_in : List Text → List (List ℕ)
-paths_in texts = map (λ (t : Text). t.path) texts
+-- files that are made and filled are changes of a tree
+of-creating : (paths : List (List ℕ)) (after : List Change) → AreOfTree after → AreOfTree (creating paths ++ after)
+of-creating [] after of = of
+of-creating (path ∷ paths) after of = (tt, of-creating paths after of)
 
-module _ (out err : Option (List ℕ)) where
-  -- files that were made
-  pub made-changes : (texts : List Text) (tree : Option Nodes) → IfSome tree (CanMake texts)
-      → changed_by (world tree out err) (creating (paths_in texts)) ≡ world (option_map (with_empty texts) tree) out err
-  unfolding CanMake
-  made-changes [] None can = refl
-  made-changes [] (Some nodes) can = refl
-  made-changes (text ∷ texts) None can = made-changes texts None tt
-  made-changes (text ∷ texts) (Some nodes) can =
-      ap (λ b. changed_by (world (Some (cond b (fin.insert nodes text.path (File [])) nodes)) out err) (creating (paths_in texts))) (sym can.0)
-      ∙ made-changes texts (Some (with_created text.path nodes)) can.1
+pub made-of-tree : (paths : List (List ℕ)) → AreOfTree (creating paths)
+made-of-tree [] = tt
+made-of-tree (path ∷ paths) = (tt, made-of-tree paths)
+
+of-text : (path bytes : List ℕ) (after : List Change) → AreOfTree after → AreOfTree (map (λ byte. ToFile path byte) bytes ++ after)
+of-text path [] after of = of
+of-text path (byte ∷ bytes) after of = (tt, of-text path bytes after of)
+
+pub filled-of-tree : (texts : List Text) → AreOfTree (filling_all texts)
+filled-of-tree [] = tt
+filled-of-tree (text ∷ texts) = of-text text.path text.bytes (filling_all texts) (filled-of-tree texts)
+
+pub written-of-tree : (texts : List Text) → AreOfTree (writing texts)
+unfolding writing
+written-of-tree texts = of-creating (paths_in texts) (filling_all texts) (filled-of-tree texts)
 
 -- a text that was printed, and a front of it
 pub printed : (tree : Option Nodes) (out err new : Option (List ℕ)) (text : List ℕ) → new ≡ extended out text → world tree new err ≡ changed_by (world tree out err) (printing text)

@@ -10,22 +10,24 @@ use Rattle.uxn_io.specs.Told.{extended}
 use Rattle.uxn_opcodes.specs.declared.Stop.{Stop}
 use Rattle.uxn_opcodes.specs.declared.Stop.TheVariants.{TreeFault, SinkFault, NoMemory}
 use Rattle.uxn_words.specs.declared.task.Task.{Task}
-use Rattle.uxn_cli.specs.declared.refusal.Refusal.{Refusal}
+use Rattle.task_files.specs.declared.refusal.Refusal.{Refusal}
 use Rattle.uxn_cli.specs.Answer.{IsUntold, Judges, HasOutcome, HasEnded, EndsEarly, HasFront, HasCut, IsCut, MayStop, Answers}
-use Rattle.uxn_cli.specs.Blame.{as_step, blame_at}
+use Rattle.task_files.specs.Blame.{as_step, blame_at}
 use Rattle.uxn_cli.specs.Call.{Call, asked_by, status_by}
 use Rattle.uxn_io.specs.State.{Outside}
 use Rattle.uxn_cli.specs.Causes.{IsExactly, verdict_on, EndsWith, PutsLine}
 use Rattle.uxn_cli.specs.Clauses.{HasItsOutcome, HasStatuses, EndsEarlyByFaults, ComesOut}
 use Rattle.uxn_cli.specs.Outside.{DoesWork}
-use Rattle.uxn_cli.specs.Lines.{text_of, line_of}
+use Rattle.task_files.specs.Lines.{text_of, line_of}
 use Rattle.uxn_cli.specs.Outcome.{outcome_of}
-use Rattle.uxn_cli.specs.Request.{request}
-use Rattle.uxn_cli.specs.Statuses.{Reason, Status, Exits, Refuses, EndsBy, number, early_status, IsEarly, IsRefusing, IsRefusedFor, IsOfWords}
-use Rattle.uxn_cli.specs.Verdict.{View, Work, verdict}
+use Rattle.task_files.specs.Request.{request}
+use Rattle.task_files.specs.Statuses.{Reason, Status, Exits, Refuses, EndsBy, number, early_status, IsEarly, IsRefusing, IsRefusedFor, IsOfWords}
+use Rattle.task_files.specs.Views.{View}
+use Rattle.uxn_cli.specs.Verdict.{Work, verdict}
 use Rattle.uxn_cli.proofs.CauseLemmas.{told_verdict, status_in, has_status, IsStatus, is_status, one_status, IsRefusal, IsUsual, is_usual, only_refused, is_refused, only_exit, is_exit, blame_early, tree-rose, sink-rose}
 use Rattle.uxn_cli.proofs.SureLemmas.{never}
-use Rattle.uxn_cli.proofs.GivesLemmas.{Gives, Writes, judged-gives}
+use Rattle.task_files.proofs.GivesLemmas.{Gives}
+use Rattle.uxn_cli.proofs.GivesLemmas.{Writes, judged-gives}
 
 -- this holds where a tree tells its contents
 pub where_told : (tree : Option Nodes) (P : Nodes → Type 0) → ((nodes : Nodes) → tree ≡ Some nodes → P nodes) → IfSome tree P

@@ -1,5 +1,5 @@
 -- What a file holds, where the changes that write it were cut off.
-use Rattle.std.proofs.Common.{◌≡◌, ℕ, ◌⊎◌, Bool, true, false, List, [], ◌∷◌, ◌++◌, map, refl, ap, sym, ◌∙◌, subst, inl, inr, append_assoc, append-nil, arith}
+use Rattle.std.proofs.Common.{◌≡◌, ℕ, ◌⊎◌, Bool, true, false, List, [], ◌∷◌, ◌++◌, map, refl, ap, sym, ◌∙◌, subst, inl, inr, append_assoc, append-nil}
 use Rattle.std.specs.Prelude.{Option, Some, None, Result, Ok, Err, IfOk, ◌||◌}
 use Rattle.std.specs.List.{list_any}
 use Rattle.std.specs.Option.{unwrap_or}
@@ -18,17 +18,21 @@ use Rattle.vector_loop.specs.AppendingLaws.{Adds, run-adds}
 use Rattle.uxn_words.specs.Places.{first_clash, HasApartOutputs}
 use Rattle.uxn_words.specs.Words.{task_of}
 use Rattle.uxn_words.specs.declared.task.Task.{Task}
-use Rattle.uxn_cli.specs.declared.refusal.Refusal.{Refusal}
+use Rattle.task_files.specs.declared.refusal.Refusal.{Refusal}
 use Rattle.uxn_cli.specs.Answer.{Answers}
 use Rattle.uxn_cli.specs.Call.{Call, asked_by}
 use Rattle.uxn_cli.specs.Causes.{verdict_on}
 use Rattle.uxn_cli.specs.Clauses.{IsOutputOf, HoldsFileFront, IsFrontOf, StandsCutOff, HasItsOutcome, IsCutShort}
 use Rattle.uxn_cli.specs.Job.{Job, outputs_in, outputs_by, start_with, trail_by, trail_of, log_by, report_of}
-use Rattle.uxn_cli.specs.Outcome.{outcome_of, creating, filling, filling_all, reporting, writing, running}
-use Rattle.uxn_cli.specs.Request.{refused, apart, apart_by, request}
-use Rattle.uxn_cli.specs.Statuses.{IsEarly}
-use Rattle.uxn_cli.specs.Verdict.{and_then, Work, Run, Write, Print, RunLine, view_of, judged}
-use Rattle.uxn_cli.specs.World.{Text}
+use Rattle.uxn_cli.specs.Outcome.{outcome_of, reporting, running}
+use Rattle.task_files.specs.Writing.{creating, filling, filling_all, writing}
+use Rattle.task_files.specs.Request.{refused, apart}
+use Rattle.task_files.specs.Request.{apart_by, request}
+use Rattle.task_files.specs.Statuses.{IsEarly}
+use Rattle.task_files.specs.Request.{and_then}
+use Rattle.uxn_cli.specs.Verdict.{Work, Run, Write, Print, RunLine, judged}
+use Rattle.task_files.specs.Views.{view_of}
+use Rattle.task_files.specs.World.{Text}
 use Rattle.uxn_cli.proofs.ClauseLemmas.{where_told, early_told, ends_told, outcome_usual}
 use Rattle.uxn_cli.proofs.RootLemmas.{outputs-outside}
 use Rattle.uxn_cli.proofs.GivesLemmas.{judged-writes}

@@ -1,38 +1,40 @@
 -- What a call sees of a tree, and what it leaves alone.
-use Rattle.std.proofs.Common.{◌≡◌, ℕ, Bool, true, false, List, [], ◌∷◌, ◌++◌, map, refl, ap, sym, ◌∙◌, subst, inl, inr}
-use Rattle.std.specs.Prelude.{Some, option_map, Result, Ok, Err, IfOk, ◌||◌, if◌then◌else◌}
-use Rattle.std.specs.List.{list_any, AllByRecursion}
+use Rattle.std.proofs.Common.{◌≡◌, ℕ, true, false, List, [], ◌∷◌, ◌++◌, refl, ap, sym, ◌∙◌, subst, inl, inr}
+use Rattle.std.specs.Prelude.{Some, option_map, Result, Ok, Err, IfOk, ◌||◌}
+use Rattle.std.specs.List.{list_any}
 use Rattle.std.specs.Str.{bytes_eq}
 use Rattle.std.specs.FinMap as fin
 use Rattle.std.proofs.lemmas.Slice.Eq.{bytes_eq-Decides}
 use Rattle.file_ports.specs.RootPart.{below}
-use Rattle.tal_include.specs.Answers.{told_file, told_reading}
-use Rattle.tal_include.specs.Included.{IsIncluded}
-use Rattle.tal_rom.specs.Assembly.{rom_of}
-use Rattle.tal_sources.specs.Sources.{sourced}
-use Rattle.uxn_io.specs.declared.trees.FileBytes.{FileBytes}
-use Rattle.uxn_io.specs.declared.trees.FileBytes.TheVariants.{Found, Missing as NoFile, TooLong}
 use Rattle.uxn_io.specs.Files.{Nodes}
 use Rattle.uxn_io.specs.ChangeLaws.{files-told}
 use Rattle.uxn_io.specs.Outside.{Change, Creates, World, changed_files, files_by}
 use Rattle.varvara_bus.specs.Touching.{told_at}
-use Rattle.uxn_line.specs.Setups.{SetupView}
 use Rattle.uxn_words.specs.declared.words.Command.{Command}
 use Rattle.uxn_words.specs.declared.words.Command.TheVariants.{Play, Debug, Assemble, Disassemble, Generate, Line}
 use Rattle.uxn_words.specs.declared.task.Task.{Task}
-use Rattle.uxn_cli.specs.declared.refusal.Refusal.{Refusal}
+use Rattle.task_files.specs.declared.refusal.Refusal.{Refusal}
 use Rattle.uxn_cli.specs.Answer.{HasOutcome, Answers}
 use Rattle.uxn_words.specs.Places.{root_by}
-use Rattle.uxn_cli.specs.Setup.{InputFile, NamedFiles, setup_in}
-use Rattle.uxn_cli.specs.Verdict.{and_then, View, Work, Run, Write, Print, RunLine, Plan, planned, view_of, judged, work_of, made_for, input_by, input_file, file_input, limit_by, file_seen, source_at, source_by, source_from, source_in, rom_in, loaded_rom, loaded_source, program_in, machine_rom, roms_in, line_in, script_by, named_by, named_in, texts_of}
+use Rattle.task_files.specs.Request.{and_then}
+use Rattle.task_files.specs.Views.{View, view_of}
+use Rattle.uxn_cli.specs.Verdict.{Work, Run, Write, Print, RunLine, judged, work_of, made_for, line_in}
 use Rattle.uxn_cli.specs.Prepared.{paths_for}
-use Rattle.uxn_cli.specs.Outcome.{outcome_of, creating, writing, running}
+use Rattle.uxn_cli.specs.Outcome.{outcome_of, running}
+use Rattle.task_files.specs.Writing.{creating, writing}
 use Rattle.uxn_cli.specs.Causes.{verdict_on}
-use Rattle.uxn_cli.specs.Isolation.{IncludeSame, AreSameSource, setup_sources, sources_in, HaveSameView, LookSame, files_after, IsWritten, IsOutcomeOn, GivesAsOn}
+use Rattle.task_files.specs.SameView.{HaveSameView}
+use Rattle.uxn_cli.specs.Isolation.{LookSame, files_after, IsWritten, IsOutcomeOn, GivesAsOn}
 use Rattle.uxn_cli.proofs.AfterLemmas.{made-here, same-node, same-part}
-use Rattle.uxn_cli.proofs.SourceLemmas.{seen-source}
+use Rattle.task_files.proofs.SameViewLemmas.{same-run, same-files, same-disassembly, same-machines}
+pub use Rattle.task_files.proofs.SameViewLemmas.{SourceLaw}
 use Rattle.uxn_cli.proofs.ClauseLemmas.{ends_told}
 use Rattle.uxn_cli.proofs.GivesLemmas.{judged-writes}
+use Rattle.task_files.specs.Accepted.{run_given}
+use Rattle.uxn_cli.specs.Verdict.{run_plan, run_in, write_plan, text_plan, line_in, home_by}
+use Rattle.uxn_words.specs.Tasks.{role_path}
+use Rattle.uxn_words.specs.declared.role.Role.TheVariants as role
+use Rattle.std.proofs.Common.{ap₂}
 
 -- what stands at a path where a file is made does not depend on what stood there
 made-same : (path : List ℕ) (m n : Nodes) (paths : List (List ℕ)) (rest : List Change) → list_any (bytes_eq path) paths ≡ true
@@ -54,49 +56,7 @@ work-outputs path m n (Write texts) among = made-same path m n _ _ among
 work-outputs path m n (Print text) among = absurd cc
 work-outputs path m n (RunLine job) among = absurd cc
 
--- what a source comes to hangs on its files alone
-abbrev pub SourceLaw : Type 0
-SourceLaw =
-    (nodes other : Nodes) (main source : List ℕ) → ((path : List ℕ) → IsIncluded (told_file nodes) main source path → told_file nodes path ≡ told_file other path)
-    → sourced (told_reading nodes) main source ≡ sourced (told_reading other) main source
-
--- a program that is read of the same file
-program-same : (rom : Bool) (path : List ℕ) (file other : InputFile) → file.bytes ≡ other.bytes → (rom ≡ false → source_in path file ≡ source_in path other)
-    → program_in rom path file ≡ program_in rom path other
-program-same true path file other bytes source = ap (λ b. and_then (rom_in path b) (λ rom. Ok (loaded_rom rom))) bytes
-program-same false path file other bytes source = ap (λ said. and_then said (λ source. Ok (loaded_source source))) (source refl)
-
 module _ (law : SourceLaw) (nodes other : Nodes) where
-  same-source : (path : List ℕ) → AreSameSource nodes other path → source_in path (source_at nodes path) ≡ source_in path (source_at other path)
-  same-source path same = go (source_at nodes path).bytes same.included ∙ ap (source_from path (told_reading other)) same.bytes
-    where
-      go : (bytes : FileBytes) → IncludeSame nodes other path bytes → source_from path (told_reading nodes) bytes ≡ source_from path (told_reading other) bytes
-      go NoFile included = refl
-      go (TooLong length) included = refl
-      go (Found source) included = ap source_by (law nodes other path source.list included)
-
-  same-roms : (paths : List (List ℕ)) → AllByRecursion (AreSameSource nodes other) paths → roms_in paths (map (source_at nodes) paths) ≡ roms_in paths (map (source_at other) paths)
-  same-roms [] all = refl
-  same-roms (path ∷ paths) all =
-      ap (λ said. and_then (and_then said (λ source. Ok (rom_of source.text))) (λ rom. and_then (roms_in paths (map (source_at nodes) paths)) (λ roms. Ok (rom ∷ roms)))) (same-source path all.0)
-      ∙ ap (λ said. and_then (machine_rom path (source_at other path)) (λ rom. and_then said (λ roms. Ok (rom ∷ roms)))) (same-roms paths all.1)
-
-  -- the work of a setup and the files that it names
-  abbrev joined : NamedFiles → Result SetupView Refusal → Result Plan Refusal
-  joined named said = and_then said (λ setup. and_then (line_in setup named) (λ job. Ok (planned (RunLine job) [])))
-
-  same-joined : (said : Result SetupView Refusal) → AllByRecursion (AreSameSource nodes other) (setup_sources said) → (named_by nodes said).script ≡ (named_by other said).script
-      → joined (named_by nodes said) said ≡ joined (named_by other said) said
-  same-joined (Err refusal) all script = refl
-  same-joined (Ok setup) all script =
-      ap (λ named. joined named (Ok setup))
-      (ap (λ given. record { sources = map (source_at nodes) setup.sources; script = given }) script) ∙ roms (same-roms setup.sources all)
-    where
-      roms : roms_in setup.sources (map (source_at nodes) setup.sources) ≡ roms_in setup.sources (map (source_at other) setup.sources)
-          → joined (record { sources = map (source_at nodes) setup.sources; script = script_by other setup.script }) (Ok setup)
-          ≡ joined (record { sources = map (source_at other) setup.sources; script = script_by other setup.script }) (Ok setup)
-      roms e = rw e refl
-
   module _ (task : Task) (same : HaveSameView nodes other task) where
     abbrev here : View
     here = view_of nodes task
@@ -104,54 +64,21 @@ module _ (law : SourceLaw) (nodes other : Nodes) where
     abbrev there : View
     there = view_of other task
 
-    -- the file of a command, where it is a source
-    same-file : ((tree : Nodes) → file_seen tree task ≡ source_at tree task.file) → sources_in task.command nodes task ≡ task.file ∷ []
-        → source_in task.file here.file ≡ source_in task.file there.file
-    same-file seen sources =
-        let all : AllByRecursion (AreSameSource nodes other) (task.file ∷ []) = subst (AllByRecursion (AreSameSource nodes other)) sources same.sources in
-        ap (source_in task.file) (seen nodes) ∙ same-source task.file all.0 ∙ ap (source_in task.file) (sym (seen other))
-
-    same-program : (command : Command) → task.command ≡ command → file_input command task ≡ Some task.file → limit_by command false ≡ 4194304
-        → sources_in command nodes task ≡ (if task.rom then [] else task.file ∷ [])
-        → program_in task.rom task.file here.file ≡ program_in task.rom task.file there.file
-    same-program command is input limit sources =
-        program-same task.rom task.file here.file there.file same.file
-        (λ rom. same-file (λ tree. seen-source tree task command is rom input limit) (ap (λ c. sources_in c nodes task) is ∙ sources ∙ ap (λ r. if r then [] else task.file ∷ []) rom))
+    -- a run of the same, from the same folder
+    run-same : (c : Command) → run_given c task here ≡ run_given c task there
+        → run_in c task (home_by (role_path task role.Root) here.part here.parent) here ≡ run_in c task (home_by (role_path task role.Root) there.part there.parent) there
+    run-same c given =
+        ap (λ said. and_then said (λ g. Ok (run_plan c task (home_by (role_path task role.Root) here.part here.parent) g))) given
+        ∙ ap₂ (λ part parent. run_in c task (home_by (role_path task role.Root) part parent) there) same.part same.parent
 
     -- the work of each command
-    same-play : (v w : View) → program_in task.rom task.file v.file ≡ program_in task.rom task.file w.file → v.script ≡ w.script → v.part ≡ w.part → v.parent ≡ w.parent
-        → work_of Play task v ≡ work_of Play task w
-    same-play v w program script part parent = rw (program, script, part, parent) refl
-
-    same-debug : (v w : View) → program_in task.rom task.file v.file ≡ program_in task.rom task.file w.file → v.symbols ≡ w.symbols → v.script ≡ w.script → v.commands ≡ w.commands
-        → v.part ≡ w.part → v.parent ≡ w.parent → work_of Debug task v ≡ work_of Debug task w
-    same-debug v w program symbols script commands part parent = rw (program, symbols, script, commands, part, parent) refl
-
-    same-dis : (v w : View) → v.file.bytes ≡ w.file.bytes → v.symbols ≡ w.symbols → work_of Disassemble task v ≡ work_of Disassemble task w
-    same-dis v w file symbols = rw (file, symbols) refl
-
-    same-asm : task.command ≡ Assemble → work_of Assemble task here ≡ work_of Assemble task there
-    same-asm is =
-        ap (λ said. and_then said (λ source. Ok (planned (Write (texts_of task source.text)) source.paths)))
-        (same-file (λ tree. ap (λ c. input_file tree (input_by tree (file_input c task) (limit_by c task.rom))) is) (ap (λ c. sources_in c nodes task) is))
-
-    same-line : task.command ≡ Line → work_of Line task here ≡ work_of Line task there
-    same-line is =
-        let said = setup_in task.file here.file.bytes in
-        let first : here.named ≡ named_by nodes said = ap (λ c. named_in c nodes task) is in
-        let last : there.named ≡ named_by other said = ap (λ c. named_in c other task) is ∙ ap (λ bytes. named_by other (setup_in task.file bytes)) (sym same.file) in
-        let all : AllByRecursion (AreSameSource nodes other) (setup_sources said) = subst (AllByRecursion (AreSameSource nodes other)) (ap (λ c. sources_in c nodes task) is) same.sources in
-        ap (λ named. joined named said) first
-        ∙ same-joined said all (ap (λ (n : NamedFiles). n.script) (sym first) ∙ same.named ∙ ap (λ (n : NamedFiles). n.script) last)
-        ∙ ap (λ named. joined named said) (sym last) ∙ ap (λ bytes. joined there.named (setup_in task.file bytes)) same.file
-
     same-work : (command : Command) → task.command ≡ command → work_of command task here ≡ work_of command task there
-    same-work Play is = same-play here there (same-program Play is refl refl refl) same.script same.part same.parent
-    same-work Debug is = same-debug here there (same-program Debug is refl refl refl) same.symbols same.script same.commands same.part same.parent
-    same-work Assemble is = same-asm is
-    same-work Disassemble is = same-dis here there same.file same.symbols
+    same-work Play is = run-same Play (same-run law nodes other task same Play tt is)
+    same-work Debug is = run-same Debug (same-run law nodes other task same Debug tt is)
+    same-work Assemble is = ap (λ said. and_then said (λ files. Ok (write_plan files))) (same-files law nodes other task same is)
+    same-work Disassemble is = ap (λ said. and_then said (λ text. Ok (text_plan text))) (same-disassembly law nodes other task same)
     same-work Generate is = refl
-    same-work Line is = same-line is
+    same-work Line is = ap (λ said. and_then said line_in) (same-machines law nodes other task same is)
 
     same-judged : judged task here ≡ judged task there
     same-judged =

@@ -1,20 +1,18 @@
 -- The outputs of a task are those of its job.
-use Rattle.std.proofs.Common.{◌≡◌, ℕ, List, ◌++◌, map, refl, ap, ap₂, sym, ◌∙◌, append_assoc, append-nil}
-use Rattle.std.specs.Prelude.{Option, Some, None, option_to_list}
-use Rattle.std.proofs.lemmas.List.{map-append}
+use Rattle.std.proofs.Common.{◌≡◌, ℕ, List, ◌++◌, ap, sym, ◌∙◌, append_assoc, append-nil}
+use Rattle.std.specs.Prelude.{Some, None, option_to_list}
 use Rattle.play_script.specs.Scripts.{ScriptView}
 use Rattle.tal_words.specs.declared.name.Label.{Label}
-use Rattle.uxn_debugger.specs.declared.command.DebugCommand.{DebugCommand}
+use Rattle.debug_commands.specs.declared.command.DebugCommand.{DebugCommand}
 use Rattle.uxn_words.specs.declared.role.Access.TheVariants as access
 use Rattle.uxn_words.specs.declared.role.Role.TheVariants as role
 use Rattle.uxn_words.specs.declared.task.Task.{Task}
-use Rattle.uxn_words.specs.declared.words.Command.TheVariants.{Play, Debug, Assemble}
+use Rattle.uxn_words.specs.declared.words.Command.TheVariants.{Play, Debug}
 use Rattle.uxn_words.specs.Places.{paths_used, outputs_by}
 use Rattle.uxn_words.specs.Roles.{run_files}
 use Rattle.uxn_words.specs.Tasks.{role_path}
-use Rattle.uxn_cli.specs.Job.{Home, outputs_in, text_at}
-use Rattle.uxn_cli.specs.Verdict.{job_of, debugging, texts_of}
-use Rattle.uxn_cli.specs.World.{Text}
+use Rattle.uxn_cli.specs.Job.{Home, outputs_in}
+use Rattle.uxn_cli.specs.Verdict.{job_of, debugging}
 
 pub run-job : (task : Task) → paths_used access.Write task run_files
     ≡ option_to_list (role_path task role.Frames) ++ option_to_list (role_path task role.Samples) ++ option_to_list (role_path task role.Report)
@@ -30,17 +28,3 @@ play-job task home rom script = sym (run-job task)
 pub debug-job : (task : Task) (home : Home) (rom : List ℕ) (script : ScriptView) (commands : List DebugCommand) (labels : List Label)
     → outputs_in (job_of task home rom script (Some (debugging task commands labels))) ≡ outputs_by Debug task
 debug-job task home rom script commands labels = ap (λ runs. option_to_list (role_path task role.Log) ++ runs) (sym (run-job task))
-
--- those of an assembly are the files that it writes
-path-text_at : (path : Option (List ℕ)) (bytes : List ℕ) → map (λ (t : Text). t.path) (text_at path bytes) ≡ option_to_list path
-path-text_at None bytes = refl
-path-text_at (Some path) bytes = refl
-
-pub paths-texts_of : (task : Task) (source : List ℕ) → map (λ (t : Text). t.path) (texts_of task source) ≡ outputs_by Assemble task
-paths-texts_of task source =
-    map-append (λ (t : Text). t.path) (text_at (role_path task role.Out) _ ++ text_at (role_path task role.Symbols) _) (text_at (role_path task role.Listing) _)
-    ∙ ap₂ (λ a b. a ++ b)
-    (map-append (λ (t : Text). t.path) (text_at (role_path task role.Out) _) (text_at (role_path task role.Symbols) _) ∙ ap₂ (λ a b. a ++ b) (path-text_at (role_path task role.Out) _) (path-text_at (role_path task role.Symbols) _))
-    (path-text_at (role_path task role.Listing) _)
-    ∙ append_assoc (option_to_list (role_path task role.Out)) (option_to_list (role_path task role.Symbols)) (option_to_list (role_path task role.Listing))
-    ∙ ap (λ listing. option_to_list (role_path task role.Out) ++ (option_to_list (role_path task role.Symbols) ++ listing)) (sym (append-nil (option_to_list (role_path task role.Listing))))

@@ -17,27 +17,32 @@ use Rattle.varvara_bus.specs.Touching.{Each, told_at, spared}
 use Rattle.play_script.specs.Scripts.{ScriptView}
 use Rattle.uxn_words.specs.declared.words.Command.TheVariants.{Play, Debug}
 use Rattle.uxn_words.specs.declared.task.Task.{Task}
-use Rattle.uxn_cli.specs.declared.refusal.Refusal.{Refusal}
-use Rattle.uxn_cli.specs.Request.{and_then, apart, apart_by, request}
+use Rattle.task_files.specs.declared.refusal.Refusal.{Refusal}
+use Rattle.task_files.specs.Request.{and_then, apart_by, request}
+use Rattle.task_files.specs.Request.{apart}
 use Rattle.uxn_words.specs.Places.{inputs_by, outputs_of, root_by, meets, clashes, first_clash}
 use Rattle.uxn_words.specs.Tasks.{role_path}
 use Rattle.uxn_words.specs.declared.role.Role.TheVariants as role
-use Rattle.uxn_cli.specs.Verdict.{Work, Run, Loaded, Plan, planned, View, view_of, judged, work_of, first_unmade, made_by, made_for, blocked_seen, program_in, given_in, script_in, commands_in, debug_labels, debugging, home_by, job_of}
+use Rattle.uxn_cli.specs.Verdict.{run_plan, Work, Run, Plan, planned, judged, work_of, made_by, made_for, debugging, home_by, job_of}
+use Rattle.task_files.specs.Accepted.{Loaded, run_given, program_in, given_in, script_in, commands_in, debug_labels}
+use Rattle.task_files.specs.Views.{View, view_of, blocked_seen}
+use Rattle.task_files.specs.Made.{first_unmade}
 use Rattle.uxn_cli.specs.Job.{Job, Debugging, outputs_in, trail_of, log_by}
-use Rattle.uxn_cli.specs.Outcome.{outcome_of, creating, filling_all, reporting, running}
+use Rattle.uxn_cli.specs.Outcome.{outcome_of, reporting, running}
+use Rattle.task_files.specs.Writing.{creating, filling_all}
 use Rattle.uxn_cli.specs.Answer.{HasOutcome, Answers}
-use Rattle.uxn_cli.specs.Statuses.{IsEarly}
+use Rattle.task_files.specs.Statuses.{IsEarly}
 use Rattle.uxn_cli.specs.Causes.{verdict_on}
 use Rattle.uxn_cli.specs.Observation.{unwatched, watched, with_log, played, HaveSameItems, ComeToOneRun, IsOutcomeButLog, ShowsWhatPlayDoes}
 use Rattle.uxn_cli.proofs.AfterLemmas.{quiet, creating-quiet, filling-quiet, HaveSameOutputs, outputs-after, files-after, if-some, parts-same}
 use Rattle.uxn_cli.proofs.ClauseLemmas.{ends_told}
 use Rattle.uxn_cli.proofs.ChangeLemmas.{creating-spares}
-use Rattle.uxn_cli.proofs.FreeLemmas.{are_free}
+use Rattle.task_files.proofs.FreeLemmas.{are_free}
 use Rattle.uxn_cli.proofs.OthersLemmas.{log-spares}
-use Rattle.uxn_cli.proofs.PlaceLemmas.{none_last, none_each, count-parts, clash_parts, clash_from}
+use Rattle.task_files.proofs.PlaceLemmas.{none_last, none_each, count-parts, clash_parts, clash_from}
 use Rattle.uxn_cli.proofs.RootLemmas.{outputs-outside}
 use Rattle.uxn_cli.proofs.RunLemmas.{run_outputs, debug-outputs, any-left}
-use Rattle.uxn_cli.proofs.VerdictLemmas.{words-read}
+use Rattle.task_files.proofs.WordLemmas.{words-read}
 
 -- ---- one step after another
 
@@ -119,12 +124,13 @@ record PlanOneRun (task : Task) (accepted : Plan) (other : Result Plan Refusal) 
 plays-work : (task : Task) (view other : View) (accepted : Plan) → other.file ≡ view.file → other.script ≡ view.script → other.part ≡ view.part → other.parent ≡ view.parent → work_of Debug task view ≡ Ok accepted
     → PlanOneRun task accepted (work_of Play (played task) other)
 plays-work task view other accepted file script part parent e =
-    let program = both_ok (program_in task.rom task.file view.file) _ accepted e in
-    let given = both_ok (given_in (role_path task role.Symbols) view.symbols) _ accepted program.2 in
-    let scripted = both_ok (script_in (role_path task role.Script) view.script) _ accepted given.2 in
-    let commands = both_ok (commands_in (debug_labels given.0 program.0) (role_path task role.Commands) view.commands) _ accepted scripted.2 in
+    let all = both_ok (run_given Debug task view) _ accepted e in
+    let program = both_ok (program_in task.rom task.file view.file) _ all.0 all.1 in
+    let given = both_ok (given_in (role_path task role.Symbols) view.symbols) _ all.0 program.2 in
+    let scripted = both_ok (script_in (role_path task role.Script) view.script) _ all.0 given.2 in
+    let commands = both_ok (commands_in (debug_labels given.0 program.0) (role_path task role.Commands) view.commands) _ all.0 scripted.2 in
     let is : planned (Run (job_of task (home_by (role_path task role.Root) view.part view.parent) program.0.rom scripted.0 (Some (debugging task commands.0 (debug_labels given.0 program.0))))) program.0.included ≡ accepted =
-    same_ok _ accepted commands.2 in
+    ap (run_plan Debug task (home_by (role_path task role.Root) view.part view.parent)) (same_ok _ all.0 commands.2) ∙ same_ok _ accepted all.2 in
     record {
       job = job_of task (home_by (role_path task role.Root) view.part view.parent) program.0.rom scripted.0 None;
       debugging = debugging task commands.0 (debug_labels given.0 program.0);

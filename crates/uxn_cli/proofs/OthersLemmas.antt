@@ -17,18 +17,22 @@ use Rattle.vector_loop.specs.declared.output.Outputs.{Outputs}
 use Rattle.vector_loop.specs.Touching.{IsOther, run-leaves}
 use Rattle.vector_loop.specs.Trail.{Trail}
 use Rattle.uxn_words.specs.declared.task.Task.{Task}
-use Rattle.uxn_cli.specs.declared.refusal.Refusal.{Refusal}
+use Rattle.task_files.specs.declared.refusal.Refusal.{Refusal}
 use Rattle.uxn_cli.specs.Answer.{Answers}
 use Rattle.uxn_cli.specs.Call.{Call, asked_by}
 use Rattle.uxn_cli.specs.Causes.{verdict_on, IsAside, KeepsOthers}
 use Rattle.uxn_cli.specs.Clauses.{HasItsOutcome, LeavesTheRest}
-use Rattle.uxn_cli.specs.Job.{Debugging, Job, Home, log_in, outputs_in, outputs_by as run_outputs_by, trail_of, trail_by, devices_with, start_with, text_at, log_by}
+use Rattle.uxn_cli.specs.Job.{Debugging, Job, Home, log_in, outputs_in, outputs_by as run_outputs_by, trail_of, trail_by, devices_with, start_with, log_by}
+use Rattle.task_files.specs.World.{text_at}
 use Rattle.uxn_cli.specs.Prepared.{paths_for}
-use Rattle.uxn_cli.specs.Outcome.{outcome_of, creating, filling_all, reporting, running, line_bytes}
-use Rattle.uxn_cli.specs.Verdict.{Work, Run, Write, Print, RunLine, view_of, judged}
+use Rattle.uxn_cli.specs.Outcome.{outcome_of, reporting, running, line_bytes}
+use Rattle.task_files.specs.Writing.{creating, filling_all}
+use Rattle.uxn_cli.specs.Verdict.{Work, Run, Write, Print, RunLine, judged}
+use Rattle.task_files.specs.Views.{view_of}
 use Rattle.uxn_cli.proofs.ChangeLemmas.{creating-spares, filling-spares, writing-spares}
 use Rattle.uxn_cli.proofs.ClauseLemmas.{where_told, early_told, ends_told, line_put, puts_line}
-use Rattle.uxn_cli.proofs.GivesLemmas.{Gives, Writes, root_in, judged-gives}
+use Rattle.task_files.proofs.GivesLemmas.{Gives}
+use Rattle.uxn_cli.proofs.GivesLemmas.{Writes, root_in, judged-gives}
 
 -- a path that is none of two lists is none of either
 pub any-parts : (path : List ℕ) (first last : List (List ℕ)) → list_any (bytes_eq path) (first ++ last) ≡ false → (list_any (bytes_eq path) first ≡ false) × (list_any (bytes_eq path) last ≡ false)

@@ -13,11 +13,11 @@ use Rattle.uxn_io.specs.Outside.{Creates, changed_files, files_by}
 use Rattle.uxn_io.specs.PathText.{parent_of}
 use Rattle.varvara_bus.specs.Touching.{inserted-other}
 use Rattle.uxn_cli.specs.Job.{home_in}
-use Rattle.uxn_cli.specs.Outcome.{creating}
+use Rattle.task_files.specs.Writing.{creating}
 use Rattle.uxn_io.specs.PathLaws.{parent_under}
 use Rattle.uxn_words.specs.declared.task.Task.{Task}
 use Rattle.uxn_words.specs.Places.{inputs_by, outputs_of, root_by, meets, clashes, HasApartOutputs}
-use Rattle.uxn_cli.proofs.PlaceLemmas.{one_if, none_among, count-first, meets_parts, meets_one, clash_parts}
+use Rattle.task_files.proofs.PlaceLemmas.{one_if, none_among, count-first, meets_parts, meets_one, clash_parts}
 
 -- an output does not meet the root
 apart_from : (inputs outputs : List (List ℕ)) (root path : List ℕ) → find (clashes inputs (root ∷ outputs)) outputs ≡ None → list_any (bytes_eq path) outputs ≡ true → meets path root ≡ false

@@ -1,5 +1,5 @@
 -- What `play` and `debug` do, step by step.
-use Rattle.std.proofs.Common.{◌≡◌, ℕ, true, List, [], ◌∷◌, ◌++◌, map, append-nil, refl, ap, sym, ◌∙◌, subst, inl, inr}
+use Rattle.std.proofs.Common.{◌≡◌, ℕ, true, false, List, [], ◌∷◌, ◌++◌, map, append-nil, refl, ap, sym, ◌∙◌, subst, inl, inr}
 use Rattle.std.specs.Prelude.{Option, Some, None, Result, Ok, Err, OnOk, IfSome, is_err, IsSome, option_map, option_to_list, ◌||◌, ◌⊎◌, fold}
 use Rattle.std.specs.List.{list_any}
 use Rattle.std.specs.Str.{bytes_eq}
@@ -16,8 +16,9 @@ use Rattle.uxn_io.specs.Outside.{Change, ToFile, World, changed_by, files_by}
 use Rattle.uxn_io.specs.ChangeLaws.{cut-first, files-told}
 use Rattle.uxn_io.specs.AppendingLaws.{changed_by-file}
 use Rattle.uxn_io.specs.Ended.{Done, Ended, blame_of_tree}
-use Rattle.uxn_io.specs.EndedLaws.{ended-then, ended-first}
-use Rattle.uxn_io.specs.Faults.{Blame, Nobody, TheTree, ASink, Counts, Ledger}
+use Rattle.uxn_io.specs.EndedLaws.{ended-then, ended-first, outside-of-tree}
+use Rattle.uxn_io.specs.FaultLaws.{ledger-then}
+use Rattle.uxn_io.specs.Faults.{Blame, Nobody, TheTree, ASink}
 use Rattle.uxn_io.specs.State.{TreeState, SinkState, Outside, outside}
 use Rattle.uxn_io.specs.TakingLaws.{takes-first}
 use Rattle.uxn_opcodes.specs.declared.Stop.{Stop}
@@ -35,7 +36,7 @@ use Rattle.vector_loop.specs.Trail.{Trail}
 use Rattle.vector_loop.specs.Watch.{shown_all}
 use Rattle.vector_loop.specs.Folders.{TakesNames}
 use Rattle.vector_loop.specs.Counted.{CountingLaw}
-use Rattle.uxn_debugger.specs.declared.command.DebugCommand.{DebugCommand}
+use Rattle.debug_commands.specs.declared.command.DebugCommand.{DebugCommand}
 use Rattle.uxn_undo.specs.Row.{IsMachine}
 use Rattle.uxn_undo.specs.Runs.{RunLaw}
 use Rattle.uxn_debugger.specs.Watching.{Watching, new_watching, shown as shown_to, ended as ended_by, after_moment, after_end, KeepsTheLog}
@@ -49,24 +50,29 @@ use Rattle.uxn_words.specs.declared.role.Role.TheVariants as role
 use Rattle.uxn_cli.specs.declared.machine.Machine.{Machine}
 use Rattle.uxn_cli.specs.declared.running.RunEnd.{RunEnd}
 use Rattle.uxn_cli.specs.declared.playing.Prepared.{Prepared}
-use Rattle.uxn_cli.specs.declared.refusal.Halt.{Halt}
-use Rattle.uxn_cli.specs.declared.refusal.Halt.TheVariants.{Refused, Stopped}
-use Rattle.uxn_cli.specs.World.{world}
-use Rattle.uxn_cli.specs.Blame.{blame_in}
-use Rattle.uxn_cli.specs.Job.{Debugging, Job, Home, no_home, home_in, devices_with, log_in, outputs_in, trail_by, trail_of, text_at, shown_of, log_text, log_by}
-use Rattle.uxn_cli.specs.Outcome.{creating, filling_all, reporting, running}
-use Rattle.uxn_cli.specs.Causes.{verdict_on}
+use Rattle.task_files.specs.declared.refusal.Halt.{Halt}
+use Rattle.task_files.specs.declared.refusal.Halt.TheVariants.{Refused, Stopped}
+use Rattle.task_files.specs.World.{world}
+use Rattle.task_files.specs.Blame.{blame_in}
+use Rattle.uxn_cli.specs.Job.{Debugging, Job, Home, no_home, home_in, devices_with, log_in, outputs_in, trail_by, trail_of, shown_of, log_text, log_by}
+use Rattle.task_files.specs.World.{text_at}
+use Rattle.task_files.specs.Writing.{creating, filling_all}
+use Rattle.uxn_cli.specs.Outcome.{reporting, running}
 use Rattle.uxn_cli.specs.Room.{TreeSuffices, SinksSuffice}
 use Rattle.uxn_cli.specs.Verdict.{Run, job_of, debugging}
 use Rattle.uxn_cli.specs.Answer.{Judges, HasCut, IsUntold, ListsFolder, MayStop, Performs}
 use Rattle.uxn_cli.specs.Outside.{DoesWork}
-use Rattle.uxn_cli.specs.Prepared.{AreNew, IsHomeOf, IsPlanned, IsReady, IsReadyRun, Made, HalfMade, MakesOutputs, loaded_by, debugger_in}
+use Rattle.uxn_cli.specs.Prepared.{AreNew, IsHomeOf, IsPlanned, IsReady, IsReadyRun, debugger_in}
+use Rattle.task_files.specs.Made.{Made, HalfMade, MakesOutputs}
+use Rattle.task_files.specs.Held.{loaded_by}
 use Rattle.uxn_cli.specs.Runs.{AtHome, RunFiles, Runs, RunsOn, WasShown, blame_if, settings_for, trail_for, logging_for}
 use Rattle.uxn_cli.proofs.JobLemmas.{run-job}
 use Rattle.uxn_cli.proofs.RegularLemmas.{is-regular}
 use Rattle.uxn_cli.proofs.RootLemmas.{outputs-outside, home-made, all-apart}
 use Rattle.uxn_cli.proofs.SureLemmas.{always}
-use Rattle.uxn_cli.proofs.WorkLemmas.{judges_work, of_verdict, is_refused, takes-nothing}
+use Rattle.uxn_cli.proofs.ChangeLemmas.{made-of-tree}
+use Rattle.uxn_cli.proofs.WorkLemmas.{judges_work, of_verdict, halted-looked}
+use Rattle.uxn_cli.proofs.WriteLemmas.{does-refuse}
 
 -- ---- texts that are written after a run
 
@@ -99,9 +105,6 @@ module _ (keeps : KeepsTheLog) (counting : CountingLaw) (in_row : RunLaw) (task 
       ∙ keeps commands labels (map shown_of trail.moments) (shown_of trail.last) (is-regular counting in_row task.budget (settings_for task).outputs machine.script home machine.core is)
 
 -- ---- a run, and what is done behind it
-
-ledger-then : (a b c : Counts) (blame : Blame) → Ledger a b Nobody → Ledger b c blame → Ledger a c blame
-ledger-then a b c blame same ledger = subst (λ before. Ledger before c blame) same ledger
 
 -- files that got a text stay
 texts-stay : (file : Option (List ℕ)) (text : List ℕ) (before now : Outside) → Done (filling_all (text_at file text)) before now
@@ -253,60 +256,41 @@ same-blame (Err NoMemory) = refl
 -- ---- what a run does to the outside
 
 module _ (task : Task) (start : TreeState) (job : Job) (included : List (List ℕ)) (plan : IsPlanned start.told task (Run job) included) where
-  half_made : (now : TreeState) (out err : SinkState) → HalfMade included (outputs_of task) start now
-      → HasCut (Ok task) (world start.told out.told err.told) (world now.told out.told err.told) TreeFault
-  unfolding running
-  half_made now out err half = record {
-    found = Ok (Run job);
-    judges = judges_work task start.told (Run job) included plan half.free;
-    may = inl tt;
-    front = inl (record {
-      cut = cut-first (world start.told out.told err.told) (world now.told out.told err.told) (creating (outputs_in job)) _ (rw (ap creating plan.outputs) at (half.did out err).cut);
-      short = λ text. absurd text;
-    });
-  }
+  abbrev outputs : List Change
+  outputs = creating (outputs_of task)
 
-  -- where the tree suffices no fault comes as the outputs are made
-  half-spared : (now : TreeState) (out err : SinkState) → HalfMade included (outputs_of task) start now
-      → IfSome start.told (λ nodes. TreeSuffices (verdict_on nodes (Ok task)) start.sure nodes → TheTree ≡ TheTree → ⊥)
+  abbrev rest : List Change
+  rest = reporting job.report job.script.version (trail_of job) ++ filling_all (log_by job.debug (trail_of job))
+
+  half-made : (now : TreeState) (out err : SinkState) → HalfMade included (outputs_of task) start now → DoesWork (Ok task) (outside start out err) (outside now out err) (Err (Stopped TreeFault))
   unfolding running
-  half-spared now out err half =
-      of_verdict task start.told (Run job) included plan (λ nodes v. TreeSuffices v start.sure nodes → TheTree ≡ TheTree → ⊥) half.free
-      (IfSome_then start.told (half.did out err).not_sure (λ nodes not suffices is. not (rw plan.outputs (takes-first start.sure nodes (creating (outputs_in job))
-      (reporting job.report job.script.version (trail_of job) ++ filling_all (log_by job.debug (trail_of job))) suffices.takes))))
+  half-made now out err half =
+      let short = outside-of-tree outputs true start now out err (made-of-tree (outputs_of task)) half.did in
+      record {
+        performs = inr (record {
+          found = Ok (Run job);
+          judges = judges_work task start.told (Run job) included plan half.free;
+          may = inl tt;
+          front = inl (record {
+            cut = cut-first (world start.told out.told err.told) (world now.told out.told err.told) (creating (outputs_in job)) rest (rw (ap creating plan.outputs) at short.cut);
+            short = λ text. absurd text;
+          });
+        });
+        ledger = short.ledger;
+        sure_tree = of_verdict task start.told (Run job) included plan (λ nodes v. TreeSuffices v start.sure nodes → TheTree ≡ TheTree → ⊥) half.free
+            (IfSome_then start.told short.not_sure (λ nodes not suffices is. not (rw plan.outputs (takes-first start.sure nodes (creating (outputs_in job)) rest suffices.takes))));
+        sure_sinks = always start.told _ _ (λ e. cc e);
+      }
 
   -- the outputs were not made
   pub does-unmade : (now : TreeState) (out err : SinkState) (halt : Halt) → MakesOutputs included (outputs_of task) start now (Err halt)
       → DoesWork (Ok task) (outside start out err) (outside now out err) (Err halt)
-  does-unmade now out err (Refused refusal) makes =
-      let did = makes.1 out err in
-      record {
-        performs = is_refused task start.told (Run job) included plan refusal now.told out.told err.told makes.0 (ap (λ (w : World). w.files) did.world);
-        ledger = did.ledger;
-        sure_tree = always start.told _ _ (λ e. cc e);
-        sure_sinks = always start.told _ _ (λ e. cc e);
-      }
-  does-unmade now out err (Stopped NoMemory) makes =
-      let did = makes out err in
-      record { performs = inl did.world; ledger = did.ledger; sure_tree = always start.told _ _ (λ e. cc e); sure_sinks = always start.told _ _ (λ e. cc e) }
+  does-unmade now out err (Refused refusal) refuses = does-refuse task start (Run job) included plan now out err refusal refuses
+  does-unmade now out err (Stopped NoMemory) looked =
+      halted-looked (Ok task) start now out err (Stopped NoMemory) (inl (ap (λ t. world t out.told err.told) looked.told)) (λ is. cc is) looked
   does-unmade now out err (Stopped TreeFault) (inl looked) =
-      let did = looked out err in
-      record {
-        performs = inl (did.cut.left ∙ none did.cut.made did.cut.rest did.cut.parts);
-        ledger = did.ledger;
-        sure_tree = IfSome_then start.told did.not_sure (λ nodes not suffices is. not (takes-nothing start.sure nodes suffices.some));
-        sure_sinks = always start.told _ _ (λ e. cc e);
-      }
-    where
-      none : (made rest : List Change) → [] ≡ made ++ rest → changed_by (world start.told out.told err.told) made ≡ world start.told out.told err.told
-      none [] rest parts = refl
-      none (change ∷ made) rest parts = absurd cc
-  does-unmade now out err (Stopped TreeFault) (inr half) = record {
-    performs = inr (half_made now out err half);
-    ledger = (half.did out err).ledger;
-    sure_tree = half-spared now out err half;
-    sure_sinks = always start.told _ _ (λ e. cc e);
-  }
+      halted-looked (Ok task) start now out err (Stopped TreeFault) (inl (ap (λ t. world t out.told err.told) looked.told)) (λ is. cc is) looked
+  does-unmade now out err (Stopped TreeFault) (inr half) = half-made now out err half
   does-unmade now out err (Stopped SinkFault) none = absurd none
 
   may-stop : (stop : Stop) → (stop ≡ NoMemory → IsSome job.debug ⊎ ListsFolder job) → MayStop (Ok (Run job)) stop
@@ -399,7 +383,7 @@ module _ (task : Task) (start made : TreeState) (prepared : Prepared) (of : IsRe
   -- the run, behind outputs that were made
   module _ (out err : SinkState) (now : Outside) where
     begun : Done (creating (outputs_of task)) (outside start out err) (outside made out err)
-    begun = makes.did out err
+    begun = outside-of-tree (creating (outputs_of task)) false start made out err (made-of-tree (outputs_of task)) makes.did
 
     home : HasFiles made.told ready.home.root ready.home.part ready.home.parent ⊎ ((start.told ≡ None) × IsSome ready.home.root)
     home = home-files start.told made.told task ready.home out.told err.told ready.at_home apart ready.root begun.world

@@ -1,37 +1,43 @@
 -- The work of a task, from what was judged to what was done.
-use Rattle.std.proofs.Common.{◌≡◌, ℕ, ◌+◌, ◌<◌, ◌≤◌, false, List, [], ◌∷◌, ◌++◌, length, not, refl, ap, sym, ◌∙◌, subst, inl, arith}
+use Rattle.std.proofs.Common.{◌≡◌, ℕ, ◌<◌, ◌≤◌, Bool, true, false, List, [], length, not, refl, ap, ◌∙◌, subst, inl, arith}
 use Rattle.std.specs.Prelude.{Option, Some, None, Result, Ok, Err, IfSome, find}
 use Rattle.std.proofs.lemmas.List.Elements.{All-weaker}
 use Rattle.uxn_io.specs.Changes.{can_create}
-use Rattle.uxn_io.specs.Ended.{Takes, IsLeft, TreeLooked}
-use Rattle.uxn_io.specs.EndedLaws.{looked-same}
-use Rattle.uxn_io.specs.Faults.{Ledger, TheTree, ASink, counts}
+use Rattle.uxn_io.specs.Ended.{TreeLooked}
+use Rattle.uxn_io.specs.FaultLaws.{counted-same, ledger-same, ledger-then}
+use Rattle.uxn_io.specs.Faults.{AllCounted, Ledger, TheTree, ASink, counts}
 use Rattle.uxn_io.specs.Files.{Nodes}
-use Rattle.uxn_io.specs.Outside.{Change, ToFile}
-use Rattle.uxn_io.specs.Room.{Room}
-use Rattle.uxn_io.specs.Taking.{TreeLeft, files_made, files_gone}
+use Rattle.uxn_io.specs.Taking.{TreeLeft}
 use Rattle.uxn_io.specs.TakingLaws.{takes-later}
 use Rattle.uxn_opcodes.specs.declared.Stop.TheVariants.{TreeFault, SinkFault, NoMemory}
 use Rattle.uxn_words.specs.declared.task.Task.{Task}
 use Rattle.uxn_words.specs.declared.words.Command.{Command}
 use Rattle.uxn_words.specs.declared.words.Command.TheVariants.{Play, Debug, Assemble, Disassemble, Generate, Line}
 use Rattle.uxn_words.specs.Places.{outputs_of}
-use Rattle.uxn_cli.specs.declared.refusal.Refusal.{Refusal}
-use Rattle.uxn_cli.specs.declared.refusal.Halt.{Halt}
-use Rattle.uxn_cli.specs.declared.refusal.Halt.TheVariants.{Refused, Stopped}
-use Rattle.uxn_cli.specs.World.{world, Text}
+use Rattle.task_files.specs.declared.refusal.Refusal.{Refusal}
+use Rattle.task_files.specs.declared.refusal.Halt.{Halt}
+use Rattle.task_files.specs.declared.refusal.Halt.TheVariants.{Refused, Stopped}
+use Rattle.task_files.specs.World.{world}
+use Rattle.task_files.specs.World.{Text}
 use Rattle.uxn_cli.specs.Answer.{IsViewOf, Judges, IsRefused, Performs}
-use Rattle.uxn_cli.specs.Blame.{blame_in, halt_blame, is_of_tree, tree_failed}
+use Rattle.task_files.specs.Blame.{blame_in, halt_blame, is_of_tree, tree_failed}
 use Rattle.uxn_cli.specs.Causes.{verdict_on}
 use Rattle.uxn_cli.specs.Outcome.{line_bytes, line_exit, running}
 use Rattle.uxn_io.specs.State.{TreeState, SinkState, Outside, outside}
-use Rattle.uxn_cli.specs.Outside.{DoesWork, Puts}
-use Rattle.uxn_cli.specs.Prepared.{inputs_seen, SeesWork, Unready, IsPlanned, AreFree, Blocked}
+use Rattle.uxn_cli.specs.Outside.{DoesWork}
+use Rattle.task_files.specs.Puts.{Puts}
+use Rattle.task_files.specs.Views.{inputs_seen}
+use Rattle.uxn_cli.specs.Prepared.{SeesWork, Unready, IsPlanned}
+use Rattle.task_files.specs.Made.{Blocked}
+use Rattle.task_files.specs.Made.{AreFree}
 use Rattle.uxn_cli.specs.Room.{TreeSuffices, SinksSuffice, TakesFor}
-use Rattle.uxn_cli.specs.Verdict.{and_then, View, Work, Run, Write, Print, RunLine, blocked_seen, Plan, planned, first_unmade, made_by, made_for, work_of}
+use Rattle.task_files.specs.Request.{and_then}
+use Rattle.task_files.specs.Views.{View, blocked_seen}
+use Rattle.uxn_cli.specs.Verdict.{Work, Run, Write, Print, RunLine, Plan, planned, made_by, made_for, work_of}
+use Rattle.task_files.specs.Made.{first_unmade}
 use Rattle.uxn_cli.proofs.CauseLemmas.{told_verdict}
 use Rattle.uxn_cli.proofs.ChangeLemmas.{printed, print-cut}
-use Rattle.uxn_cli.proofs.SureLemmas.{always, no-tree, of_the_out}
+use Rattle.uxn_cli.proofs.SureLemmas.{always}
 use Rattle.uxn_cli.proofs.VerdictLemmas.{unlooked}
 
 -- ---- what was judged
@@ -124,20 +130,10 @@ none_blocked tree task none = rw none (record { looked = go tree; apart = refl }
 
 -- ---- steps, one after the other
 
--- a tree with room takes nothing
-pub takes-nothing : (room : Room) (nodes : Nodes) → 0 < room.files → Takes room (Some nodes) []
-takes-nothing room nodes some = record {
-  files = λ first rest is. go first rest is;
-  bytes = λ first rest path byte is. absurd (none first rest path byte is);
-}
-  where
-    go : (first rest : List Change) → [] ≡ first ++ rest → files_made nodes first < room.files + files_gone first
-    go [] rest is = omega (arith, some)
-    go (change ∷ first) rest is = absurd cc
-
-    none : (first rest : List Change) (path : List ℕ) (byte : ℕ) → [] ≡ first ++ ToFile path byte ∷ rest → ⊥
-    none [] rest path byte is = cc
-    none (change ∷ first) rest path byte is = cc
+-- a tree that was looked at, beside two sinks
+pub looked-ledger : (failed : Bool) (start now : TreeState) (out err : SinkState) → TreeLooked failed start now
+    → AllCounted (counts start.tally out.tally err.tally) (counts now.tally out.tally err.tally) failed false false
+looked-ledger failed start now out err looked = record { tree = looked.counted; out = counted-same out.tally; err = counted-same err.tally }
 
 -- a step that only looked at the tree
 pub halted-looked : (asked : Result Task Refusal) (start now : TreeState) (out err : SinkState) (halt : Halt)
@@ -146,15 +142,15 @@ pub halted-looked : (asked : Result Task Refusal) (start now : TreeState) (out e
 halted-looked asked start now out err halt performs other looked = record {
   performs = performs;
   ledger = ledger halt other looked;
-  sure_tree = go start.told refl;
+  sure_tree = go start.told;
   sure_sinks = always start.told (λ nodes. SinksSuffice (verdict_on nodes asked) out.sure err.sure) _ (spared halt other);
 }
   where
     ledger : (halt : Halt) → (halt ≡ Stopped SinkFault → ⊥) → TreeLooked (tree_failed {A = ℕ} (Err halt)) start now
-        → Ledger (counts start.faults out.faults err.faults) (counts now.faults out.faults err.faults) (blame_in {A = ℕ} (Err halt))
-    ledger (Refused refusal) other looked = ap (λ f. counts f out.faults err.faults) looked.counted
-    ledger (Stopped TreeFault) other looked = record { tree = looked.counted; out = refl; err = refl }
-    ledger (Stopped NoMemory) other looked = ap (λ f. counts f out.faults err.faults) looked.counted
+        → Ledger (counts start.tally out.tally err.tally) (counts now.tally out.tally err.tally) (blame_in {A = ℕ} (Err halt))
+    ledger (Refused refusal) other looked = looked-ledger false start now out err looked
+    ledger (Stopped TreeFault) other looked = looked-ledger true start now out err looked
+    ledger (Stopped NoMemory) other looked = looked-ledger false start now out err looked
     ledger (Stopped SinkFault) other looked = absurd (other refl)
 
     spared : (halt : Halt) → (halt ≡ Stopped SinkFault → ⊥) → halt_blame halt ≡ ASink → ⊥
@@ -163,29 +159,28 @@ halted-looked asked start now out err halt performs other looked = record {
     spared (Stopped NoMemory) other e = cc
     spared (Stopped SinkFault) other e = other refl
 
-    go : (t : Option Nodes) → start.told ≡ t → IfSome t (λ nodes. TreeSuffices (verdict_on nodes asked) start.sure nodes → blame_in {A = ℕ} (Err halt) ≡ TheTree → ⊥)
-    go None is = tt
-    go (Some nodes) is = λ s e. looked.blamed (ap is_of_tree e) (subst (λ t. Takes start.sure t []) (sym is) (takes-nothing start.sure nodes s.some))
+    go : (t : Option Nodes) → IfSome t (λ nodes. TreeSuffices (verdict_on nodes asked) start.sure nodes → blame_in {A = ℕ} (Err halt) ≡ TheTree → ⊥)
+    go None = tt
+    go (Some nodes) = λ s e. looked.blamed (ap is_of_tree e) s.some
 
 -- the inputs were refused, or could not be read
 pub halted-unready : (task : Task) (start now : TreeState) (out err : SinkState) (halt : Halt) → Unready start.told task halt
     → TreeLooked (tree_failed {A = ℕ} (Err halt)) start now → DoesWork (Ok task) (outside start out err) (outside now out err) (Err halt)
 halted-unready task start now out err halt unready looked =
     halted-looked (Ok task) start now out err halt
-    (unprepared task start.told now.told out.told err.told halt unready (looked-same (tree_failed {A = ℕ} (Err halt)) start now looked)) (other halt unready) looked
+    (unprepared task start.told now.told out.told err.told halt unready looked.told) (other halt unready) looked
   where
     other : (halt : Halt) → Unready start.told task halt → halt ≡ Stopped SinkFault → ⊥
     other (Refused refusal) unready is = cc
     other (Stopped stop) unready is = unready (cc)
 
 -- a tree that suffices does so still, once it was looked at
-suffices-still : (verdict : Result Work Refusal) (start here : TreeState) (nodes : Nodes) → start.told ≡ Some nodes → TreeLooked false start here
+suffices-still : (verdict : Result Work Refusal) (start here : TreeState) (nodes : Nodes) → TreeLooked false start here
     → TreeSuffices verdict start.sure nodes → TreeSuffices verdict here.sure nodes
-suffices-still verdict start here nodes told looked s =
+suffices-still verdict start here nodes looked s =
     let some = s.some in
-    let left : TreeLeft start.sure here.sure nodes [] = subst (λ t. Takes start.sure t [] → IsLeft start.sure here.sure t []) told (looked.left refl) (takes-nothing start.sure nodes some) in
-    let files = left.files in
-    record { some = omega (arith, files, some); takes = go verdict left s.takes }
+    let still = looked.left refl some in
+    record { some = omega (arith, still.0, some); takes = go verdict (record { files = omega (arith, still.0); bytes = still.1 }) s.takes }
   where
     go : (v : Result Work Refusal) → TreeLeft start.sure here.sure nodes [] → TakesFor v start.sure nodes → TakesFor v here.sure nodes
     go (Err refusal) left takes = tt
@@ -202,18 +197,18 @@ pub does-after : (asked : Result Task Refusal) (start here : TreeState) (out err
     → DoesWork asked (outside here out err) now r → DoesWork asked (outside start out err) now r
 does-after asked start here out err now r looked does = record {
   performs = subst (λ t. Performs asked (world t out.told err.told) now.world r) same does.performs;
-  ledger = subst (λ f. Ledger (counts f out.faults err.faults) now.faults (blame_in r)) looked.counted does.ledger;
-  sure_tree = go start.told refl (subst (λ t. IfSome t (λ nodes. TreeSuffices (verdict_on nodes asked) here.sure nodes → blame_in r ≡ TheTree → ⊥)) same does.sure_tree);
+  ledger = ledger-then _ _ _ (blame_in r) (looked-ledger false start here out err looked) does.ledger;
+  sure_tree = go start.told (subst (λ t. IfSome t (λ nodes. TreeSuffices (verdict_on nodes asked) here.sure nodes → blame_in r ≡ TheTree → ⊥)) same does.sure_tree);
   sure_sinks = subst (λ t. IfSome t (λ nodes. SinksSuffice (verdict_on nodes asked) out.sure err.sure → blame_in r ≡ ASink → ⊥)) same does.sure_sinks;
 }
   where
     same : here.told ≡ start.told
-    same = looked-same false start here looked
+    same = looked.told
 
-    go : (t : Option Nodes) → start.told ≡ t → IfSome t (λ nodes. TreeSuffices (verdict_on nodes asked) here.sure nodes → blame_in r ≡ TheTree → ⊥)
+    go : (t : Option Nodes) → IfSome t (λ nodes. TreeSuffices (verdict_on nodes asked) here.sure nodes → blame_in r ≡ TheTree → ⊥)
         → IfSome t (λ nodes. TreeSuffices (verdict_on nodes asked) start.sure nodes → blame_in r ≡ TheTree → ⊥)
-    go None is holds = tt
-    go (Some nodes) is holds = λ s. holds (suffices-still (verdict_on nodes asked) start here nodes is looked s)
+    go None holds = tt
+    go (Some nodes) holds = λ s. holds (suffices-still (verdict_on nodes asked) start here nodes looked s)
 
 -- ---- bytes that are put on the standard output
 
@@ -237,21 +232,21 @@ module _ (task : Task) (tree : TreeState) (err : SinkState) (work : Work) (plan 
       go (Print text) j is (Ok answer) puts = record {
         found = Ok (Print text);
         judges = j;
-        has = inl (record { status = puts.1 ∙ is.1; world = printed tree.told out.told err.told now.told text (rw is.0 puts.0) });
+        has = inl (record { status = puts.1 ∙ is.1; world = printed tree.told out.told err.told now.told text (rw is.0 puts.0.holds) });
       }
       go (RunLine job) j is (Ok answer) puts = record {
         found = Ok (RunLine job);
         judges = j;
-        has = inl (record { status = puts.1 ∙ is.1; world = printed tree.told out.told err.told now.told (line_bytes job) (rw is.0 puts.0) });
+        has = inl (record { status = puts.1 ∙ is.1; world = printed tree.told out.told err.told now.told (line_bytes job) (rw is.0 puts.0.holds) });
       }
       go (Print text) j is (Err (Stopped SinkFault)) puts =
-          let cut = print-cut tree.told out.told err.told now.told text (rw is.0 puts.0) in
+          let cut = print-cut tree.told out.told err.told now.told text (rw is.0 puts.holds) in
           record { found = Ok (Print text); judges = j; may = inl tt; front = inl (record { cut = cut.cut; short = λ text. cut.short }) }
       go (RunLine job) j is (Err (Stopped SinkFault)) puts =
-          let cut = print-cut tree.told out.told err.told now.told (line_bytes job) (rw is.0 puts.0) in
+          let cut = print-cut tree.told out.told err.told now.told (line_bytes job) (rw is.0 puts.holds) in
           record { found = Ok (RunLine job); judges = j; may = inl tt; front = inl (record { cut = cut.cut; short = λ text. cut.short }) }
-      go (Print text) j is (Err (Stopped NoMemory)) puts = inl (ap (λ o. world tree.told o err.told) puts)
-      go (RunLine job) j is (Err (Stopped NoMemory)) puts = inl (ap (λ o. world tree.told o err.told) puts)
+      go (Print text) j is (Err (Stopped NoMemory)) puts = inl (ap (λ (o : SinkState). world tree.told o.told err.told) puts)
+      go (RunLine job) j is (Err (Stopped NoMemory)) puts = inl (ap (λ (o : SinkState). world tree.told o.told err.told) puts)
       go (Print text) j is (Err (Stopped TreeFault)) puts = absurd puts
       go (RunLine job) j is (Err (Stopped TreeFault)) puts = absurd puts
       go (Print text) j is (Err (Refused refusal)) puts = absurd puts
@@ -264,7 +259,7 @@ module _ (task : Task) (tree : TreeState) (err : SinkState) (work : Work) (plan 
     where
       blameless : (r : Result ℕ Halt) → Puts out now bytes code r → length bytes < out.sure → blame_in r ≡ ASink → ⊥
       blameless (Ok answer) puts less e = cc e
-      blameless (Err (Stopped SinkFault)) puts less e = puts.1 less
+      blameless (Err (Stopped SinkFault)) puts less e = puts.blamed refl less
       blameless (Err (Stopped NoMemory)) puts less e = cc e
       blameless (Err (Stopped TreeFault)) puts less e = puts
       blameless (Err (Refused refusal)) puts less e = puts
@@ -279,11 +274,24 @@ module _ (task : Task) (tree : TreeState) (err : SinkState) (work : Work) (plan 
       all None = tt
       all (Some nodes) = go work is
 
-  pub does-puts : (r : Result ℕ Halt) → Puts out now bytes code r → Ledger (counts 0 out.faults 0) (counts 0 now.faults 0) (blame_in r)
-      → DoesWork (Ok task) (outside tree out err) (outside tree now err) r
-  does-puts r puts ledger = record {
+  puts_ledger : (r : Result ℕ Halt) → Puts out now bytes code r → Ledger (counts tree.tally out.tally err.tally) (counts tree.tally now.tally err.tally) (blame_in r)
+  puts_ledger (Ok answer) puts = record { tree = counted-same tree.tally; out = puts.0.counted; err = counted-same err.tally }
+  puts_ledger (Err (Stopped SinkFault)) puts = inl (record { tree = counted-same tree.tally; out = puts.counted; err = counted-same err.tally })
+  puts_ledger (Err (Stopped NoMemory)) puts = rw puts (ledger-same (counts tree.tally out.tally err.tally))
+  puts_ledger (Err (Stopped TreeFault)) puts = absurd puts
+  puts_ledger (Err (Refused refusal)) puts = absurd puts
+
+  no-tree : (r : Result ℕ Halt) → Puts out now bytes code r → blame_in r ≡ TheTree → ⊥
+  no-tree (Ok answer) puts e = cc e
+  no-tree (Err (Stopped SinkFault)) puts e = cc e
+  no-tree (Err (Stopped NoMemory)) puts e = cc e
+  no-tree (Err (Stopped TreeFault)) puts e = puts
+  no-tree (Err (Refused refusal)) puts e = puts
+
+  pub does-puts : (r : Result ℕ Halt) → Puts out now bytes code r → DoesWork (Ok task) (outside tree out err) (outside tree now err) r
+  does-puts r puts = record {
     performs = puts_performs r puts;
-    ledger = of_the_out tree.faults out.faults now.faults err.faults (blame_in r) ledger;
-    sure_tree = always tree.told (λ nodes. TreeSuffices (verdict_on nodes (Ok task)) tree.sure nodes) _ (no-tree out.faults now.faults (blame_in r) ledger);
+    ledger = puts_ledger r puts;
+    sure_tree = always tree.told (λ nodes. TreeSuffices (verdict_on nodes (Ok task)) tree.sure nodes) _ (no-tree r puts);
     sure_sinks = sure_sinks r puts;
   }

@@ -6,12 +6,13 @@ use Rattle.uxn_opcodes.specs.declared.Stop.{Stop}
 use Rattle.uxn_opcodes.specs.declared.Stop.TheVariants.{TreeFault, SinkFault, NoMemory}
 use Rattle.vector_loop.specs.Folders.{TakesNames}
 use Rattle.uxn_words.specs.declared.task.Task.{Task}
-use Rattle.uxn_cli.specs.declared.refusal.Refusal.{Refusal}
-use Rattle.uxn_cli.specs.declared.refusal.Halt.{Halt}
-use Rattle.uxn_cli.specs.declared.refusal.Halt.TheVariants.{Refused, Stopped}
-use Rattle.uxn_cli.specs.Statuses.{early_status}
-use Rattle.uxn_cli.specs.Verdict.{View, Work, Run, Write, Print, RunLine, verdict}
-use Rattle.uxn_cli.specs.Verdict.{file_seen, symbols_seen, script_seen, commands_seen, part_seen, parent_seen, named_seen, blocked_seen}
+use Rattle.task_files.specs.declared.refusal.Refusal.{Refusal}
+use Rattle.task_files.specs.declared.refusal.Halt.{Halt}
+use Rattle.task_files.specs.declared.refusal.Halt.TheVariants.{Refused, Stopped}
+use Rattle.task_files.specs.Statuses.{early_status}
+use Rattle.task_files.specs.Views.{View}
+use Rattle.uxn_cli.specs.Verdict.{Work, Run, Write, Print, RunLine, verdict}
+use Rattle.task_files.specs.Views.{file_seen, symbols_seen, script_seen, commands_seen, part_seen, parent_seen, named_seen, blocked_seen}
 use Rattle.uxn_cli.specs.Outcome.{Outcome, outcome_of}
 use Rattle.uxn_cli.specs.Job.{Job, trail_of}
 

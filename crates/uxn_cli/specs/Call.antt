@@ -4,11 +4,11 @@ use Rattle.uxn_io.specs.declared.sinks.Sink as sink
 use Rattle.uxn_io.specs.declared.trees.Tree as tree
 use Rattle.uxn_opcodes.specs.declared.Stop.{Stop}
 use Rattle.uxn_words.specs.declared.task.Task.{Task}
-use Rattle.uxn_cli.specs.declared.refusal.Refusal.{Refusal}
+use Rattle.task_files.specs.declared.refusal.Refusal.{Refusal}
 use Rattle.uxn_cli.specs.Causes.{verdict_on}
-use Rattle.uxn_io.specs.State.{Outside, outside_of}
-use Rattle.uxn_cli.specs.Request.{request}
-use Rattle.uxn_cli.specs.Statuses.{early_status}
+use Rattle.uxn_io.specs.State.{Outside, outside}
+use Rattle.task_files.specs.Request.{request}
+use Rattle.task_files.specs.Statuses.{early_status}
 use Rattle.uxn_cli.specs.Verdict.{Work}
 
 pub record Call : Type 0 where
@@ -22,8 +22,8 @@ abbrev pub call : {T O E Z : Type 0} → tree.Ghosts T → sink.Ghosts O → sin
     → T → O → E → T → O → E → ℕ → Call
 call of_tree of_out of_err words files out err files_now out_now err_now status = record {
   words = map string_bytes words;
-  before = outside_of of_tree of_out of_err files out err;
-  now = outside_of of_tree of_out of_err files_now out_now err_now;
+  before = outside (of_tree.state files) (of_out.state out) (of_err.state err);
+  now = outside (of_tree.state files_now) (of_out.state out_now) (of_err.state err_now);
   status = status;
 }
 

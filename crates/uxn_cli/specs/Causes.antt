@@ -8,9 +8,12 @@ use Rattle.file_ports.specs.Device.{suits}
 use Rattle.uxn_io.specs.Told.{extended}
 use Rattle.uxn_io.specs.Files.{Nodes}
 use Rattle.uxn_words.specs.declared.task.Task.{Task}
-use Rattle.uxn_cli.specs.declared.refusal.Refusal.{Refusal}
-use Rattle.uxn_cli.specs.Verdict.{Work, and_then, view_of, judged, outputs_of, root_by}
-use Rattle.uxn_cli.specs.Statuses.{Status, number, IsEarly}
+use Rattle.task_files.specs.declared.refusal.Refusal.{Refusal}
+use Rattle.uxn_cli.specs.Verdict.{Work, judged}
+use Rattle.uxn_words.specs.Places.{outputs_of, root_by}
+use Rattle.task_files.specs.Request.{and_then}
+use Rattle.task_files.specs.Views.{view_of}
+use Rattle.task_files.specs.Statuses.{Status, number, IsEarly}
 use Rattle.uxn_cli.specs.Outcome.{outcome_of}
 
 -- the answer is this status exactly where the fact holds, unless the call ended early

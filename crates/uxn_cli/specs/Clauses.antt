@@ -1,5 +1,5 @@
 -- What each call of the program keeps to, in groups.
-use Rattle.std.specs.Prelude.{◌≡◌, ℕ, ◌≤◌, ◌⊎◌, true, false, List, ◌++◌, map, Option, Some, Result, Ok, IfSome}
+use Rattle.std.specs.Prelude.{◌≡◌, ℕ, ◌≤◌, ◌⊎◌, true, List, ◌++◌, map, Option, Some, Result, Ok, IfSome}
 use Rattle.std.specs.List.{list_any}
 use Rattle.std.specs.Str.{bytes_eq}
 use Rattle.uxn_io.specs.Faults.{Rose, Ledger}
@@ -8,18 +8,18 @@ use Rattle.uxn_io.specs.Outside.{World, changed_by, IsCutOff}
 use Rattle.uxn_io.specs.Told.{extended}
 use Rattle.uxn_opcodes.specs.declared.Stop.TheVariants.{NoMemory}
 use Rattle.varvara_bus.specs.Touching.{told_at}
-use Rattle.uxn_cli.specs.declared.refusal.Refusal.{Refusal}
+use Rattle.task_files.specs.declared.refusal.Refusal.{Refusal}
 use Rattle.uxn_cli.specs.Answer.{MayStop, Answers}
-use Rattle.uxn_cli.specs.Blame.{blame_at}
+use Rattle.task_files.specs.Blame.{blame_at}
 use Rattle.uxn_cli.specs.Call.{Call, asked_by, OfVerdict}
 use Rattle.uxn_cli.specs.Causes.{IsExactly, verdict_on, EndsWith, KeepsOthers, PutsLine}
 use Rattle.uxn_cli.specs.Isolation.{LookSame, GivesAsOn}
 use Rattle.uxn_cli.specs.Job.{outputs_in}
 use Rattle.uxn_cli.specs.Observation.{HaveSameItems, IsOutcomeButLog}
 use Rattle.uxn_cli.specs.Outcome.{outcome_of}
-use Rattle.uxn_cli.specs.Request.{request}
+use Rattle.task_files.specs.Request.{request}
 use Rattle.uxn_cli.specs.Room.{TreeSuffices, SinksSuffice}
-use Rattle.uxn_cli.specs.Statuses.{Reason, Exits, Refuses, IsEarly, IsRefusing, IsRefusedFor, IsOfWords}
+use Rattle.task_files.specs.Statuses.{Reason, Exits, Refuses, IsEarly, IsRefusing, IsRefusedFor, IsOfWords}
 use Rattle.uxn_cli.specs.Verdict.{Work, Run, Write}
 
 -- the status, the bytes on both outputs and the files are the outcome of what was asked and seen; or the call ended early
@@ -47,11 +47,13 @@ pub record HasStatuses (c : Call) : Type 0 where
 pub record EndsEarlyByFaults (c : Call) : Type 0 where
   -- the count of whoever is to blame for the status rose in this call, and no other did
   pub ledger : Ledger c.before.faults c.now.faults (blame_at c.status)
-  pub tree_fault : c.status ≡ 136 → Rose c.before.faults.tree c.now.faults.tree
-  pub sink_fault : c.status ≡ 137 → Rose c.before.faults.out c.now.faults.out ⊎ Rose c.before.faults.err c.now.faults.err
+  pub tree_fault : c.status ≡ 136 → Rose c.before.faults.tree.faults c.now.faults.tree.faults
+  pub sink_fault : c.status ≡ 137
+      → Rose c.before.faults.out.faults c.now.faults.out.faults ⊎ Rose c.before.faults.err.faults c.now.faults.err.faults
   -- what is accepted ends with its exit code, unless a count rose or memory was wanting
-  pub complete : OfVerdict c (λ verdict. (work : Work) → verdict ≡ Ok work → (Rose c.before.faults.tree c.now.faults.tree → ⊥)
-      → (Rose c.before.faults.out c.now.faults.out → ⊥) → (Rose c.before.faults.err c.now.faults.err → ⊥)
+  pub complete : OfVerdict c (λ verdict. (work : Work) → verdict ≡ Ok work
+      → (Rose c.before.faults.tree.faults c.now.faults.tree.faults → ⊥)
+      → (Rose c.before.faults.out.faults c.now.faults.out.faults → ⊥) → (Rose c.before.faults.err.faults c.now.faults.err.faults → ⊥)
       → (c.status ≡ (outcome_of (Ok work)).status) ⊎ (c.status ≡ 138))
   -- where memory was wanting all is as it was, but where a debugger watches the run or it takes the names of a folder
   pub wanting : OfVerdict c (λ verdict. c.status ≡ 138 → (c.now.world ≡ c.before.world) ⊎ MayStop verdict NoMemory)
@@ -107,7 +109,8 @@ pub record GivesTheSame (c : Call) : Type 0 where
 
 -- where the tree and the sinks surely take what the verdict asks of them, none of them fails
 pub record FailsNotWhereSure (c : Call) : Type 0 where
-  pub tree : IfSome c.before.world.files (λ nodes. TreeSuffices (verdict_on nodes (asked_by c)) c.before.sure.tree nodes → c.status ≡ 136 → ⊥)
+  pub tree : IfSome c.before.world.files (λ nodes. TreeSuffices (verdict_on nodes (asked_by c)) c.before.sure.tree nodes
+      → c.status ≡ 136 → ⊥)
   pub sinks : OfVerdict c (λ verdict. SinksSuffice verdict c.before.sure.out c.before.sure.err → c.status ≡ 137 → ⊥)
 
 -- what a call comes to, from which the rest follows

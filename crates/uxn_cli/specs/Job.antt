@@ -1,6 +1,6 @@
 -- What is run: a ROM with a script, each vector of at most so many instructions, beneath a root; its pictures, its samples and its
 -- report; and the commands of a debugger that watches it.
-use Rattle.std.specs.Prelude.{ℕ, Bool, false, List, map, [], ◌∷◌, ◌++◌, codes, decimal, Option, Some, None, option_to_list}
+use Rattle.std.specs.Prelude.{ℕ, Bool, false, List, map, [], ◌++◌, codes, decimal, Option, Some, None, option_to_list}
 use Rattle.std.specs.FinMap as nodes_map
 use Rattle.uxn_io.specs.Files.{Nodes}
 use Rattle.file_ports.specs.RootPart.{below, parent_is_folder}
@@ -21,9 +21,9 @@ use Rattle.vector_loop.specs.declared.output.Outputs.{Outputs}
 use Rattle.vector_loop.specs.Run.{run}
 use Rattle.vector_loop.specs.Watch.{page_in, moment_of}
 use Rattle.tal_words.specs.declared.name.Label.{Label}
-use Rattle.uxn_debugger.specs.declared.command.DebugCommand.{DebugCommand}
+use Rattle.debug_commands.specs.declared.command.DebugCommand.{DebugCommand}
 use Rattle.uxn_debugger.specs.Log.{Shown, log_of}
-use Rattle.uxn_cli.specs.World.{Text}
+use Rattle.task_files.specs.World.{Text, text_at}
 use Rattle.uxn_cli.specs.declared.running.RunEnd.{RunEnd}
 
 -- what a debugger does: its commands, the labels that its log names, and the file of the log
@@ -120,11 +120,6 @@ common_lines exit tally =
 -- the report of a run: its exit code and what was counted
 unfoldable pub report_text : Version → ℕ → Tally → List ℕ
 report_text version exit tally = common_lines exit tally ++ further_lines version tally
-
--- a text in a file, where the file is asked for
-abbrev pub text_at : Option (List ℕ) → List ℕ → List Text
-text_at None bytes = []
-text_at (Some path) bytes = record { path = path; bytes = bytes } ∷ []
 
 abbrev pub report_of : Option (List ℕ) → Version → State → List Text
 report_of path version end = text_at path (report_text version (exit_in end) end.tally)

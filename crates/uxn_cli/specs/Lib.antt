@@ -1,13 +1,5 @@
-pub mod Lines
-pub mod Statuses
-pub mod World
-pub mod Outputs
-pub mod Request
-pub mod Setup
+pub mod Console
 pub mod Verdict
-pub mod Follows
-pub mod Blame
-pub mod Reading
 pub mod Job
 pub mod Outcome
 pub mod Room
@@ -17,7 +9,6 @@ pub mod Joined
 pub mod Answer
 pub mod Causes
 pub mod Outside
-pub mod Written
 pub mod Judged
 pub mod OpcodeNames
 pub mod Observation
@@ -25,3 +16,4 @@ pub mod Isolation
 pub mod Workload
 pub mod Call
 pub mod Clauses
+pub mod Refused

@@ -8,14 +8,15 @@ use Rattle.uxn_io.specs.Outside.{Change, World, changed_by}
 use Rattle.varvara_bus.specs.Touching.{told_at}
 use Rattle.uxn_words.specs.declared.words.Command.TheVariants.{Play, Debug}
 use Rattle.uxn_words.specs.declared.task.Task.{Task}
-use Rattle.uxn_cli.specs.declared.refusal.Refusal.{Refusal}
+use Rattle.task_files.specs.declared.refusal.Refusal.{Refusal}
 use Rattle.uxn_words.specs.Words.{task_of}
 use Rattle.uxn_words.specs.declared.role.Role.{Role}
 use Rattle.uxn_words.specs.Tasks.{role_path, with_paths}
 use Rattle.uxn_words.specs.declared.role.Role.TheVariants as role
 use Rattle.uxn_cli.specs.Job.{Debugging, Job, trail_of, exit_of, log_by}
 use Rattle.uxn_cli.specs.Verdict.{Work, Run}
-use Rattle.uxn_cli.specs.Outcome.{Outcome, outcome_of, creating, filling_all, running}
+use Rattle.uxn_cli.specs.Outcome.{Outcome, outcome_of, running}
+use Rattle.task_files.specs.Writing.{creating, filling_all}
 use Rattle.uxn_cli.specs.Causes.{verdict_on}
 
 -- a run that nobody watches, and the same run under a debugger
@@ -64,7 +65,8 @@ IsNoLog asked path = IfOk asked (λ task. list_any (bytes_eq path) (option_to_li
 
 -- what lies beneath the root of what is asked is the same
 abbrev pub HaveSamePart : Result Task Refusal → Option Nodes → Option Nodes → Type 0
-HaveSamePart asked now other = IfOk asked (λ task. option_map (below (role_path task role.Root)) now ≡ option_map (below (role_path task role.Root)) other)
+HaveSamePart asked now other =
+    IfOk asked (λ task. option_map (below (role_path task role.Root)) now ≡ option_map (below (role_path task role.Root)) other)
 
 -- a status and a world are those of an outcome, but for the log
 pub record IsOutcomeButLog (asked : Result Task Refusal) (o : Outcome) (before now : World) (answer : ℕ) : Type 0 where

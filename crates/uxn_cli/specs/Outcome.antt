@@ -1,13 +1,12 @@
 -- What a verdict gives: the status, and the changes outside, in order.
 use Rattle.std.specs.Prelude.{ℕ, List, ◌++◌, map, Option, Result, Ok, Err}
-use Rattle.std.specs.List.{flat_map}
-use Rattle.uxn_io.specs.Outside.{Change, ToOut, ToErr, Creates, ToFile}
-use Rattle.uxn_cli.specs.declared.refusal.Refusal.{Refusal}
-use Rattle.uxn_cli.specs.Statuses.{status_of}
-use Rattle.uxn_cli.specs.Lines.{line_of}
-use Rattle.uxn_cli.specs.World.{Text}
+use Rattle.uxn_io.specs.Outside.{Change, ToOut, ToErr}
+use Rattle.task_files.specs.declared.refusal.Refusal.{Refusal}
+use Rattle.task_files.specs.Statuses.{status_of}
+use Rattle.task_files.specs.Lines.{line_of}
 use Rattle.vector_loop.specs.Trail.{Trail}
 use Rattle.play_script.specs.declared.script.Version.{Version}
+use Rattle.task_files.specs.Writing.{creating, filling_all, writing}
 use Rattle.uxn_cli.specs.Job.{Job, outputs_in, trail_of, exit_of, report_of, log_by}
 use Rattle.uxn_line.specs.Streams.{Job as LineJob, run_at, stream, exit_code_at}
 use Rattle.uxn_line.specs.Moves.{last_of}
@@ -16,21 +15,6 @@ use Rattle.uxn_cli.specs.Verdict.{Work, Run, Write, Print, RunLine}
 pub record Outcome : Type 0 where
   pub status : ℕ
   pub changes : List Change
-
--- files made, empty and in order
-abbrev pub creating : List (List ℕ) → List Change
-creating paths = map (λ path. Creates path) paths
-
--- a file gets its bytes, and files theirs, in order
-abbrev pub filling : Text → List Change
-filling text = map (λ byte. ToFile text.path byte) text.bytes
-
-abbrev pub filling_all : List Text → List Change
-filling_all texts = flat_map filling texts
-
--- files are written: all are made, and then they get their bytes
-unfoldable pub writing : List Text → List Change
-writing texts = creating (map (λ text. text.path) texts) ++ filling_all texts
 
 -- a text is printed
 abbrev pub printing : List ℕ → List Change

@@ -1,18 +1,13 @@
 -- What the tree and the sinks must surely take for a verdict (profile).
-use Rattle.std.specs.Prelude.{ℕ, ◌<◌, ◌≤◌, List, length, All, Result, Ok, Err}
+use Rattle.std.specs.Prelude.{ℕ, ◌<◌, length, Result, Ok, Err}
 use Rattle.uxn_io.specs.Files.{Nodes}
 use Rattle.uxn_io.specs.Room.{Room}
 use Rattle.uxn_io.specs.Taking.{TreeTakes, SinkTakes, bytes_out, bytes_err}
-use Rattle.uxn_cli.specs.declared.refusal.Refusal.{Refusal}
-use Rattle.uxn_cli.specs.Lines.{line_of}
-use Rattle.uxn_cli.specs.World.{Text}
+use Rattle.task_files.specs.declared.refusal.Refusal.{Refusal}
+use Rattle.task_files.specs.Lines.{line_of}
+use Rattle.task_files.specs.Made.{Takes}
 use Rattle.uxn_cli.specs.Verdict.{Work, Run, Write, Print, RunLine}
 use Rattle.uxn_cli.specs.Outcome.{running, line_bytes}
-
--- a tree surely takes files: it has room for more files than these, and each is no longer than a file may be
-pub record Takes (room : Room) (texts : List Text) : Type 0 where
-  pub files : length texts < room.files
-  pub bytes : All (λ text. length text.bytes ≤ room.bytes) texts
 
 -- the tree surely takes the files that are written, and what a run does to it
 abbrev pub TakesFor : Result Work Refusal → Room → Nodes → Type 0

@@ -1,5 +1,6 @@
 -- What the run of a machine does, and what is written behind it.
-use Rattle.std.specs.Prelude.{◌≡◌, ◌≤◌, ◌⊎◌, ℕ, List, ◌++◌, Option, None, Some, Result, Ok, Err, IfOk, IfErr, OnOk, IfSome, IsSome}
+use Rattle.std.specs.Prelude.{◌≡◌, ◌≤◌, ◌⊎◌, ℕ, List, ◌++◌, Option, None, Some}
+use Rattle.std.specs.Prelude.{Result, Ok, Err, IfOk, IfErr, OnOk, IfSome, IsSome}
 use Rattle.uxn_io.specs.Ended.{Ended}
 use Rattle.uxn_io.specs.Faults.{Blame, Ledger}
 use Rattle.uxn_io.specs.Files.{Nodes}
@@ -20,7 +21,8 @@ use Rattle.uxn_words.specs.Tasks.{role_path}
 use Rattle.uxn_words.specs.declared.role.Role.TheVariants as role
 use Rattle.uxn_words.specs.declared.task.Task.{Task}
 use Rattle.uxn_cli.specs.Job.{Debugging, Home, outputs_by, trail_by, end_in, log_by}
-use Rattle.uxn_cli.specs.Outcome.{filling_all, reporting}
+use Rattle.task_files.specs.Writing.{filling_all}
+use Rattle.uxn_cli.specs.Outcome.{reporting}
 use Rattle.uxn_cli.specs.declared.machine.Machine.{Machine}
 use Rattle.uxn_cli.specs.declared.running.RunEnd.{RunEnd}
 use Rattle.uxn_cli.specs.declared.running.Settings.{Settings}
@@ -78,6 +80,7 @@ pub record Runs (root : Option (List ℕ)) (trail : Home → Trail) (changes : T
   pub code : IfOk result (λ end. end.exit ≤ 127)
 
 -- a watcher was shown all of a run, and its end
-abbrev pub WasShown : {H : Type 0} → (H → Core → Page → Moment → H) → (H → Core → Page → Moment → H) → H → Trail → H → Type 0
+abbrev pub WasShown : {H : Type 0} → (H → Core → Page → Moment → H) → (H → Core → Page → Moment → H) → H → Trail → H
+    → Type 0
 WasShown shown ended before trail now =
     now ≡ ended (shown_all shown before trail.moments) trail.last.core (page_in trail.last) (moment_of trail.last)

@@ -1,34 +1,23 @@
 //! The top call, from the words to the status.
 ghost use Rattle.std.specs.Prelude.{◌≡◌, ◌≤◌, map, string_bytes, IfOk};
-ghost use Rattle.uxn_cli.specs.Request.{request};
+ghost use Rattle.task_files.specs.Request.{request};
 ghost use Rattle.uxn_words.specs.Places.{HasApartOutputs};
-ghost use Rattle.uxn_cli.specs.Follows.{Follows};
-ghost use Rattle.uxn_cli.specs.Blame.{as_step, OnRefused};
-ghost use Rattle.uxn_cli.specs.Statuses.{early_status};
-ghost use Rattle.uxn_cli.specs.Call.{call};
-ghost use Rattle.uxn_io.specs.State.{outside_of};
+ghost use Rattle.task_files.specs.Follows.{Follows};
+ghost use Rattle.task_files.specs.Blame.{as_step, OnRefused};
+ghost use Rattle.task_files.specs.Statuses.{early_status};
+ghost use Rattle.uxn_cli.specs.Call.{call, status_by};
+ghost use Rattle.uxn_io.specs.State.{outside};
 ghost use Rattle.uxn_cli.specs.Clauses.{HasItsOutcome, LeavesTheRest, HasStatuses, EndsEarlyByFaults, IsCutShort, GivesTheSame, FailsNotWhereSure};
 ghost use Rattle.uxn_cli.specs.Clauses.{ComesOut};
 ghost use Rattle.uxn_cli.specs.Outside.{DoesWork};
+ghost use Rattle.uxn_cli.specs.Refused.{CountsRefusals, PassesNoneOver};
 
-use super::paths::apart;
-use super::refusal::{Halt, Refusal};
 use super::work::carry_out;
 use std::alloc::Global;
 use tal_sources::a_source_looks_at_its_files_alone;
+use task_files::{Halt, request};
 use uxn_io::{Sink, Tree};
 use uxn_opcodes::Stop;
-use uxn_words::{Task, read_words};
-
-/// What the words ask for, unless they are not legal or name no path.
-fn request(alloc: Global, words: &[String]) -> Result<Task, Halt>
-    ensures follows { Follows (λ task. task) result (request (map string_bytes words.now)) }
-    ensures apart { IfOk result HasApartOutputs }
-    ensures budget { IfOk result (λ task. 1 ≤ task.budget) }
-{
-    let task = read_words(alloc, words)?;
-    apart(alloc, task)
-}
 
 /// Does what the words ask for. Where it is refused its line is not put yet.
 fn perform<T: Tree, O: Sink, E: Sink>(
@@ -38,8 +27,9 @@ fn perform<T: Tree, O: Sink, E: Sink>(
     out: &mut O,
     err: &mut E,
 ) -> Result<u8, Halt>
-    ensures does { DoesWork (request (map string_bytes words.now)) (outside_of T.Tree O.Sink E.Sink tree.old out.old err.old)
-        (outside_of T.Tree O.Sink E.Sink tree.new out.new err.new) result }
+    ensures does { DoesWork (request (map string_bytes words.now)) (outside (T.state tree.old) (O.state out.old) (E.state err.old))
+        (outside (T.state tree.new) (O.state out.new) (E.state err.new)) result }
+    ensures refusals { CountsRefusals (request (map string_bytes words.now)) (T.state tree.old) (T.state tree.new) result }
     ensures kept { OnRefused result (err.new ≡ err.old) }
 {
     let task = request(alloc, words)?;
@@ -54,8 +44,9 @@ fn answer<T: Tree, O: Sink, E: Sink>(
     out: &mut O,
     err: &mut E,
 ) -> Result<u8, Stop>
-    ensures { DoesWork (request (map string_bytes words.now)) (outside_of T.Tree O.Sink E.Sink tree.old out.old err.old)
-        (outside_of T.Tree O.Sink E.Sink tree.new out.new err.new) (as_step result) }
+    ensures does { DoesWork (request (map string_bytes words.now)) (outside (T.state tree.old) (O.state out.old) (E.state err.old))
+        (outside (T.state tree.new) (O.state out.new) (E.state err.new)) (as_step result) }
+    ensures refusals { PassesNoneOver (request (map string_bytes words.now)) (T.state tree.old) (T.state tree.new) (status_by result) }
 {
     match perform(alloc, words, tree, out, err) {
         Ok(status) => Ok(status),
@@ -83,7 +74,8 @@ fn status_of<T: Tree, O: Sink, E: Sink>(
     out: &mut O,
     err: &mut E,
 ) -> u8
-    ensures { ComesOut (call T.Tree O.Sink E.Sink words.now tree.old out.old err.old tree.new out.new err.new result) }
+    ensures refusals { PassesNoneOver (request (map string_bytes words.now)) (T.state tree.old) (T.state tree.new) result }
+    ensures comes { ComesOut (call T.Tree O.Sink E.Sink words.now tree.old out.old err.old tree.new out.new err.new result) }
 {
     match answer(alloc, words, tree, out, err) {
         Ok(status) => status,
@@ -144,6 +136,10 @@ pub fn uxn<T: Tree, O: Sink, E: Sink>(
 
     // Where the tree and the sinks surely take what the verdict asks of them, none of them fails.
     ensures sure { FailsNotWhereSure (call T.Tree O.Sink E.Sink words.now tree.old out.old err.old tree.new out.new err.new result) }
+
+    // No call of `create` that the tree refused is passed over: a tree that is exact counts none, but for the one for which the call
+    // is refused; where a program runs, its own are not spoken of.
+    ensures refusals { PassesNoneOver (request (map string_bytes words.now)) (T.state tree.old) (T.state tree.new) result }
 {
     a_source_looks_at_its_files_alone();
     status_of(alloc, words, tree, out, err)

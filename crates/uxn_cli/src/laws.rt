@@ -4,7 +4,7 @@ ghost use Rattle.tal_words.specs.Opcodes.{name_of_op};
 ghost use Rattle.uxn_opcodes.specs.Table.{op_of};
 ghost use Rattle.uxn_cli.specs.OpcodeNames.{row_name};
 ghost use Rattle.uxn_io.specs.Files.{Nodes};
-ghost use Rattle.uxn_cli.specs.Request.{request};
+ghost use Rattle.task_files.specs.Request.{request};
 ghost use Rattle.uxn_cli.specs.Verdict.{Work};
 ghost use Rattle.uxn_cli.specs.Causes.{verdict_on};
 ghost use Rattle.uxn_cli.specs.Observation.{OnlyWatches, HaveSameItems, ShowsWhatPlayDoes};

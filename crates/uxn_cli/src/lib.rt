@@ -1,25 +1,15 @@
 //! The whole program as one call: words, a tree of files and two sinks in, a status out.
 #![tactic(auto)]
 
-mod assembling;
-mod commands;
 mod debugging;
 mod entry;
 mod generating;
-mod inputs;
 mod joining;
 mod laws;
 mod machine;
-mod making;
-mod outputs;
-mod paths;
 mod playing;
-mod program;
-mod refusal;
 mod report;
 mod running;
-mod scripts;
-mod symbols;
 mod work;
 
 pub use entry::uxn;

@@ -3,31 +3,34 @@ ghost use Rattle.std.specs.Prelude.{◌≡◌, ◌≤◌, [], Ok, IfOk, IfSome, 
 ghost use Rattle.uxn_io.specs.Ended.{TreeLooked};
 ghost use Rattle.uxn_memory.specs.Bytes.{largest_rom};
 ghost use Rattle.uxn_cli.specs.Job.{Home};
-ghost use Rattle.uxn_cli.specs.Reading.{Reads};
+ghost use Rattle.task_files.specs.Reading.{Reads};
 ghost use Rattle.uxn_words.specs.Places.{HasApartOutputs};
 ghost use Rattle.uxn_words.specs.Tasks.{role_path};
 ghost use Rattle.vector_loop.specs.Outputs.{IsOutput};
-ghost use Rattle.uxn_cli.specs.Blame.{OnRefused, tree_failed};
-ghost use Rattle.uxn_cli.specs.Verdict.{Loaded, commands_input, debugger_by, debugging, run_in, symbols_input};
-ghost use Rattle.uxn_io.specs.State.{tree_state, outside_of};
+ghost use Rattle.task_files.specs.Blame.{OnRefused, tree_failed};
+ghost use Rattle.task_files.specs.Accepted.{Loaded};
+ghost use Rattle.task_files.specs.Views.{commands_input, symbols_input};
+ghost use Rattle.uxn_cli.specs.Verdict.{debugger_by, debugging, run_in};
+ghost use Rattle.uxn_io.specs.State.{outside};
 ghost use Rattle.uxn_cli.specs.Outside.{DoesWork};
-ghost use Rattle.uxn_cli.specs.Prepared.{Prepares, IsReadyRun, AreNew, debugger_of, debugger_in, inputs_seen, labels_with, loaded_by, run_plan, RunsMachine};
+ghost use Rattle.uxn_cli.specs.Refused.{CountsRefusals};
+ghost use Rattle.uxn_cli.specs.Prepared.{Prepares, IsReadyRun, AreNew, debugger_of, debugger_in};
+ghost use Rattle.task_files.specs.Views.{inputs_seen, RunsMachine};
+ghost use Rattle.task_files.specs.Held.{labels_with, loaded_by};
+ghost use Rattle.uxn_cli.specs.Verdict.{run_plan};
 ghost use Rattle.uxn_cli.specs.Runs.{Runs, RunFiles, trail_for, logging_for};
 
-use super::debugging::{Session, accept_commands, debug_made, labels_of};
+use super::debugging::{Session, debug_made};
 use super::machine::{Machine, new_machine};
-use super::making::{empty_outputs, make_outputs};
-use super::outputs::Output;
-use super::program::{Program, load};
-use super::refusal::Halt;
 use super::running::{RunEnd, run_made};
-use super::scripts::accept_script;
-use super::symbols::accept_symbols;
-use play_script::Script;
+use debug_commands::DebugCommand;
 use std::alloc::{AllocError, Global};
 use tal_words::Label;
-use uxn_debugger::{DebugCommand, Debugger};
-use uxn_io::{Path, Sink, Tree};
+use task_files::{
+    Halt, Output, Program, RunInputs, empty_outputs, labels_of, make_outputs, read_run,
+};
+use uxn_debugger::Debugger;
+use uxn_io::{Sink, Tree};
 use uxn_opcodes::Stop;
 use uxn_undo::Undo;
 use uxn_words::{Command, Role, Task};
@@ -44,63 +47,6 @@ pub struct Prepared {
     pub session: Option<Session>,
     /// The files that it writes, which have no bytes yet.
     pub outputs: Vec<Output>,
-}
-
-/// The file of symbols that a run is given.
-fn symbols_input(task: &Task) -> Option<Path>
-    ensures { result ≡ symbols_input task.now.command task.now }
-{
-    match task.command {
-        Command::Debug | Command::Disassemble => task.path(Role::Symbols),
-        Command::Play | Command::Assemble | Command::Generate | Command::Line => None,
-    }
-}
-
-/// The file of commands that a run is given.
-fn commands_input(task: &Task) -> Option<Path>
-    ensures { result ≡ commands_input task.now.command task.now }
-{
-    match task.command {
-        Command::Debug => task.path(Role::Commands),
-        Command::Play
-        | Command::Assemble
-        | Command::Disassemble
-        | Command::Generate
-        | Command::Line => None,
-    }
-}
-
-/// What a run is given, once all of it is accepted.
-#[derive(Drop)]
-pub struct Inputs {
-    /// The program.
-    pub program: Program,
-    /// The labels of a symbol file, where one is given.
-    pub given: Option<Vec<Label>>,
-    /// The script.
-    pub script: Script,
-    /// The commands of a debugger.
-    pub commands: Vec<DebugCommand>,
-}
-
-/// Reads the inputs of a run, one after the other.
-fn read_inputs<T: Tree>(alloc: Global, task: &Task, tree: &mut T) -> Result<Inputs, Halt>
-    requires { RunsMachine task.now.command }
-    ensures reads { (home : Home) → Reads (run_plan task.now home) (λ nodes. inputs_seen nodes task.now) (run_in task.now.command task.now home)
-        (tree_state T.Tree tree.old) (tree_state T.Tree tree.new) result }
-    ensures room { IfOk result (λ inputs. length (loaded_by inputs.program).rom ≤ largest_rom) }
-{
-    let program = load(alloc, task, tree)?;
-    let given = accept_symbols(alloc, &symbols_input(task), tree)?;
-    let script = accept_script(alloc, &task.path(Role::Script), tree)?;
-    let labels = labels_of(&program, &given);
-    let commands = accept_commands(alloc, &commands_input(task), labels, tree)?;
-    Ok(Inputs {
-        program,
-        given,
-        script,
-        commands,
-    })
 }
 
 /// The session of a debugger, with all the memory that it takes, where the command has one.
@@ -134,15 +80,15 @@ fn open_session(
 /// The machine that is asked for, and what a debugger does with its run.
 pub fn prepare<T: Tree>(alloc: Global, task: &Task, tree: &mut T) -> Result<Prepared, Halt>
     requires { RunsMachine task.now.command }
-    ensures prepares { Prepares (T.told tree.old) task.now result }
-    ensures looked { TreeLooked (tree_failed result) (tree_state T.Tree tree.old) (tree_state T.Tree tree.new) }
+    ensures prepares { Prepares (T.state tree.old).told task.now result }
+    ensures looked { TreeLooked (tree_failed result) (T.state tree.old) (T.state tree.new) }
 {
-    let Inputs {
+    let RunInputs {
         program,
         given,
         script,
         commands,
-    } = read_inputs(alloc, task, tree)?;
+    } = read_run(alloc, task, tree)?;
     let paths = task.outputs(alloc)?;
     let outputs = empty_outputs(alloc, &paths)?;
     let session = open_session(alloc, task.command, commands, given)?;
@@ -167,11 +113,11 @@ fn run_prepared<T: Tree, O: Sink, E: Sink>(
     requires devices { AreNew prepared.machine.devices prepared.machine.script (role_path task.now Role.Root) }
     requires undo { IfSome prepared.session (λ session. session.undo ≡ []) }
     requires budget { 1 ≤ task.now.budget }
-    requires files { RunFiles task.now (T.told tree.old) }
-    requires log { IfSome (debugger_in task.now prepared) (λ debug. IfSome debug.log (IsOutput (role_path task.now Role.Root) (T.told tree.old))) }
+    requires files { RunFiles task.now (T.state tree.old).told }
+    requires log { IfSome (debugger_in task.now prepared) (λ debug. IfSome debug.log (IsOutput (role_path task.now Role.Root) (T.state tree.old).told)) }
     ensures { Runs (role_path task.now Role.Root) (trail_for task.now prepared.machine)
         (logging_for task.now prepared.machine (debugger_in task.now prepared)) (IsSome (debugger_in task.now prepared))
-        (outside_of T.Tree O.Sink E.Sink tree.old out.old err.old) (outside_of T.Tree O.Sink E.Sink tree.new out.new err.new) result }
+        (outside (T.state tree.old) (O.state out.old) (E.state err.old)) (outside (T.state tree.new) (O.state out.new) (E.state err.new)) result }
 {
     let Prepared {
         machine,
@@ -204,13 +150,14 @@ pub fn run<T: Tree, O: Sink, E: Sink>(
     out: &mut O,
     err: &mut E,
 ) -> Result<u8, Halt>
-    requires ready { IsReadyRun (T.told tree.old) task.now prepared }
+    requires ready { IsReadyRun (T.state tree.old).told task.now prepared }
     requires apart { HasApartOutputs task.now }
     requires budget { 1 ≤ task.now.budget }
     ensures does { DoesWork (Ok task.now)
-        (outside_of T.Tree O.Sink E.Sink tree.old out.old err.old)
-        (outside_of T.Tree O.Sink E.Sink tree.new out.new err.new)
+        (outside (T.state tree.old) (O.state out.old) (E.state err.old))
+        (outside (T.state tree.new) (O.state out.new) (E.state err.new))
         result }
+    ensures refusals { CountsRefusals (Ok task.now) (T.state tree.old) (T.state tree.new) result }
     ensures kept { OnRefused result (err.new ≡ err.old) }
 {
     make_outputs(prepared.program.included(), &prepared.outputs, tree)?;

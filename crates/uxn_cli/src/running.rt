@@ -1,11 +1,12 @@
 //! The run of a machine, and what is written after it.
 ghost use Rattle.std.specs.Prelude.{◌≡◌, ◌≤◌, IfOk, OnOk, IfSome, is_err};
-ghost use Rattle.uxn_io.specs.State.{tree_state, outside_of};
+ghost use Rattle.uxn_io.specs.State.{outside};
 ghost use Rattle.varvara_bus.specs.Bus.{IsFileWhereTold};
 ghost use Rattle.vector_loop.specs.Outputs.{OutputsThere};
-ghost use Rattle.uxn_cli.specs.Job.{text_at};
-ghost use Rattle.uxn_cli.specs.Outcome.{filling_all};
-ghost use Rattle.uxn_cli.specs.Prepared.{AreNew, TreeDid};
+ghost use Rattle.task_files.specs.World.{text_at};
+ghost use Rattle.task_files.specs.Writing.{filling_all};
+ghost use Rattle.uxn_cli.specs.Prepared.{AreNew};
+ghost use Rattle.uxn_io.specs.Ended.{TreeEnded};
 ghost use Rattle.uxn_cli.specs.Runs.{AtHome, Runs, RunFiles, WasShown, settings_for, trail_from, trail_for, reporting_for};
 ghost use Rattle.uxn_words.specs.Tasks.{role_path};
 
@@ -51,10 +52,10 @@ pub fn run_machine<T: Tree, O: Sink, E: Sink, W: Watcher>(
 ) -> Result<RunEnd, Stop>
     requires devices { AreNew machine.old.devices machine.old.script machine.old.devices.root }
     requires budget { 1 ≤ settings.now.budget }
-    requires outputs { OutputsThere settings.now.outputs machine.old.devices.root (T.told tree.old) }
+    requires outputs { OutputsThere settings.now.outputs machine.old.devices.root (T.state tree.old).told }
     ensures runs { Runs machine.old.devices.root (trail_from settings.now machine.old) (λ trail. trail.changes) W.may_refuse
-        (outside_of T.Tree O.Sink E.Sink tree.old out.old err.old) (outside_of T.Tree O.Sink E.Sink tree.new out.new err.new) result }
-    ensures watcher { AtHome machine.old.devices.root (T.told tree.old) (λ home. OnOk result (WasShown W.shown W.ended (W.held watcher.old)
+        (outside (T.state tree.old) (O.state out.old) (E.state err.old)) (outside (T.state tree.new) (O.state out.new) (E.state err.new)) result }
+    ensures watcher { AtHome machine.old.devices.root (T.state tree.old).told (λ home. OnOk result (WasShown W.shown W.ended (W.held watcher.old)
         (trail_from settings.now machine.old home) (W.held watcher.new))) }
 {
     let mut bus = Bus::new(&mut machine.devices, tree, out, err);
@@ -74,8 +75,8 @@ pub fn run_machine<T: Tree, O: Sink, E: Sink, W: Watcher>(
 
 /// Writes a text to the end of a file, where one is asked for.
 pub fn write_text<T: Tree>(path: &Option<Path>, text: &[u8], tree: &mut T) -> Result<(), Failed>
-    requires { IfSome path.now (IsFileWhereTold (T.told tree.old)) }
-    ensures { TreeDid (filling_all (text_at path.now text.now)) (is_err result) (tree_state T.Tree tree.old) (tree_state T.Tree tree.new) }
+    requires { IfSome path.now (IsFileWhereTold (T.state tree.old).told) }
+    ensures { TreeEnded (filling_all (text_at path.now text.now)) (is_err result) (T.state tree.old) (T.state tree.new) }
 {
     match path {
         Some(path) => append_all(tree, path, text),
@@ -107,10 +108,10 @@ pub fn run_made<T: Tree, O: Sink, E: Sink, W: Watcher>(
 ) -> Result<RunEnd, Stop>
     requires devices { AreNew machine.devices machine.script (role_path task.now Role.Root) }
     requires budget { 1 ≤ task.now.budget }
-    requires files { RunFiles task.now (T.told tree.old) }
+    requires files { RunFiles task.now (T.state tree.old).told }
     ensures runs { Runs (role_path task.now Role.Root) (trail_for task.now machine) (reporting_for task.now machine) W.may_refuse
-        (outside_of T.Tree O.Sink E.Sink tree.old out.old err.old) (outside_of T.Tree O.Sink E.Sink tree.new out.new err.new) result }
-    ensures watcher { AtHome (role_path task.now Role.Root) (T.told tree.old) (λ home. OnOk result (WasShown W.shown W.ended (W.held watcher.old)
+        (outside (T.state tree.old) (O.state out.old) (E.state err.old)) (outside (T.state tree.new) (O.state out.new) (E.state err.new)) result }
+    ensures watcher { AtHome (role_path task.now Role.Root) (T.state tree.old).told (λ home. OnOk result (WasShown W.shown W.ended (W.held watcher.old)
         (trail_for task.now machine home) (W.held watcher.new))) }
 {
     let mut machine = machine;

@@ -7,8 +7,8 @@ use Rattle.std.proofs.lemmas.Bool.Decides.{nat_tests}
 use Rattle.std.proofs.lemmas.List.{length-drop}
 use Rattle.tal_words.specs.declared.name.Label.{Label}
 use Rattle.uxn_undo.specs.Kept.{Kept, kept_at, number_held}
-use Rattle.uxn_debugger.specs.declared.command.DebugCommand.{DebugCommand}
-use Rattle.uxn_debugger.specs.declared.command.DebugCommand.TheVariants.{Break, Delete, Run, Step, Back, Stacks, Mem, PortPage, Here}
+use Rattle.debug_commands.specs.declared.command.DebugCommand.{DebugCommand}
+use Rattle.debug_commands.specs.declared.command.DebugCommand.TheVariants.{Break, Delete, Run, Step, Back, Stacks, Mem, PortPage, Here}
 use Rattle.uxn_debugger.specs.declared.place.Place.{Place}
 use Rattle.uxn_debugger.specs.declared.place.Place.TheVariants.{Before, End}
 use Rattle.uxn_debugger.specs.declared.place.Goal.{Goal}

@@ -1,6 +1,7 @@
 -- The log of commands over a run (profile). The run is the finished list of its moments, and a command goes from index to index. The
 -- debugger decides moment by moment, and goes back by what it kept.
-use Rattle.std.specs.Prelude.{◌≡◌, ℕ, ◌+◌, ◌-◌, min, max, Bool, true, false, not, ◌&&◌, ◌||◌, ◌==◌, nat_lt, nat_le, if◌then◌else◌}
+use Rattle.std.specs.Prelude.{◌≡◌, ℕ, ◌+◌, ◌-◌, min, max, Bool, true, false, not, ◌&&◌, ◌||◌}
+use Rattle.std.specs.Prelude.{◌==◌, nat_lt, nat_le, if◌then◌else◌}
 use Rattle.std.specs.Prelude.{List, [], ◌++◌, take, drop, length, map, reverse, Option, Some, None, slice_get, fold}
 use Rattle.std.specs.List.{position_or_len}
 use Rattle.uxn_opcodes.specs.declared.Core.{Core}
@@ -10,8 +11,8 @@ use Rattle.vector_loop.specs.Watch.{Page}
 use Rattle.uxn_undo.specs.Kept.{number_held}
 use Rattle.uxn_undo.specs.Laws.{Given, kept_of}
 use Rattle.uxn_undo.specs.Runs.{InRow}
-use Rattle.uxn_debugger.specs.declared.command.DebugCommand.{DebugCommand}
-use Rattle.uxn_debugger.specs.declared.command.DebugCommand.TheVariants.{Break, Delete, Run, Step, Back}
+use Rattle.debug_commands.specs.declared.command.DebugCommand.{DebugCommand}
+use Rattle.debug_commands.specs.declared.command.DebugCommand.TheVariants.{Break, Delete, Run, Step, Back}
 use Rattle.uxn_debugger.specs.declared.place.Place.TheVariants.{Before, End}
 use Rattle.uxn_debugger.specs.Printing.{View, view, printed}
 

@@ -1,16 +1,11 @@
-//! The debugger: commands, and a watcher that does them during a run and keeps a log.
+//! The debugger: a watcher that does commands during a run and keeps a log.
 #![tactic(auto)]
 
 mod breaks;
-mod command;
 mod debugger;
-mod keyword;
-mod line;
 mod place;
 mod printing;
-mod reading;
 mod scene;
 
-pub use command::{CommandKind, CommandStop, DebugCommand};
+pub use debug_commands::{CommandKind, CommandStop, DebugCommand, read_commands};
 pub use debugger::{Debugger, the_log_is_that_of_the_run};
-pub use reading::read_commands;

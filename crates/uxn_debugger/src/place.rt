@@ -6,7 +6,7 @@ ghost use Rattle.uxn_debugger.specs.Printing.{moment_at};
 use vector_loop::Moment;
 
 // Where a run stands.
-#[derive(Clone, Copy, Debug)]
+#[derive(Clone, Copy)]
 pub(crate) enum Place {
     // Before an instruction.
     Before(Moment),
@@ -26,7 +26,7 @@ impl Place {
 }
 
 // What the debugger waits for.
-#[derive(Clone, Copy, Debug)]
+#[derive(Clone, Copy)]
 pub(crate) enum Goal {
     // The first moment of the run.
     FirstMoment,

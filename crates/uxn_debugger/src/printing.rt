@@ -17,9 +17,9 @@ ghost use Rattle.uxn_debugger.specs.Printing.{
 };
 ghost use Rattle.uxn_debugger.specs.Scenes.{view_in};
 
-use crate::command::DebugCommand;
 use crate::place::Place;
 use crate::scene::Scene;
+use debug_commands::DebugCommand;
 use std::alloc::AllocError;
 use system_port::debug_text;
 use tal_symbols::{Label, nearest};

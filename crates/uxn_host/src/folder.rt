@@ -2,6 +2,7 @@
 ghost use Rattle.std.specs.Prelude.{◌≡◌, ◌<◌, ◌≤◌, Ok, IfOk, IfSome, is_err, length, drop, take, min};
 ghost use Rattle.std.specs.List.{All};
 ghost use Rattle.uxn_io.specs.Faults.{Counted};
+ghost use Rattle.uxn_io.specs.Untold.{exactly};
 ghost use Rattle.uxn_io.specs.Children.{IsEntry};
 
 use std::alloc::{AllocError, Global};
@@ -34,13 +35,16 @@ struct OpenedFile<F: Drop> {
     place: u64,
 }
 
-/// The current folder of the process. It tells nothing of what the files hold, and promises nothing. The file that was
+/// The current folder of the process. It tells nothing of what the files hold, and promises nothing, but
+/// that it counts exactly the calls that failed and the files that it refused to create. The file that was
 /// last read from or appended to stays open: a call of the same kind at the same path goes on with it, and each other
 /// call lets it go first. Nothing is held back in a buffer.
 #[derive(Drop)]
 pub struct CurrentFolder<'a, R: Files> {
     rt: &'a R,
     faults: u64,
+    /// How many files it refused to create.
+    refusals: u64,
     opened: Option<OpenedFile<R::File>>,
 }
 
@@ -58,20 +62,23 @@ impl<'a, R: Files> CurrentFolder<'a, R> {
         CurrentFolder {
             rt,
             faults: 0,
+            refusals: 0,
             opened: None,
         }
     }
 
     /// Lets the file go that is open.
     fn let_go(&mut self)
-        ensures { self.new.faults ≡ self.old.faults }
+        ensures faults { self.new.faults ≡ self.old.faults }
+        ensures refusals { self.new.refusals ≡ self.old.refusals }
     {
         self.opened = None;
     }
 
     /// Lets the file go that is open, unless it is the one at a path.
     fn let_others_go(&mut self, path: &Path)
-        ensures { self.new.faults ≡ self.old.faults }
+        ensures faults { self.new.faults ≡ self.old.faults }
+        ensures refusals { self.new.refusals ≡ self.old.refusals }
     {
         let stays = match &self.opened {
             Some(opened) => opened.path == *path,
@@ -84,7 +91,8 @@ impl<'a, R: Files> CurrentFolder<'a, R> {
 
     /// The open file, if it is the one at a path and was opened for this; any other is let go.
     fn take_opened(&mut self, path: &Path, way: Way) -> Option<OpenedFile<R::File>>
-        ensures { self.new.faults ≡ self.old.faults }
+        ensures faults { self.new.faults ≡ self.old.faults }
+        ensures refusals { self.new.refusals ≡ self.old.refusals }
     {
         match self.opened.take() {
             Some(opened) if opened.path == *path && opened.way == way => Some(opened),
@@ -93,8 +101,10 @@ impl<'a, R: Files> CurrentFolder<'a, R> {
     }
 
     /// What was done, or one fault more.
+    #[tactic(auto, using(uxn_io::specs::UntoldLaws::nothing_counted, uxn_io::specs::UntoldLaws::fault_counted))]
     fn counted<T>(&mut self, done: io::Result<T>) -> Result<T, Failed>
-        ensures ledger { Counted self.old.faults self.new.faults (is_err result) }
+        ensures counted { Counted (exactly self.old.faults) (exactly self.new.faults) (is_err result) }
+        ensures refusals { self.new.refusals ≡ self.old.refusals }
         ensures value { IfOk result (λ value. done ≡ Ok value) }
     {
         match done {
@@ -157,6 +167,7 @@ impl<R: Files> CurrentFolder<'_, R> {
     fn read_chunk(&mut self, path: &Path, from: u64, chunk: &mut [u8; CHUNK]) -> io::Result<usize>
         ensures count { IfOk result (λ taken. taken ≤ 4096) }
         ensures faults { self.new.faults ≡ self.old.faults }
+        ensures refusals { self.new.refusals ≡ self.old.refusals }
     {
         let opened = match self.take_opened(path, Way::Reads) {
             Some(opened) => Some(opened),
@@ -187,6 +198,7 @@ impl<R: Files> CurrentFolder<'_, R> {
     fn append_some(&mut self, path: &Path, piece: &[u8]) -> io::Result<usize>
         ensures count { IfOk result (λ taken. (taken ≤ length piece.now) × (0 < length piece.now → 0 < taken)) }
         ensures faults { self.new.faults ≡ self.old.faults }
+        ensures refusals { self.new.refusals ≡ self.old.refusals }
     {
         let mut opened = match self.take_opened(path, Way::Appends) {
             Some(opened) => opened,
@@ -281,21 +293,18 @@ fn copy_front(bytes: &[u8], into: &mut [u8]) -> usize
 }
 
 impl<R: Files + AllocGlobal + Clone + Drop> Tree for CurrentFolder<'_, R> {
-    ghost use Rattle.std.specs.Prelude.{None};
-    ghost use Rattle.uxn_io.specs.Room.{no_promise};
+    ghost use Rattle.uxn_io.specs.Untold.{untold_tree};
 
-    ghost told = { λ _. None };
+    ghost state = { λ folder. untold_tree folder.faults folder.refusals };
 
-    ghost faults = { λ folder. folder.faults };
-
-    ghost sure = { λ _. no_promise };
-
+    #[tactic(auto, using(uxn_io::specs::UntoldLaws::looked))]
     fn kind(&mut self, path: &Path) -> Result<Kind, Failed> {
         self.let_others_go(path);
         let kind = self.kind_of(path);
         self.counted(kind)
     }
 
+    #[tactic(auto, using(uxn_io::specs::UntoldLaws::looked))]
     fn read(&mut self, path: &Path, from: u64, into: &mut [u8]) -> Result<usize, Failed> {
         let mut chunk = [0; CHUNK];
         let taken = self.read_chunk(path, from, &mut chunk);
@@ -303,23 +312,31 @@ impl<R: Files + AllocGlobal + Clone + Drop> Tree for CurrentFolder<'_, R> {
         Ok(copy_front(&chunk[..taken], into))
     }
 
+    #[tactic(auto, using(uxn_io::specs::UntoldLaws::ended))]
     fn create(&mut self, path: &Path) -> Result<bool, Failed> {
         self.let_go();
         let made = self.create_file(path);
-        self.counted(made)
+        let made = self.counted(made)?;
+        if !made {
+            self.refusals = self.refusals.saturating_add(1);
+        }
+        Ok(made)
     }
 
+    #[tactic(auto, using(uxn_io::specs::UntoldLaws::ended))]
     fn append(&mut self, path: &Path, piece: &[u8]) -> Result<usize, Failed> {
         let taken = self.append_some(path, piece);
         self.counted(taken)
     }
 
+    #[tactic(auto, using(uxn_io::specs::UntoldLaws::ended))]
     fn remove(&mut self, path: &Path) -> Result<bool, Failed> {
         self.let_go();
         let gone = self.remove_file(path);
         self.counted(gone)
     }
 
+    #[tactic(auto, using(uxn_io::specs::UntoldLaws::looked))]
     fn names(&mut self, alloc: Global, folder: &Path) -> Result<Vec<Entry>, NamesStop> {
         self.let_go();
         match self.list(alloc, folder) {

@@ -1,10 +1,8 @@
 //! A standard stream as a sink.
-ghost use Rattle.std.specs.Prelude.{None};
-
 use std::io::Write;
 use uxn_io::{Failed, Sink};
 
-/// Writes and flushes each piece. It tells nothing of what the stream has taken.
+/// Writes and flushes each piece. It tells nothing of what the stream has taken, promises nothing, and counts exactly the calls that failed.
 #[derive(Drop)]
 pub struct Stream<W> {
     stream: W,
@@ -19,12 +17,11 @@ impl<W: Write + Drop> Stream<W> {
 }
 
 impl<W: Write + Drop> Sink for Stream<W> {
-    ghost told = { λ _. None };
+    ghost use Rattle.uxn_io.specs.Untold.{untold_sink};
 
-    ghost faults = { λ stream. stream.faults };
+    ghost state = { λ stream. untold_sink stream.faults };
 
-    ghost sure = { λ _. 0 };
-
+    #[tactic(auto, using(uxn_io::specs::UntoldLaws::sink_took, uxn_io::specs::UntoldLaws::sink_failed))]
     fn put(&mut self, piece: &[u8]) -> Result<usize, Failed> {
         if piece.is_empty() {
             return Ok(0);

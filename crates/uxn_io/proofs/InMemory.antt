@@ -6,3 +6,4 @@ pub mod PlaceLemmas
 pub mod SoundLemmas
 pub mod SureLemmas
 pub mod TreeLemmas
+pub mod CallLemmas

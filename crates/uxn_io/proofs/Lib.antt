@@ -1,4 +1,3 @@
-pub mod AppendLemmas
 pub mod ComponentLemmas
 pub mod PathLemmas
 pub mod PutLemmas

@@ -1,14 +1,13 @@
--- What is told after one more put.
-use Rattle.std.proofs.Common.{◌≡◌, ℕ, ◌+◌, List, take, drop, Option, ap, sym, ◌∙◌}
+-- A piece that is put part by part.
+use Rattle.std.proofs.Common.{◌≡◌, ℕ, ◌+◌, false, List, ◌++◌, take, drop, ap, sym, subst, ◌∙◌}
 use Rattle.std.proofs.Math.Seq.{take-add}
-use Rattle.uxn_io.specs.Told.{extended}
-use Rattle.uxn_io.specs.ChangeLaws.{extended-extended}
+use Rattle.uxn_io.specs.Ended.{SinkEnded}
+use Rattle.uxn_io.specs.EndedLaws.{sink-then}
+use Rattle.uxn_io.specs.State.{SinkState}
 
 -- a front of the piece was put, and then a front of the rest
-pub extended_more : (first told now : Option (List ℕ)) (piece rest : List ℕ) (at n : ℕ) → rest ≡ drop at piece → told ≡ extended first (take at piece) → now ≡ extended told (take n rest) → now ≡ extended first (take (at + n) piece)
-extended_more first told now piece rest at n is_rest before after =
-    after
-    ∙ ap (λ (z : List ℕ). extended told (take n z)) is_rest
-    ∙ ap (λ (z : Option (List ℕ)). extended z (take n (drop at piece))) before
-    ∙ extended-extended first _ _
-    ∙ ap (λ (z : List ℕ). extended first z) (sym (take-add at n piece))
+pub put-then : (piece rest : List ℕ) (at count : ℕ) → rest ≡ drop at piece → (a b c : SinkState) → SinkEnded (take at piece) false a b
+    → SinkEnded (take count rest) false b c → SinkEnded (take (at + count) piece) false a c
+put-then piece rest at count is a b c p q =
+    subst (λ bytes. SinkEnded bytes false a c) (ap (λ (z : List ℕ). take at piece ++ take count z) is ∙ sym (take-add at count piece))
+    (sink-then (take at piece) (take count rest) false a b c p q)

@@ -1,12 +1,13 @@
 -- Laws of bytes appended to files.
-use Rattle.std.specs.Prelude.{◌≡◌, ℕ, List, [], ◌∷◌, ◌++◌, take, drop, map, Option, Some, None, refl}
+use Rattle.std.specs.Prelude.{◌≡◌, ℕ, List, [], ◌∷◌, ◌++◌, map, Option, Some, None, refl}
 use Rattle.std.specs.Option.{option_map}
 use Rattle.std.specs.FinMap as nodes_map
 use Rattle.std.proofs.Common.{ap, sym, ◌∙◌, append_assoc}
-use Rattle.std.proofs.lemmas.List.{append-nil, take-append-drop, map-append}
+use Rattle.std.proofs.lemmas.List.{append-nil, map-append}
 use Rattle.uxn_io.specs.Files.{File, Nodes, bytes_at}
-use Rattle.uxn_io.specs.Changes.{with_appended, HasAppendedFront}
-use Rattle.uxn_io.specs.Outside.{ToFile, World, changed, changed_by, IsCutOff}
+use Rattle.uxn_io.specs.Changes.{with_appended}
+use Rattle.uxn_io.specs.Outside.{ToFile, World, changed, changed_by}
+use Rattle.uxn_io.specs.Ended.{told_by, appending, AreOfTree}
 use Rattle.uxn_io.specs.NodeLaws.{bytes_put, put_again}
 
 -- to append twice is to append both
@@ -37,13 +38,16 @@ changed_by-file world path (byte ∷ text) =
     changed_by-file (changed world (ToFile path byte)) path text
     ∙ ap (λ told. record world { files = told }) (appended_told world.files path (byte ∷ []) text)
 
--- a front of a text was appended to a file
-pub cut-file : (world : World) (now : Option Nodes) (path text : List ℕ) → HasAppendedFront path world.files now text
-    → IsCutOff world (record world { files = now }) (map (λ byte. ToFile path byte) text)
-cut-file world now path text front = record {
-  made = map (λ byte. ToFile path byte) (take front.count text);
-  rest = map (λ byte. ToFile path byte) (drop front.count text);
-  parts = ap (λ bytes. map (λ byte. ToFile path byte) bytes) (sym (take-append-drop front.count text))
-      ∙ map-append (λ byte. ToFile path byte) (take front.count text) (drop front.count text);
-  left = ap (λ told. record world { files = told }) front.told ∙ sym (changed_by-file world path (take front.count text));
-}
+-- the same of what a tree tells
+pub told_by-file : (told : Option Nodes) (path text : List ℕ) → told_by (appending path text) told ≡ option_map (with_appended path text) told
+told_by-file told path [] = sym (appended-nothing path told)
+told_by-file told path (byte ∷ text) =
+    told_by-file (option_map (with_appended path (byte ∷ [])) told) path text ∙ appended_told told path (byte ∷ []) text
+
+-- texts appended one after the other
+pub appending-both : (path first more : List ℕ) → appending path (first ++ more) ≡ appending path first ++ appending path more
+appending-both path first more = map-append (λ byte. ToFile path byte) first more
+
+pub appending-of-tree : (path piece : List ℕ) → AreOfTree (appending path piece)
+appending-of-tree path [] = tt
+appending-of-tree path (byte ∷ piece) = (tt, appending-of-tree path piece)

@@ -1,8 +1,5 @@
 -- What the calls of a tree change (profile).
-use Rattle.std.specs.Prelude.{◌≡◌, ℕ, ◌≤◌, Bool, not, ◌&&◌, List, [], ◌∷◌, ◌++◌}
-use Rattle.std.specs.Prelude.{length, take, Option}
-use Rattle.std.specs.Prelude.{is_some, is_none, if◌then◌else◌}
-use Rattle.std.specs.Option.{option_map}
+use Rattle.std.specs.Prelude.{ℕ, Bool, not, ◌&&◌, List, [], ◌∷◌, ◌++◌, is_some, is_none, if◌then◌else◌}
 use Rattle.std.specs.FinMap as map
 use Rattle.uxn_io.specs.Files.{Nodes, File, bytes_at, file_at, is_folder, has_parent}
 
@@ -26,12 +23,6 @@ new_files nodes path = if makes_file nodes path then 1 else 0
 abbrev pub with_appended : List ℕ → List ℕ → Nodes → Nodes
 with_appended path [] nodes = nodes
 with_appended path (byte ∷ more) nodes = map.insert nodes path (File (bytes_at nodes path ++ byte ∷ more))
-
--- a front of the piece, perhaps empty and perhaps all of it, was appended to the file at the path
-pub record HasAppendedFront (path : List ℕ) (before now : Option Nodes) (piece : List ℕ) : Type 0 where
-  pub count : ℕ
-  pub within : count ≤ length piece
-  pub told : now ≡ option_map (with_appended path (take count piece)) before
 
 -- without the file at the path, where there is one
 abbrev pub with_removed : List ℕ → Nodes → Nodes

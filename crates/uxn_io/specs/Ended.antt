@@ -1,8 +1,11 @@
 -- How a call ended that was to make changes outside: it made all of them, or it stopped and made a front of them (profile).
-use Rattle.std.specs.Prelude.{◌≡◌, ℕ, ◌+◌, ◌<◌, ◌≤◌, Bool, true, false, List, [], ◌∷◌, ◌++◌, length, map, Option, Some, None}
+use Rattle.std.specs.Prelude.{◌≡◌, ℕ, ◌+◌, ◌<◌, ◌≤◌, Bool, true, false, List, [], ◌∷◌, ◌++◌, length, take, map}
+use Rattle.std.specs.Prelude.{Option, Some, None, Result, Ok, Err, is_some, if◌then◌else◌}
 use Rattle.std.specs.Option.{option_map}
-use Rattle.uxn_io.specs.Files.{Nodes}
-use Rattle.uxn_io.specs.Faults.{Blame, Nobody, TheTree, ASink, Counted, Ledger}
+use Rattle.uxn_io.specs.declared.sinks.Failed.{Failed}
+use Rattle.uxn_io.specs.Files.{Nodes, file_at}
+use Rattle.uxn_io.specs.Changes.{can_create}
+use Rattle.uxn_io.specs.Faults.{Blame, Nobody, TheTree, ASink, Counted, Ledger, one_more}
 use Rattle.uxn_io.specs.Outside.{Change, ToOut, ToErr, Creates, ToFile, Removes, changed_files, changed_by, IsCutOff}
 use Rattle.uxn_io.specs.Room.{Room}
 use Rattle.uxn_io.specs.State.{TreeState, SinkState, Outside}
@@ -38,13 +41,45 @@ IsLeft before now (Some nodes) changes = TreeLeft before now nodes changes
 -- a call of a tree: who failed has counted it and did not surely make the changes; who surely makes them has so much room left
 pub record TreeEnded (changes : List Change) (failed : Bool) (before now : TreeState) : Type 0 where
   pub stands : StandsAfter changes failed before.told now.told
-  pub counted : Counted before.faults now.faults failed
+  pub counted : Counted before.tally now.tally failed
   pub blamed : failed ≡ true → Takes before.sure before.told changes → ⊥
   pub left : failed ≡ false → Takes before.sure before.told changes → IsLeft before.sure now.sure before.told changes
 
+-- an exact tree counts a call that refused to create a file, and no other
+abbrev pub Refused : Bool → TreeState → TreeState → Type 0
+Refused refused before now = before.tally.exact ≡ true → now.refusals ≡ (if refused then one_more before.refusals else before.refusals)
+
 -- a call that only looked at a tree
-abbrev pub TreeLooked : Bool → TreeState → TreeState → Type 0
-TreeLooked failed before now = TreeEnded [] failed before now
+pub record TreeLooked (failed : Bool) (before now : TreeState) : Type 0 where
+  pub told : now.told ≡ before.told
+  pub counted : Counted before.tally now.tally failed
+  pub refusals : Refused false before now
+  pub blamed : failed ≡ true → 0 < before.sure.files → ⊥
+  pub left : failed ≡ false → 0 < before.sure.files → (before.sure.files ≤ now.sure.files) × (before.sure.bytes ≤ now.sure.bytes)
+
+-- the changes that the calls of a tree are to make: a file made empty, where one can be created; a file taken away, where one is
+-- there; bytes appended to a file. Of a tree that tells nothing it is not sure that it can create
+abbrev pub creating : Option Nodes → List ℕ → List Change
+creating (Some nodes) path = if can_create nodes path then Creates path ∷ [] else []
+creating None path = Creates path ∷ []
+
+abbrev pub removing : Option Nodes → List ℕ → List Change
+removing (Some nodes) path = if is_some (file_at nodes path) then Removes path ∷ [] else []
+removing None path = []
+
+abbrev pub appending : List ℕ → List ℕ → List Change
+appending path piece = map (λ byte. ToFile path byte) piece
+
+-- the part of a piece that a call was to take: what it answers, or, where it failed, all
+abbrev pub portion : Result ℕ Failed → List ℕ → List ℕ
+portion (Ok count) piece = take count piece
+portion (Err failed) piece = piece
+
+-- `create` answers that it refused
+abbrev pub has_refused : Result Bool Failed → Bool
+has_refused (Ok true) = false
+has_refused (Ok false) = true
+has_refused (Err failed) = false
 
 -- a call that was to put bytes on a sink: it has them all, or failed and has a front that is not whole
 abbrev pub HoldsAfter : List ℕ → Bool → Option (List ℕ) → Option (List ℕ) → Type 0
@@ -53,9 +88,15 @@ HoldsAfter bytes true before now = HasTakenFront before now bytes
 
 pub record SinkEnded (bytes : List ℕ) (failed : Bool) (before now : SinkState) : Type 0 where
   pub holds : HoldsAfter bytes failed before.told now.told
-  pub counted : Counted before.faults now.faults failed
+  pub counted : Counted before.tally now.tally failed
   pub blamed : failed ≡ true → length bytes < before.sure → ⊥
   pub left : failed ≡ false → before.sure ≤ now.sure + length bytes
+
+-- a sink that failed to take any of a piece, of which it was not sure
+pub record SinkFailed (piece : List ℕ) (before now : SinkState) : Type 0 where
+  pub told : now.told ≡ before.told
+  pub counted : Counted before.tally now.tally true
+  pub blamed : length piece < before.sure → ⊥
 
 -- all changes were made on a tree and two sinks: none of them failed, and so much is sure still
 pub record Done (changes : List Change) (before now : Outside) : Type 0 where

@@ -1,20 +1,24 @@
 -- Laws of how calls ended: one after the other, and those of a tree or a sink beside the other two.
-use Rattle.std.specs.Prelude.{◌≡◌, ℕ, ◌+◌, ◌<◌, Bool, true, false, List, [], ◌∷◌, ◌++◌, length, take, Option, Some, None, refl, IfSome}
+use Rattle.std.specs.Prelude.{◌≡◌, ℕ, ◌+◌, ◌<◌, ◌≤◌, Bool, true, false, List, [], ◌∷◌, ◌++◌}
+use Rattle.std.specs.Prelude.{length, take, Option, Some, None, refl, IfSome}
 use Rattle.std.specs.Option.{option_map}
 use Rattle.std.proofs.Common.{inl, inr, ap, sym, subst, ◌∙◌, append_assoc, arith}
 use Rattle.std.proofs.lemmas.List.{length-append}
 use Rattle.std.proofs.Math.Seq.{take-append-add}
 use Rattle.std.proofs.lemmas.Bool.{true≢false, false≢true}
 use Rattle.uxn_io.specs.Files.{Nodes}
-use Rattle.uxn_io.specs.Faults.{Blame, Rose, Counted, Ledger}
+use Rattle.uxn_io.specs.FaultLaws.{counted-same, counted-then, ledger-same, ledger-then}
 use Rattle.uxn_io.specs.Outside.{Change, ToOut, ToErr, Creates, ToFile, Removes, World, changed, changed_files, changed_by, files_by}
-use Rattle.uxn_io.specs.ChangeLaws.{changed_by-append, changed_by-out, changed_by-err, cut-first, cut-later, cut-out, cut-err, files-told, extended-nothing, extended-extended}
-use Rattle.uxn_io.specs.Room.{Room, Leaves}
+use Rattle.uxn_io.specs.ChangeLaws.{changed_by-append, changed_by-out, changed_by-err, cut-first, cut-later, cut-out}
+use Rattle.uxn_io.specs.ChangeLaws.{cut-err, files-told, extended-nothing, extended-extended}
+use Rattle.uxn_io.specs.Faults.{Blame, Nobody}
+use Rattle.uxn_io.specs.Room.{Room}
 use Rattle.uxn_io.specs.State.{TreeState, SinkState, Outside, outside}
 use Rattle.uxn_io.specs.Taking.{TreeTakes, TreeLeft, Remains, WasNotSure, bytes_out, bytes_err, puts_out, puts_err, files_made, files_gone}
 use Rattle.uxn_io.specs.TakingLaws.{takes-first, takes-later, left-both, remains-all, remains-both, not-sure-first, not-sure-later}
 use Rattle.uxn_io.specs.Told.{extended}
-use Rattle.uxn_io.specs.Ended.{told_by, StandsAfter, Takes, IsLeft, TreeEnded, TreeLooked, HoldsAfter, SinkEnded, Done, CutShort, Ended, IsOfTree, AreOfTree, blame_of_tree, blame_of_sink, to_out, to_err}
+use Rattle.uxn_io.specs.Ended.{told_by, StandsAfter, Takes, IsLeft, TreeEnded, TreeLooked, HoldsAfter, SinkEnded}
+use Rattle.uxn_io.specs.Ended.{Done, CutShort, Ended, IsOfTree, AreOfTree, blame_of_tree, blame_of_sink, to_out, to_err}
 
 -- what is told after changes, and then more
 pub told_by-append : (told : Option Nodes) (first more : List Change) → told_by (first ++ more) told ≡ told_by more (told_by first told)
@@ -32,11 +36,6 @@ told_by-none (change ∷ changes) = told_by-none changes
 pub told_by-map : (told : Option Nodes) (changes : List Change) → told_by changes told ≡ option_map (λ nodes. files_by nodes changes) told
 told_by-map None changes = told_by-none changes
 told_by-map (Some nodes) changes = told_by-some nodes changes
-
--- counts, one call after the other
-counted-both : (a b c : ℕ) (failed : Bool) → Counted a b false → Counted b c failed → Counted a c failed
-counted-both a b c false p q = q ∙ p
-counted-both a b c true p q = subst (λ count. Rose count c) p q
 
 -- what is surely made of changes is made of their first part, and then, with what is left, the rest
 pub takes-front : (room : Room) (told : Option Nodes) (first more : List Change) → Takes room told (first ++ more) → Takes room told first
@@ -58,29 +57,57 @@ left-then a b c None first more p q =
 left-then a b c (Some nodes) first more p q =
     left-both a b c nodes first more p (subst (λ told. IsLeft b c told more) (told_by-some nodes first) q)
 
--- a tree that only was looked at tells what it told
-pub looked-same : (failed : Bool) (before now : TreeState) → TreeLooked failed before now → now.told ≡ before.told
-looked-same false before now looked = looked.stands
-looked-same true before now looked = looked.stands.told ∙ none looked.stands.made looked.stands.rest looked.stands.parts
-  where
-    none : (made rest : List Change) → [] ≡ made ++ rest → told_by made before.told ≡ before.told
-    none [] rest parts = refl
-    none (change ∷ made) rest parts = let no : [] ≡ change ∷ (made ++ rest) = parts in cc
-
 -- nothing was asked of it
-pub tree-as-it-was : (now : TreeState) → TreeLooked false now now
-tree-as-it-was now = record { stands = refl; counted = refl; blamed = λ is _. false≢true is; left = λ _ _. same now.told }
+pub looked-nothing : (now : TreeState) → TreeLooked false now now
+looked-nothing now = record {
+  told = refl;
+  counted = counted-same now.tally;
+  refusals = λ _. refl;
+  blamed = λ is. absurd (false≢true is);
+  left = λ _ _. (omega arith, omega arith);
+}
+
+-- it was looked at again
+pub looked-then : (failed : Bool) (a b c : TreeState) → TreeLooked false a b → TreeLooked failed b c → TreeLooked failed a c
+looked-then failed a b c p q = record {
+  told = q.told ∙ p.told;
+  counted = counted-then a.tally b.tally c.tally failed p.counted q.counted;
+  refusals = λ exact. q.refusals (p.counted.promise ∙ exact) ∙ p.refusals exact;
+  blamed = λ is some. let left = p.left refl some in q.blamed is (omega (arith, some, left.0));
+  left = λ is some.
+      let first = p.left refl some in
+      let rest = q.left is (omega (arith, some, first.0)) in
+      (omega (arith, first.0, rest.0), omega (arith, first.1, rest.1));
+}
+
+-- who was only looked at was to change nothing
+pub looked-ended : (failed : Bool) (before now : TreeState) → TreeLooked failed before now → TreeEnded [] failed before now
+looked-ended failed before now looked = record {
+  stands = stands failed;
+  counted = looked.counted;
+  blamed = λ is takes. looked.blamed is (some before.told takes);
+  left = λ is takes. still before.told (some before.told takes) (looked.left is (some before.told takes));
+}
   where
-    same : (told : Option Nodes) → IsLeft now.sure now.sure told []
-    same None = (omega arith, omega arith)
-    same (Some nodes) = record { files = omega arith; bytes = omega arith }
+    stands : (how : Bool) → StandsAfter [] how before.told now.told
+    stands false = looked.told
+    stands true = record { made = []; rest = []; parts = refl; told = looked.told }
+
+    some : (told : Option Nodes) → Takes before.sure told [] → 0 < before.sure.files
+    some None takes = takes.0
+    some (Some nodes) takes = let first = takes.files [] [] refl in omega (arith, first)
+
+    still : (told : Option Nodes) → 0 < before.sure.files → (before.sure.files ≤ now.sure.files) × (before.sure.bytes ≤ now.sure.bytes)
+        → IsLeft before.sure now.sure told []
+    still None is left = left
+    still (Some nodes) is left = record { files = omega (arith, left.0); bytes = left.1 }
 
 -- one call after another that did not fail
 pub tree-then : (first more : List Change) (failed : Bool) (a b c : TreeState) → TreeEnded first false a b → TreeEnded more failed b c
     → TreeEnded (first ++ more) failed a c
 tree-then first more failed a b c p q = record {
   stands = stands failed q.stands;
-  counted = counted-both a.faults b.faults c.faults failed p.counted q.counted;
+  counted = counted-then a.tally b.tally c.tally failed p.counted q.counted;
   blamed = λ is takes. q.blamed is (rest takes);
   left = λ is takes.
       left-then a.sure b.sure c.sure a.told first more (begun takes)
@@ -116,11 +143,16 @@ tree-first first more a b p = record {
   left = λ is _. absurd (true≢false is);
 }
 
+-- the same changes after it was looked at
+pub looked-tree : (changes : List Change) (failed : Bool) (a b c : TreeState) → TreeLooked false a b → TreeEnded changes failed b c
+    → TreeEnded changes failed a c
+looked-tree changes failed a b c p q = tree-then [] changes failed a b c (looked-ended false a b p) q
+
 -- the same of a sink
 pub sink-as-it-was : (now : SinkState) → SinkEnded [] false now now
 sink-as-it-was now = record {
   holds = sym (extended-nothing now.told);
-  counted = refl;
+  counted = counted-same now.tally;
   blamed = λ is _. false≢true is;
   left = λ _. omega arith;
 }
@@ -129,7 +161,7 @@ pub sink-then : (first more : List ℕ) (failed : Bool) (a b c : SinkState) → 
     → SinkEnded (first ++ more) failed a c
 sink-then first more failed a b c p q = record {
   holds = holds failed q.holds;
-  counted = counted-both a.faults b.faults c.faults failed p.counted q.counted;
+  counted = counted-then a.tally b.tally c.tally failed p.counted q.counted;
   blamed = λ is sure. q.blamed is (omega (arith, sure, p.left refl, length-append first more));
   left = λ is. omega (arith, p.left refl, q.left is, length-append first more);
 }
@@ -145,14 +177,14 @@ sink-then first more failed a b c p q = record {
 
 -- nothing was done outside
 pub done-nothing : (now : Outside) → Done [] now now
-done-nothing now = record { world = refl; ledger = refl; remains = remains-all now.sure now.world.files }
+done-nothing now = record { world = refl; ledger = ledger-same now.faults; remains = remains-all now.sure now.world.files }
 
 -- changes were made, and then others, or a front of them
 pub ended-then : (first more : List Change) (stop : Option Blame) (a b c : Outside) → Done first a b → Ended more stop b c
     → Ended (first ++ more) stop a c
 ended-then first more None a b c p q = record {
   world = q.world ∙ ap (λ world. changed_by world more) p.world ∙ sym (changed_by-append a.world first more);
-  ledger = q.ledger ∙ p.ledger;
+  ledger = ledger-then a.faults b.faults c.faults Nobody p.ledger q.ledger;
   remains = remains-both a.sure b.sure c.sure a.world.files first more p.remains (subst (λ told. Remains b.sure c.sure told more) told q.remains);
 }
   where
@@ -160,8 +192,9 @@ ended-then first more None a b c p q = record {
     told = ap (λ world. world.files) p.world ∙ files-told a.world first
 ended-then first more (Some blame) a b c p q = record {
   cut = cut-later a.world b.world c.world first more p.world q.cut;
-  ledger = subst (λ before. Ledger before c.faults blame) p.ledger q.ledger;
-  not_sure = not-sure-later blame a.sure b.sure a.world.files first more p.remains (subst (λ told. WasNotSure blame b.sure told more) told q.not_sure);
+  ledger = ledger-then a.faults b.faults c.faults blame p.ledger q.ledger;
+  not_sure = not-sure-later blame a.sure b.sure a.world.files first more p.remains
+      (subst (λ told. WasNotSure blame b.sure told more) told q.not_sure);
 }
   where
     told : b.world.files ≡ option_map (λ nodes. files_by nodes first) a.world.files
@@ -191,20 +224,6 @@ changed_by-files world (change ∷ changes) of =
     changed_by-files (changed world change) changes of.1
     ∙ ap (λ (w : World). record w { files = told_by changes w.files }) (changed-files world change of.0)
 
-put-out-nothing : (change : Change) → IsOfTree change → puts_out change ≡ 0
-put-out-nothing (ToOut byte) of = elim of [ ]
-put-out-nothing (ToErr byte) of = elim of [ ]
-put-out-nothing (Creates path) of = refl
-put-out-nothing (ToFile path byte) of = refl
-put-out-nothing (Removes path) of = refl
-
-put-err-nothing : (change : Change) → IsOfTree change → puts_err change ≡ 0
-put-err-nothing (ToOut byte) of = elim of [ ]
-put-err-nothing (ToErr byte) of = elim of [ ]
-put-err-nothing (Creates path) of = refl
-put-err-nothing (ToFile path byte) of = refl
-put-err-nothing (Removes path) of = refl
-
 of-tree-front : (made rest : List Change) → AreOfTree (made ++ rest) → AreOfTree made
 of-tree-front [] rest of = tt
 of-tree-front (change ∷ made) rest of = (of.0, of-tree-front made rest of.1)
@@ -214,7 +233,7 @@ pub outside-of-tree : (changes : List Change) (failed : Bool) (before now : Tree
     → TreeEnded changes failed before now → Ended changes (blame_of_tree failed) (outside before out err) (outside now out err)
 outside-of-tree changes false before now out err of p = record {
   world = ap (λ told. record { out = out.told; err = err.told; files = told }) p.stands ∙ sym (changed_by-files _ changes of);
-  ledger = ap (λ faults. record { tree = faults; out = out.faults; err = err.faults }) p.counted;
+  ledger = record { tree = p.counted; out = counted-same out.tally; err = counted-same err.tally };
   remains = record { tree = left before.told (p.left refl); out = omega arith; err = omega arith };
 }
   where
@@ -230,11 +249,12 @@ outside-of-tree changes true before now out err of p = record {
     left = ap (λ told. record { out = out.told; err = err.told; files = told }) p.stands.told
         ∙ sym (changed_by-files _ p.stands.made (of-tree-front p.stands.made p.stands.rest (subst AreOfTree p.stands.parts of)));
   };
-  ledger = record { tree = p.counted; out = refl; err = refl };
+  ledger = record { tree = p.counted; out = counted-same out.tally; err = counted-same err.tally };
   not_sure = blamed before.told (p.blamed refl);
 }
   where
-    blamed : (told : Option Nodes) → (Takes before.sure told changes → ⊥) → IfSome told (λ nodes. TreeTakes before.sure nodes changes → ⊥)
+    blamed : (told : Option Nodes) → (Takes before.sure told changes → ⊥)
+        → IfSome told (λ nodes. TreeTakes before.sure nodes changes → ⊥)
     blamed None is = tt
     blamed (Some nodes) is = is
 
@@ -259,7 +279,7 @@ pub outside-of-out : (bytes : List ℕ) (failed : Bool) (files : TreeState) (bef
     → SinkEnded bytes failed before now → Ended (to_out bytes) (blame_of_sink failed) (outside files before err) (outside files now err)
 outside-of-out bytes false files before now err p = record {
   world = ap (λ told. record { out = told; err = err.told; files = files.told }) p.holds ∙ sym (changed_by-out _ bytes);
-  ledger = ap (λ faults. record { tree = files.faults; out = faults; err = err.faults }) p.counted;
+  ledger = record { tree = counted-same files.tally; out = p.counted; err = counted-same err.tally };
   remains = record {
     tree = same files.told;
     out = omega (arith, p.left refl, (to_out-counts bytes).0);
@@ -267,12 +287,13 @@ outside-of-out bytes false files before now err p = record {
   };
 }
   where
-    same : (told : Option Nodes) → IfSome told (λ nodes. TreeTakes files.sure nodes (to_out bytes) → TreeLeft files.sure files.sure nodes (to_out bytes))
+    same : (told : Option Nodes)
+        → IfSome told (λ nodes. TreeTakes files.sure nodes (to_out bytes) → TreeLeft files.sure files.sure nodes (to_out bytes))
     same None = tt
     same (Some nodes) = λ _. let none = to_out-files nodes bytes in record { files = omega (arith, none.0, none.1); bytes = omega arith }
 outside-of-out bytes true files before now err p = record {
   cut = cut-out _ now.told bytes p.holds;
-  ledger = inl (record { tree = refl; out = p.counted; err = refl });
+  ledger = inl (record { tree = counted-same files.tally; out = p.counted; err = counted-same err.tally });
   not_sure = λ out _. p.blamed refl
       (let some = p.holds.within in omega (arith, (to_out-counts bytes).0, out (omega (arith, some, (to_out-counts bytes).0))));
 }
@@ -281,7 +302,7 @@ pub outside-of-err : (bytes : List ℕ) (failed : Bool) (files : TreeState) (out
     → SinkEnded bytes failed before now → Ended (to_err bytes) (blame_of_sink failed) (outside files out before) (outside files out now)
 outside-of-err bytes false files out before now p = record {
   world = ap (λ told. record { out = out.told; err = told; files = files.told }) p.holds ∙ sym (changed_by-err _ bytes);
-  ledger = ap (λ faults. record { tree = files.faults; out = out.faults; err = faults }) p.counted;
+  ledger = record { tree = counted-same files.tally; out = counted-same out.tally; err = p.counted };
   remains = record {
     tree = same files.told;
     out = omega arith;
@@ -289,34 +310,13 @@ outside-of-err bytes false files out before now p = record {
   };
 }
   where
-    same : (told : Option Nodes) → IfSome told (λ nodes. TreeTakes files.sure nodes (to_err bytes) → TreeLeft files.sure files.sure nodes (to_err bytes))
+    same : (told : Option Nodes)
+        → IfSome told (λ nodes. TreeTakes files.sure nodes (to_err bytes) → TreeLeft files.sure files.sure nodes (to_err bytes))
     same None = tt
     same (Some nodes) = λ _. let none = to_err-files nodes bytes in record { files = omega (arith, none.0, none.1); bytes = omega arith }
 outside-of-err bytes true files out before now p = record {
   cut = cut-err _ now.told bytes p.holds;
-  ledger = inr (record { tree = refl; out = refl; err = p.counted });
+  ledger = inr (record { tree = counted-same files.tally; out = counted-same out.tally; err = p.counted });
   not_sure = λ _ err. p.blamed refl
       (let some = p.holds.within in omega (arith, (to_err-counts bytes).1, err (omega (arith, some, (to_err-counts bytes).1))));
 }
-
--- a call of a tree that only looks, by what each such call promises
-pub looked-by : (failed : Bool) (before now : TreeState) → now.told ≡ before.told → Counted before.faults now.faults failed
-    → (0 < before.sure.files → failed ≡ false) → (failed ≡ false → Leaves before.sure now.sure 0 0) → TreeLooked failed before now
-looked-by failed before now same counted asked left = record {
-  stands = stands failed;
-  counted = counted;
-  blamed = λ is takes. true≢false (sym is ∙ asked (some before.told takes));
-  left = λ is takes. still before.told (some before.told takes) (left is);
-}
-  where
-    stands : (how : Bool) → StandsAfter [] how before.told now.told
-    stands false = same
-    stands true = record { made = []; rest = []; parts = refl; told = same }
-
-    some : (told : Option Nodes) → Takes before.sure told [] → 0 < before.sure.files
-    some None takes = takes.0
-    some (Some nodes) takes = let first = takes.files [] [] refl in omega (arith, first)
-
-    still : (told : Option Nodes) → 0 < before.sure.files → Leaves before.sure now.sure 0 0 → IsLeft before.sure now.sure told []
-    still None is leaves = (omega (arith, leaves.files is), omega (arith, leaves.bytes is))
-    still (Some nodes) is leaves = record { files = omega (arith, leaves.files is); bytes = omega (arith, leaves.bytes is) }

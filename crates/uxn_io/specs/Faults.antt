@@ -1,23 +1,35 @@
 -- How faults are counted, and who is to blame for how a call ended (profile).
-use Rattle.std.specs.Prelude.{◌≡◌, ℕ, ◌+◌, ◌-◌, ◌^◌, ◌≤◌, ◌⊎◌, min, Bool, true, false}
+use Rattle.std.specs.Prelude.{◌≡◌, ℕ, ◌+◌, ◌-◌, ◌^◌, ◌≤◌, ◌⊎◌, min, Bool, true, false, if◌then◌else◌}
+
+-- one more, up to the last value of a count
+abbrev pub one_more : ℕ → ℕ
+one_more n = min (n + 1) (2 ^ 64 - 1)
 
 -- a count of faults rose, or stood at its last value, which counts as risen
 pub record Rose (before now : ℕ) : Type 0 where
   pub later : before ≤ now
-  pub risen : min (before + 1) (2 ^ 64 - 1) ≤ now
+  pub risen : one_more before ≤ now
 
--- over a call of one object: its count rose where the call failed, and is else as it was
-abbrev pub Counted : ℕ → ℕ → Bool → Type 0
-Counted before now false = now ≡ before
-Counted before now true = Rose before now
+-- what an object counts: its faults; and whether it promises to be exact, so that it counts one for each call that failed, and
+-- none for another
+pub record Tally : Type 0 where
+  pub faults : ℕ
+  pub exact : Bool
 
--- the counts of faults of the tree, of the standard output and of the error output
+-- over a call of one object: its count does not fall, and rose where the call failed; by exactly one, and else not, where it is exact
+pub record Counted (before now : Tally) (failed : Bool) : Type 0 where
+  pub later : before.faults ≤ now.faults
+  pub rose : failed ≡ true → Rose before.faults now.faults
+  pub once : before.exact ≡ true → now.faults ≡ (if failed then one_more before.faults else before.faults)
+  pub promise : now.exact ≡ before.exact
+
+-- what the tree, the standard output and the error output count
 pub record Counts : Type 0 where
-  pub tree : ℕ
-  pub out : ℕ
-  pub err : ℕ
+  pub tree : Tally
+  pub out : Tally
+  pub err : Tally
 
-abbrev pub counts : ℕ → ℕ → ℕ → Counts
+abbrev pub counts : Tally → Tally → Tally → Counts
 counts tree out err = record { tree = tree; out = out; err = err }
 
 -- who is to blame for how a call ended: nobody where it answered, or memory was wanting
@@ -26,24 +38,14 @@ pub data Blame : Type 0 where
   TheTree : Blame
   ASink : Blame
 
--- the count of one object rose, and the other two are as they were
-pub record TreeRose (before now : Counts) : Type 0 where
-  pub tree : Rose before.tree now.tree
-  pub out : now.out ≡ before.out
-  pub err : now.err ≡ before.err
+-- over a call of all three: which of them failed
+pub record AllCounted (before now : Counts) (tree_failed out_failed err_failed : Bool) : Type 0 where
+  pub tree : Counted before.tree now.tree tree_failed
+  pub out : Counted before.out now.out out_failed
+  pub err : Counted before.err now.err err_failed
 
-pub record OutRose (before now : Counts) : Type 0 where
-  pub tree : now.tree ≡ before.tree
-  pub out : Rose before.out now.out
-  pub err : now.err ≡ before.err
-
-pub record ErrRose (before now : Counts) : Type 0 where
-  pub tree : now.tree ≡ before.tree
-  pub out : now.out ≡ before.out
-  pub err : Rose before.err now.err
-
--- over a call that ended so: the count of the object to blame rose, and all else is as it was
+-- over a call that ended so: the object to blame failed, and no other did
 abbrev pub Ledger : Counts → Counts → Blame → Type 0
-Ledger before now Nobody = now ≡ before
-Ledger before now TheTree = TreeRose before now
-Ledger before now ASink = OutRose before now ⊎ ErrRose before now
+Ledger before now Nobody = AllCounted before now false false false
+Ledger before now TheTree = AllCounted before now true false false
+Ledger before now ASink = AllCounted before now false true false ⊎ AllCounted before now false false true

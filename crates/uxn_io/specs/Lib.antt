@@ -1,4 +1,5 @@
 pub mod Faults
+pub mod FaultLaws
 pub mod Told
 pub mod PathText
 pub mod PathBytes
@@ -20,5 +21,8 @@ pub mod Taking
 pub mod State
 pub mod Ended
 pub mod EndedLaws
+pub mod CallLaws
+pub mod Untold
+pub mod UntoldLaws
 pub mod TakingLaws
 pub mod Nothing

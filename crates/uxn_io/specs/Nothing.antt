@@ -1,26 +1,14 @@
--- What an outside that is not there tells, counts and takes (profile).
-use Rattle.std.specs.Prelude.{ℕ, ◌^◌, List, Option, None}
-use Rattle.uxn_io.specs.Files.{Nodes}
-use Rattle.uxn_io.specs.Room.{Room}
+-- What an outside that is not there tells and counts: nothing (profile).
+use Rattle.std.specs.Prelude.{false, None}
+use Rattle.uxn_io.specs.Room.{no_promise}
+use Rattle.uxn_io.specs.State.{TreeState, SinkState}
 use Rattle.uxn_io.specs.declared.nothing.NoSink.{NoSink}
 use Rattle.uxn_io.specs.declared.nothing.NoTree.{NoTree}
 
--- a sink that keeps nothing tells nothing, counts no fault, and takes every piece: none is so long
-abbrev pub told_by_no_sink : NoSink → Option (List ℕ)
-told_by_no_sink sink = None
+-- a sink that keeps nothing
+abbrev pub state_of_no_sink : NoSink → SinkState
+state_of_no_sink sink = record { told = None; tally = record { faults = 0; exact = false }; sure = 0 }
 
-abbrev pub faults_of_no_sink : NoSink → ℕ
-faults_of_no_sink sink = 0
-
-abbrev pub sure_of_no_sink : NoSink → ℕ
-sure_of_no_sink sink = 2 ^ 64
-
--- the same of a tree in which nothing is ever there
-abbrev pub told_by_no_tree : NoTree → Option Nodes
-told_by_no_tree tree = None
-
-abbrev pub faults_of_no_tree : NoTree → ℕ
-faults_of_no_tree tree = 0
-
-abbrev pub sure_of_no_tree : NoTree → Room
-sure_of_no_tree tree = record { files = 2 ^ 64; bytes = 2 ^ 64 }
+-- a tree in which nothing is ever there
+abbrev pub state_of_no_tree : NoTree → TreeState
+state_of_no_tree tree = record { told = None; tally = record { faults = 0; exact = false }; refusals = 0; sure = no_promise }

@@ -1,8 +1,8 @@
 -- A bus over nothing outside: what it stands for, and what an instruction over it leaves.
-use Rattle.std.proofs.Common.{◌≡◌, refl, ap, ◌∙◌, arith}
+use Rattle.std.proofs.Common.{◌≡◌, refl, ap, ◌∙◌, inl, inr, arith}
 use Rattle.std.specs.Prelude.{None, Ok, Err}
 use Rattle.uxn_io.specs.Faults.{Ledger}
-use Rattle.uxn_io.specs.Nothing.{told_by_no_sink, faults_of_no_sink, sure_of_no_sink, told_by_no_tree, faults_of_no_tree, sure_of_no_tree}
+use Rattle.uxn_io.specs.Nothing.{state_of_no_sink, state_of_no_tree}
 use Rattle.uxn_io.specs.declared.nothing.NoSink.{NoSink}
 use Rattle.uxn_io.specs.declared.nothing.NoTree.{NoTree}
 use Rattle.uxn_opcodes.specs.declared.Core.{Core}
@@ -14,24 +14,21 @@ use Rattle.uxn_opcodes.specs.Instruction.{Instruction}
 use Rattle.varvara_bus.specs.declared.bus.Bus.{Bus}
 use Rattle.varvara_bus.specs.declared.devices.Devices.{Devices}
 use Rattle.varvara_bus.specs.State.{DeviceState}
-use Rattle.varvara_bus.specs.Bus.{BusStandsFor, Meaning, meaning_of, bus_rules, bus_faults}
+use Rattle.varvara_bus.specs.Bus.{BusStandsFor, told_on, Meaning, meaning_of, bus_rules, bus_faults}
 use Rattle.varvara_bus.specs.Model.{instruction_effect}
 use Rattle.varvara_bus.specs.InstructionLaws.{instruction-done, instruction-fault}
 use Rattle.uxn_line.specs.Machines.{Rests, HasDone}
 
 -- what nothing tells, and what it takes
 abbrev pub nothing : Meaning NoTree NoSink NoSink
-nothing =
-    meaning_of (record { told = told_by_no_tree; faults = faults_of_no_tree; sure = sure_of_no_tree })
-    (record { told = told_by_no_sink; faults = faults_of_no_sink; sure = sure_of_no_sink })
-    (record { told = told_by_no_sink; faults = faults_of_no_sink; sure = sure_of_no_sink })
+nothing = meaning_of (record { state = state_of_no_tree }) (record { state = state_of_no_sink }) (record { state = state_of_no_sink })
 
 pub stands-alone : (bus : Bus NoTree NoSink NoSink) (held : Devices) (state : DeviceState) → bus.devices.now ≡ held → Rests held state
-    → BusStandsFor told_by_no_tree bus state
+    → BusStandsFor (told_on nothing.tree) bus state
 stands-alone bus held state same rests = record { devices = rw same rests.devices; files = rests.alone }
 
 pub rests-still : (bus : Bus NoTree NoSink NoSink) (held : Devices) (state : DeviceState) → held ≡ bus.devices.now
-    → BusStandsFor told_by_no_tree bus state → Rests held state
+    → BusStandsFor (told_on nothing.tree) bus state → Rests held state
 rests-still bus held state same stands = record { devices = rw same stands.devices; alone = stands.files }
 
 pub instruction-alone : (core core_new : Core) (before now : Bus NoTree NoSink NoSink) (turn : Turn) (held final : Devices)
@@ -45,8 +42,9 @@ instruction-alone core core_new before now turn held final same last ran state r
 never-stops : (core core_new : Core) (before now : Bus NoTree NoSink NoSink) (stop : Stop) (held : Devices)
     → before.devices.now ≡ held → held.root ≡ None → Instruction (bus_rules nothing) core before (Err stop) core_new now
     → Ledger (bus_faults nothing before) (bus_faults nothing now) (blame_of {T = Turn} (Err stop)) → ⊥
-never-stops core core_new before now TreeFault held same alone stopped ledger = let l = ledger in omega (arith, l)
-never-stops core core_new before now SinkFault held same alone stopped ledger = let l = ledger in omega (arith, l)
+never-stops core core_new before now TreeFault held same alone stopped ledger = let l = ledger.tree.rose refl in omega (arith, l.risen)
+never-stops core core_new before now SinkFault held same alone stopped (inl ledger) = let l = ledger.out.rose refl in omega (arith, l.risen)
+never-stops core core_new before now SinkFault held same alone stopped (inr ledger) = let l = ledger.err.rose refl in omega (arith, l.risen)
 never-stops core core_new before now NoMemory held same alone stopped ledger =
     let has = instruction-fault nothing core core_new before now NoMemory stopped refl in
     let none : before.devices.now.root ≡ None = ap (λ (d : Devices). d.root) same ∙ alone in

@@ -1,4 +1,3 @@
-pub mod Stepping
 pub mod Turning
 pub mod Alone
 pub mod MachineTurns

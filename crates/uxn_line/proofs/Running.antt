@@ -68,9 +68,6 @@ module _ (member now : Member) (items : List ℕ) (ring : KeepsRing member now i
 pub running-goes : (member : Member) (place : Place) → MemberAt member place → 0 < member.machine.left → HasEnded place → ⊥
 running-goes member place at some ended = let l = at.stands.left in omega (arith, l, some, ended.0)
 
-same-turns : (job : Job) (turned : Turned) (machine other : ℕ) → other ≢ machine → one_more machine turned other ≡ turned other
-same-turns job turned machine other apart = more-apart machine turned other apart
-
 run-ring : (job : Job) (turned : Turned) (machine : ℕ) (member now : Member) → RanFrom member now → InLine job turned machine member
     → MemberAt now (place_in job (one_more machine turned) machine) → RingBefore job (one_more machine turned) machine now.ring.items
 run-ring job turned zero member now ran inline at = empty-stays member now member.ring.items ran.ran.ring inline.ring

@@ -1,5 +1,6 @@
 -- What a machine in a line stands for, with what was handed to it (profile).
-use Rattle.std.specs.Prelude.{◌≡◌, ◌↔◌, ℕ, ◌==◌, ◌&&◌, ◌||◌, ◌<◌, Bool, true, false, List, [], ◌∷◌, Some, slice_get}
+use Rattle.std.specs.Prelude.{◌≡◌, ◌↔◌, ℕ, ◌==◌, ◌&&◌, ◌||◌, ◌<◌, Bool, true, false, List, []}
+use Rattle.std.specs.Prelude.{◌∷◌, Some, slice_get}
 use Rattle.play_script.specs.declared.script.Event.TheVariants.{Input, EndInput}
 use Rattle.vector_loop.specs.State.{is_over}
 use Rattle.uxn_line.specs.declared.member.Member.{Member}

@@ -1,5 +1,6 @@
 -- For which numbers of turns a line of machines stands (profile).
-use Rattle.std.specs.Prelude.{◌≡◌, ℕ, zero, suc, ◌==◌, ◌-◌, ◌≤◌, if◌then◌else◌, List, [], ◌++◌, length, take, slice_get, Some}
+use Rattle.std.specs.Prelude.{◌≡◌, ℕ, zero, suc, ◌==◌, ◌-◌, ◌≤◌, if◌then◌else◌, List, []}
+use Rattle.std.specs.Prelude.{◌++◌, length, take, slice_get, Some}
 use Rattle.play_script.specs.Held.{bytes_in}
 use Rattle.play_script.specs.Scripts.{ScriptView}
 use Rattle.uxn_io.specs.ByteList.{ByteList}

@@ -1,7 +1,7 @@
 //! A line to its end.
 ghost use Rattle.std.specs.Prelude.{◌≡◌, ◌<◌, ℕ, false, IfOk, OnErr, is_err, length};
 ghost use Rattle.uxn_io.specs.Ended.{SinkEnded};
-ghost use Rattle.uxn_io.specs.State.{SinkState, sink_state};
+ghost use Rattle.uxn_io.specs.State.{SinkState};
 ghost use Rattle.uxn_line.specs.Streams.{Job, exit_code_at, run_at, stream};
 ghost use Rattle.uxn_line.specs.Standing.{Turned, Stands, place_in};
 ghost use Rattle.uxn_line.specs.Work.{WorksOn};
@@ -17,14 +17,14 @@ impl<'a> Line<'a> {
     /// Errors where `out` does not take a byte that the last machine writes.
     pub fn finish<O: Sink>(&mut self, out: &mut O) -> Result<u8, Failed>
         // For all numbers of turns for which the line stood it is brought to the end of all runs, or stopped before a byte of the last.
-        ensures finishes { IfOk result (Finishes self.old self.new (sink_state O.Sink out.old) (sink_state O.Sink out.new)) }
-        ensures stops { OnErr result (Stops self.old self.new (sink_state O.Sink out.old) (sink_state O.Sink out.new)) }
+        ensures finishes { IfOk result (Finishes self.old self.new (O.state out.old) (O.state out.new)) }
+        ensures stops { OnErr result (Stops self.old self.new (O.state out.old) (O.state out.new)) }
 
         // Of a line that was begun over `out`: all of the stream of its last machine is put, or a front of it that is not whole
         // where `out` fails; and an `out` that surely takes that stream does not fail.
-        ensures put { (job : Job) (begun : SinkState) → IsUnderWay job begun self.old (sink_state O.Sink out.old)
-            → SinkEnded (stream job (last_of job)) (is_err result) begun (sink_state O.Sink out.new) }
-        ensures code { IfOk result (λ code. (job : Job) (begun : SinkState) → IsUnderWay job begun self.old (sink_state O.Sink out.old)
+        ensures put { (job : Job) (begun : SinkState) → IsUnderWay job begun self.old (O.state out.old)
+            → SinkEnded (stream job (last_of job)) (is_err result) begun (O.state out.new) }
+        ensures code { IfOk result (λ code. (job : Job) (begun : SinkState) → IsUnderWay job begun self.old (O.state out.old)
             → code ≡ exit_code_at (run_at job (last_of job)).last) }
     {
         'rounds: while self.round(out)? {}
@@ -33,7 +33,7 @@ impl<'a> Line<'a> {
 
     // Gives each machine turns as long as it moves, one machine after the other. Whether one moved.
     fn round<O: Sink>(&mut self, out: &mut O) -> Result<bool, Failed>
-        ensures went { Went self.old self.new (sink_state O.Sink out.old) (sink_state O.Sink out.new) result }
+        ensures went { Went self.old self.new (O.state out.old) (O.state out.new) result }
         ensures works { IfOk result (λ moved. WorksOn moved self.old self.new) }
         ensures still { IfOk result (λ moved. moved ≡ false → (machine : ℕ) → machine < length self.old.members.items → IsStill self.old machine) }
     {
@@ -47,7 +47,7 @@ impl<'a> Line<'a> {
     // Gives a machine turns as long as it moves. Whether it moved.
     fn go_on<O: Sink>(&mut self, index: usize, out: &mut O) -> Result<bool, Failed>
         requires { index < length self.old.members.items }
-        ensures went { Went self.old self.new (sink_state O.Sink out.old) (sink_state O.Sink out.new) result }
+        ensures went { Went self.old self.new (O.state out.old) (O.state out.new) result }
         ensures works { IfOk result (λ moved. WorksOn moved self.old self.new) }
         ensures still { IfOk result (λ moved. moved ≡ false → IsStill self.old index) }
         ensures machines { length self.new.members.items ≡ length self.old.members.items }

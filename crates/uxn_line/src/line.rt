@@ -1,7 +1,7 @@
 //! A line of machines, and its turns.
 ghost use Rattle.std.specs.Prelude.{◌≡◌, ◌↔◌, ◌-◌, ◌+◌, ◌<◌, ◌≤◌, ◌∷◌, [], ℕ, suc, true, false, Ok, IfOk, OnOk, OnErr, IsOk, is_err, length, slice_get, Some};
 ghost use Rattle.std.specs.List.{All};
-ghost use Rattle.uxn_io.specs.State.{SinkState, sink_state};
+ghost use Rattle.uxn_io.specs.State.{SinkState};
 ghost use Rattle.uxn_memory.specs.Bytes.{largest_rom};
 ghost use Rattle.vector_loop.specs.Places.{HasEnded};
 ghost use Rattle.vector_loop.specs.Gifts.{gifts_of};
@@ -19,7 +19,7 @@ use uxn_io::{Bytes, Failed, NoSink, Sink};
 use vector_loop::Giver;
 
 /// What a turn came to.
-#[derive(Clone, Copy, Debug, PartialEq, Eq)]
+#[derive(Clone, Copy, PartialEq, Eq)]
 pub enum Moved {
     /// The machine ran one instruction.
     Ran,
@@ -102,7 +102,7 @@ impl<'a> Line<'a> {
         // For all numbers of turns for which the line stood it stands for the same ones, but one more of the machine where it moved,
         // and what the last machine has written more was put.
         ensures goes { IfOk result (λ moved. Goes (turned_by moved (machine - 1)) self.old self.new
-            (sink_state O.Sink out.old) (sink_state O.Sink out.new)) }
+            (O.state out.old) (O.state out.new)) }
 
         // Each answer comes exactly where its cause holds; the first two also depend on what `out` takes.
         ensures ran { (job : Job) (turned : Turned) → Stands job self.old turned → result ≡ Ok Moved.Ran
@@ -118,14 +118,14 @@ impl<'a> Line<'a> {
 
         // A failure comes only where the last machine is in a vector, and its next instruction writes a byte to port 18 that `out`
         // does not take; then nothing is changed, nor is it by the other three answers.
-        ensures failed { OnErr result (Fails (machine - 1) self.old self.new (sink_state O.Sink out.old) (sink_state O.Sink out.new)) }
+        ensures failed { OnErr result (Fails (machine - 1) self.old self.new (O.state out.old) (O.state out.new)) }
         ensures same { IfOk result (λ moved. is_move moved ≡ false → self.new ≡ self.old) }
         ensures machines { length self.new.members.items ≡ length self.old.members.items }
 
         // Of a line that was begun over `out`: what is put is a front of the stream of its last machine, which is not whole where
         // `out` fails, and an `out` that surely takes that stream does not fail.
-        ensures under_way { (job : Job) (begun : SinkState) → IsUnderWay job begun self.old (sink_state O.Sink out.old)
-            → StaysUnderWay job begun self.new (sink_state O.Sink out.new) (is_err result) }
+        ensures under_way { (job : Job) (begun : SinkState) → IsUnderWay job begun self.old (O.state out.old)
+            → StaysUnderWay job begun self.new (O.state out.new) (is_err result) }
     {
         self.turn_at(usize::from(machine) - 1, out)
     }
@@ -133,7 +133,7 @@ impl<'a> Line<'a> {
     // The same, counted from 0.
     pub(crate) fn turn_at<O: Sink>(&mut self, index: usize, out: &mut O) -> Result<Moved, Failed>
         requires { index < length self.old.members.items }
-        ensures { TurnCame index self.old self.new (sink_state O.Sink out.old) (sink_state O.Sink out.new) result }
+        ensures { TurnCame index self.old self.new (O.state out.old) (O.state out.new) result }
     {
         let member = &self.members[index];
         if member.is_over() {
@@ -160,7 +160,7 @@ impl<'a> Line<'a> {
     // Runs an instruction that writes a byte to port 18. The byte is handed on first, so where it is not taken nothing is changed.
     fn write_at<O: Sink>(&mut self, index: usize, byte: u8, out: &mut O) -> Result<Moved, Failed>
         requires { IsRunning (byte ∷ []) self.old index }
-        ensures { TurnCame index self.old self.new (sink_state O.Sink out.old) (sink_state O.Sink out.new) result }
+        ensures { TurnCame index self.old self.new (O.state out.old) (O.state out.new) result }
     {
         if index + 1 == self.members.len() {
             console_write(out, &mut NoSink, Output::Standard, byte)?;

@@ -58,7 +58,7 @@ pub struct Core {
 }
 
 /// Why a write to a port stopped.
-#[derive(Clone, Copy, Debug, PartialEq, Eq)]
+#[derive(Clone, Copy, PartialEq, Eq)]
 pub enum Stop {
     /// The tree of files counted a fault.
     TreeFault,
@@ -69,7 +69,7 @@ pub enum Stop {
 }
 
 /// What an instruction was.
-#[derive(Clone, Copy, Debug, PartialEq, Eq)]
+#[derive(Clone, Copy, PartialEq, Eq)]
 pub enum Turn {
     /// It ran, and the vector goes on.
     Ran,

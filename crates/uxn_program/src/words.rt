@@ -37,7 +37,7 @@ pub fn words_of<R: Env + AllocGlobal>(rt: &R) -> Result<Vec<String>, WordsStop> 
 /// The status where the words cannot be had: 138 where memory is wanting, 128 and its line where a word is
 /// not UTF-8, and 137 where that line cannot be put.
 pub fn refuse_words<E: Sink>(err: &mut E, stop: WordsStop) -> u8
-    ensures { Refuses stop (E.told err.old) (E.told err.new) (E.faults err.old) (E.faults err.new) result }
+    ensures { Refuses stop (E.state err.old) (E.state err.new) result }
 {
     match stop {
         WordsStop::NoMemory => 138,

@@ -1,6 +1,7 @@
 -- Which bytes of bank 0 the coming instruction may change (Uxntal opcode reference, Varvara device reference): a line for each
 -- operation that stores, and one for each port whose write changes memory.
-use Rattle.std.specs.Prelude.{ℕ, ◌+◌, ◌-◌, ◌*◌, ◌/◌, ◌%◌, min, ◌==◌, ◌&&◌, ◌||◌, nat_lt, if◌then◌else◌, List, slice_index}
+use Rattle.std.specs.Prelude.{ℕ, ◌+◌, ◌-◌, ◌*◌, ◌/◌, ◌%◌, min, ◌==◌, ◌&&◌, ◌||◌, nat_lt}
+use Rattle.std.specs.Prelude.{if◌then◌else◌, List, slice_index}
 use Rattle.std.specs.Prelude.{Option, Some}
 use Rattle.uxn_stacks.specs.Cells.{Cells}
 use Rattle.uxn_opcodes.specs.declared.Core.{Core}

@@ -1,5 +1,6 @@
 -- What the words of the command line mean (profile).
-use Rattle.std.specs.Prelude.{ℕ, List, [], ◌∷◌, codes, Option, Some, None, is_some, option_map, option_and_then, if◌then◌else◌, Result, Ok, Err}
+use Rattle.std.specs.Prelude.{ℕ, List, [], ◌∷◌, codes, Option, Some, None, is_some, option_map, option_and_then}
+use Rattle.std.specs.Prelude.{if◌then◌else◌, Result, Ok, Err}
 use Rattle.std.specs.Str.{bytes_eq}
 use Rattle.uxn_io.specs.declared.paths.PathFault.{PathFault}
 use Rattle.uxn_io.specs.ByteList.{tight}

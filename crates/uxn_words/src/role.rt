@@ -6,7 +6,7 @@ ghost use Rattle.option_table.specs.Words.{choice_in};
 use option_table::Choice;
 
 /// What a file is for that an option names.
-#[derive(Clone, Copy, Debug, PartialEq, Eq)]
+#[derive(Clone, Copy, PartialEq, Eq)]
 pub enum Role {
     /// The file for a ROM.
     Out,
@@ -76,7 +76,7 @@ impl Role {
 }
 
 /// What a command does with a file.
-#[derive(Clone, Copy, Debug, PartialEq, Eq)]
+#[derive(Clone, Copy, PartialEq, Eq)]
 pub enum Access {
     /// It reads it.
     Read,
@@ -101,7 +101,7 @@ impl Access {
 
 /// An option of a command that names a file: what the file is for, what the command does with it, and whether the option
 /// has to be given.
-#[derive(Clone, Copy, Debug)]
+#[derive(Clone, Copy)]
 pub struct FileOption(pub Role, pub Access, pub bool);
 
 impl FileOption {

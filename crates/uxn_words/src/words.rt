@@ -14,7 +14,7 @@ use std::alloc::{AllocError, Global};
 use uxn_io::{Bytes, Path};
 
 /// What the program is asked to do.
-#[derive(Clone, Copy, Debug, PartialEq, Eq)]
+#[derive(Clone, Copy, PartialEq, Eq)]
 pub enum Command {
     /// `play SRC` and the options of a run: runs a source, or a ROM file.
     Play,
@@ -33,7 +33,7 @@ pub enum Command {
 }
 
 /// Why words ask for nothing.
-#[derive(Debug, Drop)]
+#[derive(Drop)]
 pub enum WordFault {
     /// They are not legal.
     NotUnderstood,
@@ -42,7 +42,7 @@ pub enum WordFault {
 }
 
 /// Why words were not read.
-#[derive(Debug, Drop)]
+#[derive(Drop)]
 pub enum WordStop {
     /// They ask for nothing.
     Refused(WordFault),

@@ -1,17 +1,12 @@
 -- A sink in memory that grows (profile).
-use Rattle.std.specs.Prelude.{ℕ, List, Option, Some}
+use Rattle.std.specs.Prelude.{ℕ, true, List, Some}
+use Rattle.uxn_io.specs.State.{SinkState}
 
 -- what it has taken, and the faults that it has counted
 pub record Growing : Type 0 where
   pub taken : List ℕ
   pub faults : ℕ
 
-abbrev pub told_by : Growing → Option (List ℕ)
-told_by sink = Some sink.taken
-
-abbrev pub faults_of : Growing → ℕ
-faults_of sink = sink.faults
-
--- it promises nothing: each byte takes memory
-abbrev pub sure_of : Growing → ℕ
-sure_of sink = 0
+-- it tells what it has taken and counts exactly, and promises nothing: each byte takes memory
+abbrev pub state_of : Growing → SinkState
+state_of sink = record { told = Some sink.taken; tally = record { faults = sink.faults; exact = true }; sure = 0 }

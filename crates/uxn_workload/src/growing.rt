@@ -1,12 +1,13 @@
 //! A sink that keeps all that it takes.
 ghost use Rattle.std.specs.Prelude.{◌≡◌, []};
-ghost use Rattle.uxn_workload.specs.Growing.{told_by, faults_of, sure_of};
+ghost use Rattle.uxn_workload.specs.Growing.{state_of};
 
 use std::alloc::Global;
 use std::marker::Model;
 use uxn_io::{Failed, Sink};
 
-/// A sink in memory that grows: it keeps all that it takes. Its one fault is that memory is wanting.
+/// A sink in memory that grows: it keeps all that it takes. Its one fault is that memory is wanting,
+/// and it counts exactly the calls that fail so.
 #[derive(Drop)]
 pub struct GrowingSink {
     bytes: Vec<u8>,
@@ -41,11 +42,7 @@ impl GrowingSink {
 }
 
 impl Sink for GrowingSink {
-    ghost told = { told_by };
-
-    ghost faults = { faults_of };
-
-    ghost sure = { sure_of };
+    ghost state = { state_of };
 
     fn put(&mut self, piece: &[u8]) -> Result<usize, Failed> {
         match self.bytes.extend_from_slice(piece) {

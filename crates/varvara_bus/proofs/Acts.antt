@@ -5,9 +5,10 @@ use Rattle.std.specs.Borrow.{MutBor}
 use Rattle.std.proofs.lemmas.List.{append-nil}
 use Rattle.uxn_io.specs.declared.sinks.Failed.{Failed}
 use Rattle.uxn_io.specs.Files.{Nodes}
-use Rattle.uxn_io.specs.Faults.{Counted, Ledger, counts}
+use Rattle.uxn_io.specs.FaultLaws.{counted-same}
+use Rattle.uxn_io.specs.Faults.{Tally, Counted, Ledger, Nobody, TheTree, counts}
 use Rattle.uxn_io.specs.Outside.{Change, files_by}
-use Rattle.uxn_io.specs.State.{TreeState, SinkState, Outside, tree_state, sink_state, outside}
+use Rattle.uxn_io.specs.State.{TreeState, SinkState, Outside, outside}
 use Rattle.uxn_io.specs.Ended.{TreeEnded, Ended, AreOfTree, blame_of_sink}
 use Rattle.uxn_io.specs.EndedLaws.{outside-of-tree}
 use Rattle.uxn_io.specs.TakingLaws.{remains-all}
@@ -17,7 +18,6 @@ use Rattle.file_ports.specs.Device.{Suits}
 use Rattle.file_ports.specs.RootPart.{LieIn}
 use Rattle.file_ports.specs.Actions.{Outcome}
 use Rattle.file_ports.specs.ActLaws.{act-lies, of-tree}
-use Rattle.file_ports.specs.CallLaws.{counts-of-tree}
 use Rattle.uxn_opcodes.specs.declared.Core.{Core}
 use Rattle.uxn_opcodes.specs.declared.Stop.{Stop}
 use Rattle.uxn_opcodes.specs.declared.Stop.TheVariants.{TreeFault, SinkFault, NoMemory}
@@ -33,7 +33,7 @@ use Rattle.varvara_bus.specs.State.{DeviceState, StandFor, HasFiles, clock_of, s
 use Rattle.varvara_bus.specs.Effect.{action_of, asks_tree, no_effect, act, effect}
 use Rattle.varvara_bus.specs.FileActs.{file_base, file_in, file_action, file_outcome, file_acted}
 use Rattle.varvara_bus.specs.FileCalls.{stop_of, tree_failed, FileAnswers, FileEnded}
-use Rattle.varvara_bus.specs.Bus.{Meaning, AreCutShort, SameBus, Becomes, StandsTo, ComesTo, Keeps, Leaves, file_held, held, outside_on, Makes, Wrote, Stopped, Acted, ActEnds}
+use Rattle.varvara_bus.specs.Bus.{Meaning, AreCutShort, SameBus, Becomes, StandsTo, ComesTo, Keeps, Leaves, file_held, held, outside_on, Makes, Wrote, Stopped, Acted, ActEnds, told_on}
 use Rattle.varvara_bus.specs.InstructionLaws.{same-again, makes-both, stops-later}
 use Rattle.varvara_bus.proofs.FileCalls.{files-now}
 
@@ -49,16 +49,21 @@ sink-ledger changes (Err NoMemory) (Err failed) before now same sink ended = cc
 sink-ledger changes (Err SinkFault) (Err failed) before now same sink ended = ended.ledger
 
 -- and where a file device was to act
+tree-ledger : (failed : Bool) (a b out err : Tally) → Counted a b failed
+    → Ledger (counts a out err) (counts b out err) (if failed then TheTree else Nobody)
+tree-ledger false a b out err counted = record { tree = counted; out = counted-same out; err = counted-same err }
+tree-ledger true a b out err counted = record { tree = counted; out = counted-same out; err = counted-same err }
+
 no-sink : (cause : FileStop) → SinkFault ≡ stop_of cause → ⊥
 no-sink causes.TreeFault is = cc
 no-sink causes.NoMemory is = cc
 
 pub file-ledger : (number : FileNumber) (part : FileAct) (held held_now : Devices) (bytes memory : List ℕ) (told : Option Nodes)
-    (answer : Result (Unit {0}) Stop) (a b out err : ℕ) → Counted a b (tree_failed answer)
+    (answer : Result (Unit {0}) Stop) (a b out err : Tally) → Counted a b (tree_failed answer)
     → FileAnswers number part held bytes told answer held_now memory → Ledger (counts a out err) (counts b out err) (blame_of answer)
-file-ledger number part held held_now bytes memory told (Ok done) a b out err counted acted = counts-of-tree false a b out err counted
-file-ledger number part held held_now bytes memory told (Err TreeFault) a b out err counted stopped = counts-of-tree true a b out err counted
-file-ledger number part held held_now bytes memory told (Err NoMemory) a b out err counted stopped = counts-of-tree false a b out err counted
+file-ledger number part held held_now bytes memory told (Ok done) a b out err counted acted = tree-ledger false a b out err counted
+file-ledger number part held held_now bytes memory told (Err TreeFault) a b out err counted stopped = tree-ledger true a b out err counted
+file-ledger number part held held_now bytes memory told (Err NoMemory) a b out err counted stopped = tree-ledger false a b out err counted
 file-ledger number part held held_now bytes memory told (Err SinkFault) a b out err counted stopped = absurd (no-sink stopped.cause stopped.is)
 
 -- a byte stored leaves the file devices
@@ -71,7 +76,7 @@ module _ {T O E : Type 0} (meaning : Meaning T O E) where
   devices-same : (before : Bus T O E) (devices : MutBor Devices) → devices.ghost_name ≡ before.devices.ghost_name
       → devices.now.time.frames ≡ before.devices.now.time.frames → clock_of devices.now ≡ clock_of before.devices.now
       → devices.now.root ≡ before.devices.now.root
-      → SameBus meaning.tree.told before (record { devices = devices; tree = before.tree; out = before.out; err = before.err })
+      → SameBus (told_on meaning.tree) before (record { devices = devices; tree = before.tree; out = before.out; err = before.err })
   devices-same before devices lent frames clock root = record {
     lent = record { devices = lent; tree = refl; out = refl; err = refl };
     files = record { stays = λ path outside there. there };
@@ -82,13 +87,13 @@ module _ {T O E : Type 0} (meaning : Meaning T O E) where
 
   -- a byte was stored in the port, and nothing else was done
   pub record Stored (before now : Bus T O E) (port byte : ℕ) : Type 0 where
-    pub devices : Becomes meaning.tree.told (λ state. storing ((port, byte) ∷ []) state) before now
+    pub devices : Becomes (told_on meaning.tree) (λ state. storing ((port, byte) ∷ []) state) before now
     pub held : (other : ℕ) → held now other ≡ (if other == port then byte else held before other)
     pub files : (number : FileNumber) → file_held number now.devices.now ≡ file_held number before.devices.now
     pub tree : now.tree.now ≡ before.tree.now
     pub out : now.out.now ≡ before.out.now
     pub err : now.err.now ≡ before.err.now
-    pub same : SameBus meaning.tree.told before now
+    pub same : SameBus (told_on meaning.tree) before now
 
   pub byte_stored : (before : Bus T O E) (devices : MutBor Devices) (port byte : ℕ) → devices.ghost_name ≡ before.devices.ghost_name
       → devices.now ≡ record before.devices.now { page = slice_set before.devices.now.page port byte }
@@ -114,12 +119,12 @@ module _ {T O E : Type 0} (meaning : Meaning T O E) where
   stored-makes : (before now : Bus T O E) (port byte : ℕ) → Stored before now port byte → Makes meaning before now []
   stored-makes before now port byte stored = record {
     world = rw (stored.tree, stored.out, stored.err) refl;
-    remains = rw (stored.tree, stored.out, stored.err) (remains-all (outside_on meaning before).sure (meaning.tree.told before.tree.now));
+    remains = rw (stored.tree, stored.out, stored.err) (remains-all (outside_on meaning before).sure (meaning.tree.state before.tree.now).told);
   }
 
   -- the same four are lent where one of the sinks took something
   sinks-same : (before : Bus T O E) (out : MutBor O) (err : MutBor E) → out.ghost_name ≡ before.out.ghost_name → err.ghost_name ≡ before.err.ghost_name
-      → SameBus meaning.tree.told before (record { devices = before.devices; tree = before.tree; out = out; err = err })
+      → SameBus (told_on meaning.tree) before (record { devices = before.devices; tree = before.tree; out = out; err = err })
   sinks-same before out err lent_out lent_err = record {
     lent = record { devices = refl; tree = refl; out = lent_out; err = lent_err };
     files = record { stays = λ path outside there. there };
@@ -133,7 +138,7 @@ module _ {T O E : Type 0} (meaning : Meaning T O E) where
       (answer : Result (Unit {0}) Stop) (put : Result (Unit {0}) Failed) → asks_tree action ≡ false
       → ((state : DeviceState) → act action byte state core ≡ record (no_effect state core) { changes = changes })
       → ((state : DeviceState) → StandFor before.devices.now state
-      → Leaves meaning action state (meaning.tree.told before.tree.now) core (record { devices = before.devices; tree = before.tree; out = out; err = err }) core)
+      → Leaves meaning action state (meaning.tree.state before.tree.now).told core (record { devices = before.devices; tree = before.tree; out = out; err = err }) core)
       → is_err answer ≡ is_err put → OnErr answer (answer ≡ Err SinkFault)
       → Ended changes (blame_of_sink (is_err put)) (outside_on meaning before)
       (outside_on meaning (record { devices = before.devices; tree = before.tree; out = out; err = err }))
@@ -172,7 +177,7 @@ module _ {T O E : Type 0} (meaning : Meaning T O E) where
     does = rw none (λ state stood. rw (is state) (record {
       core = refl;
       devices = (stands state stood, refl);
-      makes = record { world = refl; remains = remains-all (outside_on meaning before).sure (meaning.tree.told before.tree.now) };
+      makes = record { world = refl; remains = remains-all (outside_on meaning before).sure (meaning.tree.state before.tree.now).told };
     }));
     same = devices-same before devices lent frames clock root;
   }
@@ -207,9 +212,9 @@ module _ {T O E : Type 0} (meaning : Meaning T O E) where
 
   pub file-ends : (before : Bus T O E) (devices : MutBor Devices) (tree : MutBor T) (core : Core) (memory : List ℕ) (number : FileNumber) (part : FileAct)
       (byte : ℕ) (answer : Result (Unit {0}) Stop)
-      → FileEnded number part before.devices.now core.memory (tree_failed answer) (tree_state meaning.tree before.tree.now) (tree_state meaning.tree tree.now)
-      → FileAnswers number part before.devices.now core.memory (meaning.tree.told before.tree.now) answer devices.now memory
-      → SameBus meaning.tree.told before (record { devices = devices; tree = tree; out = before.out; err = before.err })
+      → FileEnded number part before.devices.now core.memory (tree_failed answer) (meaning.tree.state before.tree.now) (meaning.tree.state tree.now)
+      → FileAnswers number part before.devices.now core.memory (meaning.tree.state before.tree.now).told answer devices.now memory
+      → SameBus (told_on meaning.tree) before (record { devices = devices; tree = tree; out = before.out; err = before.err })
       → ActEnds meaning before core (ActsOnFile number part) byte (record { devices = devices; tree = tree; out = before.out; err = before.err })
       (record core { memory = memory }) answer
   file-ends before devices tree core memory number part byte (Ok done) ended acted same = record {
@@ -218,16 +223,16 @@ module _ {T O E : Type 0} (meaning : Meaning T O E) where
         let done = acted state stands.devices stands.files in
         let made = ended state stands.devices stands.files in
         let lie = file-lies number part before.devices.now state core.memory stands.devices in
-        let out = sink_state meaning.out before.out.now in
-        let err = sink_state meaning.err before.err.now in
-        let all = outside-of-tree outcome.changes false (tree_state meaning.tree before.tree.now) (tree_state meaning.tree tree.now) out err
+        let out = meaning.out.state before.out.now in
+        let err = meaning.err.state before.err.now in
+        let all = outside-of-tree outcome.changes false (meaning.tree.state before.tree.now) (meaning.tree.state tree.now) out err
         (of-tree state.root outcome.changes lie) made in
         record {
           core = ap (λ bytes. record core { memory = bytes }) done.memory;
           devices = record {
             devices = done.devices;
-            files = state-files number outcome state (meaning.tree.told tree.now)
-                (files-now outcome.changes state.root state.part state.parent (meaning.tree.told before.tree.now) (meaning.tree.told tree.now)
+            files = state-files number outcome state (meaning.tree.state tree.now).told
+                (files-now outcome.changes state.root state.part state.parent (meaning.tree.state before.tree.now).told (meaning.tree.state tree.now).told
                 stands.files lie made.stands);
           };
           makes = record { world = all.world; remains = all.remains };
@@ -236,8 +241,8 @@ module _ {T O E : Type 0} (meaning : Meaning T O E) where
   }
   file-ends before devices tree core memory number part byte (Err stop) ended stopped same = record {
     cut = λ state stands.
-        stops-by (file_outcome number part state core.memory).changes stop stopped.cause (tree_state meaning.tree before.tree.now) (tree_state meaning.tree tree.now)
-        (sink_state meaning.out before.out.now) (sink_state meaning.err before.err.now) stopped.is
+        stops-by (file_outcome number part state core.memory).changes stop stopped.cause (meaning.tree.state before.tree.now) (meaning.tree.state tree.now)
+        (meaning.out.state before.out.now) (meaning.err.state before.err.now) stopped.is
         (of-tree state.root (file_outcome number part state core.memory).changes (file-lies number part before.devices.now state core.memory stands.devices))
         (ended state stands.devices stands.files);
     leaves = stopped.left;
@@ -286,7 +291,7 @@ module _ {T O E : Type 0} (meaning : Meaning T O E) where
           devices = comes-stored asks before middle now port byte stored (effect state old port byte).devices does.devices;
           makes = makes-both meaning before middle now [] (effect state old port byte).changes (stored-makes before middle port byte stored) does.makes;
         });
-    same = same-again meaning.tree.told before middle now stored.same acted.same;
+    same = same-again (told_on meaning.tree) before middle now stored.same acted.same;
   }
 
   pub stopped_by_act : (before middle now : Bus T O E) (old new : Core) (port byte : ℕ) (action : Action) (answer : Result (Unit {0}) Stop)
@@ -309,5 +314,5 @@ module _ {T O E : Type 0} (meaning : Meaning T O E) where
           reads = sym is ∙ wants.reads;
           folder = rw (stored.files wants.number) at (rw stored.tree at wants.folder);
         };
-    same = same-again meaning.tree.told before middle now stored.same acted.same;
+    same = same-again (told_on meaning.tree) before middle now stored.same acted.same;
   }

@@ -1,5 +1,5 @@
 -- Bytes that are appended to a file.
-use Rattle.std.proofs.Common.{◌≡◌, ℕ, ◌+◌, ◌<◌, ◌≤◌, Bool, true, false, cond, List, [], ◌∷◌, ◌++◌, length, take, map, refl, ap, sym, ◌∙◌, arith}
+use Rattle.std.proofs.Common.{◌≡◌, ℕ, Bool, true, false, cond, List, [], ◌∷◌, ◌++◌, map, refl, ap, sym, ◌∙◌}
 use Rattle.std.specs.Prelude.{Option, Some, None, IfSome, IsSome, Result, Ok, Err, OnOk, OnErr, is_err, if◌then◌else◌}
 use Rattle.std.specs.Option.{option_map}
 use Rattle.std.specs.Ordering.{nat_cmp, eq_by_cmp}
@@ -7,16 +7,12 @@ use Rattle.std.specs.Cmp.Lexicographic.{slice_cmp, nat_list_cmp_total}
 use Rattle.std.specs.FinMap as nodes_map
 use Rattle.uxn_io.specs.declared.sinks.Failed.{Failed}
 use Rattle.uxn_io.specs.Files.{Node, File, Nodes, bytes_of, bytes_at}
-use Rattle.uxn_io.specs.Changes.{with_appended, HasAppendedFront}
-use Rattle.std.proofs.lemmas.List.{length-append}
-use Rattle.uxn_io.specs.NodeLaws.{bytes_put}
-use Rattle.uxn_io.specs.Room.{Room, Leaves}
-use Rattle.uxn_io.specs.Taking.{TreeTakes, TreeLeft, files_made, files_gone, bytes_out, bytes_err}
-use Rattle.uxn_io.specs.TakingLaws.{takes-later}
-use Rattle.uxn_io.specs.Outside.{Change, ToFile, World, changed_by, changed_files, files_by}
-use Rattle.uxn_io.specs.AppendingLaws.{changed_by-file}
-use Rattle.uxn_io.specs.State.{Outside}
-use Rattle.uxn_io.specs.Ended.{Ended, blame_of_tree}
+use Rattle.uxn_io.specs.Changes.{with_appended}
+use Rattle.std.proofs.lemmas.List.{append-nil}
+use Rattle.uxn_io.specs.AppendingLaws.{told_by-file}
+use Rattle.uxn_io.specs.Outside.{Change, ToFile, files_by}
+use Rattle.uxn_io.specs.State.{TreeState, Outside}
+use Rattle.uxn_io.specs.Ended.{TreeEnded, Ended, told_by, appending, blame_of_tree}
 use Rattle.uxn_opcodes.specs.declared.Stop.{Stop}
 use Rattle.uxn_opcodes.specs.declared.Stop.TheVariants.{TreeFault, SinkFault, NoMemory}
 use Rattle.file_ports.specs.Device.{suits}
@@ -45,10 +41,22 @@ appended-stays root (Some nodes) path (byte ∷ text) = record {
       (put-there (eq_by_cmp (slice_cmp nat_cmp) other path) (bytes_at nodes path ++ byte ∷ text) (nodes_map.get nodes other) there);
 }
 
-pub append-stays : (root : Option (List ℕ)) (before now : Option Nodes) (path piece : List ℕ) (put : Result (Unit {0}) Failed)
-    → OnOk put (now ≡ option_map (with_appended path piece) before) → OnErr put (HasAppendedFront path before now piece) → FilesStay root before now
-append-stays root before now path piece (Ok done) all front = rw all (appended-stays root before path piece)
-append-stays root before now path piece (Err failed) all front = rw front.told (appended-stays root before path (take front.count piece))
+-- and where a front of them was
+fronts-stay : (root : Option (List ℕ)) (path piece : List ℕ) (made rest : List Change) (told : Option Nodes) → appending path piece ≡ made ++ rest
+    → FilesStay root told (told_by made told)
+fronts-stay root path piece [] rest told parts = record { stays = λ other outside there. there }
+fronts-stay root path [] (change ∷ made) rest told parts = cc
+fronts-stay root path (byte ∷ piece) (change ∷ made) rest told parts =
+    let first : ToFile path byte ≡ change = cc in
+    let more : appending path piece ≡ made ++ rest = cc in
+    let one = appended-stays root told path (byte ∷ []) in
+    let later = fronts-stay root path piece made rest (option_map (with_appended path (byte ∷ [])) told) more in
+    rw (sym first) (record { stays = λ other outside there. later.stays other outside (one.stays other outside there) })
+
+pub append-stays : (root : Option (List ℕ)) (path piece : List ℕ) (failed : Bool) (a b : TreeState) → TreeEnded (appending path piece) failed a b
+    → FilesStay root a.told b.told
+append-stays root path piece false a b ended = rw ended.stands (fronts-stay root path piece (appending path piece) [] a.told (sym (append-nil _)))
+append-stays root path piece true a b ended = rw ended.stands.told (fronts-stay root path piece ended.stands.made ended.stands.rest a.told ended.stands.parts)
 
 -- a failed call is a fault of the tree
 pub append-ended : (changes : List Change) (answer : Result (Unit {0}) Stop) (put : Result (Unit {0}) Failed) (before now : Outside)
@@ -91,63 +99,11 @@ module _ {T O E : Type 0} (told_tree : T → Option Nodes) where
       after-append now (suits state.root (Some path)) state (files_by state.part (map (λ byte. ToFile path byte) text)) (rw same stands.devices)
       (part-appended (told_tree before.tree.now) (told_tree now.tree.now) path text (suits state.root (Some path)) state.root state.part state.parent is there refl stands.files)
 
-  pub append-stands : (before now : Bus T O E) (path text : List ℕ) (answer : Result (Unit {0}) Stop) (put : Result (Unit {0}) Failed)
-      → is_err answer ≡ is_err put → now.devices.now ≡ before.devices.now
-      → OnOk put (told_tree now.tree.now ≡ option_map (with_appended path text) (told_tree before.tree.now)) → IsFileWhereTold (told_tree before.tree.now) path
+  pub append-stands : (before now : Bus T O E) (path text : List ℕ) (answer : Result (Unit {0}) Stop) (put : Result (Unit {0}) Failed) (a b : TreeState)
+      → is_err answer ≡ is_err put → now.devices.now ≡ before.devices.now → a.told ≡ told_tree before.tree.now → b.told ≡ told_tree now.tree.now
+      → TreeEnded (appending path text) (is_err put) a b → IsFileWhereTold (told_tree before.tree.now) path
       → OnOk answer ((state : DeviceState) → BusStandsFor told_tree before state → BusStandsFor told_tree now (piece_appended path text state))
-  append-stands before now path text (Ok done) (Ok put) fails same is there = bus-appended before now path text same is there
-  append-stands before now path text (Ok done) (Err failed) fails same is there = cc
-  append-stands before now path text (Err stop) put fails same is there = tt
-
--- ---- what a text leaves outside, and what is sure of it: for those above
-
-pub file_made : (world : World) (path text : List ℕ) (now : Option Nodes) → now ≡ option_map (with_appended path text) world.files
-    → record world { files = now } ≡ changed_by world (map (λ byte. ToFile path byte) text)
-file_made world path text now is = ap (λ told. record world { files = told }) is ∙ sym (changed_by-file world path text)
-
-none-made : (nodes : Nodes) (path text : List ℕ) → files_made nodes (map (λ byte. ToFile path byte) text) ≡ 0
-none-made nodes path [] = refl
-none-made nodes path (byte ∷ text) = let later = none-made (changed_files (ToFile path byte) nodes) path text in omega (arith, later)
-
-none-gone : (path text : List ℕ) → files_gone (map (λ byte. ToFile path byte) text) ≡ 0
-none-gone path [] = refl
-none-gone path (byte ∷ text) = let later = none-gone path text in omega (arith, later)
-
--- where a text is surely taken the file has room for it
-takes-text : (room : Room) (nodes : Nodes) (path text : List ℕ) → TreeTakes room nodes (map (λ byte. ToFile path byte) text) → 0 < length text
-    → length (bytes_at nodes path) + length text ≤ room.bytes
-takes-text room nodes path [] takes some = absurd (omega (arith, some))
-takes-text room nodes path (byte ∷ []) takes some = let one = takes.bytes [] [] path byte refl in omega (arith, one)
-takes-text room nodes path (byte ∷ next ∷ text) takes some =
-    let later = takes-later room room nodes (ToFile path byte ∷ []) (map (λ b. ToFile path b) (next ∷ text)) takes
-    (record { files = omega arith; bytes = omega arith }) in
-    let rest = takes-text room (changed_files (ToFile path byte) nodes) path (next ∷ text) later (omega arith) in
-    let size : length (bytes_at (changed_files (ToFile path byte) nodes) path) ≡ length (bytes_at nodes path) + 1 =
-    ap length (bytes_put nodes path (bytes_at nodes path ++ byte ∷ [])) ∙ length-append (bytes_at nodes path) (byte ∷ []) in
-    omega (arith, rest, size)
-
--- what is left of a tree that took a text
-pub text-left : (told : Option Nodes) (before now : Room) (path text : List ℕ) → Leaves before now 0 0
-    → IfSome told (λ nodes. TreeTakes before nodes (map (λ byte. ToFile path byte) text) → TreeLeft before now nodes (map (λ byte. ToFile path byte) text))
-text-left None before now path text left = tt
-text-left (Some nodes) before now path text left = λ takes.
-    let some : 0 < before.files = (let first = takes.files [] (map (λ byte. ToFile path byte) text) refl in omega (arith, first)) in
-    record {
-      files = omega (arith, left.files some, none-made nodes path text, none-gone path text);
-      bytes = left.bytes some;
-    }
-
--- a tree that failed did not surely take it
-pub text-not-sure : (told : Option Nodes) (room : Room) (path text : List ℕ) (P : Type 0) → (P → ⊥)
-    → IfSome told (λ nodes. 0 < room.files → (0 < length text → length (bytes_at nodes path) + length text ≤ room.bytes) → P)
-    → IfSome told (λ nodes. TreeTakes room nodes (map (λ byte. ToFile path byte) text) → ⊥)
-text-not-sure None room path text P never fails = tt
-text-not-sure (Some nodes) room path text P never fails = λ takes. never (
-    fails (let first = takes.files [] (map (λ byte. ToFile path byte) text) refl in omega (arith, first)) (takes-text room nodes path text takes))
-
--- no byte of it goes to an output
-pub text-out : (sure : ℕ) (path text : List ℕ) → sure ≤ sure + bytes_out (map (λ byte. ToFile path byte) text)
-text-out sure path text = omega arith
-
-pub text-err : (sure : ℕ) (path text : List ℕ) → sure ≤ sure + bytes_err (map (λ byte. ToFile path byte) text)
-text-err sure path text = omega arith
+  append-stands before now path text (Ok done) (Ok put) a b fails same was is ended there =
+      bus-appended before now path text same (sym is ∙ ended.stands ∙ told_by-file a.told path text ∙ ap (option_map (with_appended path text)) was) there
+  append-stands before now path text (Ok done) (Err failed) a b fails same was is ended there = cc
+  append-stands before now path text (Err stop) put a b fails same was is ended there = tt

@@ -11,11 +11,11 @@ use Rattle.file_ports.specs.declared.stop.FileStop.{FileStop}
 use Rattle.file_ports.specs.Device.{FileState, idle_at, Suits}
 use Rattle.file_ports.specs.Names.{path_named}
 use Rattle.file_ports.specs.RootPart.{LieIn}
-use Rattle.file_ports.specs.Actions.{FileAction, Name, Read, Write, Stat, Delete, Outcome, Seen, seen_of, acts, act}
+use Rattle.file_ports.specs.Actions.{FileAction, Name, Read, Write, Stat, Delete, Outcome, Seen, seen_of, acts, act, reads, stats, count_from}
 use Rattle.file_ports.specs.Answers.{Answers, outcome_by, changes_untold, changes_by, ActedOrStopped}
 use Rattle.file_ports.specs.PartLaws.{below-files_by, outcome-same}
 use Rattle.file_ports.specs.ActLaws.{lie-front, lie-none, parent-kept, rootless, act-nowhere, changes-of, path-kept}
-use Rattle.file_ports.specs.CallLaws.{ended-as}
+use Rattle.uxn_io.specs.CallLaws.{ended-as}
 use Rattle.file_ports.specs.OutsideLaws.{still-there}
 use Rattle.input_ports.specs.Page.{short_stores}
 use Rattle.varvara_bus.specs.declared.devices.Devices.{Devices}
@@ -165,13 +165,19 @@ file-acted request number part devices middle after state memory told success me
           (with_part number middle outcome.device state (files_by state.part outcome.changes) (rw done.device at held)));
     }
 
--- or of one that stopped
-pub port-left : (request : Request) (number : FileNumber) (part : FileAct) (devices middle : Devices) (state : DeviceState) (memory : List ℕ)
-    (told : Option Nodes) (stop : FileStop) (memory_now : List ℕ) → action_asked request ≡ file_action part state.history (file_base number)
-    → StandFor devices state
-    → Performed (action_asked request) devices.root (file_held number devices) memory told (Err stop) (file_held number middle) memory_now
-    → StandFor middle (with_file number (file_held number middle) state)
-    → PortLeft number part state memory told middle memory_now
-port-left request number part devices middle state memory told stop memory_now is stands stopped held =
-    let left = rw (is, held-file number devices state stands) at stopped in
-    record { devices = rw left.device at held; memory = left.memory }
+-- reads and stats change nothing
+pub stat-changes : (at length : ℕ) (told : Option Nodes) (device : FileState) (memory : List ℕ) → [] ≡ changes_by (Stat at length) told device memory
+stat-changes at length None device memory = refl
+stat-changes at length (Some nodes) device memory = by device.path
+  where
+    by : (path : Option (List ℕ)) → [] ≡ (stats at (count_from at length) device memory (option_map (seen_of nodes) path)).changes
+    by None = refl
+    by (Some path) = refl
+
+pub read-changes : (at length : ℕ) (told : Option Nodes) (device : FileState) (memory : List ℕ) → [] ≡ changes_by (Read at length) told device memory
+read-changes at length None device memory = refl
+read-changes at length (Some nodes) device memory = by device.path
+  where
+    by : (path : Option (List ℕ)) → [] ≡ (reads at (count_from at length) device memory (option_map (seen_of nodes) path)).changes
+    by None = refl
+    by (Some path) = refl

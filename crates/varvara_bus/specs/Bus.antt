@@ -4,7 +4,7 @@ use Rattle.std.specs.Prelude.{IfSome, IsSome, slice_index, if◌then◌else◌}
 use Rattle.uxn_io.specs.Files.{Nodes, file_at}
 use Rattle.uxn_io.specs.Faults.{Counts, Blame}
 use Rattle.uxn_io.specs.Outside.{Change, changed_by, IsCutOff}
-use Rattle.uxn_io.specs.State.{Outside, outside_of}
+use Rattle.uxn_io.specs.State.{Outside, outside}
 use Rattle.uxn_io.specs.Taking.{Remains, WasNotSure}
 use Rattle.uxn_io.specs.declared.sinks.Sink as sinks
 use Rattle.uxn_io.specs.declared.trees.Tree as trees
@@ -120,6 +120,10 @@ pub record Meaning (T O E : Type 0) : Type 1 where
 abbrev pub meaning_of : {T O E : Type 0} → trees.Ghosts T → sinks.Ghosts O → sinks.Ghosts E → Meaning T O E
 meaning_of of_tree of_out of_err = record { tree = of_tree; out = of_out; err = of_err }
 
+-- what a tree tells, by what its trait sees of it
+abbrev pub told_on : {T : Type 0} → trees.Ghosts T → T → Option Nodes
+told_on of_tree tree = (of_tree.state tree).told
+
 -- who is to blame for a stop, if it stopped
 abbrev pub blame_for : Result (Unit {0}) Stop → Option Blame
 blame_for (Ok done) = None
@@ -138,7 +142,7 @@ pub record AreCutShort (blame : Blame) (before now : Outside) (changes : List Ch
 module _ {T O E : Type 0} (meaning : Meaning T O E) where
   -- what is outside, by what a bus is lent
   abbrev pub outside_on : Bus T O E → Outside
-  outside_on bus = outside_of meaning.tree meaning.out meaning.err bus.tree.now bus.out.now bus.err.now
+  outside_on bus = outside (meaning.tree.state bus.tree.now) (meaning.out.state bus.out.now) (meaning.err.state bus.err.now)
 
   -- the faults counted there
   abbrev pub bus_faults : Bus T O E → Counts
@@ -154,17 +158,17 @@ module _ {T O E : Type 0} (meaning : Meaning T O E) where
   -- the bus and the core are as an effect says
   pub record HasEffect (before now : Bus T O E) (new : Core) (done : Effect) : Type 0 where
     pub core : new ≡ done.core
-    pub devices : BusStandsFor meaning.tree.told now done.devices
+    pub devices : BusStandsFor (told_on meaning.tree) now done.devices
     pub makes : Makes before now done.changes
 
   -- a state to act from: what the bus stands for where the tree is asked, and else what the devices stand for, whatever the tree tells
   abbrev pub StandsTo : Bool → Bus T O E → DeviceState → Type 0
-  StandsTo true bus state = BusStandsFor meaning.tree.told bus state
+  StandsTo true bus state = BusStandsFor (told_on meaning.tree) bus state
   StandsTo false bus state = StandFor bus.devices.now state
 
   -- the state that was come to; a tree that is not asked stays as it was
   abbrev pub ComesTo : Bool → Bus T O E → Bus T O E → DeviceState → Type 0
-  ComesTo true before now state = BusStandsFor meaning.tree.told now state
+  ComesTo true before now state = BusStandsFor (told_on meaning.tree) now state
   ComesTo false before now state = StandFor now.devices.now state × (now.tree.now ≡ before.tree.now)
 
   -- what an action does that asks the tree, or does not
@@ -187,19 +191,19 @@ module _ {T O E : Type 0} (meaning : Meaning T O E) where
   pub record Wrote (before : Bus T O E) (old : Core) (port byte : ℕ) (now : Bus T O E) (new : Core) : Type 0 where
     pub does : (state : DeviceState) → StandsTo (asks_tree (action_of port)) before state
         → Does (asks_tree (action_of port)) before now new (effect state old port byte)
-    pub same : SameBus meaning.tree.told before now
+    pub same : SameBus (told_on meaning.tree) before now
 
   -- a write that stops has stored its byte and nothing else, and made a front of its changes; memory is wanting only where there is a root
   pub record Stopped (before : Bus T O E) (old : Core) (port byte : ℕ) (stop : Stop) (now : Bus T O E) (new : Core) : Type 0 where
     pub cut : (state : DeviceState) → StandsTo (asks_tree (action_of port)) before state
         → StopsShort before now stop (effect state old port byte).changes
     pub leaves : (state : DeviceState) → StandFor before.devices.now state
-        → Leaves (action_of port) (storing ((port, byte) ∷ []) state) (meaning.tree.told before.tree.now) old now new
+        → Leaves (action_of port) (storing ((port, byte) ∷ []) state) (meaning.tree.state before.tree.now).told old now new
     pub keeps : Keeps (asks_tree (action_of port)) before old now new
     pub stored : (other : ℕ) → held now other ≡ (if other == port then byte else held before other)
     pub memory : stop ≡ NoMemory → HasRoot before.devices.now
-    pub names : stop ≡ NoMemory → WantsNames (action_of port) before.devices.now (meaning.tree.told before.tree.now)
-    pub same : SameBus meaning.tree.told before now
+    pub names : stop ≡ NoMemory → WantsNames (action_of port) before.devices.now (meaning.tree.state before.tree.now).told
+    pub same : SameBus (told_on meaning.tree) before now
 
   -- the rules of a bus's ports
   abbrev pub bus_rules : Rules (Bus T O E)
@@ -209,7 +213,7 @@ module _ {T O E : Type 0} (meaning : Meaning T O E) where
   pub record Acted (before : Bus T O E) (old : Core) (action : Action) (byte : ℕ) (now : Bus T O E) (new : Core) : Type 0 where
     pub does : (state : DeviceState) → StandsTo (asks_tree action) before state
         → Does (asks_tree action) before now new (act action byte state old)
-    pub same : SameBus meaning.tree.told before now
+    pub same : SameBus (told_on meaning.tree) before now
 
   -- what an action leaves that stops
   pub record ActStopped (before : Bus T O E) (old : Core) (action : Action) (byte : ℕ) (stop : Stop) (now : Bus T O E) (new : Core)
@@ -217,12 +221,12 @@ module _ {T O E : Type 0} (meaning : Meaning T O E) where
     pub cut : (state : DeviceState) → StandsTo (asks_tree action) before state
         → StopsShort before now stop (act action byte state old).changes
     pub leaves : (state : DeviceState) → StandFor before.devices.now state
-        → Leaves action state (meaning.tree.told before.tree.now) old now new
+        → Leaves action state (meaning.tree.state before.tree.now).told old now new
     pub keeps : Keeps (asks_tree action) before old now new
     pub page : now.devices.now.page ≡ before.devices.now.page
     pub memory : stop ≡ NoMemory → HasRoot before.devices.now
-    pub names : stop ≡ NoMemory → WantsNames action before.devices.now (meaning.tree.told before.tree.now)
-    pub same : SameBus meaning.tree.told before now
+    pub names : stop ≡ NoMemory → WantsNames action before.devices.now (meaning.tree.state before.tree.now).told
+    pub same : SameBus (told_on meaning.tree) before now
 
   -- it did what it does, or it stopped
   abbrev pub ActEnds : Bus T O E → Core → Action → ℕ → Bus T O E → Core → Result (Unit {0}) Stop → Type 0

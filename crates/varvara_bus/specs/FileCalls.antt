@@ -37,7 +37,8 @@ act_asked (asked.Read at length) = Read
 act_asked (asked.Write at length keep) = Write
 
 -- a device answered what an action does by the files of a state beneath a root, or it stopped
-abbrev pub Performed : FileAction → Option (List ℕ) → FileState → List ℕ → Option Nodes → Result ℕ FileStop → FileState → List ℕ → Type 0
+abbrev pub Performed : FileAction → Option (List ℕ) → FileState → List ℕ → Option Nodes → Result ℕ FileStop
+    → FileState → List ℕ → Type 0
 Performed action root device memory told (Ok success) device_now memory_now = (part : Nodes) → (parent : Bool) → HasFiles told root part parent
     → Answers (file.act action root part parent device memory) (Ok success) device_now memory_now
 Performed action root device memory told (Err stop) device_now memory_now = DeviceStopped action device memory told stop device_now memory_now
@@ -70,7 +71,8 @@ pub record FileStopped (number : FileNumber) (act : FileAct) (before : Devices) 
   pub rooted : HasRoot before
   pub wants : stop ≡ stops.NoMemory → (act ≡ Read) × WantsFolder (file_held number before) told
 
-abbrev pub FileAnswers : FileNumber → FileAct → Devices → List ℕ → Option Nodes → Result (Unit {0}) Stop → Devices → List ℕ → Type 0
+abbrev pub FileAnswers : FileNumber → FileAct → Devices → List ℕ → Option Nodes → Result (Unit {0}) Stop → Devices
+    → List ℕ → Type 0
 FileAnswers number act before bytes told (Ok done) held memory_now = (state : DeviceState) → StandFor before state
     → HasFiles told state.root state.part state.parent → FileActed number act state bytes held memory_now
 FileAnswers number act before bytes told (Err stop) held memory_now = FileStopped number act before bytes told stop held memory_now

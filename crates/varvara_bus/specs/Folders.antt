@@ -1,5 +1,6 @@
 -- Which instructions take the names of a folder: the one work of a machine's ports that takes memory.
-use Rattle.std.specs.Prelude.{◌≡◌, ◌≢◌, ℕ, Bool, true, false, List, [], ◌∷◌, ◌++◌, Option, Some, None, is_some, IsTrue, IfSome, Err, refl}
+use Rattle.std.specs.Prelude.{◌≡◌, ◌≢◌, ℕ, Bool, true, false, List, [], ◌∷◌, ◌++◌, Option, Some}
+use Rattle.std.specs.Prelude.{None, is_some, IsTrue, IfSome, Err, refl}
 use Rattle.std.proofs.Common.{ap, sym, ◌∙◌}
 use Rattle.uxn_io.specs.Files.{Nodes, kind_at}
 use Rattle.uxn_io.specs.declared.trees.Kind.TheVariants.{Folder}
@@ -22,7 +23,7 @@ use Rattle.varvara_bus.specs.State.{DeviceState, StandFor, HasFiles}
 use Rattle.varvara_bus.specs.FileActs.{file_in}
 use Rattle.varvara_bus.specs.Effect.{action_of}
 use Rattle.varvara_bus.specs.Model.{varvara}
-use Rattle.varvara_bus.specs.Bus.{Meaning, BusStandsFor, WantsFolder, WantsNames, bus_rules}
+use Rattle.varvara_bus.specs.Bus.{Meaning, BusStandsFor, WantsFolder, WantsNames, bus_rules, told_on}
 use Rattle.varvara_bus.specs.Laws.{held-file, suits-file}
 use Rattle.varvara_bus.specs.InstructionLaws.{StandsSince, carries, starts, goes-on}
 
@@ -78,7 +79,7 @@ takes-in action held told devices stands has wants = record {
 module _ {T O E : Type 0} (meaning : Meaning T O E) where
   -- an instruction for which memory was wanting takes the names of a folder, in each state that the bus stood for
   pub instruction-names : (core core_new : Core) (before now : Bus T O E) (devices : DeviceState)
-      → BusStandsFor meaning.tree.told before devices → Instruction (bus_rules meaning) core before (Err NoMemory) core_new now
+      → BusStandsFor (told_on meaning.tree) before devices → Instruction (bus_rules meaning) core before (Err NoMemory) core_new now
       → InstructionTakesNames devices core
   instruction-names core core_new before now devices stands stopped =
       let at = carried-stopped (bus_rules meaning) (StandsSince meaning before) varvara (carries meaning before) core before
@@ -90,6 +91,6 @@ module _ {T O E : Type 0} (meaning : Meaning T O E) where
         after = at.after;
         goes_on = goes-on meaning core core_new before now NoMemory stopped;
         in_order = at.in_order;
-        takes = takes-in (action_of at.port) at.ports.devices.now (meaning.tree.told at.ports.tree.now)
+        takes = takes-in (action_of at.port) at.ports.devices.now (meaning.tree.state at.ports.tree.now).told
             (devices_after at.before devices core) at.same_ports.devices.devices at.same_ports.devices.files (at.stops.names refl);
       }

@@ -29,7 +29,7 @@ use Rattle.varvara_bus.specs.declared.ports.Action.TheVariants.{PutsDebugText, P
 use Rattle.varvara_bus.specs.declared.ports.Action.TheVariants.{AsksWidth, AsksHeight, DrawsPixel, DrawsSprite, StartsNote, ActsOnFile}
 use Rattle.varvara_bus.specs.State.{DeviceState, HasFiles, storing}
 use Rattle.varvara_bus.specs.Effect.{action_of, asks_tree, act, effect}
-use Rattle.varvara_bus.specs.Bus.{SameBus, BusStandsFor, HasRoot, Meaning, outside_on, Makes, StopsShort, HasEffect}
+use Rattle.varvara_bus.specs.Bus.{SameBus, BusStandsFor, HasRoot, Meaning, outside_on, Makes, StopsShort, HasEffect, told_on}
 use Rattle.varvara_bus.specs.Bus.{StandsTo, ComesTo, Wrote, bus_rules}
 use Rattle.varvara_bus.specs.Model.{Devised, varvara, instruction_effect}
 
@@ -127,11 +127,11 @@ same-again told_tree a b c p q = record {
 module _ {T O E : Type 0} (meaning : Meaning T O E) where
   -- no changes were made
   pub makes-none : (bus : Bus T O E) → Makes meaning bus bus []
-  makes-none bus = record { world = refl; remains = remains-all (outside_on meaning bus).sure (meaning.tree.told bus.tree.now) }
+  makes-none bus = record { world = refl; remains = remains-all (outside_on meaning bus).sure (meaning.tree.state bus.tree.now).told }
 
   -- what the tree tells once changes were made
   told-now : (before now : Bus T O E) (changes : List Change) → Makes meaning before now changes
-      → meaning.tree.told now.tree.now ≡ option_map (λ nodes. files_by nodes changes) (meaning.tree.told before.tree.now)
+      → (told_on meaning.tree) now.tree.now ≡ option_map (λ nodes. files_by nodes changes) (meaning.tree.state before.tree.now).told
   told-now before now changes makes = ap (λ (w : World). w.files) makes.world ∙ files-told (outside_on meaning before).world changes
 
   -- some, and then more
@@ -140,7 +140,7 @@ module _ {T O E : Type 0} (meaning : Meaning T O E) where
   makes-both before middle now first more p q = record {
     world = q.world ∙ ap (λ w. changed_by w more) p.world ∙ sym (changed_by-append (outside_on meaning before).world first more);
     remains = remains-both (outside_on meaning before).sure (outside_on meaning middle).sure (outside_on meaning now).sure
-        (meaning.tree.told before.tree.now) first more p.remains (rw (told-now before middle first p) at q.remains);
+        (meaning.tree.state before.tree.now).told first more p.remains (rw (told-now before middle first p) at q.remains);
   }
 
   -- a front of them, or all of them and then a front of more
@@ -148,7 +148,7 @@ module _ {T O E : Type 0} (meaning : Meaning T O E) where
       → StopsShort meaning before now stop (first ++ more)
   stops-first before now stop first more short = record {
     cut = cut-first (outside_on meaning before).world (outside_on meaning now).world first more short.cut;
-    not_sure = not-sure-first (blame_of {T = Unit {0}} (Err stop)) (outside_on meaning before).sure (meaning.tree.told before.tree.now)
+    not_sure = not-sure-first (blame_of {T = Unit {0}} (Err stop)) (outside_on meaning before).sure (meaning.tree.state before.tree.now).told
         first more short.not_sure;
   }
 
@@ -157,18 +157,20 @@ module _ {T O E : Type 0} (meaning : Meaning T O E) where
   stops-later before middle now stop first more p short = record {
     cut = cut-later (outside_on meaning before).world (outside_on meaning middle).world (outside_on meaning now).world first more p.world short.cut;
     not_sure = not-sure-later (blame_of {T = Unit {0}} (Err stop)) (outside_on meaning before).sure (outside_on meaning middle).sure
-        (meaning.tree.told before.tree.now) first more p.remains (rw (told-now before middle first p) at short.not_sure);
+        (meaning.tree.state before.tree.now).told first more p.remains (rw (told-now before middle first p) at short.not_sure);
   }
 
   -- a bus stands to act from what it stands for, and then it stands for what is left
-  stands-to : (asks : Bool) (bus : Bus T O E) (state : DeviceState) → BusStandsFor meaning.tree.told bus state → StandsTo meaning asks bus state
+  stands-to : (asks : Bool) (bus : Bus T O E) (state : DeviceState) → BusStandsFor (told_on meaning.tree) bus state
+      → StandsTo meaning asks bus state
   stands-to true bus state stands = stands
   stands-to false bus state stands = stands.devices
 
   -- what asks nothing of the tree leaves the root part of a state
   files-left : (action : Action) (byte : ℕ) (state : DeviceState) (core : Core) (told : Option Nodes) → asks_tree action ≡ false
       → HasFiles told state.root state.part state.parent
-      → HasFiles told (act action byte state core).devices.root (act action byte state core).devices.part (act action byte state core).devices.parent
+      → HasFiles told (act action byte state core).devices.root (act action byte state core).devices.part
+      (act action byte state core).devices.parent
   files-left Stores byte state core told none has = has
   files-left Expands byte state core told none has = has
   files-left SetsWorkingPointer byte state core told none has = has
@@ -184,13 +186,15 @@ module _ {T O E : Type 0} (meaning : Meaning T O E) where
   files-left (ActsOnFile number part) byte state core told none has = cc
 
   comes-to : (asks : Bool) (before now : Bus T O E) (state : DeviceState) → ComesTo meaning asks before now state
-      → (asks ≡ false → HasFiles (meaning.tree.told before.tree.now) state.root state.part state.parent) → BusStandsFor meaning.tree.told now state
+      → (asks ≡ false → HasFiles (meaning.tree.state before.tree.now).told state.root state.part state.parent)
+      → BusStandsFor (told_on meaning.tree) now state
   comes-to true before now state come files = come
   comes-to false before now state come files = record { devices = come.0; files = rw come.1 (files refl) }
 
   -- so a write has its effect, from each state that the bus stood for
   pub wrote-effect : (before now : Bus T O E) (core core_new : Core) (port byte : ℕ) → Wrote meaning before core port byte now core_new
-      → (state : DeviceState) → BusStandsFor meaning.tree.told before state → HasEffect meaning before now core_new (effect state core port byte)
+      → (state : DeviceState) → BusStandsFor (told_on meaning.tree) before state
+      → HasEffect meaning before now core_new (effect state core port byte)
   unfolding effect
   wrote-effect before now core core_new port byte wrote state stands =
       let asks = asks_tree (action_of port) in
@@ -198,13 +202,14 @@ module _ {T O E : Type 0} (meaning : Meaning T O E) where
       record {
         core = done.core;
         devices = comes-to asks before now (effect state core port byte).devices done.devices
-            (λ none. files-left (action_of port) byte (storing ((port, byte) ∷ []) state) core (meaning.tree.told before.tree.now) none stands.files);
+            (λ none. files-left (action_of port) byte (storing ((port, byte) ∷ []) state) core
+            (meaning.tree.state before.tree.now).told none stands.files);
         makes = done.makes;
       }
 
   -- since a bus stood so, its devices became these, and these changes were made
   pub record StandsSince (start now : Bus T O E) (so_far : Devised) : Type 0 where
-    pub devices : BusStandsFor meaning.tree.told now so_far.devices
+    pub devices : BusStandsFor (told_on meaning.tree) now so_far.devices
     pub makes : Makes meaning start now so_far.changes
 
   pub carries : (start : Bus T O E) → Carries (bus_rules meaning) (StandsSince start) varvara
@@ -221,12 +226,12 @@ module _ {T O E : Type 0} (meaning : Meaning T O E) where
         };
   }
 
-  pub starts : (start : Bus T O E) (devices : DeviceState) → BusStandsFor meaning.tree.told start devices
+  pub starts : (start : Bus T O E) (devices : DeviceState) → BusStandsFor (told_on meaning.tree) start devices
       → StandsSince start start (record { devices = devices; changes = [] })
   starts start devices stands = record { devices = stands; makes = makes-none start }
 
   carried : (before : Bus T O E) (core core_new : Core) (now : Bus T O E) (turn : Turn) (devices : DeviceState)
-      → BusStandsFor meaning.tree.told before devices
+      → BusStandsFor (told_on meaning.tree) before devices
       → Instruction (bus_rules meaning) core before (Ok turn) core_new now
       → StandsAt (bus_rules meaning) (StandsSince before) varvara core_new now (after_instruction varvara core
       (record { devices = devices; changes = [] }))
@@ -239,7 +244,7 @@ module _ {T O E : Type 0} (meaning : Meaning T O E) where
 
   -- an instruction that ran over a bus has its effect, from each state that the bus stood for
   pub instruction-done : (core core_new : Core) (before now : Bus T O E) (turn : Turn) (devices : DeviceState)
-      → BusStandsFor meaning.tree.told before devices → Instruction (bus_rules meaning) core before (Ok turn) core_new now
+      → BusStandsFor (told_on meaning.tree) before devices → Instruction (bus_rules meaning) core before (Ok turn) core_new now
       → HasEffect meaning before now core_new (instruction_effect devices core)
   unfolding instruction_effect
   instruction-done core core_new before now turn devices stands ran =
@@ -267,7 +272,7 @@ module _ {T O E : Type 0} (meaning : Meaning T O E) where
       (stands-to (asks_tree (action_of at.port)) at.ports (reached_by devices core at.before).ports.devices at.same_ports.devices))))
 
   pub instruction-cut : (core core_new : Core) (before now : Bus T O E) (stop : Stop) (devices : DeviceState)
-      → BusStandsFor meaning.tree.told before devices → Instruction (bus_rules meaning) core before (Err stop) core_new now
+      → BusStandsFor (told_on meaning.tree) before devices → Instruction (bus_rules meaning) core before (Err stop) core_new now
       → StopsShort meaning before now stop (instruction_effect devices core).changes
   instruction-cut core core_new before now stop devices stands stopped =
       stopped-at before now core core_new stop devices (goes-on core core_new before now stop stopped)
@@ -275,33 +280,33 @@ module _ {T O E : Type 0} (meaning : Meaning T O E) where
       (record { devices = devices; changes = [] }) stop core_new now (starts before devices stands) stopped)
 
   -- whatever became of an instruction, the same four are lent, and memory was wanting only where there is a root
-  same-root : (before now : Bus T O E) → SameBus meaning.tree.told before now → HasRoot now.devices.now → HasRoot before.devices.now
+  same-root : (before now : Bus T O E) → SameBus (told_on meaning.tree) before now → HasRoot now.devices.now → HasRoot before.devices.now
   same-root before now same has = rw same.root at has
 
-  unchanged : (before now : Bus T O E) → now ≡ before → SameBus meaning.tree.told before now
-  unchanged before now is = rw is (same-itself meaning.tree.told before)
+  unchanged : (before now : Bus T O E) → now ≡ before → SameBus (told_on meaning.tree) before now
+  unchanged before now is = rw is (same-itself (told_on meaning.tree) before)
 
   written-same : (writes : List (ℕ × ℕ)) (before : Bus T O E) (core : Core) (now : Bus T O E) (core_new : Core)
-      → Written (bus_rules meaning) writes before core now core_new → SameBus meaning.tree.told before now
+      → Written (bus_rules meaning) writes before core now core_new → SameBus (told_on meaning.tree) before now
   written-same [] before core now core_new written = unchanged before now written.0
   written-same (write ∷ writes) before core now core_new written =
-      same-again meaning.tree.told before written.0 now written.1.1.0.same (written-same writes written.0 written.1.0 now core_new written.1.1.1)
+      same-again (told_on meaning.tree) before written.0 now written.1.1.0.same (written-same writes written.0 written.1.0 now core_new written.1.1.1)
 
   stopped-same : (writes : List (ℕ × ℕ)) (before : Bus T O E) (core : Core) (stop : Stop) (now : Bus T O E) (core_new : Core)
       → WriteStops (bus_rules meaning) writes before core stop now core_new
-      → SameBus meaning.tree.told before now × (stop ≡ NoMemory → HasRoot before.devices.now)
+      → SameBus (told_on meaning.tree) before now × (stop ≡ NoMemory → HasRoot before.devices.now)
   stopped-same [] before core stop now core_new stopped = absurd stopped
   stopped-same (write ∷ writes) before core stop now core_new stopped = elim stopped [
     | inl here ↦ (here.same, here.memory)
     | inr later ↦
         let rest = stopped-same writes later.0 later.1.0 stop now core_new later.1.1.1 in (
-          same-again meaning.tree.told before later.0 now later.1.1.0.same rest.0,
+          same-again (told_on meaning.tree) before later.0 now later.1.1.0.same rest.0,
           λ wanting. same-root before later.0 later.1.1.0.same (rest.1 wanting),
         )
   ]
 
   finishes-same : (access : Access) (core core_new : Core) (before now : Bus T O E)
-      → Finishes (bus_rules meaning) access core before core_new now → SameBus meaning.tree.told before now
+      → Finishes (bus_rules meaning) access core before core_new now → SameBus (told_on meaning.tree) before now
   unfolding Finishes
   finishes-same Nothing core core_new before now done = unchanged before now done.1
   finishes-same (Read port mode) core core_new before now done = unchanged before now done.0
@@ -310,7 +315,7 @@ module _ {T O E : Type 0} (meaning : Meaning T O E) where
 
   stops-same : (access : Access) (core : Core) (stop : Stop) (core_new : Core) (before now : Bus T O E)
       → Stops (bus_rules meaning) access core before stop core_new now
-      → SameBus meaning.tree.told before now × (stop ≡ NoMemory → HasRoot before.devices.now)
+      → SameBus (told_on meaning.tree) before now × (stop ≡ NoMemory → HasRoot before.devices.now)
   unfolding Stops
   stops-same Nothing core stop core_new before now stopped = absurd stopped
   stops-same (Read port mode) core stop core_new before now stopped = absurd stopped
@@ -318,7 +323,7 @@ module _ {T O E : Type 0} (meaning : Meaning T O E) where
       (writes_of width port value) before core stop now core_new stopped
 
   pub instruction-lent : (core core_new : Core) (before now : Bus T O E) (result : Result Turn Stop)
-      → Instruction (bus_rules meaning) core before result core_new now → SameBus meaning.tree.told before now
+      → Instruction (bus_rules meaning) core before result core_new now → SameBus (told_on meaning.tree) before now
   unfolding Instruction
   instruction-lent core core_new before now (Ok Broke) done = unchanged before now done.2
   instruction-lent core core_new before now (Ok Ran) done = finishes-same (begun core).access (begun core).core core_new before now done.1

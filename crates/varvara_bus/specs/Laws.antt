@@ -9,7 +9,6 @@ use Rattle.std.proofs.lemmas.List.{get_or_past, get_or-replicate, length-replica
 use Rattle.input_ports.specs.declared.Input.{Input}
 use Rattle.input_ports.specs.declared.Input.TheVariants.{Key, Down, Up, Mouse, Press, Release, Scroll, DownOf, UpOf}
 use Rattle.input_ports.specs.Page.{buttons_port, bits_set, bits_cleared, with_bits, without_bits, stores_of, stores_after, with_stores}
-use Rattle.uxn_io.specs.Faults.{Counts, Blame, Nobody, Ledger}
 use Rattle.uxn_io.specs.Files.{Nodes}
 use Rattle.uxn_io.specs.Outside.{ToFile, files_by}
 use Rattle.varvara_bus.specs.Bus.{file_held}
@@ -188,7 +187,3 @@ pub first_page : (page : List ℕ) → page ≡ slice_set (slice_set (slice_set 
     → (port : ℕ) → slice_index page port ≡ at_first port
 first_page page is port =
     ap (λ p. slice_index p port) is ∙ page-with_size (replicate 256 0) (length-replicate {A = ℕ} 256 0) (zero-page 256) port
-
--- who is to blame for a count, one part after another that did not fail
-pub ledger-then : (a b c : Counts) (blame : Blame) → Ledger a b Nobody → Ledger b c blame → Ledger a c blame
-ledger-then a b c blame first more = subst (λ before. Ledger before c blame) first more

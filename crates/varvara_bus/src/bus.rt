@@ -10,7 +10,6 @@ ghost use Rattle.input_ports.specs.Page.{stores_of, stores_after};
 ghost use Rattle.varvara_bus.specs.History.{stored, stored_short, colour_bytes};
 ghost use Rattle.uxn_io.specs.Faults.{Ledger};
 ghost use Rattle.uxn_opcodes.specs.Ports.{blame_of};
-ghost use Rattle.uxn_io.specs.State.{sink_state};
 ghost use Rattle.uxn_io.specs.Ended.{SinkEnded, Ended};
 ghost use Rattle.uxn_io.specs.Outside.{ToFile};
 ghost use Rattle.varvara_bus.specs.Effect.{debug_bytes};
@@ -30,6 +29,7 @@ ghost use Rattle.varvara_bus.specs.Bus.{
   outside_on,
   blame_for,
   ActEnds,
+  told_on,
 };
 
 use crate::devices::Devices;
@@ -69,7 +69,7 @@ fn answer(put: Result<(), Failed>) -> Result<(), Stop>
 /// Puts the debug text, where the byte is not 0.
 #[inline(never)]
 fn put_debug_text<E: Sink>(core: &Core, err: &mut E, value: u8) -> Result<(), Failed>
-    ensures { SinkEnded (debug_bytes value core.now) (is_err result) (sink_state E.Sink err.old) (sink_state E.Sink err.new) }
+    ensures { SinkEnded (debug_bytes value core.now) (is_err result) (E.state err.old) (E.state err.new) }
 {
     if value == 0 {
         return Ok(());
@@ -121,7 +121,7 @@ impl<'a, T: Tree, O: Sink, E: Sink> Bus<'a, T, O, E> {
 
     /// Stores a byte in a port, without acting.
     pub fn store(&mut self, port: u8, value: u8)
-        ensures devices { Becomes T.told (λ state. storing ((port, value) ∷ []) state) self.old self.new }
+        ensures devices { Becomes (told_on T.Tree) (λ state. storing ((port, value) ∷ []) state) self.old self.new }
         ensures others { ChangesDevices self.old self.new }
         ensures frames { frames_begun self.new ≡ frames_begun self.old }
     {
@@ -130,7 +130,7 @@ impl<'a, T: Tree, O: Sink, E: Sink> Bus<'a, T, O, E> {
 
     /// Stores an event of the console: its byte in port 12 and its kind in port 17.
     pub fn give(&mut self, value: u8, kind: EventKind)
-        ensures devices { Becomes T.told (λ state. storing ((0x12, value) ∷ (0x17, event_byte kind) ∷ []) state) self.old self.new }
+        ensures devices { Becomes (told_on T.Tree) (λ state. storing ((0x12, value) ∷ (0x17, event_byte kind) ∷ []) state) self.old self.new }
         ensures others { ChangesDevices self.old self.new }
         ensures frames { frames_begun self.new ≡ frames_begun self.old }
     {
@@ -139,7 +139,7 @@ impl<'a, T: Tree, O: Sink, E: Sink> Bus<'a, T, O, E> {
 
     /// Stores an input at its ports, as its vector finds them.
     pub fn apply(&mut self, input: &Input)
-        ensures devices { Becomes T.told (λ state. storing (stores_of (stored state.history) input.now) state) self.old self.new }
+        ensures devices { Becomes (told_on T.Tree) (λ state. storing (stores_of (stored state.history) input.now) state) self.old self.new }
         ensures others { ChangesDevices self.old self.new }
         ensures frames { frames_begun self.new ≡ frames_begun self.old }
     {
@@ -148,7 +148,7 @@ impl<'a, T: Tree, O: Sink, E: Sink> Bus<'a, T, O, E> {
 
     /// Stores 0 at the ports of an input that are 0 again after its vector.
     pub fn settle(&mut self, input: &Input)
-        ensures devices { Becomes T.told (λ state. storing (stores_after input.now) state) self.old self.new }
+        ensures devices { Becomes (told_on T.Tree) (λ state. storing (stores_after input.now) state) self.old self.new }
         ensures others { ChangesDevices self.old self.new }
         ensures frames { frames_begun self.new ≡ frames_begun self.old }
     {
@@ -158,7 +158,7 @@ impl<'a, T: Tree, O: Sink, E: Sink> Bus<'a, T, O, E> {
     /// Counts a frame that begins.
     pub fn frame_begins(&mut self)
         requires { frames_begun self.old < 1000000 }
-        ensures devices { Becomes T.told (λ state. next_frame state) self.old self.new }
+        ensures devices { Becomes (told_on T.Tree) (λ state. next_frame state) self.old self.new }
         ensures others { ChangesDevices self.old self.new }
         ensures frames { frames_begun self.new ≡ frames_begun self.old + 1 }
     {
@@ -184,7 +184,7 @@ impl<'a, T: Tree, O: Sink, E: Sink> Bus<'a, T, O, E> {
     /// Composes the marked rows of the screen, takes their marks away, and says how many rows there were. It changes no pixel.
     pub fn refresh(&mut self) -> u16
         ensures screen { layers.Refreshes (screen_of self.old) (screen_of self.new) result }
-        ensures devices { Becomes T.told (λ state. state) self.old self.new }
+        ensures devices { Becomes (told_on T.Tree) (λ state. state) self.old self.new }
         ensures held { (port : ℕ) → held self.new port ≡ held self.old port }
         ensures others { ChangesDevices self.old self.new }
         ensures frames { frames_begun self.new ≡ frames_begun self.old }
@@ -203,7 +203,7 @@ impl<'a, T: Tree, O: Sink, E: Sink> Bus<'a, T, O, E> {
     pub fn audio_frame(&mut self, memory: &Memory, into: &mut [i16; 1470]) -> [bool; 4]
         ensures frame { (state : DeviceState) → StandFor self.old.devices.now state → into.new ≡ frame_of memory.now state.sounds }
         ensures ends { (state : DeviceState) → StandFor self.old.devices.now state → result ≡ endings 735 state.sounds }
-        ensures devices { Becomes T.told (λ state. rendered state) self.old self.new }
+        ensures devices { Becomes (told_on T.Tree) (λ state. rendered state) self.old self.new }
         ensures others { ChangesDevices self.old self.new }
         ensures frames { frames_begun self.new ≡ frames_begun self.old }
     {
@@ -222,7 +222,7 @@ impl<'a, T: Tree, O: Sink, E: Sink> Bus<'a, T, O, E> {
         requires { all_play_on self.old.devices.now.mixer ≡ true }
         ensures ends { (state : DeviceState) → StandFor self.old.devices.now state
             → endings 735 state.sounds ≡ false ∷ false ∷ false ∷ false ∷ [] }
-        ensures devices { Becomes T.told (λ state. rendered state) self.old self.new }
+        ensures devices { Becomes (told_on T.Tree) (λ state. rendered state) self.old self.new }
         ensures others { ChangesDevices self.old self.new }
         ensures frames { frames_begun self.new ≡ frames_begun self.old }
     {
@@ -231,16 +231,16 @@ impl<'a, T: Tree, O: Sink, E: Sink> Bus<'a, T, O, E> {
 
     /// Appends the whole piece to the file at the path. After `TreeFault` a front of it was appended.
     pub fn append(&mut self, path: &Path, piece: &[u8]) -> Result<(), Stop>
-        requires { IsFileWhereTold (T.told self.old.tree.now) path.now }
+        requires { IsFileWhereTold (T.state self.old.tree.now).told path.now }
         ensures ended { Ended (map (λ byte. ToFile path.now byte) piece.now) (blame_for result)
             (outside_on (meaning_of T.Tree O.Sink E.Sink) self.old) (outside_on (meaning_of T.Tree O.Sink E.Sink) self.new) }
         ensures err { OnErr result (result ≡ Err Stop.TreeFault) }
 
         // The devices stay as they are, and each file that was there is there still.
         ensures devices { self.new.devices.now ≡ self.old.devices.now }
-        ensures stands { OnOk result ((state : DeviceState) → BusStandsFor T.told self.old state
-            → BusStandsFor T.told self.new (piece_appended path.now piece.now state)) }
-        ensures same { SameBus T.told self.old self.new }
+        ensures stands { OnOk result ((state : DeviceState) → BusStandsFor (told_on T.Tree) self.old state
+            → BusStandsFor (told_on T.Tree) self.new (piece_appended path.now piece.now state)) }
+        ensures same { SameBus (told_on T.Tree) self.old self.new }
     {
         append_all(self.tree, path, piece).map_err(|_| Stop::TreeFault)
     }

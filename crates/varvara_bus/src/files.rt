@@ -1,7 +1,6 @@
 //! The ports of the file devices.
 ghost use Rattle.std.specs.Prelude.{◌≡◌, ◌≤◌};
 ghost use Rattle.uxn_io.specs.Faults.{Counted};
-ghost use Rattle.uxn_io.specs.State.{tree_state};
 ghost use Rattle.uxn_io.specs.Ended.{TreeEnded};
 ghost use Rattle.file_ports.specs.Device.{Suits};
 ghost use Rattle.file_ports.specs.Answers.{changes_by, has_failed};
@@ -63,9 +62,9 @@ fn perform<T: Tree>(
     request: Request,
 ) -> Result<u16, FileStop>
     requires { Suits root device.old }
-    ensures tree { TreeEnded (changes_by (action_asked request) (T.told tree.old) device.old memory.old) (has_failed result)
-        (tree_state T.Tree tree.old) (tree_state T.Tree tree.new) }
-    ensures acted { Performed (action_asked request) root device.old memory.old (T.told tree.old) result device.new memory.new }
+    ensures tree { TreeEnded (changes_by (action_asked request) (T.state tree.old).told device.old memory.old) (has_failed result)
+        (T.state tree.old) (T.state tree.new) }
+    ensures acted { Performed (action_asked request) root device.old memory.old (T.state tree.old).told result device.new memory.new }
     ensures suits { Suits root device.new }
 {
     match request {
@@ -88,9 +87,9 @@ fn perform_on<T: Tree>(
     number: FileNumber,
     request: Request,
 ) -> Result<u16, FileStop>
-    ensures tree { TreeEnded (changes_by (action_asked request) (T.told tree.old) (file_held number devices.old) memory.old) (has_failed result)
-        (tree_state T.Tree tree.old) (tree_state T.Tree tree.new) }
-    ensures acted { Performed (action_asked request) devices.old.root (file_held number devices.old) memory.old (T.told tree.old) result
+    ensures tree { TreeEnded (changes_by (action_asked request) (T.state tree.old).told (file_held number devices.old) memory.old) (has_failed result)
+        (T.state tree.old) (T.state tree.new) }
+    ensures acted { Performed (action_asked request) devices.old.root (file_held number devices.old) memory.old (T.state tree.old).told result
         (file_held number devices.new) memory.new }
     ensures stands { (state : DeviceState) → StandFor devices.old state
         → StandFor devices.new (with_file number (file_held number devices.new) state) }
@@ -115,10 +114,10 @@ pub(crate) fn act_on_file<T: Tree>(
     number: FileNumber,
     act: FileAct,
 ) -> Result<(), Stop>
-    ensures tree { FileEnded number act devices.old memory.old (tree_failed result) (tree_state T.Tree tree.old) (tree_state T.Tree tree.new) }
-    ensures acted { FileAnswers number act devices.old memory.old (T.told tree.old) result devices.new memory.new }
-    ensures counted { Counted (T.faults tree.old) (T.faults tree.new) (tree_failed result) }
-    ensures stay { FilesStay devices.old.root (T.told tree.old) (T.told tree.new) }
+    ensures tree { FileEnded number act devices.old memory.old (tree_failed result) (T.state tree.old) (T.state tree.new) }
+    ensures acted { FileAnswers number act devices.old memory.old (T.state tree.old).told result devices.new memory.new }
+    ensures counted { Counted (T.state tree.old).tally (T.state tree.new).tally (tree_failed result) }
+    ensures stay { FilesStay devices.old.root (T.state tree.old).told (T.state tree.new).told }
     ensures frames { devices.new.time.frames ≡ devices.old.time.frames }
     ensures clock { clock_of devices.new ≡ clock_of devices.old }
     ensures root { devices.new.root ≡ devices.old.root }

@@ -8,7 +8,7 @@ use clock_port::{CivilFields, fields};
 const RATE: u32 = 60;
 
 /// The moment that a run begins at, and how far ahead of UTC the machine's clock is.
-#[derive(Clone, Copy, Debug, PartialEq, Eq)]
+#[derive(Clone, Copy, PartialEq, Eq)]
 pub struct Clock {
     /// Seconds since 1970-01-01 00:00:00 UTC, 0 to 253,370,000,000.
     pub seconds: i64,

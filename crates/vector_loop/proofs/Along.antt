@@ -15,7 +15,7 @@ use Rattle.varvara_bus.specs.declared.bus.Bus.{Bus}
 use Rattle.varvara_bus.specs.History.{stored}
 use Rattle.varvara_bus.specs.State.{DeviceState}
 use Rattle.varvara_bus.specs.Reads.{read_of}
-use Rattle.varvara_bus.specs.Bus.{BusStandsFor, Reads, Meaning, Makes, StopsShort, outside_on, held_page, bus_rules}
+use Rattle.varvara_bus.specs.Bus.{BusStandsFor, Reads, Meaning, Makes, StopsShort, outside_on, held_page, bus_rules, told_on}
 use Rattle.varvara_bus.specs.InstructionLaws.{makes-none, makes-both, instruction-done}
 use Rattle.vector_loop.specs.declared.watch.Moment.{Moment}
 use Rattle.vector_loop.specs.State.{State, counting_instruction}
@@ -51,7 +51,7 @@ module _ {T O E : Type 0} (meaning : Meaning T O E) where
 
 module _ {T O E W H : Type 0} (meaning : Meaning T O E) (held : W → H) (shown : H → Core → Page → Moment → H) where
   -- nothing is done yet
-  pub follows-nothing : (now : Running T O E W) (devices : DeviceState) → BusStandsFor meaning.tree.told now.bus devices
+  pub follows-nothing : (now : Running T O E W) (devices : DeviceState) → BusStandsFor (told_on meaning.tree) now.bus devices
       → Follows meaning held shown now now (stays (state_of now devices))
   follows-nothing now devices stands = record {
     core = refl;
@@ -104,7 +104,7 @@ module _ {T O E W H : Type 0} (meaning : Meaning T O E) (held : W → H) (shown 
           tally = refl;
           makes = done.makes;
           changes = ([], ([], (sym (append-nil (instruction (state_of now devices)).changes), tt)));
-          watcher = watched (page_in (state_of now devices)) (is_page meaning.tree.told now.bus (state_of now devices) stands);
+          watcher = watched (page_in (state_of now devices)) (is_page (told_on meaning.tree) now.bus (state_of now devices) stands);
         };
   }
 

@@ -2,15 +2,15 @@
 use Rattle.std.proofs.Common.{◌≡◌, ℕ, ◌+◌, ◌≤◌, ◌⊎◌, Bool, true, false, cond, List, refl, ap, subst, sym, ◌∙◌, arith}
 use Rattle.std.specs.Prelude.{Option, Some, None, IfSome, Result, Ok, Err, OnOk, IfErr}
 use Rattle.uxn_io.specs.Files.{Nodes}
-use Rattle.uxn_io.specs.Faults.{Ledger}
+use Rattle.uxn_io.specs.Faults.{Ledger, Nobody}
 use Rattle.uxn_opcodes.specs.declared.Core.{Core}
 use Rattle.uxn_opcodes.specs.declared.Stop.{Stop}
 use Rattle.uxn_opcodes.specs.declared.Stop.TheVariants.{NoMemory, TreeFault, SinkFault}
 use Rattle.uxn_opcodes.specs.Ports.{blame_of}
 use Rattle.varvara_bus.specs.declared.bus.Bus.{Bus}
 use Rattle.varvara_bus.specs.State.{DeviceState}
-use Rattle.varvara_bus.specs.Laws.{ledger-then}
-use Rattle.varvara_bus.specs.Bus.{SameLent, SameBus, FilesStay, HasRoot, IsOutside, ChangesDevices, BusStandsFor, bus_faults, frames_begun}
+use Rattle.uxn_io.specs.FaultLaws.{ledger-same, ledger-kept, ledger-then}
+use Rattle.varvara_bus.specs.Bus.{SameLent, SameBus, FilesStay, HasRoot, IsOutside, ChangesDevices, BusStandsFor, bus_faults, frames_begun, told_on}
 use Rattle.vector_loop.specs.declared.runner.Runner.{Runner}
 use Rattle.vector_loop.specs.declared.tally.Tally.{Tally}
 use Rattle.vector_loop.specs.State.{State, is_over}
@@ -18,7 +18,7 @@ use Rattle.vector_loop.specs.Trail.{Trail, stays, makes, followed_by}
 use Rattle.vector_loop.specs.Event.{unless_over}
 use Rattle.vector_loop.specs.declared.output.Outputs.{Outputs}
 use Rattle.vector_loop.specs.Outputs.{IsOutput, OutputsThere, appended_to}
-use Rattle.vector_loop.specs.Making.{MadeOrCut, MadeBy}
+use Rattle.vector_loop.specs.Making.{MadeOrCut}
 use Rattle.vector_loop.specs.Follows.{Running, running, state_of, FollowsFrom, FallsShortFrom, HasGrown}
 use Rattle.vector_loop.specs.Stops.{StopsInFrom}
 use Rattle.vector_loop.specs.Answers.{Telling, Count, none, both, HasRoom, running_of, HasOutputs, SameRunner, Reaches, Answers}
@@ -26,7 +26,7 @@ use Rattle.vector_loop.specs.TrailLaws.{followed_by-again, followed_by-at, stays
 use Rattle.vector_loop.proofs.Along.{follows-nothing, follows-both}
 use Rattle.vector_loop.proofs.Stopping.{stopped-first, stopped-later, stopped-append, falls-short-from}
 use Rattle.vector_loop.proofs.Counting.{grown-both, grown-none, grown-within, room-left}
-use Rattle.vector_loop.proofs.Makings.{makes-nothing, files-kept, same_faults, no-memory}
+use Rattle.vector_loop.proofs.Makings.{makes-nothing, files-kept, same_faults, no-memory, the-stop}
 
 -- where the run is over nothing more is done, and else all
 over : (rest : State → Trail) (state : State) → is_over state ≡ true → unless_over rest state ≡ stays state
@@ -108,7 +108,7 @@ module _ {T O E W : Type 0} (told_tree : T → Option Nodes) where
 
 module _ {T O E W H : Type 0} (telling : Telling T O E W H) where
   reaches-where : {X : Type 0} (a b : Running T O E W) (part other : State → Trail) (r : Result X Stop)
-      → ((devices : DeviceState) → BusStandsFor telling.meaning.tree.told a.bus devices → other (state_of a devices) ≡ part (state_of a devices))
+      → ((devices : DeviceState) → BusStandsFor (told_on telling.meaning.tree) a.bus devices → other (state_of a devices) ≡ part (state_of a devices))
       → Reaches telling a b part r → Reaches telling a b other r
   reaches-where a b part other (Ok x) same follows = record { from = λ devices stands. rw (same devices stands) (follows.from devices stands) }
   reaches-where a b part other (Err stop) same stopped = record {
@@ -134,10 +134,10 @@ module _ {T O E W H : Type 0} (telling : Telling T O E W H) where
   pub answers-nothing : {X : Type 0} (now : Runner T O E W) (x : X) → Answers telling now now stays none (Ok x)
   answers-nothing now x = record {
     reaches = record { from = λ devices stands. follows-nothing telling.meaning telling.held telling.shown (running_of now) devices stands };
-    ledger = refl;
+    ledger = ledger-same (bus_faults telling.meaning now.bus.now);
     grown = grown-none now.tally now.budget;
     frames = omega arith;
-    same = same-itself telling.meaning.tree.told now;
+    same = same-itself (told_on telling.meaning.tree) now;
   }
 
   -- a part, and then another, whatever that answers
@@ -149,7 +149,7 @@ module _ {T O E W H : Type 0} (telling : Telling T O E W H) where
         p.ledger q.ledger;
     grown = grown-both a.tally b.tally c.tally m.vectors m.events n.vectors n.events a.budget p.grown (rw p.same.budget at q.grown);
     frames = omega (arith, p.frames, q.frames);
-    same = same-both telling.meaning.tree.told a b c p.same q.same;
+    same = same-both (told_on telling.meaning.tree) a b c p.same q.same;
   }
 
   -- a part that stopped, whatever would follow it
@@ -187,7 +187,7 @@ module _ {T O E W H : Type 0} (telling : Telling T O E W H) where
 
   -- the same under another name, in the states that the bus stood for
   pub answers-where : {X : Type 0} (a b : Runner T O E W) (part other : State → Trail) (m : Count) (r : Result X Stop)
-      → ((devices : DeviceState) → BusStandsFor telling.meaning.tree.told a.bus.now devices
+      → ((devices : DeviceState) → BusStandsFor (told_on telling.meaning.tree) a.bus.now devices
       → other (state_of (running_of a) devices) ≡ part (state_of (running_of a) devices))
       → Answers telling a b part m r → Answers telling a b other m r
   answers-where a b part other m r same p = record {
@@ -221,7 +221,7 @@ module _ {T O E W H : Type 0} (telling : Telling T O E W H) where
 
   -- where the run is over, and where it is not
   pub answers-over : {X : Type 0} (now : Runner T O E W) (rest : State → Trail) (m : Count) (x : X) (is : Bool)
-      → ((devices : DeviceState) → BusStandsFor telling.meaning.tree.told now.bus.now devices → is ≡ is_over (state_of (running_of now) devices))
+      → ((devices : DeviceState) → BusStandsFor (told_on telling.meaning.tree) now.bus.now devices → is ≡ is_over (state_of (running_of now) devices))
       → is ≡ true → Answers telling now now (unless_over rest) m (Ok x)
   answers-over now rest m x is reads true_now =
       answers-within now now (unless_over rest) none m (Ok x) (omega arith) (omega arith)
@@ -229,7 +229,7 @@ module _ {T O E W H : Type 0} (telling : Telling T O E W H) where
       (λ devices stands. over rest (state_of (running_of now) devices) (sym (reads devices stands) ∙ true_now)) (answers-nothing now x))
 
   pub answers-not_over : {X : Type 0} (a b : Runner T O E W) (rest : State → Trail) (m : Count) (r : Result X Stop) (is : Bool)
-      → ((devices : DeviceState) → BusStandsFor telling.meaning.tree.told a.bus.now devices → is ≡ is_over (state_of (running_of a) devices))
+      → ((devices : DeviceState) → BusStandsFor (told_on telling.meaning.tree) a.bus.now devices → is ≡ is_over (state_of (running_of a) devices))
       → is ≡ false → Answers telling a b rest m r → Answers telling a b (unless_over rest) m r
   answers-not_over a b rest m r is reads false_now p =
       answers-where a b rest (unless_over rest) m r
@@ -239,9 +239,9 @@ module _ {T O E W H : Type 0} (telling : Telling T O E W H) where
   pub answers-change : {X : Type 0} (a b : Runner T O E W) (prepare : State → State) (m : Count) (x : X)
       → record a { bus = b.bus; tally = b.tally } ≡ b → b.bus.ghost_name ≡ a.bus.ghost_name → ChangesDevices a.bus.now b.bus.now
       → frames_begun b.bus.now ≤ frames_begun a.bus.now + m.events → HasGrown a.tally b.tally m.vectors m.events a.budget
-      → ((devices : DeviceState) → BusStandsFor telling.meaning.tree.told a.bus.now devices
-      → BusStandsFor telling.meaning.tree.told b.bus.now (prepare (state_of (running_of a) devices)).devices)
-      → ((devices : DeviceState) → BusStandsFor telling.meaning.tree.told a.bus.now devices
+      → ((devices : DeviceState) → BusStandsFor (told_on telling.meaning.tree) a.bus.now devices
+      → BusStandsFor (told_on telling.meaning.tree) b.bus.now (prepare (state_of (running_of a) devices)).devices)
+      → ((devices : DeviceState) → BusStandsFor (told_on telling.meaning.tree) a.bus.now devices
       → state_of (running_of b) (prepare (state_of (running_of a) devices)).devices ≡ prepare (state_of (running_of a) devices))
       → Answers telling a b (λ s. stays (prepare s)) m (Ok x)
   answers-change a b prepare m x others_same bus others frames grown devices_now state_now = record {
@@ -255,7 +255,7 @@ module _ {T O E W H : Type 0} (telling : Telling T O E W H) where
         watcher = ap (λ (r : Runner T O E W). telling.held r.watcher.now) (sym others_same);
       };
     };
-    ledger = same_faults telling.meaning a.bus.now b.bus.now others;
+    ledger = ledger-kept _ _ (same_faults telling.meaning a.bus.now b.bus.now others);
     grown = grown;
     frames = frames;
     same = record {
@@ -265,7 +265,7 @@ module _ {T O E W H : Type 0} (telling : Telling T O E W H) where
       budget = ap (λ (r : Runner T O E W). r.budget) (sym others_same);
       lent = others.lent;
       root = others.root;
-      files = files-kept telling.meaning.tree.told a.bus.now b.bus.now others;
+      files = files-kept (told_on telling.meaning.tree) a.bus.now b.bus.now others;
     };
   }
 
@@ -273,7 +273,7 @@ module _ {T O E W H : Type 0} (telling : Telling T O E W H) where
   pub answers-stored : {X : Type 0} (a b : Runner T O E W) (change : DeviceState → DeviceState) (x : X)
       → record a { bus = b.bus; tally = b.tally } ≡ b → b.tally ≡ a.tally → b.bus.ghost_name ≡ a.bus.ghost_name
       → ChangesDevices a.bus.now b.bus.now → frames_begun b.bus.now ≡ frames_begun a.bus.now
-      → ((devices : DeviceState) → BusStandsFor telling.meaning.tree.told a.bus.now devices → BusStandsFor telling.meaning.tree.told b.bus.now (change devices))
+      → ((devices : DeviceState) → BusStandsFor (told_on telling.meaning.tree) a.bus.now devices → BusStandsFor (told_on telling.meaning.tree) b.bus.now (change devices))
       → Answers telling a b (λ s. stays (record s { devices = change s.devices })) none (Ok x)
   answers-stored a b change x others_same tally bus others frames devices_now =
       let core : b.core.now ≡ a.core.now = ap (λ (r : Runner T O E W). r.core.now) (sym others_same) in
@@ -285,14 +285,14 @@ module _ {T O E W H : Type 0} (telling : Telling T O E W H) where
   -- changes that a run makes itself are a part of it
   reaches-made : (a b : Runner T O E W) (output : Option (List ℕ)) (bytes : DeviceState → List ℕ) (r : Result (Unit {0}) Stop)
       → IfSome output (IsOutside a.bus.now.devices.now.root) → b.core.now ≡ a.core.now → b.tally ≡ a.tally → b.watcher.now ≡ a.watcher.now
-      → MadeBy telling.meaning a.bus.now b.bus.now (λ s. appended_to output (bytes s)) r
+      → MadeOrCut telling.meaning a.bus.now b.bus.now (λ s. appended_to output (bytes s)) r
       → Reaches telling (running_of a) (running_of b) (λ s. makes (appended_to output (bytes s.devices)) s) r
   reaches-made a b output bytes (Ok x) outside core tally watcher made = record {
     from = λ devices stands. record {
       core = core;
       devices = made.stands devices stands;
       tally = tally;
-      makes = made.makes devices stands;
+      makes = let done = made.made devices stands in record { world = done.world; remains = done.remains };
       changes = tt;
       watcher = ap telling.held watcher;
     };
@@ -300,11 +300,11 @@ module _ {T O E W H : Type 0} (telling : Telling T O E W H) where
   reaches-made a b output bytes (Err stop) outside core tally watcher cut = record {
     within = stopped-append telling.meaning telling.held telling.shown telling.may_refuse (running_of a) (running_of b) stop output bytes outside core tally watcher
         cut;
-    memory = λ wanted. absurd (no-memory stop cut.fault wanted);
+    memory = λ wanted. absurd (no-memory stop (the-stop (Err stop) stop refl cut.fault) wanted);
   }
 
   pub answers-made : (a b : Runner T O E W) (output : Option (List ℕ)) (bytes : DeviceState → List ℕ) (r : Result (Unit {0}) Stop)
-      → IfSome output (IsOutput a.bus.now.devices.now.root (telling.meaning.tree.told a.bus.now.tree.now)) → record a { bus = b.bus } ≡ b → b.bus.ghost_name ≡ a.bus.ghost_name
+      → IfSome output (IsOutput a.bus.now.devices.now.root ((told_on telling.meaning.tree) a.bus.now.tree.now)) → record a { bus = b.bus } ≡ b → b.bus.ghost_name ≡ a.bus.ghost_name
       → MadeOrCut telling.meaning a.bus.now b.bus.now
       (λ s. appended_to output (bytes s)) r
       → Answers telling a b (λ s. makes (appended_to output (bytes s.devices)) s) none r
@@ -312,7 +312,7 @@ module _ {T O E W H : Type 0} (telling : Telling T O E W H) where
       let tally : b.tally ≡ a.tally = ap (λ (r : Runner T O E W). r.tally) (sym others_same) in
       record {
         reaches = reaches-made a b output bytes r (output-outside output _ _ there) (ap (λ (r : Runner T O E W). r.core.now) (sym others_same)) tally
-            (ap (λ (r : Runner T O E W). r.watcher.now) (sym others_same)) made.made;
+            (ap (λ (r : Runner T O E W). r.watcher.now) (sym others_same)) made;
         ledger = made.ledger;
         grown = rw tally (grown-none a.tally a.budget);
         frames = omega (arith, made.same.frames);
@@ -329,8 +329,8 @@ module _ {T O E W H : Type 0} (telling : Telling T O E W H) where
 
   -- what instructions answer, by what they leave of the bus
   same-bus : (a b : Runner T O E W) → b.core.ghost_name ≡ a.core.ghost_name → b.bus.ghost_name ≡ a.bus.ghost_name
-      → b.watcher.ghost_name ≡ a.watcher.ghost_name → b.budget ≡ a.budget → SameBus telling.meaning.tree.told a.bus.now b.bus.now
-      → SameRunner telling.meaning.tree.told a b
+      → b.watcher.ghost_name ≡ a.watcher.ghost_name → b.budget ≡ a.budget → SameBus (told_on telling.meaning.tree) a.bus.now b.bus.now
+      → SameRunner (told_on telling.meaning.tree) a b
   same-bus a b core bus watcher budget same = record {
     core = core;
     bus = bus;
@@ -344,11 +344,11 @@ module _ {T O E W H : Type 0} (telling : Telling T O E W H) where
   pub answers-ran : {X : Type 0} (a b : Runner T O E W) (part : State → Trail) (m : Count) (x : X)
       → b.core.ghost_name ≡ a.core.ghost_name → b.bus.ghost_name ≡ a.bus.ghost_name → b.watcher.ghost_name ≡ a.watcher.ghost_name
       → b.budget ≡ a.budget → FollowsFrom telling.meaning telling.held telling.shown (running_of a) (running_of b) part
-      → bus_faults telling.meaning b.bus.now ≡ bus_faults telling.meaning a.bus.now → HasGrown a.tally b.tally m.vectors m.events a.budget
-      → SameBus telling.meaning.tree.told a.bus.now b.bus.now → Answers telling a b part m (Ok x)
-  answers-ran a b part m x core bus watcher budget follows faults grown same = record {
+      → Ledger (bus_faults telling.meaning a.bus.now) (bus_faults telling.meaning b.bus.now) Nobody → HasGrown a.tally b.tally m.vectors m.events a.budget
+      → SameBus (told_on telling.meaning.tree) a.bus.now b.bus.now → Answers telling a b part m (Ok x)
+  answers-ran a b part m x core bus watcher budget follows ledger grown same = record {
     reaches = follows;
-    ledger = faults;
+    ledger = ledger;
     grown = grown;
     frames = omega (arith, same.frames);
     same = same-bus a b core bus watcher budget same;
@@ -360,7 +360,7 @@ module _ {T O E W H : Type 0} (telling : Telling T O E W H) where
       → (stop ≡ NoMemory → telling.may_refuse ⊎ HasRoot a.bus.now.devices.now)
       → Ledger (bus_faults telling.meaning a.bus.now) (bus_faults telling.meaning b.bus.now) (blame_of {T = X} (Err stop))
       → HasGrown a.tally b.tally m.vectors m.events a.budget
-      → SameBus telling.meaning.tree.told a.bus.now b.bus.now → Answers telling {X = Y} a b part m (Err stop)
+      → SameBus (told_on telling.meaning.tree) a.bus.now b.bus.now → Answers telling {X = Y} a b part m (Err stop)
   answers-cut X {Y = Y} a b part m stop core bus watcher budget within memory ledger grown same = record {
     reaches = record { within = within; memory = memory };
     ledger = rw (blame-same Y X stop) ledger;

@@ -8,10 +8,12 @@ use Rattle.std.specs.Prelude.{Option, Result, Ok, Err, OnOk, OnErr, ℤ, slice_i
 use Rattle.std.specs.List.{flat_map, range_with_len}
 use Rattle.std.specs.Int.{w16, cast_unsigned}
 use Rattle.audio_mixer.specs.Laws.{short_of}
-use Rattle.uxn_io.specs.Ended.{Ended}
+use Rattle.uxn_io.specs.Ended.{Ended, Done}
+use Rattle.uxn_io.specs.EndedLaws.{done-nothing, ended-then, ended-first}
+use Rattle.uxn_io.specs.State.{Outside}
+use Rattle.uxn_io.specs.Faults.{Ledger}
 use Rattle.uxn_io.specs.Outside.{Change, ToFile}
 use Rattle.uxn_io.specs.Files.{Nodes}
-use Rattle.uxn_io.specs.TakingLaws.{remains-all}
 use Rattle.uxn_opcodes.specs.declared.Stop.{Stop}
 use Rattle.uxn_opcodes.specs.declared.Stop.TheVariants.{NoMemory, TreeFault}
 use Rattle.uxn_opcodes.specs.Ports.{blame_of}
@@ -21,17 +23,21 @@ use Rattle.screen_layers.specs.Pictures.{picture_row_of}
 use Rattle.varvara_bus.specs.declared.bus.Bus.{Bus}
 use Rattle.varvara_bus.specs.declared.devices.Devices.{Devices}
 use Rattle.varvara_bus.specs.History.{colour_bytes}
-use Rattle.varvara_bus.specs.State.{DeviceState, StandFor}
-use Rattle.varvara_bus.specs.Bus.{ChangesDevices, FilesStay, IsOutside, BusStandsFor, Meaning, Makes, bus_faults, blame_for, SameBus, frames_begun, screen_of, outside_on}
+use Rattle.varvara_bus.specs.State.{DeviceState}
+use Rattle.varvara_bus.specs.Bus.{ChangesDevices, FilesStay, IsOutside, BusStandsFor, Meaning, Makes, bus_faults, blame_for, SameBus, frames_begun, screen_of, outside_on, told_on}
 use Rattle.varvara_bus.specs.FileActs.{piece_appended}
-use Rattle.varvara_bus.specs.Laws.{appended-outside, ledger-then}
-use Rattle.varvara_bus.specs.InstructionLaws.{same-itself, same-again, makes-none, makes-both, stops-first, stops-later}
-use Rattle.vector_loop.specs.Making.{MadeBy, MadeOrCut}
+use Rattle.varvara_bus.specs.Laws.{appended-outside}
+use Rattle.uxn_io.specs.FaultLaws.{ledger-same, ledger-then}
+use Rattle.varvara_bus.specs.InstructionLaws.{same-itself, same-again}
+use Rattle.vector_loop.specs.Making.{MadeOrCut}
 use Rattle.vector_loop.specs.Outputs.{picture_bytes, sample_bytes, samples_bytes}
 
 -- a fault of the tree is no want of memory
 pub no-memory : (stop : Stop) → stop ≡ TreeFault → stop ≡ NoMemory → ⊥
 no-memory stop fault wanted = cc
+
+pub the-stop : (answer : Result (Unit {0}) Stop) (stop : Stop) → answer ≡ Err stop → answer ≡ Err TreeFault → stop ≡ TreeFault
+the-stop answer stop is fault = cc
 
 -- bytes for a file
 abbrev pub to_file : List ℕ → List ℕ → List Change
@@ -103,110 +109,99 @@ appended-still told_tree a b path piece (Err stop) outside stands = tt
 
 module _ {T O E : Type 0} (meaning : Meaning T O E) where
   -- where nothing but what the devices stand for changes nothing is made
+  done-still : (before now : Bus T O E) → ChangesDevices before now → Done [] (outside_on meaning before) (outside_on meaning now)
+  done-still before now others = rw (others.tree, others.out, others.err) (done-nothing (outside_on meaning before))
+
   pub makes-nothing : (before now : Bus T O E) → ChangesDevices before now → Makes meaning before now []
-  makes-nothing before now changes = record {
-    world = rw (changes.tree, changes.out, changes.err) refl;
-    remains = rw (changes.tree, changes.out, changes.err) (remains-all (outside_on meaning before).sure (meaning.tree.told before.tree.now));
-  }
-
-  by-where : (a b : Bus T O E) (changes other : DeviceState → List Change) (r : Result (Unit {0}) Stop)
-      → ((s : DeviceState) → BusStandsFor meaning.tree.told a s → other s ≡ changes s) → MadeBy meaning a b changes r → MadeBy meaning a b other r
-  by-where a b changes other (Ok x) same made = record {
-    makes = λ s stands. rw (same s stands) (made.makes s stands);
-    stands = made.stands;
-    height = made.height;
-  }
-  by-where a b changes other (Err stop) same cut = record {
-    cut = λ s stands. rw (same s stands) (cut.cut s stands);
-    devices = cut.devices;
-    fault = cut.fault;
-  }
-
-  by-then : (a b c : Bus T O E) (first more : DeviceState → List Change) (r : Result (Unit {0}) Stop) → MadeBy meaning a b first (Ok (tt {0}))
-      → MadeBy meaning b c more r → MadeBy meaning a c (λ s. first s ++ more s) r
-  by-then a b c first more (Ok x) p q = record {
-    makes = λ s stands. makes-both meaning a b c (first s) (more s) (p.makes s stands) (q.makes s (p.stands s stands));
-    stands = λ s stands. q.stands s (p.stands s stands);
-    height = q.height ∙ p.height;
-  }
-  by-then a b c first more (Err stop) p q = record {
-    cut = λ s stands. stops-later meaning a b c stop (first s) (more s) (p.makes s stands) (q.cut s (p.stands s stands));
-    devices = λ s stands. q.devices s (p.stands s stands);
-    fault = q.fault;
-  }
-
-  -- the devices stand for the same, whatever was answered
-  pub devices-kept : (a b : Bus T O E) (changes : DeviceState → List Change) (r : Result (Unit {0}) Stop) → MadeBy meaning a b changes r
-      → (s : DeviceState) → BusStandsFor meaning.tree.told a s → StandFor b.devices.now s
-  devices-kept a b changes (Ok x) made s stands = (made.stands s stands).devices
-  devices-kept a b changes (Err stop) cut s stands = cut.devices s stands
+  makes-nothing before now others = let done = done-still before now others in record { world = done.world; remains = done.remains }
 
   -- what the bus answered for a piece, with the stop that it names
+  ended-ledger : (changes : List Change) (r : Result (Unit {0}) Stop) (before now : Outside) → Ended changes (blame_for r) before now
+      → Ledger before.faults now.faults (blame_of r)
+  ended-ledger changes (Ok x) before now done = done.ledger
+  ended-ledger changes (Err stop) before now short = short.ledger
+
   pub appended : (a b : Bus T O E) (changes : List Change) (r : Result (Unit {0}) Stop)
       → Ended changes (blame_for r) (outside_on meaning a) (outside_on meaning b)
-      → OnOk r ((s : DeviceState) → BusStandsFor meaning.tree.told a s → BusStandsFor meaning.tree.told b s) → OnErr r (r ≡ Err TreeFault)
-      → b.devices.now ≡ a.devices.now → SameBus meaning.tree.told a b → MadeOrCut meaning a b (λ s. changes) r
-  appended a b changes (Ok x) done kept err devices same = record {
-    made = record {
-      makes = λ s stands. record { world = done.world; remains = done.remains };
-      stands = kept;
-      height = ap (λ (d : Devices). d.screen.height) devices;
-    };
-    ledger = done.ledger;
-    same = same;
-  }
-  appended a b changes (Err stop) short kept err devices same = record {
-    made = record {
-      cut = λ s stands. record { cut = short.cut; not_sure = short.not_sure };
-      devices = λ s stands. rw devices stands.devices;
-      fault = cc;
-    };
-    ledger = short.ledger;
+      → OnOk r ((s : DeviceState) → BusStandsFor (told_on meaning.tree) a s → BusStandsFor (told_on meaning.tree) b s) → OnErr r (r ≡ Err TreeFault)
+      → b.devices.now ≡ a.devices.now → SameBus (told_on meaning.tree) a b → MadeOrCut meaning a b (λ s. changes) r
+  appended a b changes r ended kept fault devices same = record {
+    made = λ s stands. ended;
+    stands = kept;
+    devices = λ s stands. rw devices stands.devices;
+    height = ap (λ (d : Devices). d.screen.height) devices;
+    fault = fault;
+    ledger = ended-ledger changes r _ _ ended;
     same = same;
   }
 
-module _ {T O E : Type 0} (meaning : Meaning T O E) where
   pub made-nothing : (bus : Bus T O E) → MadeOrCut meaning bus bus (λ s. []) (Ok (tt {0}))
   made-nothing bus = record {
-    made = record { makes = λ s stands. makes-none meaning bus; stands = λ s stands. stands; height = refl };
-    ledger = refl;
-    same = same-itself meaning.tree.told bus;
+    made = λ s stands. done-nothing (outside_on meaning bus);
+    stands = λ s stands. stands;
+    devices = λ s stands. stands.devices;
+    height = refl;
+    fault = tt;
+    ledger = ledger-same (bus_faults meaning bus);
+    same = same-itself (told_on meaning.tree) bus;
   }
 
   -- the devices stand for the same still, and nothing else changed
-  pub made-kept : (a b : Bus T O E) → ChangesDevices a b → ((s : DeviceState) → BusStandsFor meaning.tree.told a s → BusStandsFor meaning.tree.told b s)
+  pub made-kept : (a b : Bus T O E) → ChangesDevices a b → ((s : DeviceState) → BusStandsFor (told_on meaning.tree) a s → BusStandsFor (told_on meaning.tree) b s)
       → frames_begun b ≡ frames_begun a → (screen_of b).height ≡ (screen_of a).height → MadeOrCut meaning a b (λ s. []) (Ok (tt {0}))
   made-kept a b others kept frames height = record {
-    made = record { makes = λ s stands. makes-nothing meaning a b others; stands = kept; height = height };
-    ledger = same_faults meaning a b others;
-    same = record { lent = others.lent; files = files-kept meaning.tree.told a b others; frames = frames; clock = others.clock; root = others.root };
+    made = λ s stands. done-still a b others;
+    stands = kept;
+    devices = λ s stands. (kept s stands).devices;
+    height = height;
+    fault = tt;
+    ledger = (done-still a b others).ledger;
+    same = record { lent = others.lent; files = files-kept (told_on meaning.tree) a b others; frames = frames; clock = others.clock; root = others.root };
   }
 
   -- the same changes, in the states that the bus stood for
   pub made-where : (a b : Bus T O E) (changes other : DeviceState → List Change) (r : Result (Unit {0}) Stop)
-      → ((s : DeviceState) → BusStandsFor meaning.tree.told a s → other s ≡ changes s)
+      → ((s : DeviceState) → BusStandsFor (told_on meaning.tree) a s → other s ≡ changes s)
       → MadeOrCut meaning a b changes r → MadeOrCut meaning a b other r
-  made-where a b changes other r same p = record { made = by-where meaning a b changes other r same p.made; ledger = p.ledger; same = p.same }
+  made-where a b changes other r same p = record {
+    made = λ s stands. rw (same s stands) (p.made s stands);
+    stands = p.stands;
+    devices = p.devices;
+    height = p.height;
+    fault = p.fault;
+    ledger = p.ledger;
+    same = p.same;
+  }
 
   -- changes, and then others, whatever these answer
   pub made-then : (a b c : Bus T O E) (first more : DeviceState → List Change) (r : Result (Unit {0}) Stop)
       → MadeOrCut meaning a b first (Ok (tt {0})) → MadeOrCut meaning b c more r
       → MadeOrCut meaning a c (λ s. first s ++ more s) r
   made-then a b c first more r p q = record {
-    made = by-then meaning a b c first more r p.made q.made;
+    made = λ s stands. ended-then (first s) (more s) (blame_for r) _ _ _ (p.made s stands) (q.made s (p.stands s stands));
+    stands = stands r q.stands;
+    devices = λ s stands. q.devices s (p.stands s stands);
+    height = q.height ∙ p.height;
+    fault = q.fault;
     ledger = ledger-then (bus_faults meaning a) (bus_faults meaning b) (bus_faults meaning c) (blame_of r) p.ledger q.ledger;
-    same = same-again meaning.tree.told a b c p.same q.same;
+    same = same-again (told_on meaning.tree) a b c p.same q.same;
   }
+    where
+      stands : (answer : Result (Unit {0}) Stop)
+          → OnOk answer ((s : DeviceState) → BusStandsFor (told_on meaning.tree) b s → BusStandsFor (told_on meaning.tree) c s)
+          → OnOk answer ((s : DeviceState) → BusStandsFor (told_on meaning.tree) a s → BusStandsFor (told_on meaning.tree) c s)
+      stands (Ok x) later = λ s stood. later s (p.stands s stood)
+      stands (Err stop) later = tt
 
   -- not all of them, whatever would follow
   pub made-first : (a b : Bus T O E) (first more : DeviceState → List Change) (stop : Stop) → MadeOrCut meaning a b first (Err stop)
       → MadeOrCut meaning a b (λ s. first s ++ more s) (Err stop)
   made-first a b first more stop p = record {
-    made = record {
-      cut = λ s stands. stops-first meaning a b stop (first s) (more s) (p.made.cut s stands);
-      devices = p.made.devices;
-      fault = p.made.fault;
-    };
+    made = λ s stands. ended-first (first s) (more s) _ _ _ (p.made s stands);
+    stands = tt;
+    devices = p.devices;
+    height = p.height;
+    fault = p.fault;
     ledger = p.ledger;
     same = p.same;
   }
@@ -215,14 +210,14 @@ module _ {T O E : Type 0} (meaning : Meaning T O E) where
   pub record Putting (before now : Bus T O E) (path : List ℕ) (whole rest : DeviceState → List ℕ) : Type 0 where
     pub done : DeviceState → List ℕ
     pub made : MadeOrCut meaning before now (λ s. to_file path (done s)) (Ok (tt {0}))
-    pub parts : (s : DeviceState) → BusStandsFor meaning.tree.told before s → whole s ≡ done s ++ rest s
+    pub parts : (s : DeviceState) → BusStandsFor (told_on meaning.tree) before s → whole s ≡ done s ++ rest s
 
   pub putting-start : (bus : Bus T O E) (path : List ℕ) (whole : DeviceState → List ℕ) → Putting bus bus path whole whole
   putting-start bus path whole = record { done = λ s. []; made = made-nothing bus; parts = λ s stands. refl }
 
   -- the next of them
   pub putting-more : (a b c : Bus T O E) (path : List ℕ) (whole rest piece later : DeviceState → List ℕ)
-      → ((s : DeviceState) → BusStandsFor meaning.tree.told a s → rest s ≡ piece s ++ later s)
+      → ((s : DeviceState) → BusStandsFor (told_on meaning.tree) a s → rest s ≡ piece s ++ later s)
       → Putting a b path whole rest → MadeOrCut meaning b c (λ s. to_file path (piece s)) (Ok (tt {0})) → Putting a c path whole later
   putting-more a b c path whole rest piece later next putting made = record {
     done = λ s. putting.done s ++ piece s;
@@ -235,7 +230,7 @@ module _ {T O E : Type 0} (meaning : Meaning T O E) where
 
   -- whatever the rest answers, the whole does
   pub putting-answers : (a b c : Bus T O E) (path : List ℕ) (whole rest : DeviceState → List ℕ) (more : DeviceState → List Change) (r : Result (Unit {0}) Stop)
-      → ((s : DeviceState) → BusStandsFor meaning.tree.told a s → to_file path (rest s) ≡ more s)
+      → ((s : DeviceState) → BusStandsFor (told_on meaning.tree) a s → to_file path (rest s) ≡ more s)
       → Putting a b path whole rest → MadeOrCut meaning b c more r
       → MadeOrCut meaning a c (λ s. to_file path (whole s)) r
   putting-answers a b c path whole rest more r same putting made =
@@ -245,13 +240,13 @@ module _ {T O E : Type 0} (meaning : Meaning T O E) where
       (made-then a b c (λ s. to_file path (putting.done s)) more r putting.made made)
 
   pub putting-end : (a b : Bus T O E) (path : List ℕ) (whole rest : DeviceState → List ℕ)
-      → ((s : DeviceState) → BusStandsFor meaning.tree.told a s → rest s ≡ []) → Putting a b path whole rest
+      → ((s : DeviceState) → BusStandsFor (told_on meaning.tree) a s → rest s ≡ []) → Putting a b path whole rest
       → MadeOrCut meaning a b (λ s. to_file path (whole s)) (Ok (tt {0}))
   putting-end a b path whole rest none putting =
       putting-answers a b b path whole rest (λ s. []) (Ok (tt {0})) (λ s stands. ap (to_file path) (none s stands)) putting (made-nothing b)
 
   pub putting-cut : (a b c : Bus T O E) (path : List ℕ) (whole rest piece later : DeviceState → List ℕ) (stop : Stop)
-      → ((s : DeviceState) → BusStandsFor meaning.tree.told a s → rest s ≡ piece s ++ later s)
+      → ((s : DeviceState) → BusStandsFor (told_on meaning.tree) a s → rest s ≡ piece s ++ later s)
       → Putting a b path whole rest → MadeOrCut meaning b c (λ s. to_file path (piece s)) (Err stop)
       → MadeOrCut meaning a c (λ s. to_file path (whole s)) (Err stop)
   putting-cut a b c path whole rest piece later stop next putting cut =

@@ -5,7 +5,7 @@ use Rattle.uxn_opcodes.specs.declared.Core.{Core}
 use Rattle.uxn_opcodes.specs.declared.Stop.{Stop}
 use Rattle.uxn_opcodes.specs.declared.Stop.TheVariants.{NoMemory}
 use Rattle.varvara_bus.specs.declared.bus.Bus.{Bus}
-use Rattle.varvara_bus.specs.Bus.{Reads, held_page}
+use Rattle.varvara_bus.specs.Bus.{Reads, held_page, told_on}
 use Rattle.vector_loop.specs.declared.watch.Moment.{Moment}
 use Rattle.vector_loop.specs.State.{State}
 use Rattle.vector_loop.specs.Trail.{Trail}
@@ -32,7 +32,7 @@ module _ {T O E W H : Type 0} (telling : Telling T O E W H) where
           devices = f.devices;
           tally = f.tally;
           makes = f.makes;
-          watcher = shown_end (page_in (state_of now last.devices)) (is_page telling.meaning.tree.told now.bus (state_of now last.devices) f.devices)
+          watcher = shown_end (page_in (state_of now last.devices)) (is_page (told_on telling.meaning.tree) now.bus (state_of now last.devices) f.devices)
               ∙ ap (λ h. ended h now.core (page_in (state_of now last.devices)) (moment_of (state_of now last.devices))) f.watcher
               ∙ ap (λ (s : State). ended (shown_all telling.shown (telling.held before.watcher) (part (state_of before devices)).moments) s.core (page_in s) (moment_of s))
               (reached telling.meaning telling.held telling.shown before now (part (state_of before devices)) f);

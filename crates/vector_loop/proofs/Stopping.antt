@@ -8,7 +8,7 @@ use Rattle.uxn_opcodes.specs.declared.Stop.TheVariants.{NoMemory}
 use Rattle.uxn_opcodes.specs.Instruction.{Instruction}
 use Rattle.varvara_bus.specs.declared.bus.Bus.{Bus}
 use Rattle.varvara_bus.specs.State.{DeviceState}
-use Rattle.varvara_bus.specs.Bus.{BusStandsFor, IsOutside, Reads, Meaning, StopsShort, held_page, bus_rules}
+use Rattle.varvara_bus.specs.Bus.{BusStandsFor, IsOutside, Reads, Meaning, StopsShort, held_page, bus_rules, told_on}
 use Rattle.varvara_bus.specs.InstructionLaws.{makes-none, stops-first, stops-later, instruction-cut}
 use Rattle.varvara_bus.specs.Folders.{instruction-names}
 use Rattle.vector_loop.specs.declared.tally.Tally.{Tally}
@@ -20,11 +20,11 @@ use Rattle.vector_loop.specs.Folders.{TakesNames, takes-first, takes-later}
 use Rattle.vector_loop.specs.Vector.{instruction}
 use Rattle.vector_loop.specs.Watch.{Page, IsPage, page_in}
 use Rattle.vector_loop.specs.Follows.{Running, running, state_of, Follows, FallsShort, FallsShortFrom}
-use Rattle.vector_loop.specs.Making.{CutShort}
+use Rattle.vector_loop.specs.Making.{MadeOrCut}
 use Rattle.vector_loop.specs.Outputs.{appended_to}
 use Rattle.vector_loop.specs.Stops.{WatcherRefused, InstructionStopped, StepStopped, StopsIn, StopsInFrom, RunStops}
 use Rattle.vector_loop.proofs.Along.{is_page, stops-here, reached, follows-nothing, follows-on}
-use Rattle.vector_loop.proofs.Makings.{no-memory}
+use Rattle.vector_loop.proofs.Makings.{no-memory, the-stop}
 
 -- the one, or what the other gives
 or-else : {A B C : Type 0} → (B → C) → A ⊎ B → A ⊎ C
@@ -72,7 +72,7 @@ module _ {T O E W H : Type 0} (meaning : Meaning T O E) (held : W → H) (shown 
 
   -- the first step of a part stopped
   stopped-here : (now after : Running T O E W) (stop : Stop) (devices : DeviceState) (step : Trail) (later : State → Trail)
-      → BusStandsFor meaning.tree.told now.bus devices → StepStopped meaning held shown refuses now after stop (state_of now devices) step
+      → BusStandsFor (told_on meaning.tree) now.bus devices → StepStopped meaning held shown refuses now after stop (state_of now devices) step
       → StopsIn meaning held shown refuses now after stop (followed_by step later)
   stopped-here now after stop devices step later stands stopped = record {
     done = stays (state_of now devices);
@@ -99,7 +99,7 @@ module _ {T O E W H : Type 0} (meaning : Meaning T O E) (held : W → H) (shown 
           inr (record {
             stops = stopped;
             tally = refl;
-            watcher = watched (page_in state) (is_page meaning.tree.told now.bus state stands);
+            watcher = watched (page_in state) (is_page (told_on meaning.tree) now.bus state stands);
             made = instruction-cut meaning now.core core_new now.bus bus_new stop devices stands stopped;
             names = λ wanted. instruction-names meaning now.core core_new now.bus bus_new devices stands (rw wanted at stopped);
           }),
@@ -118,7 +118,7 @@ module _ {T O E W H : Type 0} (meaning : Meaning T O E) (held : W → H) (shown 
   -- a picture or samples were not appended whole
   pub stopped-append : (now after : Running T O E W) (stop : Stop) (output : Option (List ℕ)) (bytes : DeviceState → List ℕ)
       → IfSome output (IsOutside now.bus.devices.now.root) → after.core ≡ now.core → after.tally ≡ now.tally → after.watcher ≡ now.watcher
-      → CutShort meaning now.bus after.bus (λ s. appended_to output (bytes s)) stop
+      → MadeOrCut meaning now.bus after.bus (λ s. appended_to output (bytes s)) (Err stop)
       → StopsInFrom meaning held shown refuses now after stop (λ s. makes (appended_to output (bytes s.devices)) s)
   stopped-append now after stop output bytes outside core tally watcher cut = record {
     from = λ devices stands.
@@ -131,8 +131,8 @@ module _ {T O E W H : Type 0} (meaning : Meaning T O E) (held : W → H) (shown 
           bytes = bytes devices;
           appends = refl;
           outside = outside;
-          fault = cut.fault;
-          made = cut.cut devices stands;
+          fault = the-stop (Err stop) stop refl cut.fault;
+          made = let short = cut.made devices stands in record { cut = short.cut; not_sure = short.not_sure };
           core = core;
           devices = cut.devices devices stands;
           tally = tally;

@@ -10,7 +10,7 @@ use Rattle.uxn_opcodes.specs.Rule.{opcode_at}
 use Rattle.uxn_opcodes.specs.Instruction.{Instruction}
 use Rattle.varvara_bus.specs.declared.bus.Bus.{Bus}
 use Rattle.varvara_bus.specs.State.{DeviceState}
-use Rattle.varvara_bus.specs.Bus.{BusStandsFor, Reads, Meaning, held_page, bus_rules}
+use Rattle.varvara_bus.specs.Bus.{BusStandsFor, Reads, Meaning, held_page, bus_rules, told_on}
 use Rattle.varvara_bus.specs.InstructionLaws.{makes-none}
 use Rattle.vector_loop.specs.declared.tally.Tally.{Tally}
 use Rattle.vector_loop.specs.declared.tally.VectorEnd.TheVariants.{Broke, Cut}
@@ -75,7 +75,7 @@ module _ {T O E W H : Type 0} (meaning : Meaning T O E) (held : W → H) (shown 
     ends : breaks left done.last ≡ breaks budget (state_of before devices)
 
   pub record Along (before now : Running T O E W) (budget left : ℕ) : Type 0 where
-    from : (devices : DeviceState) → BusStandsFor meaning.tree.told before.bus devices → SoFar before now budget left devices
+    from : (devices : DeviceState) → BusStandsFor (told_on meaning.tree) before.bus devices → SoFar before now budget left devices
 
   -- the same with the number written otherwise
   pub along-left : (before now : Running T O E W) (budget left other : ℕ) → left ≡ other → Along before now budget left → Along before now budget other
@@ -137,7 +137,7 @@ module _ {T O E W H : Type 0} (meaning : Meaning T O E) (held : W → H) (shown 
   }
 
   pub broke-ends : (before now : Running T O E W) (budget left : ℕ) → Along before now budget (suc left) → opcode_at now.core ≡ 0
-      → (devices : DeviceState) → BusStandsFor meaning.tree.told before.bus devices → breaks budget (state_of before devices) ≡ true
+      → (devices : DeviceState) → BusStandsFor (told_on meaning.tree) before.bus devices → breaks budget (state_of before devices) ≡ true
   broke-ends before now budget left along breaks devices stands =
       let so_far = along.from devices stands in
       let on : at_break so_far.done.last ≡ true = ap (λ (c : Core). opcode_at c == 0) (sym so_far.follows.core) ∙ is_zero (opcode_at now.core) breaks in
@@ -154,7 +154,7 @@ module _ {T O E W H : Type 0} (meaning : Meaning T O E) (held : W → H) (shown 
   }
 
   pub cut-ends : (before now : Running T O E W) (budget : ℕ) → Along before now budget 0
-      → (devices : DeviceState) → BusStandsFor meaning.tree.told before.bus devices → breaks budget (state_of before devices) ≡ false
+      → (devices : DeviceState) → BusStandsFor (told_on meaning.tree) before.bus devices → breaks budget (state_of before devices) ≡ false
   cut-ends before now budget along devices stands =
       let so_far = along.from devices stands in
       sym so_far.ends ∙ breaks-zero so_far.done.last

@@ -6,7 +6,7 @@ use Rattle.uxn_opcodes.specs.declared.Core.{Core}
 use Rattle.uxn_opcodes.specs.declared.Stop.{Stop}
 use Rattle.uxn_opcodes.specs.declared.Stop.TheVariants.{NoMemory}
 use Rattle.uxn_opcodes.specs.Ports.{blame_of}
-use Rattle.varvara_bus.specs.Bus.{SameLent, FilesStay, HasRoot, Meaning, frames_begun, bus_faults}
+use Rattle.varvara_bus.specs.Bus.{SameLent, FilesStay, HasRoot, Meaning, frames_begun, bus_faults, told_on}
 use Rattle.vector_loop.specs.declared.output.Outputs.{Outputs}
 use Rattle.vector_loop.specs.declared.runner.Runner.{Runner}
 use Rattle.vector_loop.specs.declared.tally.Tally.{Tally}
@@ -25,7 +25,8 @@ pub record Telling (T O E W H : Type 0) : Type 1 where
   pub shown : H → Core → Page → Moment → H
   pub may_refuse : Type 0
 
-abbrev pub telling_of : {T O E W H : Type 0} → Meaning T O E → (W → H) → (H → Core → Page → Moment → H) → Type 0 → Telling T O E W H
+abbrev pub telling_of : {T O E W H : Type 0} → Meaning T O E → (W → H) → (H → Core → Page → Moment → H) → Type 0
+    → Telling T O E W H
 telling_of meaning held shown may_refuse = record { meaning = meaning; held = held; shown = shown; may_refuse = may_refuse }
 
 -- how much a part counts at most
@@ -99,4 +100,4 @@ module _ {T O E W H : Type 0} (telling : Telling T O E W H) where
     pub ledger : Ledger (bus_faults telling.meaning before.bus.now) (bus_faults telling.meaning now.bus.now) (blame_of result)
     pub grown : HasGrown before.tally now.tally most.vectors most.events before.budget
     pub frames : frames_begun now.bus.now ≤ frames_begun before.bus.now + most.events
-    pub same : SameRunner telling.meaning.tree.told before now
+    pub same : SameRunner (told_on telling.meaning.tree) before now

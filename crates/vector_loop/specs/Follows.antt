@@ -5,7 +5,7 @@ use Rattle.uxn_opcodes.specs.declared.Stop.{Stop}
 use Rattle.uxn_opcodes.specs.declared.Stop.TheVariants.{NoMemory}
 use Rattle.varvara_bus.specs.declared.bus.Bus.{Bus}
 use Rattle.varvara_bus.specs.State.{DeviceState}
-use Rattle.varvara_bus.specs.Bus.{BusStandsFor, Meaning, Makes, StopsShort}
+use Rattle.varvara_bus.specs.Bus.{BusStandsFor, Meaning, Makes, StopsShort, told_on}
 use Rattle.vector_loop.specs.declared.tally.Tally.{Tally}
 use Rattle.vector_loop.specs.declared.watch.Moment.{Moment}
 use Rattle.vector_loop.specs.State.{State}
@@ -60,7 +60,7 @@ module _ {T O E W : Type 0} (meaning : Meaning T O E) (refuses : Type 0) where
 
   -- the same from each state that the bus stood for
   pub record FallsShortFrom (before now : Running T O E W) (stop : Stop) (part : State → Trail) : Type 0 where
-    pub from : (devices : DeviceState) → BusStandsFor meaning.tree.told before.bus devices
+    pub from : (devices : DeviceState) → BusStandsFor (told_on meaning.tree) before.bus devices
         → FallsShort before now stop (part (state_of before devices))
 
 module _ {T O E W H : Type 0} (meaning : Meaning T O E) (held : W → H) (shown : H → Core → Page → Moment → H) where
@@ -68,7 +68,7 @@ module _ {T O E W H : Type 0} (meaning : Meaning T O E) (held : W → H) (shown 
   -- all of these
   pub record Follows (before now : Running T O E W) (trail : Trail) : Type 0 where
     pub core : now.core ≡ trail.last.core
-    pub devices : BusStandsFor meaning.tree.told now.bus trail.last.devices
+    pub devices : BusStandsFor (told_on meaning.tree) now.bus trail.last.devices
     pub tally : now.tally ≡ trail.last.tally
     pub makes : Makes meaning before.bus now.bus trail.changes
     pub changes : AreChangesAt trail.moments trail.changes
@@ -76,17 +76,18 @@ module _ {T O E W H : Type 0} (meaning : Meaning T O E) (held : W → H) (shown 
 
   -- the same from each state that the bus stood for
   pub record FollowsFrom (before now : Running T O E W) (part : State → Trail) : Type 0 where
-    pub from : (devices : DeviceState) → BusStandsFor meaning.tree.told before.bus devices → Follows before now (part (state_of before devices))
+    pub from : (devices : DeviceState) → BusStandsFor (told_on meaning.tree) before.bus devices
+        → Follows before now (part (state_of before devices))
 
   -- all of a run was done, and the watcher was shown its end
   pub record Ends (ended : H → Core → Page → Moment → H) (before now : Running T O E W) (trail : Trail) : Type 0 where
     pub core : now.core ≡ trail.last.core
-    pub devices : BusStandsFor meaning.tree.told now.bus trail.last.devices
+    pub devices : BusStandsFor (told_on meaning.tree) now.bus trail.last.devices
     pub tally : now.tally ≡ trail.last.tally
     pub makes : Makes meaning before.bus now.bus trail.changes
     pub watcher : held now.watcher ≡ ended (shown_all shown (held before.watcher) trail.moments) trail.last.core
         (page_in trail.last) (moment_of trail.last)
 
   pub record EndsFrom (ended : H → Core → Page → Moment → H) (before now : Running T O E W) (part : State → Trail) : Type 0 where
-    pub from : (devices : DeviceState) → BusStandsFor meaning.tree.told before.bus devices
+    pub from : (devices : DeviceState) → BusStandsFor (told_on meaning.tree) before.bus devices
         → Ends ended before now (part (state_of before devices))

@@ -1,5 +1,6 @@
 -- The steps of a run, taken one after the other, are the run.
-use Rattle.std.specs.Prelude.{◌≡◌, ℕ, zero, suc, ◌==◌, ◌≤◌, ◌⊎◌, Bool, true, false, List, [], ◌∷◌, ◌++◌, map, Option, Some, None}
+use Rattle.std.specs.Prelude.{◌≡◌, ℕ, zero, suc, ◌==◌, ◌≤◌, ◌⊎◌, Bool, true, false, List, []}
+use Rattle.std.specs.Prelude.{◌∷◌, ◌++◌, map, Option, Some, None}
 use Rattle.std.proofs.Common.{inl, inr, cond, refl, ap, sym, subst, ◌∙◌, arith}
 use Rattle.std.proofs.lemmas.List.{append-nil}
 use Rattle.play_script.specs.declared.script.Event.{Event}
@@ -175,7 +176,8 @@ run-begins budget outputs script state some =
     ∙ sym (run-gifts budget outputs script state)
 
 -- nothing is left of a run that is over
-over-nothing : {X : Type 0} (given : X → State → Trail) (xs : List X) (state : State) → is_over state ≡ true → give_each given xs state ≡ stays state
+over-nothing : {X : Type 0} (given : X → State → Trail) (xs : List X) (state : State) → is_over state ≡ true
+    → give_each given xs state ≡ stays state
 unfolding give_each unless_over
 over-nothing given [] state over = refl
 over-nothing given (x ∷ xs) state over =

@@ -63,7 +63,8 @@ module _ {T O E W H : Type 0} (meaning : Meaning T O E) (held : W → H) (shown 
   }
 
   -- so it is wherever a part of a run stopped
-  pub shown-until : (before now : Running T O E W) (stop : Stop) (part : State → Trail) → StopsInFrom meaning held shown refuses before now stop part
+  pub shown-until : (before now : Running T O E W) (stop : Stop) (part : State → Trail)
+      → StopsInFrom meaning held shown refuses before now stop part
       → ShownUntilFrom meaning held shown refuses before now stop part
   shown-until before now stop part stops = record {
     from = λ devices stands.

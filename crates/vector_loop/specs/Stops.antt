@@ -7,7 +7,7 @@ use Rattle.uxn_opcodes.specs.declared.Stop.TheVariants.{NoMemory, TreeFault}
 use Rattle.uxn_opcodes.specs.Instruction.{Instruction}
 use Rattle.varvara_bus.specs.declared.bus.Bus.{Bus}
 use Rattle.varvara_bus.specs.State.{DeviceState, StandFor}
-use Rattle.varvara_bus.specs.Bus.{BusStandsFor, IsOutside, Meaning, StopsShort, bus_rules}
+use Rattle.varvara_bus.specs.Bus.{BusStandsFor, IsOutside, Meaning, StopsShort, bus_rules, told_on}
 use Rattle.varvara_bus.specs.Folders.{InstructionTakesNames}
 use Rattle.play_script.specs.declared.script.Event.TheVariants.{Shot}
 use Rattle.vector_loop.specs.declared.tally.Tally.{Tally}
@@ -76,7 +76,7 @@ module _ {T O E W H : Type 0} (meaning : Meaning T O E) (held : W → H) (shown 
 
   -- the same from each state that the bus stood for
   pub record StopsInFrom (before now : Running T O E W) (stop : Stop) (part : State → Trail) : Type 0 where
-    pub from : (devices : DeviceState) → BusStandsFor meaning.tree.told before.bus devices
+    pub from : (devices : DeviceState) → BusStandsFor (told_on meaning.tree) before.bus devices
         → StopsIn before now stop (part (state_of before devices))
 
   -- all of a trail was done, and then the watcher refused to be shown the end
@@ -102,5 +102,5 @@ module _ {T O E W H : Type 0} (meaning : Meaning T O E) (held : W → H) (shown 
     pub left : (now.watcher ≡ watcher) ⊎ (refuses × (stop ≡ NoMemory))
 
   pub record ShownUntilFrom (before now : Running T O E W) (stop : Stop) (part : State → Trail) : Type 0 where
-    pub from : (devices : DeviceState) → BusStandsFor meaning.tree.told before.bus devices
+    pub from : (devices : DeviceState) → BusStandsFor (told_on meaning.tree) before.bus devices
         → ShownUntil before now stop (part (state_of before devices))

@@ -1,8 +1,17 @@
 -- How trails that follow one another are joined.
-use Rattle.std.specs.Prelude.{◌≡◌, [], ◌++◌}
+use Rattle.std.specs.Prelude.{◌≡◌, List, [], ◌++◌}
 use Rattle.std.proofs.Common.{ap, ◌∙◌, append_assoc, append-nil}
+use Rattle.uxn_io.specs.Outside.{Change}
 use Rattle.vector_loop.specs.State.{State}
 use Rattle.vector_loop.specs.Trail.{Trail, stays, followed_by}
+
+-- trails of the same parts
+joined : {moments moments_too : List State} {appends appends_too : List State} {changes changes_too : List Change}
+    → moments ≡ moments_too → appends ≡ appends_too → changes ≡ changes_too → (last : State)
+    → ◌≡◌ {A = Trail} (record { moments = moments; appends = appends; changes = changes; last = last })
+    (record { moments = moments_too; appends = appends_too; changes = changes_too; last = last })
+joined same_moments same_appends same_changes last =
+    λ i. record { moments = same_moments i; appends = same_appends i; changes = same_changes i; last = last }
 
 -- what comes after what comes after
 pub followed_by-again : (first : Trail) (middle rest : State → Trail)
@@ -10,18 +19,19 @@ pub followed_by-again : (first : Trail) (middle rest : State → Trail)
 followed_by-again first middle rest =
     let next = middle first.last in
     let then = rest next.last in
-    ap (λ moments. record { moments = moments; changes = (first.changes ++ next.changes) ++ then.changes; last = then.last })
-    (append_assoc first.moments next.moments then.moments)
-    ∙ ap (λ changes. record { moments = first.moments ++ (next.moments ++ then.moments); changes = changes; last = then.last })
-    (append_assoc first.changes next.changes then.changes)
+    joined (append_assoc first.moments next.moments then.moments) (append_assoc first.appends next.appends then.appends)
+    (append_assoc first.changes next.changes then.changes) then.last
 
 -- what comes after depends on the last state alone
 pub followed_by-at : (first : Trail) (a b : State → Trail) → a first.last ≡ b first.last → followed_by first a ≡ followed_by first b
 followed_by-at first a b same =
-    ap (λ (t : Trail). record { moments = first.moments ++ t.moments; changes = first.changes ++ t.changes; last = t.last }) same
+    ap (λ (t : Trail). record {
+      moments = first.moments ++ t.moments;
+      appends = first.appends ++ t.appends;
+      changes = first.changes ++ t.changes;
+      last = t.last;
+    }) same
 
 -- a part and nothing more
 pub stays-after : (part : Trail) → followed_by part stays ≡ part
-stays-after part =
-    ap (λ moments. record { moments = moments; changes = part.changes ++ []; last = part.last }) (append-nil part.moments)
-    ∙ ap (λ changes. record { moments = part.moments; changes = changes; last = part.last }) (append-nil part.changes)
+stays-after part = joined (append-nil part.moments) (append-nil part.appends) (append-nil part.changes) part.last

@@ -13,6 +13,7 @@ use Rattle.vector_loop.specs.Trail.{Trail, stays, followed_by}
 abbrev pub after : State → Effect → Trail
 after state done = record {
   moments = state ∷ [];
+  appends = [];
   changes = done.changes;
   last = record { core = done.core; devices = done.devices; tally = counting_instruction state.tally };
 }

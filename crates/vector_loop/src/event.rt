@@ -3,7 +3,7 @@ ghost use Rattle.std.specs.Prelude.{◌≡◌, ◌==◌, ◌+◌, ◌*◌, ◌^�
 ghost use Rattle.play_script.specs.declared.script.Event.TheVariants as events;
 ghost use Rattle.uxn_io.specs.Faults.{Ledger};
 ghost use Rattle.uxn_opcodes.specs.Ports.{blame_of};
-ghost use Rattle.varvara_bus.specs.Bus.{BusStandsFor, SameLent, FilesStay, HasRoot, meaning_of, frames_begun, bus_faults};
+ghost use Rattle.varvara_bus.specs.Bus.{BusStandsFor, SameLent, FilesStay, HasRoot, meaning_of, frames_begun, bus_faults, told_on};
 ghost use Rattle.varvara_bus.specs.Reads.{read_of};
 ghost use Rattle.varvara_bus.specs.State.{DeviceState};
 ghost use Rattle.vector_loop.specs.State.{counting_expect, is_over};
@@ -33,7 +33,7 @@ const STATE: u8 = 0x0f;
 impl<'r, 'a, T: Tree, O: Sink, E: Sink, W: Watcher> Runner<'r, 'a, T, O, E, W> {
     /// Whether the run is over: the byte in the port of the state is not 0.
     pub(crate) fn is_over(&self) -> bool
-        ensures { (devices : DeviceState) → BusStandsFor T.told self.now.bus.now devices
+        ensures { (devices : DeviceState) → BusStandsFor (told_on T.Tree) self.now.bus.now devices
             → result ≡ is_over (state_of (running_of self.now) devices) }
     {
         self.bus.stored(STATE) != 0
@@ -82,12 +82,12 @@ impl<'r, 'a, T: Tree, O: Sink, E: Sink, W: Watcher> Runner<'r, 'a, T, O, E, W> {
     /// Gives an event: its ports are stored, its vector is run unless it is 0, and what is 0 again after the vector is
     /// stored, unless the state is then not 0.
     pub(crate) fn give_event(&mut self, event: &Event, outputs: &Outputs) -> Result<(), Stop>
-        requires outputs { HasOutputs T.told outputs.now self.old }
+        requires outputs { HasOutputs (told_on T.Tree) outputs.now self.old }
         requires frames { event.now ≡ events.Frame → frames_begun self.old.bus.now < 1000000 }
         requires room { HasRoom self.old.tally self.old.budget (of_events 1) }
         ensures answers { Answers (telling_of (meaning_of T.Tree O.Sink E.Sink) W.held W.shown W.may_refuse) self.old self.new
             (give self.old.budget outputs.now event.now) (of_events 1) result }
-        ensures shot { event.now ≡ events.Shot → ShotLeaves T.told (running_of self.old) (running_of self.new) }
+        ensures shot { event.now ≡ events.Shot → ShotLeaves (told_on T.Tree) (running_of self.old) (running_of self.new) }
     {
         self.tally.events += 1;
         match event {
@@ -121,7 +121,7 @@ fn compare<'a, T: Tree, O: Sink, E: Sink>(
 )
     requires expects { tally.old.expects < 2 ^ 64 - 1 }
     requires misses { tally.old.misses < 2 ^ 64 - 1 }
-    ensures counted { (devices : DeviceState) → BusStandsFor T.told bus.now devices
+    ensures counted { (devices : DeviceState) → BusStandsFor (told_on T.Tree) bus.now devices
         → tally.new ≡ counting_expect (read_of devices core.now port == byte) tally.old }
     ensures grown { IsCompared tally.old tally.new }
 {
@@ -143,7 +143,7 @@ pub fn run_event<'a, T: Tree, O: Sink, E: Sink, W: Watcher>(
     tally: &mut Tally,
     watcher: &mut W,
 ) -> Result<(), Stop>
-    requires outputs { OutputsThere outputs.now bus.old.devices.now.root (T.told bus.old.tree.now) }
+    requires outputs { OutputsThere outputs.now bus.old.devices.now.root (T.state bus.old.tree.now).told }
     requires frames { event.now ≡ events.Frame → frames_begun bus.old < 1000000 }
     requires budget { 1 ≤ budget }
     requires instructions { tally.old.instructions ≤ 2 ^ 61 }
@@ -167,7 +167,7 @@ pub fn run_event<'a, T: Tree, O: Sink, E: Sink, W: Watcher>(
         (running core.old bus.old tally.old watcher.old) (running core.new bus.new tally.new watcher.new) stop (give budget outputs.now event.now)) }
 
     // A shot is counted and changes nothing else of the machine, whatever is answered.
-    ensures shot { event.now ≡ events.Shot → ShotLeaves T.told
+    ensures shot { event.now ≡ events.Shot → ShotLeaves (told_on T.Tree)
         (running core.old bus.old tally.old watcher.old) (running core.new bus.new tally.new watcher.new) }
 
     // A fault comes only where its count rose; memory is wanting only to the watcher, or beneath a root where the event takes
@@ -177,7 +177,7 @@ pub fn run_event<'a, T: Tree, O: Sink, E: Sink, W: Watcher>(
     ensures memory { IfErr result (λ stop. stop ≡ Stop.NoMemory → W.may_refuse ⊎ HasRoot bus.old.devices.now) }
     ensures lent { SameLent bus.old bus.new }
     ensures root { bus.new.devices.now.root ≡ bus.old.devices.now.root }
-    ensures files { FilesStay bus.old.devices.now.root (T.told bus.old.tree.now) (T.told bus.new.tree.now) }
+    ensures files { FilesStay bus.old.devices.now.root (T.state bus.old.tree.now).told (T.state bus.new.tree.now).told }
     ensures begun { frames_begun bus.new ≤ frames_begun bus.old + 1 }
 {
     let mut runner = Runner {

@@ -1,6 +1,6 @@
 //! Frames: the screen's vector, the samples, and the vectors of the voices whose notes end.
 ghost use Rattle.std.specs.Prelude.{◌≡◌, ◌<◌};
-ghost use Rattle.varvara_bus.specs.Bus.{meaning_of};
+ghost use Rattle.varvara_bus.specs.Bus.{meaning_of, told_on};
 ghost use Rattle.vector_loop.specs.Event.{unless_over, vector_where, ended_vectors, heard, shown_and_heard};
 ghost use Rattle.vector_loop.specs.Answers.{telling_of, of_vectors, HasRoom, HasOutputs, Answers};
 
@@ -50,7 +50,7 @@ impl<'r, 'a, T: Tree, O: Sink, E: Sink, W: Watcher> Runner<'r, 'a, T, O, E, W> {
 
     /// Gives the samples of a frame, or lets it pass where none are asked for and no note can end.
     fn give_sound(&mut self, outputs: &Outputs) -> Result<(), Stop>
-        requires outputs { HasOutputs T.told outputs.now self.old }
+        requires outputs { HasOutputs (told_on T.Tree) outputs.now self.old }
         requires room { HasRoom self.old.tally self.old.budget (of_vectors 4) }
         ensures { Answers (telling_of (meaning_of T.Tree O.Sink E.Sink) W.held W.shown W.may_refuse) self.old self.new
             (heard self.old.budget outputs.now) (of_vectors 4) result }
@@ -66,7 +66,7 @@ impl<'r, 'a, T: Tree, O: Sink, E: Sink, W: Watcher> Runner<'r, 'a, T, O, E, W> {
     /// have ended. Not inlined, so that a frame without sound does not pay for the buffer.
     #[inline(never)]
     fn give_samples(&mut self, outputs: &Outputs) -> Result<(), Stop>
-        requires outputs { HasOutputs T.told outputs.now self.old }
+        requires outputs { HasOutputs (told_on T.Tree) outputs.now self.old }
         requires room { HasRoom self.old.tally self.old.budget (of_vectors 4) }
         ensures { Answers (telling_of (meaning_of T.Tree O.Sink E.Sink) W.held W.shown W.may_refuse) self.old self.new
             (heard self.old.budget outputs.now) (of_vectors 4) result }
@@ -79,7 +79,7 @@ impl<'r, 'a, T: Tree, O: Sink, E: Sink, W: Watcher> Runner<'r, 'a, T, O, E, W> {
 
     /// Runs the screen's vector, and gives the samples unless the run is then over.
     pub(crate) fn show_and_sound(&mut self, outputs: &Outputs) -> Result<(), Stop>
-        requires outputs { HasOutputs T.told outputs.now self.old }
+        requires outputs { HasOutputs (told_on T.Tree) outputs.now self.old }
         requires room { HasRoom self.old.tally self.old.budget (of_vectors 5) }
         ensures { Answers (telling_of (meaning_of T.Tree O.Sink E.Sink) W.held W.shown W.may_refuse) self.old self.new
             (shown_and_heard self.old.budget outputs.now) (of_vectors 5) result }

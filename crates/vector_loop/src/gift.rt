@@ -6,7 +6,7 @@ use console_port::EventKind;
 use play_script::Event;
 
 /// One thing that a run is given.
-#[derive(Clone, Copy, Debug)]
+#[derive(Clone, Copy)]
 pub enum Gift {
     /// A byte of the arguments, with its kind.
     OfArgument(u8, EventKind),

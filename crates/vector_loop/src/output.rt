@@ -19,7 +19,7 @@ const ROW: usize = 6141;
 const SAMPLES: usize = 1470;
 
 /// The files that a run appends to.
-#[derive(Clone, Copy, Debug, PartialEq, Eq)]
+#[derive(Clone, Copy, PartialEq, Eq)]
 pub struct Outputs {
     /// Where pictures go.
     pub frames: Option<Path>,
@@ -33,7 +33,7 @@ fn append_to<'a, T: Tree, O: Sink, E: Sink>(
     path: &Path,
     bytes: &[u8],
 ) -> Result<(), Stop>
-    requires there { IsOutput bus.old.devices.now.root (T.told bus.old.tree.now) path.now }
+    requires there { IsOutput bus.old.devices.now.root (T.state bus.old.tree.now).told path.now }
     ensures { MadeOrCut (meaning_of T.Tree O.Sink E.Sink) bus.old bus.new
         (λ state. map (λ byte. ToFile path.now byte) bytes.now) result }
 {
@@ -48,7 +48,7 @@ fn append_row<'a, T: Tree, O: Sink, E: Sink>(
     y: u16,
     row: &mut [u8; 6141],
 ) -> Result<(), Stop>
-    requires there { IsOutput bus.old.devices.now.root (T.told bus.old.tree.now) path.now }
+    requires there { IsOutput bus.old.devices.now.root (T.state bus.old.tree.now).told path.now }
     requires row { y < (screen_of bus.old).height }
     ensures { MadeOrCut (meaning_of T.Tree O.Sink E.Sink) bus.old bus.new
         (λ state. map (λ byte. ToFile path.now byte) (picture_row_of palette.now.colours state.picture y)) result }
@@ -62,7 +62,7 @@ fn append_picture<'a, T: Tree, O: Sink, E: Sink>(
     bus: &mut Bus<'a, T, O, E>,
     path: &Path,
 ) -> Result<(), Stop>
-    requires there { IsOutput bus.old.devices.now.root (T.told bus.old.tree.now) path.now }
+    requires there { IsOutput bus.old.devices.now.root (T.state bus.old.tree.now).told path.now }
     ensures { MadeOrCut (meaning_of T.Tree O.Sink E.Sink) bus.old bus.new
         (λ state. map (λ byte. ToFile path.now byte) (picture_bytes state)) result }
 {
@@ -83,7 +83,7 @@ pub(crate) fn keep_picture<'a, T: Tree, O: Sink, E: Sink>(
     bus: &mut Bus<'a, T, O, E>,
     output: &Option<Path>,
 ) -> Result<(), Stop>
-    requires there { IfSome output.now (IsOutput bus.old.devices.now.root (T.told bus.old.tree.now)) }
+    requires there { IfSome output.now (IsOutput bus.old.devices.now.root (T.state bus.old.tree.now).told) }
     ensures { MadeOrCut (meaning_of T.Tree O.Sink E.Sink) bus.old bus.new
         (λ state. appended_to output.now (picture_bytes state)) result }
 {
@@ -114,7 +114,7 @@ pub(crate) fn keep_samples<'a, T: Tree, O: Sink, E: Sink>(
     output: &Option<Path>,
     samples: &[i16; 1470],
 ) -> Result<(), Stop>
-    requires there { IfSome output.now (IsOutput bus.old.devices.now.root (T.told bus.old.tree.now)) }
+    requires there { IfSome output.now (IsOutput bus.old.devices.now.root (T.state bus.old.tree.now).told) }
     ensures { MadeOrCut (meaning_of T.Tree O.Sink E.Sink) bus.old bus.new
         (λ state. appended_to output.now (samples_bytes (map short_of samples.now))) result }
 {

@@ -15,6 +15,7 @@ ghost use Rattle.varvara_bus.specs.Bus.{
   frames_begun,
   bus_faults,
   held_page,
+  told_on,
 };
 ghost use Rattle.vector_loop.specs.State.{new_tally};
 ghost use Rattle.vector_loop.specs.Outputs.{OutputsThere};
@@ -44,7 +45,7 @@ const RESET: u16 = 0x0100;
 impl<'r, 'a, T: Tree, O: Sink, E: Sink, W: Watcher> Runner<'r, 'a, T, O, E, W> {
     /// Gives one thing, unless the run is over.
     fn give_gift(&mut self, gift: Gift, outputs: &Outputs) -> Result<(), Stop>
-        requires outputs { HasOutputs T.told outputs.now self.old }
+        requires outputs { HasOutputs (told_on T.Tree) outputs.now self.old }
         requires frames { frames_begun self.old.bus.now + (count_of gift).events ≤ 1000000 }
         requires room { HasRoom self.old.tally self.old.budget (count_of gift) }
         ensures { Answers (telling_of (meaning_of T.Tree O.Sink E.Sink) W.held W.shown W.may_refuse) self.old self.new
@@ -61,7 +62,7 @@ impl<'r, 'a, T: Tree, O: Sink, E: Sink, W: Watcher> Runner<'r, 'a, T, O, E, W> {
 
     /// Gives all that is left of a script, one thing after the other, each unless the run is over.
     fn give_all(&mut self, mut giver: Giver<'_>, outputs: &Outputs) -> Result<(), Stop>
-        requires outputs { HasOutputs T.told outputs.now self.old }
+        requires outputs { HasOutputs (told_on T.Tree) outputs.now self.old }
         requires frames { frames_begun self.old.bus.now + (counts_of giver).events ≤ 1000000 }
         requires room { HasRoom self.old.tally self.old.budget (counts_of giver) }
         ensures { Answers (telling_of (meaning_of T.Tree O.Sink E.Sink) W.held W.shown W.may_refuse) self.old self.new
@@ -75,7 +76,7 @@ impl<'r, 'a, T: Tree, O: Sink, E: Sink, W: Watcher> Runner<'r, 'a, T, O, E, W> {
 
     /// Runs the reset vector, and gives the arguments and the events of a script.
     fn run(&mut self, script: &Script, outputs: &Outputs) -> Result<(), Stop>
-        requires outputs { HasOutputs T.told outputs.now self.old }
+        requires outputs { HasOutputs (told_on T.Tree) outputs.now self.old }
         requires frames { frames_begun self.old.bus.now + length script.now.events ≤ 1000000 }
         requires room { HasRoom self.old.tally self.old.budget (most_of script.now) }
         ensures { Answers (telling_of (meaning_of T.Tree O.Sink E.Sink) W.held W.shown W.may_refuse) self.old self.new
@@ -107,8 +108,8 @@ impl<'r, 'a, T: Tree, O: Sink, E: Sink, W: Watcher> Runner<'r, 'a, T, O, E, W> {
 
 /// Tells the program by port 17 whether arguments will come.
 fn make_ready<'a, T: Tree, O: Sink, E: Sink>(bus: &mut Bus<'a, T, O, E>, arguments: &[Bytes])
-    ensures devices { (state : DeviceState) → BusStandsFor T.told bus.old state
-        → BusStandsFor T.told bus.new (storing (made_ready (bytes_in arguments.now)) state) }
+    ensures devices { (state : DeviceState) → BusStandsFor (told_on T.Tree) bus.old state
+        → BusStandsFor (told_on T.Tree) bus.new (storing (made_ready (bytes_in arguments.now)) state) }
     ensures others { ChangesDevices bus.old bus.new }
     ensures frames { frames_begun bus.new ≡ frames_begun bus.old }
 {
@@ -127,7 +128,7 @@ pub fn run_script<'a, T: Tree, O: Sink, E: Sink, W: Watcher>(
     budget: u32,
     watcher: &mut W,
 ) -> Result<Tally, Stop>
-    requires outputs { OutputsThere outputs.now bus.old.devices.now.root (T.told bus.old.tree.now) }
+    requires outputs { OutputsThere outputs.now bus.old.devices.now.root (T.state bus.old.tree.now).told }
     requires frames { frames_begun bus.old ≡ 0 }
     requires budget { 1 ≤ budget }
 
@@ -147,7 +148,7 @@ pub fn run_script<'a, T: Tree, O: Sink, E: Sink, W: Watcher>(
         (bus_faults (meaning_of T.Tree O.Sink E.Sink) bus.new) (blame_of result) }
     ensures memory { IfErr result (λ stop. stop ≡ Stop.NoMemory → W.may_refuse ⊎ HasRoot bus.old.devices.now) }
     ensures lent { SameLent bus.old bus.new }
-    ensures files { OnOk result (FilesStay bus.old.devices.now.root (T.told bus.old.tree.now) (T.told bus.new.tree.now)) }
+    ensures files { OnOk result (FilesStay bus.old.devices.now.root (T.state bus.old.tree.now).told (T.state bus.new.tree.now).told) }
 {
     script.known();
     let tally = Tally {

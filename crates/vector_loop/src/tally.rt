@@ -1,7 +1,7 @@
 //! What is counted in a run.
 
 /// How a vector ended.
-#[derive(Clone, Copy, Debug, PartialEq, Eq)]
+#[derive(Clone, Copy, PartialEq, Eq)]
 pub enum VectorEnd {
     /// Its last instruction was BRK.
     Broke,
@@ -10,7 +10,7 @@ pub enum VectorEnd {
 }
 
 /// What was counted so far.
-#[derive(Clone, Copy, Debug, Default, PartialEq, Eq)]
+#[derive(Clone, Copy, Default, PartialEq, Eq)]
 pub struct Tally {
     /// The instructions run.
     pub instructions: u64,

@@ -3,7 +3,7 @@ ghost use Rattle.std.specs.Prelude.{◌≡◌, ◌≢◌, ◌+◌, ◌*◌, ◌^
 ghost use Rattle.uxn_io.specs.Faults.{Ledger};
 ghost use Rattle.uxn_opcodes.specs.Ports.{blame_of};
 ghost use Rattle.varvara_bus.specs.State.{DeviceState};
-ghost use Rattle.varvara_bus.specs.Bus.{BusStandsFor, SameBus, HasRoot, meaning_of, bus_faults, bus_rules};
+ghost use Rattle.varvara_bus.specs.Bus.{BusStandsFor, SameBus, HasRoot, meaning_of, bus_faults, bus_rules, told_on};
 ghost use Rattle.vector_loop.specs.Vector.{instructions, breaks, vector, vector_end};
 ghost use Rattle.vector_loop.specs.Follows.{running, state_of, FollowsFrom, FallsShortFrom};
 ghost use Rattle.vector_loop.specs.Stops.{StopsInFrom};
@@ -43,14 +43,14 @@ fn run_instructions<'a, T: Tree, O: Sink, E: Sink, W: Watcher>(
         → FollowsFrom (meaning_of T.Tree O.Sink E.Sink) W.held W.shown (running core.old bus.old before watcher.old)
         (running core.new bus.new (record before { instructions = start + (budget - result.left) + 1 }) watcher.new) (instructions budget) }
     ensures broke_end { result.end ≡ Ok VectorEnd.Broke → (before : Tally) → before.instructions ≡ start
-        → (devices : DeviceState) → BusStandsFor T.told bus.old devices
+        → (devices : DeviceState) → BusStandsFor (told_on T.Tree) bus.old devices
         → breaks budget (state_of (running core.old bus.old before watcher.old) devices) ≡ true }
     ensures cut { result.end ≡ Ok VectorEnd.Cut → (before : Tally) → before.instructions ≡ start
         → FollowsFrom (meaning_of T.Tree O.Sink E.Sink) W.held W.shown (running core.old bus.old before watcher.old)
         (running core.new bus.new (record before { instructions = start + (budget - result.left); cuts = before.cuts + 1 }) watcher.new)
         (instructions budget) }
     ensures cut_end { result.end ≡ Ok VectorEnd.Cut → (before : Tally) → before.instructions ≡ start
-        → (devices : DeviceState) → BusStandsFor T.told bus.old devices
+        → (devices : DeviceState) → BusStandsFor (told_on T.Tree) bus.old devices
         → breaks budget (state_of (running core.old bus.old before watcher.old) devices) ≡ false }
     ensures err { IfErr result.end (λ stop. (before : Tally) → before.instructions ≡ start
         → StopsInFrom (meaning_of T.Tree O.Sink E.Sink) W.held W.shown W.may_refuse
@@ -59,7 +59,7 @@ fn run_instructions<'a, T: Tree, O: Sink, E: Sink, W: Watcher>(
     ensures ledger { Ledger (bus_faults (meaning_of T.Tree O.Sink E.Sink) bus.old)
         (bus_faults (meaning_of T.Tree O.Sink E.Sink) bus.new) (blame_of result.end) }
     ensures memory { IfErr result.end (λ stop. stop ≡ Stop.NoMemory → W.may_refuse ⊎ HasRoot bus.old.devices.now) }
-    ensures same { SameBus T.told bus.old bus.new }
+    ensures same { SameBus (told_on T.Tree) bus.old bus.new }
 {
     let mut left = budget;
     loop {
@@ -105,11 +105,11 @@ impl<'r, 'a, T: Tree, O: Sink, E: Sink, W: Watcher> Runner<'r, 'a, T, O, E, W> {
         requires { HasRoom self.old.tally self.old.budget (of_vectors 1) }
         ensures answers { Answers (telling_of (meaning_of T.Tree O.Sink E.Sink) W.held W.shown W.may_refuse) self.old self.new
             (vector self.old.budget at) (of_vectors 1) result }
-        ensures end { IfOk result (λ end. (devices : DeviceState) → BusStandsFor T.told self.old.bus.now devices
+        ensures end { IfOk result (λ end. (devices : DeviceState) → BusStandsFor (told_on T.Tree) self.old.bus.now devices
             → end ≡ vector_end self.old.budget at (state_of (running_of self.old) devices)) }
         ensures counted { CountsWhole (bus_rules (meaning_of T.Tree O.Sink E.Sink)) W.may_refuse self.old.budget
             (record self.old.core.now { at = at }) self.old.bus.now result self.new.core.now self.new.bus.now self.old.tally self.new.tally }
-        ensures same { SameBus T.told self.old.bus.now self.new.bus.now }
+        ensures same { SameBus (told_on T.Tree) self.old.bus.now self.new.bus.now }
     {
         self.core.at = at;
         self.tally.vectors += 1;
@@ -152,7 +152,7 @@ pub fn run_vector<'a, T: Tree, O: Sink, E: Sink, W: Watcher>(
     // From each state that the bus stood for, all of the vector was done, or a front of what it does.
     ensures ok { OnOk result (FollowsFrom (meaning_of T.Tree O.Sink E.Sink) W.held W.shown
         (running core.old bus.old tally.old watcher.old) (running core.new bus.new tally.new watcher.new) (vector budget at)) }
-    ensures end { IfOk result (λ end. (devices : DeviceState) → BusStandsFor T.told bus.old devices
+    ensures end { IfOk result (λ end. (devices : DeviceState) → BusStandsFor (told_on T.Tree) bus.old devices
         → end ≡ vector_end budget at (state_of (running core.old bus.old tally.old watcher.old) devices)) }
     ensures err { IfErr result (λ stop. FallsShortFrom (meaning_of T.Tree O.Sink E.Sink) W.may_refuse
         (running core.old bus.old tally.old watcher.old) (running core.new bus.new tally.new watcher.new) stop (vector budget at)) }
@@ -169,7 +169,7 @@ pub fn run_vector<'a, T: Tree, O: Sink, E: Sink, W: Watcher>(
     ensures ledger { Ledger (bus_faults (meaning_of T.Tree O.Sink E.Sink) bus.old)
         (bus_faults (meaning_of T.Tree O.Sink E.Sink) bus.new) (blame_of result) }
     ensures memory { IfErr result (λ stop. stop ≡ Stop.NoMemory → W.may_refuse ⊎ HasRoot bus.old.devices.now) }
-    ensures same { SameBus T.told bus.old bus.new }
+    ensures same { SameBus (told_on T.Tree) bus.old bus.new }
 {
     let mut runner = Runner {
         core,

@@ -6,7 +6,7 @@ use std::alloc::AllocError;
 use uxn_opcodes::{Core, Ports};
 
 /// Where a run stands.
-#[derive(Clone, Copy, Debug, PartialEq, Eq)]
+#[derive(Clone, Copy, PartialEq, Eq)]
 pub struct Moment {
     /// How many instructions were run before.
     pub instructions: u64,
@@ -50,7 +50,7 @@ pub trait Watcher {
 }
 
 /// Watches nothing, holds nothing and takes no memory.
-#[derive(Clone, Copy, Debug, Default)]
+#[derive(Clone, Copy, Default)]
 pub struct NoWatch;
 
 impl Watcher for NoWatch {

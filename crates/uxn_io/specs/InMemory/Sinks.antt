@@ -1,9 +1,11 @@
 -- A sink in memory, call by call.
-use Rattle.std.specs.Prelude.{ℕ, ◌+◌, ◌-◌, ◌^◌, ◌==◌, ◌&&◌, ◌||◌, Bool, nat_lt, nat_le, min, List}
-use Rattle.std.specs.Prelude.{◌++◌, Option, Some}
+use Rattle.std.specs.Prelude.{ℕ, ◌+◌, ◌-◌, ◌==◌, ◌&&◌, ◌||◌, Bool, true, nat_lt, nat_le, min, List}
+use Rattle.std.specs.Prelude.{◌++◌, Some}
 use Rattle.std.specs.Prelude.{length, take, Result, Ok, Err, if◌then◌else◌}
 use Rattle.std.specs.List.{list_any}
 use Rattle.uxn_io.specs.declared.sinks.Failed.{Failed}
+use Rattle.uxn_io.specs.Faults.{one_more}
+use Rattle.uxn_io.specs.State.{SinkState}
 
 -- the bytes taken, the room for bytes in all, the numbers of the calls that fail, how many calls there
 -- were and how many of them failed
@@ -14,21 +16,13 @@ pub record SinkInMemory : Type 0 where
   pub calls : ℕ
   pub faults : ℕ
 
--- it tells what it has taken
-abbrev pub told_by : SinkInMemory → Option (List ℕ)
-told_by sink = Some sink.taken
-
--- and counts its faults
-abbrev pub faults_of : SinkInMemory → ℕ
-faults_of sink = sink.faults
-
 -- where no later call is listed, none fails while room is there
 abbrev pub sure_of : SinkInMemory → ℕ
 sure_of sink = if list_any (λ n. nat_le sink.calls n) sink.fails then 0 else sink.room - length sink.taken + 1
 
--- one more, up to the last value of a count
-abbrev pub counted : ℕ → ℕ
-counted n = min (n + 1) (2 ^ 64 - 1)
+-- it tells what it has taken, and is exact
+abbrev pub state_of : SinkInMemory → SinkState
+state_of sink = record { told = Some sink.taken; tally = record { faults = sink.faults; exact = true }; sure = sure_of sink }
 
 -- a put fails where its number is listed, or it has bytes and no room is left
 abbrev pub fails_at : SinkInMemory → List ℕ → Bool
@@ -46,5 +40,5 @@ put_answer sink piece = if fails_at sink piece then Err (record {}) else Ok (fit
 -- the sink after a put
 abbrev pub after_put : SinkInMemory → List ℕ → SinkInMemory
 after_put sink piece =
-    if fails_at sink piece then record sink { calls = counted sink.calls; faults = counted sink.faults }
-    else record sink { calls = counted sink.calls; taken = sink.taken ++ take (fitting sink piece) piece }
+    if fails_at sink piece then record sink { calls = one_more sink.calls; faults = one_more sink.faults }
+    else record sink { calls = one_more sink.calls; taken = sink.taken ++ take (fitting sink piece) piece }

@@ -1,7 +1,7 @@
 -- A tree in memory, call by call.
 use Rattle.std.specs.Prelude.{◌≡◌, ℕ, zero, suc, ◌+◌, ◌-◌, ◌==◌, ◌&&◌, ◌||◌, Bool, true, false}
 use Rattle.std.specs.Prelude.{nat_le, nat_lt, min}
-use Rattle.std.specs.Prelude.{List, ◌++◌, length, take, drop, count_by, Option, Some, Result, Ok, Err}
+use Rattle.std.specs.Prelude.{List, ◌++◌, length, take, drop, count_by, Some, Result, Ok, Err}
 use Rattle.std.specs.Prelude.{is_some, refl, if◌then◌else◌}
 use Rattle.std.specs.List.{list_any, list_all}
 use Rattle.std.specs.Str.{bytes_eq}
@@ -11,10 +11,11 @@ use Rattle.uxn_io.specs.declared.memory.trees.Node.{Node as HeldNode}
 use Rattle.uxn_io.specs.declared.memory.trees.TreeCall.{TreeCall}
 use Rattle.uxn_io.specs.declared.memory.trees.TreeCall.TheVariants.{Kind, Read, Create, Append, Remove, Names}
 use Rattle.uxn_io.specs.Files.{Nodes, file_at, bytes_at, bytes_from, has_parent}
-use Rattle.uxn_io.specs.Changes.{makes_file, with_created, new_files, with_appended, with_removed}
+use Rattle.uxn_io.specs.Changes.{can_create, makes_file, with_created, new_files, with_appended, with_removed}
 use Rattle.uxn_io.specs.InMemory.Places.{Places, nodes_of, places_code}
+use Rattle.uxn_io.specs.Faults.{one_more}
 use Rattle.uxn_io.specs.Room.{Room}
-use Rattle.uxn_io.specs.InMemory.Sinks.{counted}
+use Rattle.uxn_io.specs.State.{TreeState}
 
 -- how many calls of each variant there were
 pub record Calls : Type 0 where
@@ -38,28 +39,21 @@ number_of Names calls = calls.names
 
 -- one call more
 abbrev pub with_call : TreeCall → Calls → Calls
-with_call Kind calls = record calls { kind = counted calls.kind }
-with_call Read calls = record calls { read = counted calls.read }
-with_call Create calls = record calls { create = counted calls.create }
-with_call Append calls = record calls { append = counted calls.append }
-with_call Remove calls = record calls { remove = counted calls.remove }
-with_call Names calls = record calls { names = counted calls.names }
+with_call Kind calls = record calls { kind = one_more calls.kind }
+with_call Read calls = record calls { read = one_more calls.read }
+with_call Create calls = record calls { create = one_more calls.create }
+with_call Append calls = record calls { append = one_more calls.append }
+with_call Remove calls = record calls { remove = one_more calls.remove }
+with_call Names calls = record calls { names = one_more calls.names }
 
 -- its nodes and free places, the calls that fail by their variant and number from 0, how many calls of each
--- variant there were, and how many calls failed
+-- variant there were, how many calls failed, and how many refused to create a file
 pub record TreeInMemory : Type 0 where
   pub held : Places
   pub fails : List (TreeCall × ℕ)
   pub calls : Calls
   pub faults : ℕ
-
--- it tells what stands at each path
-abbrev pub told_by : TreeInMemory → Option Nodes
-told_by tree = Some tree.held.nodes
-
--- and counts its faults
-abbrev pub faults_of : TreeInMemory → ℕ
-faults_of tree = tree.faults
+  pub refusals : ℕ
 
 abbrev pub same_call : TreeCall → TreeCall → Bool
 same_call Kind Kind = true
@@ -82,9 +76,18 @@ is_listed_later tree = list_any (λ e. nat_le (number_of e.0 tree.calls) e.1) tr
 abbrev pub sure_of : TreeInMemory → Room
 sure_of tree = record { files = if is_listed_later tree then 0 else tree.held.free + 1; bytes = tree.held.room }
 
+-- it tells what stands at each path, and is exact
+abbrev pub state_of : TreeInMemory → TreeState
+state_of tree = record {
+  told = Some tree.held.nodes;
+  tally = record { faults = tree.faults; exact = true };
+  refusals = tree.refusals;
+  sure = sure_of tree;
+}
+
 -- the tree after a call that failed, and after one that left these places
 abbrev pub failed : TreeCall → TreeInMemory → TreeInMemory
-failed call tree = record tree { calls = with_call call tree.calls; faults = counted tree.faults }
+failed call tree = record tree { calls = with_call call tree.calls; faults = one_more tree.faults }
 
 abbrev pub answered : TreeCall → Places → TreeInMemory → TreeInMemory
 answered call held tree = record tree { held = held; calls = with_call call tree.calls }
@@ -111,6 +114,13 @@ lacks_place held path = held.free == 0 && makes_file held.nodes path
 
 abbrev pub created : Places → List ℕ → Places
 created held path = record held { nodes = with_created path held.nodes; free = held.free - new_files held.nodes path }
+
+-- where it makes none it counts that it refused
+abbrev pub after_create : TreeInMemory → List ℕ → TreeInMemory
+after_create tree path =
+    if lacks_place tree.held path || is_listed tree Create then failed Create tree
+    else if can_create tree.held.nodes path then answered Create (created tree.held path) tree
+    else record (answered Create (created tree.held path) tree) { refusals = one_more tree.refusals }
 
 -- how many bytes of a piece `append` takes: as many as the room has
 abbrev pub fitting : Places → List ℕ → List ℕ → ℕ
@@ -179,8 +189,8 @@ calls_code =
 
 abbrev pub tree_code : Coded TreeInMemory
 tree_code =
-    code_by (Places × (List (TreeCall × ℕ) × (Calls × ℕ)))
-    (coded× places_code (coded× (coded_list (coded× call_code coded_ℕ)) (coded× calls_code coded_ℕ)))
-    (λ t. (t.held, (t.fails, (t.calls, t.faults))))
-    (λ p. record { held = p.0; fails = p.1.0; calls = p.1.1.0; faults = p.1.1.1 })
+    code_by (Places × (List (TreeCall × ℕ) × (Calls × (ℕ × ℕ))))
+    (coded× places_code (coded× (coded_list (coded× call_code coded_ℕ)) (coded× calls_code (coded× coded_ℕ coded_ℕ))))
+    (λ t. (t.held, (t.fails, (t.calls, (t.faults, t.refusals)))))
+    (λ p. record { held = p.0; fails = p.1.0; calls = p.1.1.0; faults = p.1.1.1.0; refusals = p.1.1.1.1 })
     (λ _. refl)

@@ -9,7 +9,7 @@ ghost use Rattle.uxn_io.specs.Changes.{can_create};
 ghost use Rattle.uxn_io.specs.Children.{children, entry_in, IsEntry};
 ghost use Rattle.uxn_io.specs.ByteList.{HasRoom};
 ghost use Rattle.uxn_io.specs.InMemory.Places.{node_of, entry_of, nodes_of, place_of, emptied, grown, IsPlace, IsFree, AreOrdered};
-ghost use Rattle.uxn_io.specs.InMemory.Trees.{can_hold, created, lacks_place, appended, fitting, removed};
+ghost use Rattle.uxn_io.specs.InMemory.Trees.{can_hold, created, lacks_place, appended, fitting, lacks_room, removed};
 
 use super::trees::Node;
 use crate::{Bytes, Entry, Kind, Path};
@@ -19,7 +19,7 @@ use std::marker::Model;
 
 /// The nodes in the order of their paths, and free places for files. Each place has room for the same
 /// number of bytes, so that no change takes memory.
-#[derive(Debug, Drop)]
+#[derive(Drop)]
 pub(crate) struct Places {
     used: Vec<(Path, Node)>,
     free: Vec<Bytes>,
@@ -118,11 +118,11 @@ impl Places {
         true
     }
 
-    /// Whether the file at a path has no room for a byte more.
-    pub(crate) fn is_full(&self, path: &Path) -> bool
-        ensures { result ≡ nat_le self.now.room (length (bytes_at self.now.nodes path.now)) }
+    /// Whether the file at a path has no room for a byte of the piece.
+    pub(crate) fn lacks_room(&self, path: &Path, piece: &[u8]) -> bool
+        ensures { result ≡ lacks_room self.now path.now piece.now }
     {
-        self.room <= self.bytes(path).len()
+        !piece.is_empty() && self.room <= self.bytes(path).len()
     }
 
     /// Appends as much of the piece as fits to the file at the path, and says how much.

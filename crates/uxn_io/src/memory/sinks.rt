@@ -1,16 +1,15 @@
 //! A sink in memory, which fails on demand.
-ghost use Rattle.std.specs.Prelude.{◌≡◌, ◌+◌, ◌<◌, ◌≤◌, ◌==◌, [], length, take, IfOk, IsOk, OnErr, is_err};
+ghost use Rattle.std.specs.Prelude.{◌≡◌, ◌<◌, ◌≤◌, ◌==◌, false, [], length, take, IfOk, OnErr};
 ghost use Rattle.std.specs.List.{list_any};
-ghost use Rattle.uxn_io.specs.Faults.{Counted};
-ghost use Rattle.uxn_io.specs.Told.{extended};
-ghost use Rattle.uxn_io.specs.InMemory.Sinks.{told_by, faults_of, sure_of, fails_at, put_answer, after_put};
+ghost use Rattle.uxn_io.specs.Ended.{SinkEnded, SinkFailed};
+ghost use Rattle.uxn_io.specs.InMemory.Sinks.{state_of, fails_at, put_answer, after_put};
 
 use crate::{Failed, Sink};
 use std::alloc::{AllocError, Global};
 use std::marker::Model;
 
 /// A sink that keeps what it takes, up to a room in bytes.
-#[derive(Debug, Drop)]
+#[derive(Drop)]
 pub struct MemSink {
     taken: Vec<u8>,
     room: usize,
@@ -62,22 +61,15 @@ impl MemSink {
 }
 
 impl Sink for MemSink {
-    ghost told = { told_by };
-
-    ghost faults = { faults_of };
-
-    ghost sure = { sure_of };
+    ghost state = { state_of };
 
     /// Takes as much as fits. It fails exactly where the number of the call is listed, or the piece is
     /// not empty and no room is left.
     fn put(&mut self, piece: &[u8]) -> Result<usize, Failed>
         ensures count { IfOk result (λ n. n ≤ length piece.now) }
         ensures some { IfOk result (λ n. 0 < length piece.now → 0 < n) }
-        ensures ok { IfOk result (λ n. told_by self.new ≡ extended (told_by self.old) (take n piece.now)) }
-        ensures err { OnErr result (told_by self.new ≡ told_by self.old) }
-        ensures ledger { Counted (faults_of self.old) (faults_of self.new) (is_err result) }
-        ensures sure { length piece.now < sure_of self.old → IsOk result }
-        ensures left { IfOk result (λ n. sure_of self.old ≤ sure_of self.new + n) }
+        ensures taken { IfOk result (λ n. SinkEnded (take n piece.now) false (state_of self.old) (state_of self.new)) }
+        ensures failed { OnErr result (SinkFailed piece.now (state_of self.old) (state_of self.new)) }
 
         ensures answer { result ≡ put_answer self.old piece.now }
         ensures after { self.new ≡ after_put self.old piece.now }

@@ -1,33 +1,30 @@
 //! A tree in memory, which fails on demand.
-ghost use Rattle.std.specs.Prelude.{◌≡◌, ℕ, ◌+◌, ◌<◌, ◌≤◌, ◌==◌, ◌&&◌, ◌||◌, ◌⊎◌, ◌++◌, false, min, count_by, length, take, drop, option_map, is_err, is_some, IsTrue, IsSome, IsOk, IfOk, IfSome, OnOk, OnErr, if◌then◌else◌};
+ghost use Rattle.std.specs.Prelude.{◌≡◌, ◌+◌, ◌<◌, ◌≤◌, ◌==◌, ◌&&◌, ◌||◌, ◌++◌, false, min, count_by, length, take, drop, option_map, is_err, is_some, IsTrue, IsSome, IfOk, IfSome, OnOk, if◌then◌else◌};
 ghost use Rattle.std.specs.List.{All, list_any};
 ghost use Rattle.std.specs.Str.{bytes_eq};
 ghost use Rattle.std.specs.Option.{option_copied};
 ghost use Rattle.std.specs.FinMap as map;
-ghost use Rattle.uxn_io.specs.Faults.{Counted};
+ghost use Rattle.uxn_io.specs.Faults.{Counted, one_more};
 ghost use Rattle.uxn_io.specs.Files.{IsTree, kind_at, file_at, bytes_at, bytes_from, is_folder, Reads};
-ghost use Rattle.uxn_io.specs.Changes.{can_create, with_created, new_files, with_appended, HasAppendedFront, with_removed};
+ghost use Rattle.uxn_io.specs.Changes.{can_create};
 ghost use Rattle.uxn_io.specs.Children.{children, IsEntry, has_failed as names_failed};
-ghost use Rattle.uxn_io.specs.Room.{Leaves};
+ghost use Rattle.uxn_io.specs.Ended.{TreeLooked, TreeEnded, Refused, creating, removing, appending, portion, has_refused};
 ghost use Rattle.uxn_io.specs.InMemory.Places.{node_of, nodes_of};
 ghost use Rattle.uxn_io.specs.declared.memory.trees.TreeCall.{TreeCall};
-ghost use Rattle.uxn_io.specs.InMemory.Sinks.{counted};
 ghost use Rattle.uxn_io.specs.InMemory.Trees.{
   no_calls,
   number_of,
   with_call,
-  told_by,
-  faults_of,
-  sure_of,
+  state_of,
   same_call,
   is_listed,
   is_listed_later,
   answer_of,
   after,
+  after_create,
   read_count,
   read_into,
   lacks_place,
-  created,
   fitting,
   lacks_room,
   appended,
@@ -43,7 +40,7 @@ use std::alloc::{AllocError, Global};
 use std::marker::Model;
 
 /// The calls of a tree.
-#[derive(Clone, Copy, Debug, PartialEq, Eq)]
+#[derive(Clone, Copy, PartialEq, Eq)]
 pub enum TreeCall {
     /// `Tree::kind`.
     Kind,
@@ -60,7 +57,7 @@ pub enum TreeCall {
 }
 
 /// A file with its bytes, or a folder, whose bytes are empty.
-#[derive(Debug, Drop)]
+#[derive(Drop)]
 pub struct Node {
     /// Whether it is a folder.
     pub folder: bool,
@@ -69,7 +66,7 @@ pub struct Node {
 }
 
 /// How many calls of each variant there were.
-#[derive(Debug, Drop)]
+#[derive(Drop)]
 struct Calls {
     kind: u64,
     read: u64,
@@ -134,19 +131,20 @@ impl Calls {
 
 /// Counts one more.
 fn add_one(count: &mut u64)
-    ensures after { count.new ≡ counted count.old }
+    ensures after { count.new ≡ one_more count.old }
     ensures later { count.old ≤ count.new }
 {
     *count = count.saturating_add(1);
 }
 
 /// A tree that is kept in memory.
-#[derive(Debug, Drop)]
+#[derive(Drop)]
 pub struct MemTree {
     held: Places,
     fails: Vec<(TreeCall, u32)>,
     calls: Calls,
     faults: u64,
+    refusals: u64,
 }
 
 impl Model for MemTree {
@@ -156,7 +154,7 @@ impl Model for MemTree {
 
     ghost coded = { tree_code };
 
-    ghost view = { λ t. record { held = t.held; fails = t.fails.items; calls = t.calls; faults = t.faults } };
+    ghost view = { λ t. record { held = t.held; fails = t.fails.items; calls = t.calls; faults = t.faults; refusals = t.refusals } };
 }
 
 impl MemTree {
@@ -176,6 +174,7 @@ impl MemTree {
           fails = fails.now;
           calls = no_calls;
           faults = 0;
+          refusals = 0;
         }) }
     {
         Ok(MemTree {
@@ -183,6 +182,7 @@ impl MemTree {
             fails: Vec::from_slice(alloc, fails)?,
             calls: Calls::new(),
             faults: 0,
+            refusals: 0,
         })
     }
 
@@ -205,7 +205,8 @@ impl MemTree {
     fn begin(&mut self, call: TreeCall, lacking: bool) -> bool
         ensures fails { result ≡ (lacking || is_listed self.old call) }
         ensures after { self.new ≡ after call self.old lacking self.old.held }
-        ensures ledger { Counted (faults_of self.old) (faults_of self.new) result }
+        ensures held { self.new.held ≡ self.old.held }
+        ensures counted { Counted (state_of self.old).tally (state_of self.new).tally result }
         ensures sure { is_listed_later self.old ≡ false → result ≡ lacking }
         ensures later { is_listed_later self.old ≡ false → is_listed_later self.new ≡ false }
     {
@@ -223,22 +224,15 @@ impl MemTree {
 /// not there and no place is free, and where `append` has a piece that is not empty and the file has no
 /// room. It then changes nothing.
 impl Tree for MemTree {
-    ghost told = { told_by };
-
-    ghost faults = { faults_of };
-
-    ghost sure = { sure_of };
+    ghost state = { state_of };
 
     /// Tells what is there.
     fn kind(&mut self, path: &Path) -> Result<Kind, Failed>
-        ensures ok { IfOk result (λ kind. IfSome (told_by self.old) (λ nodes. kind ≡ kind_at nodes path.now)) }
-        ensures same { told_by self.new ≡ told_by self.old }
-        ensures shape { OnOk result (IfSome (told_by self.old) IsTree) }
-        ensures ledger { Counted (faults_of self.old) (faults_of self.new) (is_err result) }
-        ensures sure { 0 < (sure_of self.old).files → IsOk result }
-        ensures left { OnOk result (Leaves (sure_of self.old) (sure_of self.new) 0 0) }
+        ensures answer { IfOk result (λ kind. IfSome (state_of self.old).told (λ nodes. kind ≡ kind_at nodes path.now)) }
+        ensures shape { OnOk result (IfSome (state_of self.old).told IsTree) }
+        ensures looked { TreeLooked (is_err result) (state_of self.old) (state_of self.new) }
 
-        ensures answer { result ≡ answer_of TreeCall.Kind self.old false (kind_at self.old.held.nodes path.now) }
+        ensures exact { result ≡ answer_of TreeCall.Kind self.old false (kind_at self.old.held.nodes path.now) }
         ensures after { self.new ≡ after TreeCall.Kind self.old false self.old.held }
     {
         if self.begin(TreeCall::Kind, false) {
@@ -251,13 +245,10 @@ impl Tree for MemTree {
     fn read(&mut self, path: &Path, from: u64, into: &mut [u8]) -> Result<usize, Failed>
         ensures count { IfOk result (λ n. n ≤ length into.old) }
         ensures rest { IfOk result (λ n. drop n into.new ≡ drop n into.old) }
-        ensures ok { IfOk result (λ n. IfSome (told_by self.old) (λ nodes. Reads (bytes_from nodes path.now from) into.old into.new n)) }
-        ensures same { told_by self.new ≡ told_by self.old }
-        ensures ledger { Counted (faults_of self.old) (faults_of self.new) (is_err result) }
-        ensures sure { 0 < (sure_of self.old).files → IsOk result }
-        ensures left { OnOk result (Leaves (sure_of self.old) (sure_of self.new) 0 0) }
+        ensures answer { IfOk result (λ n. IfSome (state_of self.old).told (λ nodes. Reads (bytes_from nodes path.now from) into.old into.new n)) }
+        ensures looked { TreeLooked (is_err result) (state_of self.old) (state_of self.new) }
 
-        ensures answer { result ≡ answer_of TreeCall.Read self.old false (read_count self.old.held.nodes path.now from into.old) }
+        ensures exact { result ≡ answer_of TreeCall.Read self.old false (read_count self.old.held.nodes path.now from into.old) }
         ensures into { into.new ≡ (if is_listed self.old TreeCall.Read then into.old else read_into self.old.held.nodes path.now from into.old) }
         ensures after { self.new ≡ after TreeCall.Read self.old false self.old.held }
     {
@@ -269,39 +260,36 @@ impl Tree for MemTree {
 
     /// Makes an empty file, in a free place where nothing was.
     fn create(&mut self, path: &Path) -> Result<bool, Failed>
-        ensures answer { IfOk result (λ made. IfSome (told_by self.old) (λ nodes. made ≡ can_create nodes path.now)) }
-        ensures ok { OnOk result (told_by self.new ≡ option_map (with_created path.now) (told_by self.old)) }
-        ensures err { OnErr result ((told_by self.new ≡ told_by self.old) ⊎ (told_by self.new ≡ option_map (with_created path.now) (told_by self.old))) }
-        ensures ledger { Counted (faults_of self.old) (faults_of self.new) (is_err result) }
-        ensures sure { IfSome (told_by self.old) (λ nodes. new_files nodes path.now < (sure_of self.old).files → IsOk result) }
-        ensures left { OnOk result (IfSome (told_by self.old) (λ nodes. Leaves (sure_of self.old) (sure_of self.new) (new_files nodes path.now) 0)) }
+        ensures answer { IfOk result (λ made. IfSome (state_of self.old).told (λ nodes. made ≡ can_create nodes path.now)) }
+        ensures ended { TreeEnded (creating (state_of self.old).told path.now) (is_err result) (state_of self.old) (state_of self.new) }
+        ensures refused { Refused (has_refused result) (state_of self.old) (state_of self.new) }
 
         ensures exact { result ≡ answer_of TreeCall.Create self.old (lacks_place self.old.held path.now) (can_create self.old.held.nodes path.now) }
-        ensures after { self.new ≡ after TreeCall.Create self.old (lacks_place self.old.held path.now) (created self.old.held path.now) }
+        ensures after { self.new ≡ after_create self.old path.now }
     {
         let lacking = self.held.lacks_place(path);
         if self.begin(TreeCall::Create, lacking) {
             return Err(Failed);
         }
-        Ok(self.held.create(path))
+        let made = self.held.create(path);
+        if !made {
+            add_one(&mut self.refusals);
+        }
+        Ok(made)
     }
 
     /// Takes as much of the piece as the room has.
     fn append(&mut self, path: &Path, piece: &[u8]) -> Result<usize, Failed>
-        requires { IfSome (told_by self.old) (λ nodes. IsSome (file_at nodes path.now)) }
+        requires { IfSome (state_of self.old).told (λ nodes. IsSome (file_at nodes path.now)) }
         ensures count { IfOk result (λ n. n ≤ length piece.now) }
         ensures some { IfOk result (λ n. 0 < length piece.now → 0 < n) }
-        ensures ok { IfOk result (λ n. told_by self.new ≡ option_map (with_appended path.now (take n piece.now)) (told_by self.old)) }
-        ensures err { OnErr result (HasAppendedFront path.now (told_by self.old) (told_by self.new) piece.now) }
-        ensures ledger { Counted (faults_of self.old) (faults_of self.new) (is_err result) }
-        ensures sure { IfSome (told_by self.old) (λ nodes. 0 < (sure_of self.old).files
-            → length (bytes_at nodes path.now) + length piece.now ≤ (sure_of self.old).bytes → IsOk result) }
-        ensures left { OnOk result (Leaves (sure_of self.old) (sure_of self.new) 0 0) }
+        ensures ended { TreeEnded (appending path.now (portion result piece.now)) (is_err result) (state_of self.old) (state_of self.new) }
+        ensures refused { Refused false (state_of self.old) (state_of self.new) }
 
         ensures exact { result ≡ answer_of TreeCall.Append self.old (lacks_room self.old.held path.now piece.now) (fitting self.old.held path.now piece.now) }
         ensures after { self.new ≡ after TreeCall.Append self.old (lacks_room self.old.held path.now piece.now) (appended self.old.held path.now piece.now) }
     {
-        let lacking = !piece.is_empty() && self.held.is_full(path);
+        let lacking = self.held.lacks_room(path, piece);
         if self.begin(TreeCall::Append, lacking) {
             return Err(Failed);
         }
@@ -310,12 +298,9 @@ impl Tree for MemTree {
 
     /// Takes a file away, and frees its place.
     fn remove(&mut self, path: &Path) -> Result<bool, Failed>
-        ensures answer { IfOk result (λ gone. IfSome (told_by self.old) (λ nodes. gone ≡ is_some (file_at nodes path.now))) }
-        ensures ok { OnOk result (told_by self.new ≡ option_map (with_removed path.now) (told_by self.old)) }
-        ensures err { OnErr result ((told_by self.new ≡ told_by self.old) ⊎ (told_by self.new ≡ option_map (with_removed path.now) (told_by self.old))) }
-        ensures ledger { Counted (faults_of self.old) (faults_of self.new) (is_err result) }
-        ensures sure { 0 < (sure_of self.old).files → IsOk result }
-        ensures left { IfOk result (λ gone. Leaves (sure_of self.old) (sure_of self.new) 0 (if gone then 1 else 0)) }
+        ensures answer { IfOk result (λ gone. IfSome (state_of self.old).told (λ nodes. gone ≡ is_some (file_at nodes path.now))) }
+        ensures ended { TreeEnded (removing (state_of self.old).told path.now) (is_err result) (state_of self.old) (state_of self.new) }
+        ensures refused { Refused false (state_of self.old) (state_of self.new) }
 
         ensures exact { result ≡ answer_of TreeCall.Remove self.old false (is_some (file_at self.old.held.nodes path.now)) }
         ensures after { self.new ≡ after TreeCall.Remove self.old false (removed self.old.held path.now) }
@@ -328,13 +313,10 @@ impl Tree for MemTree {
 
     /// Lists the children. Want of memory is no fault.
     fn names(&mut self, alloc: Global, folder: &Path) -> Result<Vec<Entry>, NamesStop>
-        requires { IfSome (told_by self.old) (λ nodes. IsTrue (is_folder (map.get nodes folder.now))) }
-        ensures ok { IfOk result (λ entries. IfSome (told_by self.old) (λ nodes. entries.items ≡ children nodes folder.now)) }
+        requires { IfSome (state_of self.old).told (λ nodes. IsTrue (is_folder (map.get nodes folder.now))) }
+        ensures answer { IfOk result (λ entries. IfSome (state_of self.old).told (λ nodes. entries.items ≡ children nodes folder.now)) }
+        ensures looked { TreeLooked (names_failed result) (state_of self.old) (state_of self.new) }
         ensures entries { IfOk result (λ entries. All IsEntry entries.items) }
-        ensures same { told_by self.new ≡ told_by self.old }
-        ensures ledger { Counted (faults_of self.old) (faults_of self.new) (names_failed result) }
-        ensures sure { 0 < (sure_of self.old).files → names_failed result ≡ false }
-        ensures left { names_failed result ≡ false → Leaves (sure_of self.old) (sure_of self.new) 0 0 }
 
         ensures fails { names_failed result ≡ is_listed self.old TreeCall.Names }
         ensures after { self.new ≡ after TreeCall.Names self.old false self.old.held }

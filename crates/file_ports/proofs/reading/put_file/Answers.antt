@@ -1,6 +1,6 @@
 use Rattle.std.proofs.Common.{◌≡◌, ◌+◌, [], true, false, Err, rules, ◌++◌, ℕ, ap, take, drop, refl, sym, arith}
 use Rattle.std.proofs.lemmas.List.{length-take, length-append, take-append-le}
-use Rattle.uxn_io.specs.EndedLaws.{looked-by, looked-same, tree-then, tree-as-it-was}
+use Rattle.uxn_io.specs.EndedLaws.{looked-nothing, looked-then}
 use Rattle.file_ports.proofs.MemoryLemmas.{with_nothing}
 use Rattle.file_ports.proofs.ReadLemmas.{gives_nothing, told_more, told_end, put_more, front_put}
 use Rattle.file_ports.proofs.reading.put_file.Goals as goal
@@ -15,31 +15,28 @@ loop-done-preserved g c =
       within = omega (arith, c.in_ok-taken.ensures.count, size);
       told =
           told_more _ _ c.args.path.now c.args.memory.now c.loop-done.memory c.put.new.self (take taken (into ++ drop c.min-wanted.result chunk)) (take c.min-wanted.result chunk) into c.args.place c.args.at c.loop-done.done taken _
-          (omega arith) (ap (λ (n : ℕ). c.args.place + n) c.from-in-loop-done.ensures) (looked-same false _ _ c.loop-done.invariant.tree) c.loop-done.invariant.told c.in_ok-taken.ensures.ok
+          (omega arith) (ap (λ (n : ℕ). c.args.place + n) c.from-in-loop-done.ensures) c.loop-done.invariant.tree.told c.loop-done.invariant.told c.in_ok-taken.ensures.answer
           (take-append-le taken into (drop c.min-wanted.result chunk) (omega (arith, c.in_ok-taken.ensures.count, size))) c.put.ensures;
       put =
           put_more c.args.memory.now c.loop-done.memory c.put.new.self (take taken (into ++ drop c.min-wanted.result chunk)) c.args.at c.loop-done.done taken
           (omega arith) c.loop-done.invariant.put (omega (arith, c.in_ok-taken.ensures.count, size, length-take taken (into ++ drop c.min-wanted.result chunk), length-append into (drop c.min-wanted.result chunk))) c.put.ensures;
-      tree = tree-then [] [] false _ _ _ c.loop-done.invariant.tree
-          (looked-by false _ _ c.in_ok-taken.ensures.same c.in_ok-taken.ensures.ledger (search rules) (λ is. c.in_ok-taken.ensures.left));
+      tree = looked-then false _ _ _ c.loop-done.invariant.tree c.in_ok-taken.ensures.looked;
     }
 
 pub returns-then-taken-eq0-clause-piece : goal.returns-then-taken-eq0-clause-piece
 returns-then-taken-eq0-clause-piece g c =
     let size = length-take c.min-wanted.result c.loop-done.chunk in
     told_end _ _ c.args.path.now c.args.memory.now c.loop-done.memory (take c.min-wanted.result c.loop-done.chunk) c.read.new.into c.args.place c.args.at c.loop-done.done c.in_ok-taken.taken c.args.count _
-    (ap (λ (n : ℕ). c.args.place + n) c.from-in-loop-done.ensures) (looked-same false _ _ c.loop-done.invariant.tree) c.loop-done.invariant.told c.in_ok-taken.ensures.ok c.if-taken-eq0.true (omega (arith, size)) c.loop-done.invariant.within
+    (ap (λ (n : ℕ). c.args.place + n) c.from-in-loop-done.ensures) c.loop-done.invariant.tree.told c.loop-done.invariant.told c.in_ok-taken.ensures.answer c.if-taken-eq0.true (omega (arith, size)) c.loop-done.invariant.within
 
 pub returns-then-taken-eq0-clause-tree : goal.returns-then-taken-eq0-clause-tree
 returns-then-taken-eq0-clause-tree g c =
-    tree-then [] [] false _ _ _ c.loop-done.invariant.tree
-    (looked-by false _ _ c.in_ok-taken.ensures.same c.in_ok-taken.ensures.ledger (search rules) (λ is. c.in_ok-taken.ensures.left))
+    looked-then false _ _ _ c.loop-done.invariant.tree c.in_ok-taken.ensures.looked
 
 pub returns-in_err-taken-clause-tree : goal.returns-in_err-taken-clause-tree
 returns-in_err-taken-clause-tree g c =
     let result : c.from_residual.result ≡ Err c.in_err-taken.field-0.0 = search rules in
-    rw result (tree-then [] [] true _ _ _ c.loop-done.invariant.tree
-    (looked-by true _ _ c.in_err-taken.ensures.same c.in_err-taken.ensures.ledger (λ some. let is : false ≡ true = c.in_err-taken.ensures.sure some in cc) (λ is. cc)))
+    rw result (looked-then true _ _ _ c.loop-done.invariant.tree c.in_err-taken.ensures.looked)
 
 pub loop-done-init : goal.loop-done-init
 loop-done-init g c =
@@ -48,7 +45,7 @@ loop-done-init g c =
       within = omega arith;
       told = gives_nothing _ c.args.memory.now c.args.at;
       put = record { put = []; count = refl; memory = none };
-      tree = tree-as-it-was _;
+      tree = looked-nothing _;
     }
 
 pub returns-in_err-taken-clause-stopped : goal.returns-in_err-taken-clause-stopped

@@ -1,7 +1,6 @@
 -- So many bytes of the file are in memory, and the tree was only looked at.
 use Rattle.std.proofs.Common.{◌≤◌, ◌-◌, IfSome, take, false}
 use Rattle.uxn_io.specs.Files.{bytes_from}
-use Rattle.uxn_io.specs.State.{tree_state}
 use Rattle.uxn_io.specs.Ended.{TreeLooked}
 use Rattle.file_ports.specs.Answers.{GivesPiece}
 use Rattle.file_ports.proofs.ReadLemmas.{HasPut}
@@ -10,9 +9,9 @@ use Rattle.file_ports.proofs.reading.put_file.Given as goal
 abbrev pub invariant-loop-done : goal.invariant-loop-done
 invariant-loop-done g l = record {
   within : l.done ≤ l.count;
-  told : IfSome (g.T.Tree.told l.fn.tree) (λ nodes. GivesPiece (take l.done (bytes_from nodes l.path l.place)) l.fn.memory l.at l.done l.memory);
+  told : IfSome (g.T.Tree.state l.fn.tree).told (λ nodes. GivesPiece (take l.done (bytes_from nodes l.path l.place)) l.fn.memory l.at l.done l.memory);
   put : HasPut l.fn.memory l.at l.done l.memory;
-  tree : TreeLooked false (tree_state g.T.Tree l.fn.tree) (tree_state g.T.Tree l.tree);
+  tree : TreeLooked false (g.T.Tree.state l.fn.tree) (g.T.Tree.state l.tree);
 }
 
 abbrev pub decreases-loop-done : goal.decreases-loop-done

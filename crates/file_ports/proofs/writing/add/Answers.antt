@@ -1,5 +1,5 @@
-use Rattle.std.proofs.Common.{◌≡◌, Err, Ok, rules}
-use Rattle.file_ports.specs.CallLaws.{appending}
+use Rattle.std.proofs.Common.{◌≡◌, Err, rules, true, false}
+use Rattle.uxn_io.specs.Ended.{appending}
 use Rattle.file_ports.proofs.ChangeLemmas.{added-first, added-none, added-all}
 use Rattle.file_ports.proofs.writing.add.Goals as goal
 
@@ -16,12 +16,10 @@ returns-then-not-branch-clause-tree g c =
 pub returns-in_err-append_all-clause-tree : goal.returns-in_err-append_all-clause-tree
 returns-in_err-append_all-clause-tree g c =
     let result : c.from_residual-in_err-append_all.result ≡ Err c.in_err-append_all.field-0.0 = search rules in
-    rw result (added-all c.args.path.now c.args.is_writing c.args.keep _ _ _ c.args.piece.now c.in_ok-begin.field-0 (Err c.in_err-append_all.field-0.0)
-    c.in_ok-begin.ensures.begun c.if-not-branch.false c.in_ok-begin.ensures.tree tt c.in_err-append_all.ensures.err c.in_err-append_all.ensures.ledger
-    c.in_err-append_all.ensures.sure tt)
+    rw result (added-all c.args.path.now c.args.is_writing c.args.keep _ _ _ c.args.piece.now c.in_ok-begin.field-0 true
+    c.in_ok-begin.ensures.begun c.if-not-branch.false c.in_ok-begin.ensures.tree c.in_err-append_all.ensures.ended)
 
 pub returns-clause-tree : goal.returns-clause-tree
 returns-clause-tree g c =
-    added-all c.args.path.now c.args.is_writing c.args.keep _ _ _ c.args.piece.now c.in_ok-begin.field-0 (Ok c.in_ok-append_all.field-0)
-    c.in_ok-begin.ensures.begun c.if-not-branch.false c.in_ok-begin.ensures.tree c.in_ok-append_all.ensures.ok tt c.in_ok-append_all.ensures.ledger
-    c.in_ok-append_all.ensures.sure c.in_ok-append_all.ensures.left
+    added-all c.args.path.now c.args.is_writing c.args.keep _ _ _ c.args.piece.now c.in_ok-begin.field-0 false
+    c.in_ok-begin.ensures.begun c.if-not-branch.false c.in_ok-begin.ensures.tree c.in_ok-append_all.ensures.ended

@@ -1,6 +1,9 @@
+use Rattle.task_files.specs.World.{text_at}
+use Rattle.uxn_io.specs.EndedLaws.{outside-of-tree}
+use Rattle.uxn_cli.proofs.ChangeLemmas.{filled-of-tree}
+use Rattle.std.specs.Prelude.{is_err}
 use Rattle.std.proofs.Common.{◌≡◌, ◌∙◌, refl, rules}
 use Rattle.std.specs.Prelude.{Err}
-use Rattle.uxn_io.specs.State.{sink_state}
 use Rattle.uxn_cli.specs.Job.{log_text}
 use Rattle.uxn_cli.specs.Verdict.{debugging}
 use Rattle.uxn_cli.proofs.RunLemmas.{runs-as, runs-first, runs-then, stays-if, kept-log}
@@ -22,4 +25,5 @@ returns g c = λ commands labels new.
     c.core_known.ensures commands labels _ _ new in
     rw (c.or.ensures, c.and.ensures) (runs-then _ _ _ _ _ (role_path c.args.task.now role.Log) _ (log_text (debugging c.args.task.now commands labels)) _ _ c.in_ok-end.end
     (runs-as _ _ _ _ _ _ _ _ _ (λ trail. refl) (λ watched. refl) c.in_ok-end.ensures.runs) (λ home root files. c.log.ensures ∙ kept home (c.in_ok-end.ensures.watcher home root files))
-    c.write_text.result (rw c.path.ensures at (c.write_text.ensures (sink_state g.O.Sink c.run_made.new.out) (sink_state g.E.Sink c.run_made.new.err))))
+    c.write_text.result
+    (outside-of-tree _ (is_err c.write_text.result) _ _ (g.O.Sink.state c.run_made.new.out) (g.E.Sink.state c.run_made.new.err) (filled-of-tree (text_at (role_path c.args.task.now role.Log) c.log.result.now)) (rw c.path.ensures at c.write_text.ensures)))

@@ -1,10 +1,8 @@
-use Rattle.std.proofs.Common.{◌≡◌, ◌∙◌, inl, ap, sym, refl, subst, length}
+use Rattle.std.proofs.Common.{◌≡◌, ◌∙◌, ap, sym, refl, subst, length}
 use Rattle.std.specs.List.{All}
 use Rattle.std.proofs.lemmas.List.{length-map}
 use Rattle.uxn_io.specs.ByteList.{ByteList}
-use Rattle.uxn_io.specs.Faults.{counts}
-use Rattle.uxn_io.specs.State.{sink_state}
-use Rattle.uxn_line.specs.Limits.{AreTurns}
+use Rattle.setup_lines.specs.Limits.{AreTurns}
 use Rattle.uxn_line.specs.Moves.{IsUnderWay}
 use Rattle.uxn_line.specs.Standing.{job_of}
 use Rattle.uxn_cli.specs.Joined.{job_of_joined}
@@ -19,15 +17,15 @@ run_all-requires g c =
 pub returns-in-Ok : goal.returns-in-Ok
 returns-in-Ok g c =
     let joined = c.args.joined.now in
-    let begun = sink_state g.O.Sink c.args.out.now in
+    let begun = g.O.Sink.state c.args.out.now in
     let same : job_of c.deref.result.now joined.script c.budget.result ≡ job_of_joined joined = rw (c.deref.ensures.value, c.budget.ensures.budget) refl in
     let done = c.in-Ok.ensures.done (job_of_joined joined) begun (subst (λ job. IsUnderWay job begun c.in_ok-line.line begun) same (c.in_ok-line.ensures.under_way begun)) in
-    record { puts = (done.0.holds, done.1); ledger = ap (λ faults. counts 0 faults 0) done.0.counted }
+    (done.0, done.1)
 
 pub returns : goal.returns
 returns g c =
     let joined = c.args.joined.now in
-    let begun = sink_state g.O.Sink c.args.out.now in
+    let begun = g.O.Sink.state c.args.out.now in
     let same : job_of c.deref.result.now joined.script c.budget.result ≡ job_of_joined joined = rw (c.deref.ensures.value, c.budget.ensures.budget) refl in
     let done = c.in-Err.ensures.done (job_of_joined joined) begun (subst (λ job. IsUnderWay job begun c.in_ok-line.line begun) same (c.in_ok-line.ensures.under_way begun)) in
-    record { puts = (done.0.holds, done.0.blamed refl); ledger = inl (record { tree = refl; out = done.0.counted; err = refl }) }
+    done.0

@@ -1,11 +1,9 @@
 use Rattle.std.proofs.Common.{◌≡◌, ◌∙◌, ap, rules}
 use Rattle.std.specs.Prelude.{Ok, Err}
-use Rattle.uxn_io.specs.State.{tree_state}
 use Rattle.uxn_opcodes.specs.Rule.{new_core}
 use Rattle.uxn_opcodes.specs.declared.Stop.TheVariants.{NoMemory}
-use Rattle.uxn_cli.specs.declared.refusal.Halt.TheVariants.{Stopped}
-use Rattle.uxn_cli.specs.Job.{no_home}
-use Rattle.uxn_cli.specs.Prepared.{loaded_by, run_plan}
+use Rattle.task_files.specs.declared.refusal.Halt.TheVariants.{Stopped}
+use Rattle.task_files.specs.Held.{given_by, loaded_by}
 use Rattle.uxn_cli.proofs.PlanLemmas.{is-planned}
 use Rattle.uxn_cli.proofs.ReadyLemmas.{home, is-home, run-root, reads-work}
 use Rattle.uxn_cli.proofs.playing.prepare.Goals as goal
@@ -13,21 +11,19 @@ use Rattle.uxn_cli.proofs.playing.prepare.Goals as goal
 pub returns-in_err-program-clause-prepares : goal.returns-in_err-program-clause-prepares
 returns-in_err-program-clause-prepares g c =
     let task = c.args.task.now in
-    let before = tree_state g.T.Tree c.args.tree.now in
+    let before = g.T.Tree.state c.args.tree.now in
     let result : c.from_residual.result ≡ Err c.in_err-program.field-0.0 = search rules in
-    let read = reads-work task c.requires (run_plan task (home task before.told)) before (tree_state g.T.Tree c.read_inputs.new.tree) (Err c.in_err-program.field-0.0)
-    (c.in_err-program.ensures.reads (home task before.told)) in
-    rw result read.accepts
+    rw result (reads-work task c.requires given_by before (g.T.Tree.state c.read_run.new.tree) (Err c.in_err-program.field-0.0) c.in_err-program.ensures.reads).accepts
 
 pub returns-clause-prepares : goal.returns-clause-prepares
 returns-clause-prepares g c =
     let task = c.args.task.now in
-    let before = tree_state g.T.Tree c.args.tree.now in
+    let before = g.T.Tree.state c.args.tree.now in
     let inputs = c.in_ok-program.field-0 in
     let root = run-root task task.command c.requires in
-    let read = reads-work task c.requires (run_plan task (home task before.told)) before (tree_state g.T.Tree c.read_inputs.new.tree) (Ok inputs)
-    (c.in_ok-program.ensures.reads (home task before.told)) in
+    let read = reads-work task c.requires given_by before (g.T.Tree.state c.read_run.new.tree) (Ok inputs) c.in_ok-program.ensures.reads in
     record {
+      runs = c.requires;
       ready = record {
         rom = (loaded_by inputs.program).rom;
         home = home task before.told;
@@ -45,27 +41,27 @@ returns-clause-prepares g c =
 pub returns-in_err-program-clause-looked : goal.returns-in_err-program-clause-looked
 returns-in_err-program-clause-looked g c =
     let result : c.from_residual.result ≡ Err c.in_err-program.field-0.0 = search rules in
-    rw result (c.in_err-program.ensures.reads no_home).looked
+    rw result c.in_err-program.ensures.reads.looked
 
 pub returns-in_err-paths-clause-looked : goal.returns-in_err-paths-clause-looked
 returns-in_err-paths-clause-looked g c =
     let result : c.from_residual-in_err-paths.result ≡ Err (Stopped NoMemory) = search rules in
-    rw result (c.in_ok-program.ensures.reads no_home).looked
+    rw result c.in_ok-program.ensures.reads.looked
 
 pub returns-in_err-outputs-clause-looked : goal.returns-in_err-outputs-clause-looked
 returns-in_err-outputs-clause-looked g c =
     let result : c.from_residual-in_err-outputs.result ≡ Err (Stopped NoMemory) = search rules in
-    rw result (c.in_ok-program.ensures.reads no_home).looked
+    rw result c.in_ok-program.ensures.reads.looked
 
 pub returns-in_err-session-clause-looked : goal.returns-in_err-session-clause-looked
 returns-in_err-session-clause-looked g c =
     let result : c.from_residual-in_err-session.result ≡ Err (Stopped NoMemory) = search rules in
-    rw result (c.in_ok-program.ensures.reads no_home).looked
+    rw result c.in_ok-program.ensures.reads.looked
 
 pub returns-in_err-machine-clause-looked : goal.returns-in_err-machine-clause-looked
 returns-in_err-machine-clause-looked g c =
     let result : c.from_residual-in_err-machine.result ≡ Err (Stopped NoMemory) = search rules in
-    rw result (c.in_ok-program.ensures.reads no_home).looked
+    rw result c.in_ok-program.ensures.reads.looked
 
 pub returns-clause-looked : goal.returns-clause-looked
-returns-clause-looked g c = (c.in_ok-program.ensures.reads no_home).looked
+returns-clause-looked g c = c.in_ok-program.ensures.reads.looked

@@ -1,3 +1,4 @@
+use Rattle.varvara_bus.specs.Bus.{told_on}
 use Rattle.std.proofs.Common.{◌≡◌, ◌∙◌, refl, ap, rules, arith}
 use Rattle.std.specs.Prelude.{Err, false}
 use Rattle.std.specs.FinMap as fin
@@ -21,7 +22,7 @@ returns-clause-runs g c =
     record {
       from = λ home root files.
           let machine = c.args.machine.now in
-          let stands = at-start g.T.Tree.told c.new-bus.result machine.devices c.args.tree.now machine.script home devices tree root c.requires.devices files in
+          let stands = at-start (told_on g.T.Tree) c.new-bus.result machine.devices c.args.tree.now machine.script home devices tree root c.requires.devices files in
           let ends = c.in_ok-tally.ensures.ok.from (devices_with machine.script home) stands in
           let w = ends.makes.world in
           let r = ends.makes.remains in
@@ -40,7 +41,7 @@ pub returns-clause-watcher : goal.returns-clause-watcher
 unfolding trail_by
 returns-clause-watcher g c = λ home root files.
     let machine = c.args.machine.now in
-    let stands = at-start g.T.Tree.told c.new-bus.result machine.devices c.args.tree.now machine.script home
+    let stands = at-start (told_on g.T.Tree) c.new-bus.result machine.devices c.args.tree.now machine.script home
     c.new-bus.ensures.devices_now c.new-bus.ensures.tree_now root c.requires.devices files in
     (c.in_ok-tally.ensures.ok.from (devices_with machine.script home) stands).watcher
 
@@ -57,7 +58,7 @@ returns-in_err-tally-clause-runs g c =
     rw result (record {
       from = λ home root files.
           let machine = c.args.machine.now in
-          let stands = at-start g.T.Tree.told c.new-bus.result machine.devices c.args.tree.now machine.script home devices tree root c.requires.devices files in
+          let stands = at-start (told_on g.T.Tree) c.new-bus.result machine.devices c.args.tree.now machine.script home devices tree root c.requires.devices files in
           let short = c.in_err-tally.ensures.err.from (devices_with machine.script home) stands in
           let cut = short.made.cut in
           let not_sure = short.made.not_sure in

@@ -1,16 +1,13 @@
--- A front of the piece was appended, and no fault was counted.
-use Rattle.std.proofs.Common.{length, take, ◌-◌, ◌≡◌, ◌≤◌}
-use Rattle.std.specs.Option.{option_map}
-use Rattle.uxn_io.specs.Changes.{with_appended}
-use Rattle.uxn_io.specs.Room.{Leaves}
+-- A front of the piece was appended.
+use Rattle.std.proofs.Common.{length, take, ◌-◌, ◌≤◌, false}
+use Rattle.uxn_io.specs.Ended.{TreeEnded, Refused, appending}
 use Rattle.uxn_io.proofs.trees.append_all.Given as goal
 
 abbrev pub invariant-loop-at : goal.invariant-loop-at
 invariant-loop-at g l = record {
   within : l.at ≤ length l.piece;
-  told : g.T.Tree.told l.tree ≡ option_map (with_appended l.path (take l.at l.piece)) (g.T.Tree.told l.fn.tree);
-  same : g.T.Tree.faults l.tree ≡ g.T.Tree.faults l.fn.tree;
-  left : Leaves (g.T.Tree.sure l.fn.tree) (g.T.Tree.sure l.tree) 0 0;
+  ended : TreeEnded (appending l.path (take l.at l.piece)) false (g.T.Tree.state l.fn.tree) (g.T.Tree.state l.tree);
+  refused : Refused false (g.T.Tree.state l.fn.tree) (g.T.Tree.state l.tree);
 }
 
 abbrev pub decreases-loop-at : goal.decreases-loop-at

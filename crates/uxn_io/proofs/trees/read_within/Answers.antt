@@ -1,4 +1,5 @@
-use Rattle.std.proofs.Common.{arith, refl, ◌∙◌}
+use Rattle.std.proofs.Common.{arith, refl}
+use Rattle.uxn_io.specs.EndedLaws.{looked-then}
 use Rattle.uxn_io.proofs.ReadLemmas.{reads_on, length_grown, front_grown, front_all}
 use Rattle.uxn_io.proofs.trees.read_within.Goals as goal
 
@@ -6,22 +7,17 @@ pub returns-then-taken-eq0-clause-answer : goal.returns-then-taken-eq0-clause-an
 returns-then-taken-eq0-clause-answer g c =
     front_all _ _ c.loop-bytes.bytes.items _ _ _ _ c.args.limit c.from.ensures c.if-taken-eq0.true (omega (arith, c.loop-bytes.invariant.size))
     c.loop-bytes.invariant.front
-    (reads_on _ _ _ _ _ _ _ _ c.loop-bytes.invariant.same (omega (arith, c.loop-bytes.bytes.ok.0)) c.in_ok-taken.ensures.ok)
+    (reads_on _ _ _ _ _ _ _ _ c.loop-bytes.invariant.looked.told (omega (arith, c.loop-bytes.bytes.ok.0)) c.in_ok-taken.ensures.answer)
 
 pub loop-bytes-preserved : goal.loop-bytes-preserved
 loop-bytes-preserved g c = record {
-  same = c.read.ensures.same ∙ c.loop-bytes.invariant.same;
-  faults = c.in_ok-taken.ensures.ledger ∙ c.loop-bytes.invariant.faults;
-  left = record {
-    files = λ some. omega (arith, c.loop-bytes.invariant.left.files some, c.in_ok-taken.ensures.left.files);
-    bytes = λ some. omega (arith, c.loop-bytes.invariant.left.files some, c.loop-bytes.invariant.left.bytes some, c.in_ok-taken.ensures.left.bytes);
-  };
+  looked = looked-then _ _ _ _ c.loop-bytes.invariant.looked c.in_ok-taken.ensures.looked;
   within =
       let grown = length_grown c.loop-bytes.bytes.items c.read.new.into c.extend_from_slice.new.self.items c.in_ok-taken.taken (omega (arith, c.in_ok-taken.ensures.count)) c.in_ok-extend_from_slice.ensures.items in
       omega (arith, grown, c.extend_from_slice.new.self.ok.0, c.loop-bytes.bytes.ok.0);
   front =
       front_grown _ _ c.loop-bytes.bytes.items _ c.read.new.into _ _ c.in_ok-taken.taken (omega (arith, c.in_ok-taken.ensures.count)) refl c.in_ok-extend_from_slice.ensures.items
       c.loop-bytes.invariant.front
-      (reads_on _ _ _ _ _ _ _ _ c.loop-bytes.invariant.same (omega (arith, c.loop-bytes.bytes.ok.0)) c.in_ok-taken.ensures.ok);
+      (reads_on _ _ _ _ _ _ _ _ c.loop-bytes.invariant.looked.told (omega (arith, c.loop-bytes.bytes.ok.0)) c.in_ok-taken.ensures.answer);
   size = omega arith;
 }

@@ -1,7 +1,19 @@
-use Rattle.std.proofs.Common.{refl}
+use Rattle.std.proofs.Common.{refl, []}
+use Rattle.uxn_io.specs.CallLaws.{ended-as}
+use Rattle.uxn_io.specs.EndedLaws.{looked-ended}
 use Rattle.file_ports.specs.Actions.{Read, Write, Stat, Delete}
-use Rattle.varvara_bus.proofs.FileCalls.{performs, goes-on}
+use Rattle.varvara_bus.proofs.FileCalls.{performs, goes-on, stat-changes, read-changes}
 use Rattle.varvara_bus.proofs.files.perform.Goals as goal
+
+pub returns-in-Stat-clause-tree : goal.returns-in-Stat-clause-tree
+returns-in-Stat-clause-tree g c =
+    rw c.in-Stat.is (ended-as [] _ _ _ _ (stat-changes c.in-Stat.at c.in-Stat.length _ c.args.device.now c.args.memory.now)
+    (looked-ended _ _ _ c.stat.ensures.tree))
+
+pub returns-in-Read-clause-tree : goal.returns-in-Read-clause-tree
+returns-in-Read-clause-tree g c =
+    rw c.in-Read.is (ended-as [] _ _ _ _ (read-changes c.in-Read.at c.in-Read.length _ c.args.device.now c.args.memory.now)
+    (looked-ended _ _ _ c.read.ensures.tree))
 
 pub returns-in-Stat-clause-acted : goal.returns-in-Stat-clause-acted
 returns-in-Stat-clause-acted g c =

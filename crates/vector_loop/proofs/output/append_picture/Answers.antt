@@ -33,7 +33,7 @@ append_row-requires-clause-there g c = record {
 
 pub append_row-requires-clause-row : goal.append_row-requires-clause-row
 append_row-requires-clause-row g c =
-    rw (c.loop-y.invariant.putting.made.made.height, ← c.screen-2.ensures.held, ← c.height-height.ensures) c.loop-y-test.true
+    rw (c.loop-y.invariant.putting.made.height, ← c.screen-2.ensures.held, ← c.height-height.ensures) c.loop-y-test.true
 
 pub loop-y-preserved : goal.loop-y-preserved
 loop-y-preserved g c = record {

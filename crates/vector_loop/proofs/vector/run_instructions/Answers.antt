@@ -1,7 +1,7 @@
 use Rattle.std.proofs.Common.{◌≡◌, suc, ◌+◌, ◌-◌, refl, inl, inr, arith}
 use Rattle.uxn_io.specs.Faults.{Nobody}
 use Rattle.varvara_bus.specs.Bus.{meaning_of, bus_faults}
-use Rattle.varvara_bus.specs.Laws.{ledger-then}
+use Rattle.uxn_io.specs.FaultLaws.{ledger-same, ledger-then}
 use Rattle.varvara_bus.specs.InstructionLaws.{same-itself, same-again, instruction-lent, instruction-fault}
 use Rattle.vector_loop.specs.Budget.{runs-none, runs-more}
 use Rattle.vector_loop.specs.Follows.{running}
@@ -15,7 +15,7 @@ loop-core-init g c = record {
       (along-start _ _ _ _ c.args.budget);
   runs = runs-none _ _ c.args.core.now c.args.bus.now (omega arith);
   same = same-itself _ c.args.bus.now;
-  ledger = refl;
+  ledger = ledger-same _;
   some = c.requires.budget;
   within = omega arith;
 }

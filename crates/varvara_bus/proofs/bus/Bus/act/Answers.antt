@@ -1,5 +1,4 @@
 use Rattle.std.proofs.Common.{[], ◌∷◌, refl}
-use Rattle.uxn_io.specs.State.{tree_state, sink_state}
 use Rattle.uxn_io.specs.EndedLaws.{outside-of-out, outside-of-err}
 use Rattle.varvara_bus.specs.declared.ports.Action.TheVariants.{PutsDebugText, PutsOut, PutsErr}
 use Rattle.varvara_bus.specs.Effect.{debug_bytes, width_asked, height_asked, pixel_drawn, sprite_drawn, note_started}
@@ -10,38 +9,38 @@ pub returns-in-PutsDebugText-clause-acted : goal.returns-in-PutsDebugText-clause
 returns-in-PutsDebugText-clause-acted g c =
     rw c.in-PutsDebugText.is (sink-ends _ c.args.self.now _ _ c.args.core.now PutsDebugText c.args.value _ c.answer.result c.put_debug_text.result refl
     (λ state. refl) (λ state stands. stands) c.answer.ensures.ok c.answer.ensures.err
-    (outside-of-err (debug_bytes c.args.value c.args.core.now) _ _ _ _ _ c.put_debug_text.ensures) refl refl)
+    (outside-of-err (debug_bytes c.args.value c.args.core.now) _ (g.T.Tree.state c.args.self.now.tree.now) _ _ _ c.put_debug_text.ensures) refl refl)
 
 pub returns-in-PutsDebugText-clause-ledger : goal.returns-in-PutsDebugText-clause-ledger
 returns-in-PutsDebugText-clause-ledger g c =
     sink-ledger _ c.answer.result c.put_debug_text.result _ _ c.answer.ensures.ok c.answer.ensures.err
-    (outside-of-err (debug_bytes c.args.value c.args.core.now) _ (tree_state g.T.Tree c.args.self.now.tree.now) (sink_state g.O.Sink c.args.self.now.out.now) _ _
+    (outside-of-err (debug_bytes c.args.value c.args.core.now) _ (g.T.Tree.state c.args.self.now.tree.now) (g.O.Sink.state c.args.self.now.out.now) _ _
     c.put_debug_text.ensures)
 
 pub returns-in-PutsOut-clause-acted : goal.returns-in-PutsOut-clause-acted
 returns-in-PutsOut-clause-acted g c =
     rw c.in-PutsOut.is (sink-ends _ c.args.self.now _ _ c.args.core.now PutsOut c.args.value _ c.answer-in-PutsOut.result c.console_write.result refl
     (λ state. refl) (λ state stands. stands) c.answer-in-PutsOut.ensures.ok c.answer-in-PutsOut.ensures.err
-    (rw (c.console_write.ensures.out_alone refl) (outside-of-out (c.args.value ∷ []) _ _ _ _ _ (c.console_write.ensures.standard refl))) refl refl)
+    (rw (c.console_write.ensures.out_alone refl) (outside-of-out (c.args.value ∷ []) _ (g.T.Tree.state c.args.self.now.tree.now) _ _ _ (c.console_write.ensures.standard refl))) refl refl)
 
 pub returns-in-PutsOut-clause-ledger : goal.returns-in-PutsOut-clause-ledger
 returns-in-PutsOut-clause-ledger g c =
     rw (c.console_write.ensures.out_alone refl) (sink-ledger _ c.answer-in-PutsOut.result c.console_write.result _ _
     c.answer-in-PutsOut.ensures.ok c.answer-in-PutsOut.ensures.err
-    (outside-of-out (c.args.value ∷ []) _ (tree_state g.T.Tree c.args.self.now.tree.now) _ _ (sink_state g.E.Sink c.args.self.now.err.now)
+    (outside-of-out (c.args.value ∷ []) _ (g.T.Tree.state c.args.self.now.tree.now) _ _ (g.E.Sink.state c.args.self.now.err.now)
     (c.console_write.ensures.standard refl)))
 
 pub returns-in-PutsErr-clause-acted : goal.returns-in-PutsErr-clause-acted
 returns-in-PutsErr-clause-acted g c =
     rw c.in-PutsErr.is (sink-ends _ c.args.self.now _ _ c.args.core.now PutsErr c.args.value _ c.answer-in-PutsErr.result c.console_write-in-PutsErr.result refl
     (λ state. refl) (λ state stands. stands) c.answer-in-PutsErr.ensures.ok c.answer-in-PutsErr.ensures.err
-    (rw (c.console_write-in-PutsErr.ensures.err_alone refl) (outside-of-err (c.args.value ∷ []) _ _ _ _ _ (c.console_write-in-PutsErr.ensures.error refl))) refl refl)
+    (rw (c.console_write-in-PutsErr.ensures.err_alone refl) (outside-of-err (c.args.value ∷ []) _ (g.T.Tree.state c.args.self.now.tree.now) _ _ _ (c.console_write-in-PutsErr.ensures.error refl))) refl refl)
 
 pub returns-in-PutsErr-clause-ledger : goal.returns-in-PutsErr-clause-ledger
 returns-in-PutsErr-clause-ledger g c =
     rw (c.console_write-in-PutsErr.ensures.err_alone refl) (sink-ledger _ c.answer-in-PutsErr.result c.console_write-in-PutsErr.result _ _
     c.answer-in-PutsErr.ensures.ok c.answer-in-PutsErr.ensures.err
-    (outside-of-err (c.args.value ∷ []) _ (tree_state g.T.Tree c.args.self.now.tree.now) (sink_state g.O.Sink c.args.self.now.out.now) _ _
+    (outside-of-err (c.args.value ∷ []) _ (g.T.Tree.state c.args.self.now.tree.now) (g.O.Sink.state c.args.self.now.out.now) _ _
     (c.console_write-in-PutsErr.ensures.error refl)))
 
 pub returns-in-AsksWidth-clause-acted : goal.returns-in-AsksWidth-clause-acted

@@ -9,7 +9,6 @@ use Rattle.vector_loop.specs.Outputs.{appended_to, picture_bytes}
 use Rattle.vector_loop.specs.Answers.{none, of_vectors, of_events}
 use Rattle.vector_loop.proofs.Counting.{grown-counted, grown-compared}
 use Rattle.vector_loop.proofs.Frames.{shot-is}
-use Rattle.vector_loop.proofs.Makings.{devices-kept}
 use Rattle.vector_loop.proofs.Events.{one_event, with_compared, frame-given, expect-given, answers-given}
 use Rattle.vector_loop.proofs.Answering.{answers-then, answers-as, answers-within, answers-change, answers-made}
 use Rattle.vector_loop.proofs.runner.Runner.give_event.Goals as goal
@@ -56,7 +55,7 @@ returns-in-Shot-clause-answers g c = rw c.in-Shot.is
 pub returns-in-Shot-clause-shot : goal.returns-in-Shot-clause-shot
 returns-in-Shot-clause-shot g c is = record {
   core = refl;
-  devices = devices-kept _ _ _ _ _ c.keep_picture.ensures.made;
+  devices = c.keep_picture.ensures.devices;
   tally = refl;
   watcher = refl;
 }

@@ -7,6 +7,7 @@ use Rattle.vector_loop.specs.Answers.{of_vectors}
 use Rattle.vector_loop.proofs.Counting.{grown-vector}
 use Rattle.vector_loop.proofs.Vectors.{vector-follows, vector-short, broke-is, cut-is}
 use Rattle.vector_loop.proofs.Answering.{answers-ran, answers-cut}
+use Rattle.varvara_bus.specs.Bus.{told_on}
 use Rattle.vector_loop.proofs.runner.Runner.run_vector.Goals as goal
 
 pub returns-in-Err-clause-answers : goal.returns-in-Err-clause-answers
@@ -34,7 +35,7 @@ returns-in-Ok-Broke-clause-answers g c =
 pub returns-in-Ok-Broke-clause-end : goal.returns-in-Ok-Broke-clause-end
 returns-in-Ok-Broke-clause-end g c =
     let is : c.run_instructions-ran.result.end ≡ Ok Broke = search rules in
-    broke-is g.T.Tree.told c.args.self.now.core.now c.args.self.now.bus.now c.args.self.now.tally c.args.self.now.watcher.now c.args.self.now.budget c.args.at
+    broke-is (told_on g.T.Tree) c.args.self.now.core.now c.args.self.now.bus.now c.args.self.now.tally c.args.self.now.watcher.now c.args.self.now.budget c.args.at
     (rw c.from-budget.ensures at (c.run_instructions-ran.ensures.broke_end is (counting_vector c.args.self.now.tally) refl))
 
 pub returns-in-Ok-Cut-clause-answers : goal.returns-in-Ok-Cut-clause-answers
@@ -51,5 +52,5 @@ returns-in-Ok-Cut-clause-answers g c =
 pub returns-in-Ok-Cut-clause-end : goal.returns-in-Ok-Cut-clause-end
 returns-in-Ok-Cut-clause-end g c =
     let is : c.run_instructions-ran.result.end ≡ Ok Cut = search rules in
-    cut-is g.T.Tree.told c.args.self.now.core.now c.args.self.now.bus.now c.args.self.now.tally c.args.self.now.watcher.now c.args.self.now.budget c.args.at
+    cut-is (told_on g.T.Tree) c.args.self.now.core.now c.args.self.now.bus.now c.args.self.now.tally c.args.self.now.watcher.now c.args.self.now.budget c.args.at
     (rw c.from-budget.ensures at (c.run_instructions-ran.ensures.cut_end is (counting_vector c.args.self.now.tally) refl))

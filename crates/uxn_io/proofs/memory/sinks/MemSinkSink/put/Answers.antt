@@ -1,18 +1,32 @@
-use Rattle.std.proofs.Common.{sym, refl, arith, ◌∙◌}
+use Rattle.std.proofs.Common.{◌≡◌, ℕ, ◌++◌, true, false, Some, List, take, length, sym, ap, refl, arith, ◌∙◌, length-take-le}
+use Rattle.std.proofs.lemmas.Bool.{false≢true}
 use Rattle.std.proofs.lemmas.Grind.{common_steps}
+use Rattle.uxn_io.specs.FaultLaws.{counted-same, counted-one}
+use Rattle.uxn_io.specs.InMemory.Sinks.{SinkInMemory}
 use Rattle.uxn_io.proofs.InMemory.SureLemmas.{sink_is_sure, sink_stays_sure}
 use Rattle.uxn_io.proofs.memory.sinks.MemSinkSink.put.Goals as goal
 
-pub returns-then-fails-clause-sure : goal.returns-then-fails-clause-sure
-returns-then-fails-clause-sure c = λ less. absurd (sink_is_sure c.args.self.now c.args.piece.now (sym c.fails_at-fails.ensures ∙ c.if-fails.true) less)
+pub returns-then-fails-clause-failed : goal.returns-then-fails-clause-failed
+returns-then-fails-clause-failed c = record {
+  told = ap (λ (s : SinkInMemory). Some s.taken) c.self.view_is;
+  counted = rw (← c.self.view_is) (counted-one _ _ (omega arith) c.saturating_add-self-inside-then-fails.ensures refl);
+  blamed = λ less. sink_is_sure c.args.self.now c.args.piece.now (sym c.fails_at-fails.ensures ∙ c.if-fails.true) less;
+}
 
-pub returns-clause-left : goal.returns-clause-left
-returns-clause-left c =
+pub returns-clause-taken : goal.returns-clause-taken
+returns-clause-taken c =
     let was = c.self.inside in
     let now = c.extend_from_slice.new.self in
-    rw (← c.self.view_is)
-    (sink_stays_sure
-    (record { taken = was.taken.items; room = was.room; fails = was.fails.items; calls = was.calls; faults = was.faults })
-    (record { taken = now.items; room = was.room; fails = was.fails.items; calls = c.saturating_add-self-inside.result; faults = was.faults })
-    c.min-count.result (omega arith) refl refl
-    (grind (arith, common_steps, now.ok.0, was.taken.ok.0)))
+    let size : length (take c.min-count.result c.args.piece.now) ≡ c.min-count.result = length-take-le c.min-count.result c.args.piece.now (omega (arith, c.min-count.ensures)) in
+    record {
+      holds = rw (← c.self.view_is) (ap (λ (z : List ℕ). Some z) (rw c.unwrap.ensures at c.extend_from_slice.ensures.items));
+      counted = rw (← c.self.view_is) (counted-same _);
+      blamed = λ is. absurd (false≢true is);
+      left = λ _.
+          rw (size, ← c.self.view_is)
+          (sink_stays_sure
+          (record { taken = was.taken.items; room = was.room; fails = was.fails.items; calls = was.calls; faults = was.faults })
+          (record { taken = now.items; room = was.room; fails = was.fails.items; calls = c.saturating_add-self-inside.result; faults = was.faults })
+          c.min-count.result (omega arith) refl refl
+          (grind (arith, common_steps, now.ok.0, was.taken.ok.0)));
+    }

@@ -1,0 +1,113 @@
+//! Commands, and what can be wrong with a text of them.
+
+ghost use Rattle.std.specs.Prelude.{◌≡◌};
+
+use line_texts::LineFault;
+use std::alloc::{AllocError, AllocFailed};
+use thiserror::Error;
+
+/// A command of the debugger.
+#[derive(Clone, Copy, PartialEq, Eq)]
+pub enum DebugCommand {
+    /// Sets a break address.
+    Break(u16),
+    /// Clears a break address.
+    Delete(u16),
+    /// Goes on to the next later moment at a break address, or to the end.
+    Run,
+    /// Goes so many moments on, or to the end.
+    Step(u32),
+    /// Goes so many moments back, where they are held, or stays.
+    Back(u32),
+    /// Prints the bytes below the pointers of the two rings.
+    Stacks,
+    /// Prints so many bytes of memory from an address on.
+    Mem(u16, u16),
+    /// Prints what the 256 ports read, or what was stored in them where the run has gone on since.
+    PortPage,
+    /// Prints the place.
+    Here,
+}
+
+/// What can be wrong with a line of commands.
+#[derive(Clone, Copy, Debug, PartialEq, Eq)]
+pub enum CommandKind {
+    /// The first word is no command.
+    Unknown,
+    /// A value is not of its form and range.
+    BadValue,
+    /// No label has this name.
+    NoSuchLabel,
+    /// There are too few values.
+    Missing,
+    /// There are too many values.
+    Extra,
+    /// With this line there are more than 65,536 commands.
+    ManyCommands,
+    /// The text has more than 4,194,304 bytes.
+    LongCommands,
+}
+
+impl CommandKind {
+    ghost use Rattle.debug_commands.specs.Kinds.{kind_name};
+
+    /// The name of the kind, as it is printed.
+    pub fn name(self) -> &'static str
+        ensures { result.now ≡ kind_name self }
+    {
+        match self {
+            CommandKind::Unknown => "Unknown",
+            CommandKind::BadValue => "BadValue",
+            CommandKind::NoSuchLabel => "NoSuchLabel",
+            CommandKind::Missing => "Missing",
+            CommandKind::Extra => "Extra",
+            CommandKind::ManyCommands => "ManyCommands",
+            CommandKind::LongCommands => "LongCommands",
+        }
+    }
+}
+
+impl From<LineFault> for CommandKind {
+    ghost use Rattle.debug_commands.specs.Lines.{kind_of};
+
+    ghost from_gives = { λ fault kind. kind ≡ kind_of fault };
+
+    fn from(fault: LineFault) -> CommandKind {
+        match fault {
+            LineFault::Unknown => CommandKind::Unknown,
+            LineFault::Missing => CommandKind::Missing,
+            LineFault::Extra => CommandKind::Extra,
+        }
+    }
+}
+
+/// Why commands are not read.
+#[derive(Debug, Drop, Error)]
+pub enum CommandStop {
+    /// The first faulty line, counted from 1, has this fault.
+    #[error("the commands are refused at line {line}")]
+    Refused { line: u32, kind: CommandKind },
+    /// Memory ran out.
+    #[error("out of memory")]
+    NoMemory,
+}
+
+impl From<AllocError> for CommandStop {
+    ghost use Rattle.debug_commands.specs.declared.command.CommandStop.TheVariants.{NoMemory};
+
+    ghost from_gives = { λ _ stop. stop ≡ NoMemory };
+
+    fn from(_error: AllocError) -> CommandStop {
+        CommandStop::NoMemory
+    }
+}
+
+impl<T: Drop> From<AllocFailed<T>> for CommandStop {
+    ghost use Rattle.debug_commands.specs.declared.command.CommandStop.TheVariants.{NoMemory};
+
+    ghost from_gives = { λ _ stop. stop ≡ NoMemory };
+
+    fn from(_error: AllocFailed<T>) -> CommandStop {
+        CommandStop::NoMemory
+    }
+}

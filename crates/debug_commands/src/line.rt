@@ -1,0 +1,115 @@
+//! What a line of commands means.
+
+ghost use Rattle.std.specs.Prelude.{◌≡◌, ◌<◌, if◌then◌else◌, IfSome, Some, None};
+ghost use Rattle.line_texts.specs.Lines.{words_of};
+ghost use Rattle.tal_words.specs.Digits.{is_digit, digit_value, is_short_number, number_of};
+ghost use Rattle.debug_commands.specs.Lines.{address_in, line_of, made_of};
+
+use crate::command::{CommandKind, DebugCommand};
+use crate::keyword::{Keyword, rows};
+use line_texts::{begins_with, first_word, keyword_line, number_within};
+use tal_symbols::{Label, address_of};
+
+/// The most moments that one command goes on.
+const MOST_STEPS: u64 = 4_294_967_295;
+
+/// The most moments that one command goes back.
+const MOST_BACK: u64 = 65_536;
+
+/// The most bytes that one command prints.
+const MOST_BYTES: u64 = 256;
+
+// The command that a line gives, if it gives one, or what is wrong with it by itself.
+#[tactic(auto, unfolding(crate::specs::Lines::line_of))]
+pub(crate) fn line_of(labels: &[Label], line: &[u8]) -> Result<Option<DebugCommand>, CommandKind>
+    ensures { result ≡ line_of labels.now (words_of line.now) }
+{
+    let Some((name, values)) = first_word(line) else {
+        return Ok(None);
+    };
+    if begins_with(b'#', name) {
+        return Ok(None);
+    }
+    match keyword_line(rows(), name, values) {
+        Ok(keyword) => match made_of(labels, keyword, values) {
+            Ok(command) => Ok(Some(command)),
+            Err(kind) => Err(kind),
+        },
+        Err(fault) => Err(CommandKind::from(fault)),
+    }
+}
+
+// The command that the values behind a keyword make, as many as it takes.
+#[tactic(auto, unfolding(crate::specs::Lines::made_of))]
+fn made_of(labels: &[Label], keyword: Keyword, values: &[u8]) -> Result<DebugCommand, CommandKind>
+    ensures { result ≡ made_of labels.now keyword (words_of values.now) }
+{
+    match keyword {
+        Keyword::Run => return Ok(DebugCommand::Run),
+        Keyword::Where => return Ok(DebugCommand::Here),
+        Keyword::Stacks => return Ok(DebugCommand::Stacks),
+        Keyword::Ports => return Ok(DebugCommand::PortPage),
+        _ => {}
+    }
+    let (word, more) = first_word(values).ok_or(CommandKind::BadValue)?;
+    match keyword {
+        Keyword::Break => Ok(DebugCommand::Break(address_in(labels, word)?)),
+        Keyword::Delete => Ok(DebugCommand::Delete(address_in(labels, word)?)),
+        Keyword::Step => match number_within(1, MOST_STEPS, word) {
+            Some(count) => Ok(DebugCommand::Step(count as u32)),
+            None => Err(CommandKind::BadValue),
+        },
+        Keyword::Back => match number_within(1, MOST_BACK, word) {
+            Some(count) => Ok(DebugCommand::Back(count as u32)),
+            None => Err(CommandKind::BadValue),
+        },
+        _ => {
+            let (count, _) = first_word(more).ok_or(CommandKind::BadValue)?;
+            let count = number_within(1, MOST_BYTES, count).ok_or(CommandKind::BadValue)?;
+            Ok(DebugCommand::Mem(address_in(labels, word)?, count as u16))
+        }
+    }
+}
+
+// The address that a word stands for: four lowercase digits, or `@` and the name of a label.
+#[tactic(auto, unfolding(crate::specs::Lines::address_in))]
+fn address_in(labels: &[Label], word: &[u8]) -> Result<u16, CommandKind>
+    ensures { result ≡ address_in labels.now word.now }
+{
+    if let Some(address) = short_of(word) {
+        return Ok(address);
+    }
+    if !begins_with(b'@', word) || word.len() == 1 {
+        return Err(CommandKind::BadValue);
+    }
+    match address_of(labels, &word[1..]) {
+        Some(address) => Ok(address),
+        None => Err(CommandKind::NoSuchLabel),
+    }
+}
+
+// The number that four lowercase digits spell.
+fn short_of(word: &[u8]) -> Option<u16>
+    ensures { result ≡ (if is_short_number word.now then Some (number_of word.now) else None) }
+{
+    match word {
+        [a, b, c, d] => {
+            let high = digit_of(*a)? * 16 + digit_of(*b)?;
+            let low = digit_of(*c)? * 16 + digit_of(*d)?;
+            Some(high * 256 + low)
+        }
+        _ => None,
+    }
+}
+
+// The value of a lowercase hexadecimal digit.
+fn digit_of(byte: u8) -> Option<u16>
+    ensures digit { result ≡ (if is_digit byte then Some (digit_value byte) else None) }
+    ensures small { IfSome result (λ digit. digit < 16) }
+{
+    match byte {
+        b'0'..=b'9' => Some(u16::from(byte - b'0')),
+        b'a'..=b'f' => Some(u16::from(byte - b'a') + 10),
+        _ => None,
+    }
+}

@@ -1,0 +1,62 @@
+-- What a line of a setup gives (profile), a row for each first word.
+use Rattle.std.specs.Prelude.{ℕ, if◌then◌else◌, List, [], ◌∷◌, codes, length, Option, Some, None, option_map, Result, Ok, Err}
+use Rattle.std.specs.Option.{ok_or}
+use Rattle.std.specs.Result.{result_ok}
+use Rattle.line_texts.specs.declared.row.Counts.TheVariants.{Exactly}
+use Rattle.line_texts.specs.declared.row.LineFault.{LineFault}
+use Rattle.line_texts.specs.declared.row.LineFault.TheVariants as line
+use Rattle.line_texts.specs.Numbers.{begins_with, number_within}
+use Rattle.line_texts.specs.Reading.{Line}
+use Rattle.line_texts.specs.Rows.{Rows, row_of, counted}
+use Rattle.uxn_io.specs.PathText.{path_of}
+use Rattle.setup_lines.specs.declared.keyword.Keyword.{Keyword}
+use Rattle.setup_lines.specs.declared.keyword.Keyword.TheVariants as word
+use Rattle.setup_lines.specs.declared.setup.SetupKind.{SetupKind}
+use Rattle.setup_lines.specs.declared.setup.SetupKind.TheVariants.{Unknown, Missing, Extra, BadValue}
+use Rattle.setup_lines.specs.declared.setup.Turns.{Turns}
+use Rattle.setup_lines.specs.declared.setup_line.SetupLine.{SetupLine}
+use Rattle.setup_lines.specs.declared.setup_line.SetupLine.TheVariants.{Machine, Script, Budget, Turn}
+
+-- the first words, with how many values each takes
+unfoldable pub rows : Rows Keyword
+rows =
+    (codes "machine", Exactly 1, word.Machine)
+    ∷ (codes "script", Exactly 1, word.Script)
+    ∷ (codes "budget", Exactly 1, word.Budget)
+    ∷ (codes "turn", Exactly 2, word.Turn)
+    ∷ []
+
+-- so many turns of a machine, where both are numbers of their ranges
+abbrev pub turns_if : Option ℕ → Option ℕ → Option Turns
+turns_if (Some m) (Some n) = Some (record { machine = m; count = n })
+turns_if _ _ = None
+
+abbrev pub turns_of : List ℕ → List ℕ → Option Turns
+turns_of m n = turns_if (number_within 1 8 m) (number_within 1 1000000 n)
+
+-- what the values behind a first word give, as many as it takes; nothing where one is not of its form or range
+unfoldable pub made_of : Keyword → List (List ℕ) → Option SetupLine
+made_of word.Machine (path ∷ more) = option_map Machine (result_ok (path_of path))
+made_of word.Script (path ∷ more) = option_map Script (result_ok (path_of path))
+made_of word.Budget (n ∷ more) = option_map Budget (number_within 1 4294967295 n)
+made_of word.Turn (m ∷ n ∷ more) = option_map Turn (turns_of m n)
+made_of _ values = None
+
+abbrev pub kind_of : LineFault → SetupKind
+kind_of line.Unknown = Unknown
+kind_of line.Missing = Missing
+kind_of line.Extra = Extra
+
+abbrev pub made_by : Result Keyword LineFault → List (List ℕ) → Result SetupLine SetupKind
+made_by (Ok keyword) values = ok_or (made_of keyword values) BadValue
+made_by (Err fault) values = Err (kind_of fault)
+
+abbrev pub as_line : Result SetupLine SetupKind → Line SetupLine SetupKind
+as_line (Ok given) = Ok (Some given)
+as_line (Err kind) = Err kind
+
+-- what the words of a line give, or what is wrong with them; a line without words or with `#` before its first gives nothing
+unfoldable pub line_of : List (List ℕ) → Line SetupLine SetupKind
+line_of [] = Ok None
+line_of (name ∷ values) =
+    if begins_with 35 name then Ok None else as_line (made_by (counted (row_of rows name) (length values)) values)

@@ -1,0 +1,86 @@
+//! What a line of a setup gives.
+
+ghost use Rattle.std.specs.Prelude.{◌≡◌, IfOk, IfSome};
+ghost use Rattle.line_texts.specs.Lines.{words_of};
+ghost use Rattle.setup_lines.specs.Limits.{IsWithin};
+ghost use Rattle.setup_lines.specs.SetupLines.{line_of, made_of, turns_of};
+ghost use Rattle.setup_lines.specs.declared.setup_line.SetupLine.TheVariants.{Turn};
+
+use crate::keyword::{Keyword, rows};
+use crate::setup::{SetupKind, Turns};
+use line_texts::{begins_with, first_word, keyword_line, number_within};
+use uxn_io::Path;
+
+/// The greatest number of a machine.
+const LAST_MACHINE: u64 = 8;
+
+/// The greatest budget of a vector.
+const GREATEST_BUDGET: u64 = 4_294_967_295;
+
+/// The most turns of one line.
+const MOST_AT_ONCE: u64 = 1_000_000;
+
+/// What a line of a setup gives.
+#[derive(Clone, Copy)]
+pub(crate) enum SetupLine {
+    /// The next machine, by the path of its source.
+    Machine(Path),
+    /// The path of the script of the first machine.
+    Script(Path),
+    /// The budget of every vector.
+    Budget(u32),
+    /// Turns of a machine.
+    Turn(Turns),
+}
+
+// What a line gives, if it gives something, or what is wrong with it by itself.
+#[tactic(auto, unfolding(crate::specs::SetupLines::line_of))]
+pub(crate) fn line_of(line: &[u8]) -> Result<Option<SetupLine>, SetupKind>
+    ensures line { result ≡ line_of (words_of line.now) }
+    ensures limits { IfOk result (λ given. IfSome given IsWithin) }
+{
+    let Some((name, values)) = first_word(line) else {
+        return Ok(None);
+    };
+    if begins_with(b'#', name) {
+        return Ok(None);
+    }
+    match keyword_line(rows(), name, values) {
+        Ok(keyword) => match made_of(keyword, values) {
+            Some(given) => Ok(Some(given)),
+            None => Err(SetupKind::BadValue),
+        },
+        Err(fault) => Err(SetupKind::from(fault)),
+    }
+}
+
+// What the values behind a first word give, as many as it takes; nothing where one is not of its form or range.
+#[tactic(auto, unfolding(crate::specs::SetupLines::made_of))]
+fn made_of(keyword: Keyword, values: &[u8]) -> Option<SetupLine>
+    ensures made { result ≡ made_of keyword (words_of values.now) }
+    ensures limits { IfSome result IsWithin }
+{
+    let (word, more) = first_word(values)?;
+    match keyword {
+        Keyword::Machine => Some(SetupLine::Machine(Path::read(word).ok()?)),
+        Keyword::Script => Some(SetupLine::Script(Path::read(word).ok()?)),
+        Keyword::Budget => {
+            let budget = number_within(1, GREATEST_BUDGET, word)?;
+            Some(SetupLine::Budget(budget as u32))
+        }
+        Keyword::Turn => {
+            let (count, _) = first_word(more)?;
+            Some(SetupLine::Turn(turns_of(word, count)?))
+        }
+    }
+}
+
+// Turns of a machine, by the words for its number and for theirs.
+fn turns_of(machine: &[u8], count: &[u8]) -> Option<Turns>
+    ensures turns { result ≡ turns_of machine.now count.now }
+    ensures limits { IfSome result (λ turns. IsWithin (Turn turns)) }
+{
+    let machine = number_within(1, LAST_MACHINE, machine)? as u8;
+    let count = number_within(1, MOST_AT_ONCE, count)? as u32;
+    Some(Turns { machine, count })
+}

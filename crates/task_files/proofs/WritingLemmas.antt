@@ -1,0 +1,104 @@
+-- What a tree with room for files surely takes, as they are written.
+use Rattle.std.proofs.Common.{true, false, cond, ◌≡◌, ℕ, ◌+◌, ◌<◌, ◌≤◌, List, [], ◌∷◌, ◌++◌, map, length, refl, ap, ◌∙◌, arith}
+use Rattle.std.proofs.lemmas.List.{length-append, length-map}
+use Rattle.uxn_io.specs.AppendingLaws.{appended_both}
+use Rattle.uxn_io.specs.Changes.{makes_file, new_files, with_appended}
+use Rattle.uxn_io.specs.Files.{Nodes, bytes_at}
+use Rattle.uxn_io.specs.NodeLaws.{bytes_put}
+use Rattle.uxn_io.specs.Outside.{Change, ToOut, ToErr, Creates, ToFile, Removes, changed_files, files_by}
+use Rattle.uxn_io.specs.Room.{Room}
+use Rattle.uxn_io.specs.Taking.{TreeTakes, makes_more, files_made}
+use Rattle.task_files.specs.Writing.{creating, filling_all, writing}
+use Rattle.task_files.specs.World.{Text, CanFill}
+
+-- a call makes at most one file
+one_file : (nodes : Nodes) (path : List ℕ) → new_files nodes path ≤ 1
+one_file nodes path = elim (makes_file nodes path) as (λ b. cond b 1 0 ≤ 1) [ true ↦ omega arith | false ↦ omega arith ]
+
+-- how many files changes make at most
+abbrev is_creation : Change → ℕ
+is_creation (Creates path) = 1
+is_creation _ = 0
+
+abbrev creations : List Change → ℕ
+creations [] = 0
+creations (change ∷ changes) = is_creation change + creations changes
+
+makes_few : (nodes : Nodes) (change : Change) → makes_more nodes change ≤ is_creation change
+makes_few nodes (ToOut byte) = omega arith
+makes_few nodes (ToErr byte) = omega arith
+makes_few nodes (Creates path) = one_file nodes path
+makes_few nodes (ToFile path byte) = omega arith
+makes_few nodes (Removes path) = omega arith
+
+made_few : (nodes : Nodes) (changes : List Change) → files_made nodes changes ≤ creations changes
+made_few nodes [] = omega arith
+made_few nodes (change ∷ changes) = (let more = made_few (changed_files change nodes) changes in omega (arith, makes_few nodes change, more))
+
+creations-both : (first more : List Change) → creations (first ++ more) ≡ creations first + creations more
+creations-both [] more = omega arith
+creations-both (change ∷ first) more = (let rest = creations-both first more in omega (arith, rest))
+
+creations-creating : (paths : List (List ℕ)) → creations (creating paths) ≡ length paths
+creations-creating [] = refl
+creations-creating (path ∷ paths) = (let rest = creations-creating paths in omega (arith, rest))
+
+creations-text : (path bytes : List ℕ) (after : List Change) → creations (map (λ byte. ToFile path byte) bytes ++ after) ≡ creations after
+creations-text path [] after = refl
+creations-text path (byte ∷ bytes) after = (let rest = creations-text path bytes after in omega (arith, rest))
+
+creations-filling : (texts : List Text) → creations (filling_all texts) ≡ 0
+creations-filling [] = refl
+creations-filling (text ∷ texts) = creations-text text.path text.bytes (filling_all texts) ∙ creations-filling texts
+
+-- a byte is added where its file has room for it
+module _ (limit : ℕ) (rest : List Change) (path : List ℕ) (byte : ℕ) where
+  abbrev Fits : Nodes → List Change → Type 0
+  Fits nodes changes = (first : List Change) → changes ≡ first ++ ToFile path byte ∷ rest → length (bytes_at (files_by nodes first) path) < limit
+
+  text-fits : (file text : List ℕ) (after : List Change) (nodes : Nodes) → length (bytes_at nodes file) + length text ≤ limit → Fits (with_appended file text nodes) after
+      → Fits nodes (map (λ byte. ToFile file byte) text ++ after)
+  text-fits file [] after nodes room later first is = later first is
+  text-fits file (b ∷ text) after nodes room later [] is = (let same : file ≡ path = cc in rw (← same) (omega (arith, room)))
+  text-fits file (b ∷ text) after nodes room later (change ∷ first) is =
+      let same : ToFile file b ≡ change = cc in
+      let more : map (λ byte. ToFile file byte) text ++ after ≡ first ++ ToFile path byte ∷ rest = cc in
+      let there = with_appended file (b ∷ []) nodes in
+      let grown : length (bytes_at there file) ≡ length (bytes_at nodes file) + 1 = ap length (bytes_put nodes file (bytes_at nodes file ++ b ∷ [])) ∙ length-append (bytes_at nodes file) (b ∷ []) in
+      rw (← same) (text-fits file text after there (omega (arith, room, grown)) (rw (appended_both nodes file (b ∷ []) text) later) first more)
+
+  texts-fit : (texts : List Text) (nodes : Nodes) → CanFill limit texts nodes → Fits nodes (filling_all texts)
+  unfolding CanFill
+  texts-fit [] nodes can [] is = absurd cc
+  texts-fit [] nodes can (change ∷ first) is = absurd cc
+  texts-fit (text ∷ texts) nodes can first is =
+      text-fits text.path text.bytes (filling_all texts) nodes can.0 (texts-fit texts (with_appended text.path text.bytes nodes) can.1) first is
+
+  made-fit : (paths : List (List ℕ)) (after : List Change) (nodes : Nodes) → Fits (files_by nodes (creating paths)) after → Fits nodes (creating paths ++ after)
+  made-fit [] after nodes later first is = later first is
+  made-fit (file ∷ paths) after nodes later [] is = absurd cc
+  made-fit (file ∷ paths) after nodes later (change ∷ first) is =
+      let same : Creates file ≡ change = cc in
+      let more : creating paths ++ after ≡ first ++ ToFile path byte ∷ rest = cc in
+      rw (← same) (made-fit paths after (changed_files (Creates file) nodes) later first more)
+
+-- files are surely written where there is room for more, and each has room for its bytes
+pub takes-written : (room : Room) (texts : List Text) (nodes : Nodes) → length texts < room.files
+    → CanFill room.bytes texts (files_by nodes (creating (map (λ (t : Text). t.path) texts))) → TreeTakes room nodes (writing texts)
+unfolding writing
+takes-written room texts nodes few can =
+    let paths = map (λ (t : Text). t.path) texts in record {
+      files = λ first rest is.
+          omega (
+            arith,
+            few,
+            made_few nodes first,
+            ap creations is,
+            creations-both first rest,
+            creations-both (creating paths) (filling_all texts),
+            creations-creating paths,
+            creations-filling texts,
+            length-map texts (λ (t : Text). t.path),
+          );
+      bytes = λ first rest path byte is. made-fit room.bytes rest path byte paths (filling_all texts) nodes (texts-fit room.bytes rest path byte texts _ can) first is;
+    }

@@ -1,0 +1,13 @@
+use Rattle.std.proofs.Common.{◌≡◌, rules}
+use Rattle.std.specs.Prelude.{Err}
+use Rattle.task_files.specs.Setup.{setup_in}
+use Rattle.task_files.proofs.ReadingLemmas.{reads-ended, reads-on}
+use Rattle.task_files.proofs.machines.accept_setup.Goals as goal
+
+pub returns-in_err-file : goal.returns-in_err-file
+returns-in_err-file g c =
+    let result : c.from_residual.result ≡ Err c.in_err-file.field-0.0 = search rules in
+    rw result (reads-ended _ _ (setup_in c.args.path.now) _ _ _ _ _ c.in_err-file.ensures.reads)
+
+pub returns : goal.returns
+returns g c = reads-on _ _ (setup_in c.args.path.now) _ _ _ _ _ _ c.in_ok-file.ensures.reads c.setup_in.ensures

@@ -1,0 +1,6 @@
+use Rattle.std.proofs.Common.{◌≡◌, take}
+use Rattle.task_files.specs.Outputs.{paths_of}
+use Rattle.task_files.proofs.making.empty_outputs.Given as goal
+
+abbrev pub invariant-loop-path : goal.invariant-loop-path
+invariant-loop-path l = paths_of l.outputs.items ≡ take l.path-index l.paths

@@ -1,0 +1,73 @@
+-- Who is to blame where a call ended early, and the status that says so.
+use Rattle.std.specs.Prelude.{ℕ, ◌==◌, Bool, true, false, Result, Ok, Err, if◌then◌else◌}
+use Rattle.uxn_io.specs.Faults.{Blame, Nobody, TheTree, ASink}
+use Rattle.uxn_io.specs.declared.trees.ReadStop.{ReadStop}
+use Rattle.uxn_io.specs.declared.trees.ReadStop.TheVariants.{Failed, NoMemory as WantsMemory}
+use Rattle.tal_sources.specs.declared.fault.SourceStop.{SourceStop}
+use Rattle.tal_sources.specs.declared.fault.SourceStop.TheVariants.{Refused as BadSource, TreeFault as SourceTree, NoMemory as SourceMemory}
+use Rattle.uxn_words.specs.declared.words.WordFault.TheVariants as words
+use Rattle.uxn_words.specs.declared.words.WordStop.{WordStop}
+use Rattle.uxn_words.specs.declared.words.WordStop.TheVariants.{Refused as BadWords, NoMemory as WordMemory}
+use Rattle.task_files.specs.declared.refusal.Refusal.TheVariants.{NotUnderstood, NoPath, Faulty}
+use Rattle.uxn_opcodes.specs.declared.Stop.{Stop}
+use Rattle.uxn_opcodes.specs.declared.Stop.TheVariants.{TreeFault, SinkFault, NoMemory}
+use Rattle.task_files.specs.declared.refusal.Halt.{Halt}
+use Rattle.task_files.specs.declared.refusal.Halt.TheVariants.{Refused, Stopped}
+
+abbrev pub blame_of : Stop → Blame
+blame_of TreeFault = TheTree
+blame_of SinkFault = ASink
+blame_of NoMemory = Nobody
+
+-- of a step that may be refused
+abbrev pub halt_blame : Halt → Blame
+halt_blame (Refused refusal) = Nobody
+halt_blame (Stopped stop) = blame_of stop
+
+abbrev pub blame_in : {A : Type 0} → Result A Halt → Blame
+blame_in (Ok value) = Nobody
+blame_in (Err halt) = halt_blame halt
+
+-- whether the tree failed in it
+abbrev pub is_of_tree : Blame → Bool
+is_of_tree Nobody = false
+is_of_tree TheTree = true
+is_of_tree ASink = false
+
+abbrev pub tree_failed : {A : Type 0} → Result A Halt → Bool
+tree_failed result = is_of_tree (blame_in result)
+
+-- a call that may stop is a step that is not refused
+abbrev pub as_step : {A : Type 0} → Result A Stop → Result A Halt
+as_step (Ok value) = Ok value
+as_step (Err stop) = Err (Stopped stop)
+
+abbrev pub blame_by : {A : Type 0} → Result A Stop → Blame
+blame_by result = blame_in (as_step result)
+
+-- of a status
+abbrev pub blame_at : ℕ → Blame
+blame_at status = if status == 136 then TheTree else if status == 137 then ASink else Nobody
+
+-- this holds where a step is refused
+abbrev pub OnRefused : {A : Type 0} → Result A Halt → Type 0 → Type 0
+OnRefused (Ok value) P = Unit {0}
+OnRefused (Err (Refused refusal)) P = P
+OnRefused (Err (Stopped stop)) P = Unit {0}
+
+-- a file that was not read
+abbrev pub halt_of_read : ReadStop → Halt
+halt_of_read Failed = Stopped TreeFault
+halt_of_read WantsMemory = Stopped NoMemory
+
+-- words that were not read
+abbrev pub halt_of_words : WordStop → Halt
+halt_of_words (BadWords words.NotUnderstood) = Refused NotUnderstood
+halt_of_words (BadWords (words.NoPath word)) = Refused (NoPath word)
+halt_of_words WordMemory = Stopped NoMemory
+
+-- a source that was not assembled
+abbrev pub halt_of_source : SourceStop → Halt
+halt_of_source (BadSource fault) = Refused (Faulty fault)
+halt_of_source SourceTree = Stopped TreeFault
+halt_of_source SourceMemory = Stopped NoMemory

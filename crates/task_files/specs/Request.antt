@@ -1,0 +1,32 @@
+-- What the words alone determine: what is asked for, or a refusal whatever the tree holds (profile).
+use Rattle.std.specs.Prelude.{ℕ, List, Option, Some, None, Result, Ok, Err}
+use Rattle.uxn_words.specs.declared.task.Task.{Task}
+use Rattle.uxn_words.specs.declared.words.WordFault.{WordFault}
+use Rattle.uxn_words.specs.declared.words.WordFault.TheVariants as words
+use Rattle.task_files.specs.declared.refusal.Refusal.{Refusal}
+use Rattle.task_files.specs.declared.refusal.Refusal.TheVariants.{NotUnderstood, NoPath, NoOutput}
+use Rattle.uxn_words.specs.Words.{task_of}
+use Rattle.uxn_words.specs.Places.{first_clash}
+
+-- a step after another: the first refusal counts
+abbrev pub and_then : {A B : Type 0} → Result A Refusal → (A → Result B Refusal) → Result B Refusal
+and_then (Ok value) next = next value
+and_then (Err refusal) next = Err refusal
+
+-- the words are legal (128), and each that names a file is a path (129)
+abbrev pub refused : Result Task WordFault → Result Task Refusal
+refused (Ok task) = Ok task
+refused (Err words.NotUnderstood) = Err NotUnderstood
+refused (Err (words.NoPath word)) = Err (NoPath word)
+
+-- no output clashes (135)
+abbrev pub apart_by : Task → Option (List ℕ) → Result Task Refusal
+apart_by task None = Ok task
+apart_by task (Some path) = Err (NoOutput path)
+
+abbrev pub apart : Task → Result Task Refusal
+apart task = apart_by task (first_clash task)
+
+-- what the words alone determine: the task, or why they are refused whatever the tree holds
+unfoldable pub request : List (List ℕ) → Result Task Refusal
+request words = and_then (refused (task_of words)) apart

@@ -1,6 +1,0 @@
-use Rattle.std.proofs.Common.{◌≡◌, take}
-use Rattle.uxn_cli.specs.Outputs.{paths_of}
-use Rattle.uxn_cli.proofs.making.empty_outputs.Given as goal
-
-abbrev pub invariant-loop-path : goal.invariant-loop-path
-invariant-loop-path l = paths_of l.outputs.items ≡ take l.path-index l.paths

@@ -1,7 +1,0 @@
-use Rattle.std.proofs.Common.{◌≡◌, drop}
-use Rattle.uxn_cli.specs.Outputs.{paths_of}
-use Rattle.uxn_cli.specs.Verdict.{first_unmade}
-use Rattle.uxn_cli.proofs.outputs.first_unmade.Given as goal
-
-abbrev pub invariant-loop-output : goal.invariant-loop-output
-invariant-loop-output l = first_unmade l.blocked l.included (paths_of (drop l.output-index l.outputs)) ≡ first_unmade l.blocked l.included (paths_of l.outputs)
