@@ -1,7 +1,7 @@
 -- What contracts see of a tree and a sink over which some calls are tried again (profile).
 use Rattle.std.specs.Prelude.{false}
-use Rattle.uxn_io.specs.Faults.{Tally}
-use Rattle.uxn_io.specs.State.{TreeState, SinkState}
+use Rattle.tree_io.specs.Faults.{Tally}
+use Rattle.tree_io.specs.State.{TreeState, SinkState}
 
 -- every fault is counted, also that of a call which then succeeded
 abbrev pub not_exact : Tally → Tally

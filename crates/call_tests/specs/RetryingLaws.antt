@@ -2,11 +2,11 @@
 use Rattle.std.specs.Prelude.{◌≡◌, ℕ, Bool, true, false, List, refl}
 use Rattle.std.proofs.Common.{arith, sym, ◌∙◌}
 use Rattle.std.proofs.lemmas.Bool.{false≢true}
-use Rattle.uxn_io.specs.Faults.{Tally, Counted}
-use Rattle.uxn_io.specs.Outside.{Change}
-use Rattle.uxn_io.specs.State.{TreeState, SinkState}
-use Rattle.uxn_io.specs.Told.{extended}
-use Rattle.uxn_io.specs.Ended.{TreeEnded, TreeLooked, Refused, SinkEnded, SinkFailed}
+use Rattle.tree_io.specs.Faults.{Tally, Counted}
+use Rattle.tree_io.specs.Outside.{Change}
+use Rattle.tree_io.specs.State.{TreeState, SinkState}
+use Rattle.tree_io.specs.Told.{extended}
+use Rattle.tree_io.specs.Ended.{TreeEnded, TreeLooked, Refused, SinkEnded, SinkFailed}
 use Rattle.call_tests.specs.Retrying.{not_exact, retried_tree, retried_sink}
 
 counted_once : (before now : Tally) (failed : Bool) → Counted before now failed → Counted (not_exact before) (not_exact now) failed

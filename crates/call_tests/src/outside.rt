@@ -1,9 +1,9 @@
 //! A tree and outputs that tell nothing and count exactly, whose calls are numbered in one row. One of these calls fails.
 ghost use Rattle.std.specs.Prelude.{◌≡◌, ◌<◌, ◌≤◌, length, drop, IfOk, is_err};
 ghost use Rattle.std.specs.List.{All};
-ghost use Rattle.uxn_io.specs.Faults.{Counted};
-ghost use Rattle.uxn_io.specs.Untold.{exactly};
-ghost use Rattle.uxn_io.specs.Children.{IsEntry};
+ghost use Rattle.tree_io.specs.Faults.{Counted};
+ghost use Rattle.tree_io.specs.Untold.{exactly};
+ghost use Rattle.tree_io.specs.Children.{IsEntry};
 
 use std::alloc::Global;
 use std::cell::Cell;
@@ -170,11 +170,11 @@ impl Output<'_> {
 }
 
 impl Sink for Output<'_> {
-    ghost use Rattle.uxn_io.specs.Untold.{untold_sink};
+    ghost use Rattle.tree_io.specs.Untold.{untold_sink};
 
     ghost state = { λ output. untold_sink output.faults };
 
-    #[tactic(auto, using(uxn_io::specs::UntoldLaws::sink_took, uxn_io::specs::UntoldLaws::sink_failed))]
+    #[tactic(auto, using(tree_io::specs::UntoldLaws::sink_took, tree_io::specs::UntoldLaws::sink_failed))]
     fn put(&mut self, piece: &[u8]) -> Result<usize, Failed> {
         match Output::take(self.calls, &mut self.taken, piece) {
             Ok(share) => Ok(share),
@@ -187,7 +187,7 @@ impl Sink for Output<'_> {
 }
 
 /// Appends to a file.
-#[tactic(auto, using(uxn_io::specs::KindLaws::told_file))]
+#[tactic(auto, using(tree_io::specs::KindLaws::told_file))]
 fn append<T: Tree>(tree: &mut T, path: &Path, piece: &[u8]) -> Result<usize, Failed>
     ensures count { IfOk result (λ n. n ≤ length piece.now) }
     ensures some { IfOk result (λ n. 0 < length piece.now → 0 < n) }
@@ -199,7 +199,7 @@ fn append<T: Tree>(tree: &mut T, path: &Path, piece: &[u8]) -> Result<usize, Fai
 }
 
 /// Lists a folder.
-#[tactic(auto, using(uxn_io::specs::KindLaws::told_folder))]
+#[tactic(auto, using(tree_io::specs::KindLaws::told_folder))]
 fn names<T: Tree>(alloc: Global, tree: &mut T, path: &Path) -> Result<Vec<Entry>, NamesStop>
     ensures { IfOk result (λ entries. All IsEntry entries.items) }
 {
@@ -332,7 +332,7 @@ impl<'a> Files<'a> {
     }
 
     /// What was done, or one fault more.
-    #[tactic(auto, using(uxn_io::specs::UntoldLaws::nothing_counted, uxn_io::specs::UntoldLaws::fault_counted))]
+    #[tactic(auto, using(tree_io::specs::UntoldLaws::nothing_counted, tree_io::specs::UntoldLaws::fault_counted))]
     fn counted<T>(&mut self, done: Result<T, Failed>) -> Result<T, Failed>
         ensures counted { Counted (exactly self.old.faults) (exactly self.new.faults) (is_err result) }
         ensures refusals { self.new.refusals ≡ self.old.refusals }
@@ -349,23 +349,23 @@ impl<'a> Files<'a> {
 }
 
 impl Tree for Files<'_> {
-    ghost use Rattle.uxn_io.specs.Untold.{untold_tree};
+    ghost use Rattle.tree_io.specs.Untold.{untold_tree};
 
     ghost state = { λ files. untold_tree files.faults files.refusals };
 
-    #[tactic(auto, using(uxn_io::specs::UntoldLaws::looked))]
+    #[tactic(auto, using(tree_io::specs::UntoldLaws::looked))]
     fn kind(&mut self, path: &Path) -> Result<Kind, Failed> {
         let kind = self.held.kind(path);
         self.counted(kind)
     }
 
-    #[tactic(auto, using(uxn_io::specs::UntoldLaws::looked))]
+    #[tactic(auto, using(tree_io::specs::UntoldLaws::looked))]
     fn read(&mut self, path: &Path, from: u64, into: &mut [u8]) -> Result<usize, Failed> {
         let taken = self.held.read(path, from, into);
         self.counted(taken)
     }
 
-    #[tactic(auto, using(uxn_io::specs::UntoldLaws::ended))]
+    #[tactic(auto, using(tree_io::specs::UntoldLaws::ended))]
     fn create(&mut self, path: &Path) -> Result<bool, Failed> {
         let made = self.held.create(path);
         let made = self.counted(made)?;
@@ -375,19 +375,19 @@ impl Tree for Files<'_> {
         Ok(made)
     }
 
-    #[tactic(auto, using(uxn_io::specs::UntoldLaws::ended))]
+    #[tactic(auto, using(tree_io::specs::UntoldLaws::ended))]
     fn append(&mut self, path: &Path, piece: &[u8]) -> Result<usize, Failed> {
         let taken = self.held.append(path, piece);
         self.counted(taken)
     }
 
-    #[tactic(auto, using(uxn_io::specs::UntoldLaws::ended))]
+    #[tactic(auto, using(tree_io::specs::UntoldLaws::ended))]
     fn remove(&mut self, path: &Path) -> Result<bool, Failed> {
         let gone = self.held.remove(path);
         self.counted(gone)
     }
 
-    #[tactic(auto, using(uxn_io::specs::UntoldLaws::looked))]
+    #[tactic(auto, using(tree_io::specs::UntoldLaws::looked))]
     fn names(&mut self, alloc: Global, folder: &Path) -> Result<Vec<Entry>, NamesStop> {
         match self.held.names(alloc, folder) {
             Ok(entries) => Ok(entries),

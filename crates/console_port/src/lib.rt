@@ -2,11 +2,11 @@
 #![tactic(auto)]
 
 ghost use Rattle.std.specs.Prelude.{◌≡◌, [], ◌∷◌, is_err};
-ghost use Rattle.uxn_io.specs.Ended.{SinkEnded};
+ghost use Rattle.tree_io.specs.Ended.{SinkEnded};
 ghost use Rattle.console_port.specs.declared.Output.TheVariants.{Standard, Error};
 ghost use Rattle.console_port.specs.Console.{event_byte, given};
 
-use uxn_io::{Failed, Sink};
+use tree_io::{Failed, Sink};
 
 /// The port that holds the byte of the last event.
 const READ: usize = 0x12;

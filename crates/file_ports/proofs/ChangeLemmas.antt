@@ -4,15 +4,15 @@ use Rattle.std.specs.Prelude.{Option, Some, None, IfSome, IsSome, IsTrue, Result
 use Rattle.std.specs.Option.{option_map}
 use Rattle.std.specs.FinMap as map
 use Rattle.std.proofs.lemmas.List.{append-nil}
-use Rattle.uxn_io.specs.declared.sinks.Failed.{Failed}
-use Rattle.uxn_io.specs.Files.{Node, Nodes, File, Folder, kind_at, kind_of, file_at, bytes_of}
-use Rattle.uxn_io.specs.CallLaws.{untold-as, told_by-creating}
-use Rattle.uxn_io.specs.Changes.{can_create, with_created}
-use Rattle.uxn_io.specs.NodeLaws.{get_put}
-use Rattle.uxn_io.specs.Outside.{Change, Creates, Removes}
-use Rattle.uxn_io.specs.State.{TreeState}
-use Rattle.uxn_io.specs.Ended.{TreeEnded, TreeLooked, creating, appending, removing}
-use Rattle.uxn_io.specs.EndedLaws.{looked-ended, looked-tree, tree-then, tree-first}
+use Rattle.tree_io.specs.declared.sinks.Failed.{Failed}
+use Rattle.tree_io.specs.Files.{Node, Nodes, File, Folder, kind_at, kind_of, file_at, bytes_of}
+use Rattle.tree_io.specs.CallLaws.{untold-as, told_by-creating}
+use Rattle.tree_io.specs.Changes.{can_create, with_created}
+use Rattle.tree_io.specs.NodeLaws.{get_put}
+use Rattle.tree_io.specs.Outside.{Change, Creates, Removes}
+use Rattle.tree_io.specs.State.{TreeState}
+use Rattle.tree_io.specs.Ended.{TreeEnded, TreeLooked, creating, appending, removing}
+use Rattle.tree_io.specs.EndedLaws.{looked-ended, looked-tree, tree-then, tree-first}
 use Rattle.uxn_memory.specs.Bytes.{bank0}
 use Rattle.file_ports.specs.Device.{FileState, idle_at, is_writing}
 use Rattle.file_ports.specs.Actions.{Write, Delete, Outcome, Seen, seen_of, is_file, begun, adds, quiet, deletes, acts, count_from}

@@ -3,7 +3,7 @@ use Rattle.std.proofs.Common.{◌≡◌, ℕ, ◌+◌, ◌<◌, ◌≤◌, List,
 use Rattle.std.specs.Option.{option_map}
 use Rattle.std.proofs.lemmas.List.{length-take, length-append, length-drop, drop-drop, take_all, take-take}
 use Rattle.std.proofs.Math.Seq.{take-add}
-use Rattle.uxn_io.specs.Files.{Nodes, bytes_at, bytes_from, Reads}
+use Rattle.tree_io.specs.Files.{Nodes, bytes_at, bytes_from, Reads}
 use Rattle.uxn_memory.specs.Bytes.{with_bytes}
 use Rattle.file_ports.specs.Answers.{GivesPiece, PutsFront}
 use Rattle.file_ports.proofs.MemoryLemmas.{with_nothing, with_more}

@@ -7,7 +7,7 @@ use Rattle.std.proofs.lemmas.Grind.{pow_more}
 use Rattle.std.specs.Prelude.{slice_set}
 use Rattle.uxn_memory.specs.Bytes.{with_bytes}
 use Rattle.file_ports.proofs.MemoryLemmas.{with_last}
-use Rattle.uxn_io.specs.NumberText.{hex_digit, hex_of_short}
+use Rattle.tree_io.specs.NumberText.{hex_digit, hex_of_short}
 use Rattle.file_ports.specs.Signs.{hex_digits}
 
 pub length-hex_digits : (count value : ℕ) → length (hex_digits count value) ≡ count

@@ -4,9 +4,9 @@ use Rattle.std.specs.Prelude.{Option, Some, None, Result, Ok, Err, IsTrue, if◌
 use Rattle.std.specs.Option.{option_map}
 use Rattle.std.specs.FinMap as map
 use Rattle.std.proofs.Common.{refl, ap, sym, subst, ◌∙◌}
-use Rattle.uxn_io.specs.PathText.{parent_of}
-use Rattle.uxn_io.specs.Files.{Nodes, is_folder, is_folder_at}
-use Rattle.uxn_io.specs.Outside.{Change, ToOut, ToErr, Creates, ToFile, Removes, changed_files, files_by}
+use Rattle.tree_io.specs.PathText.{parent_of}
+use Rattle.tree_io.specs.Files.{Nodes, is_folder, is_folder_at}
+use Rattle.tree_io.specs.Outside.{Change, ToOut, ToErr, Creates, ToFile, Removes, changed_files, files_by}
 use Rattle.uxn_memory.specs.Bytes.{bank0}
 use Rattle.file_ports.specs.RootPart.{is_in, LiesIn, below, parent_is_folder, path_changed, is_in_part, IsIn, LieIn}
 use Rattle.file_ports.specs.Device.{FileState, idle_at, suits, Suits, is_writing}
@@ -14,7 +14,7 @@ use Rattle.file_ports.specs.Actions.{FileAction, Outcome, Name, Read, Write, Sta
 use Rattle.file_ports.specs.Actions.{act, seen_in, seen_of, count_from}
 use Rattle.file_ports.specs.Answers.{outcome_of, changes_untold, changes_by, device_left, ActedOrStopped}
 use Rattle.file_ports.specs.declared.stop.FileStop.{FileStop}
-use Rattle.uxn_io.specs.Ended.{IsOfTree, AreOfTree}
+use Rattle.tree_io.specs.Ended.{IsOfTree, AreOfTree}
 use Rattle.file_ports.specs.BeneathLaws.{is_in-Decides, parent_outside}
 use Rattle.file_ports.specs.PartLaws.{changed_elsewhere, named-suits, outcome-same}
 

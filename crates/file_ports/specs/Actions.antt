@@ -5,13 +5,13 @@ use Rattle.std.specs.Prelude.{Option, Some, None, if◌then◌else◌}
 use Rattle.std.specs.Option.{option_eq, option_map}
 use Rattle.std.specs.Str.{bytes_eq}
 use Rattle.std.specs.FinMap as map
-use Rattle.uxn_io.specs.declared.trees.Kind.{Kind}
-use Rattle.uxn_io.specs.declared.trees.Kind.TheVariants.{Missing, File, Folder}
-use Rattle.uxn_io.specs.declared.trees.Entry.{Entry}
-use Rattle.uxn_io.specs.Files.{Nodes, kind_at, bytes_at, is_folder, has_parent}
-use Rattle.uxn_io.specs.Children.{children}
-use Rattle.uxn_io.specs.Changes.{can_create}
-use Rattle.uxn_io.specs.Outside.{Change, Creates, ToFile, Removes}
+use Rattle.tree_io.specs.declared.trees.Kind.{Kind}
+use Rattle.tree_io.specs.declared.trees.Kind.TheVariants.{Missing, File, Folder}
+use Rattle.tree_io.specs.declared.trees.Entry.{Entry}
+use Rattle.tree_io.specs.Files.{Nodes, kind_at, bytes_at, is_folder, has_parent}
+use Rattle.tree_io.specs.Children.{children}
+use Rattle.tree_io.specs.Changes.{can_create}
+use Rattle.tree_io.specs.Outside.{Change, Creates, ToFile, Removes}
 use Rattle.uxn_memory.specs.Bytes.{bank0, with_bytes}
 use Rattle.file_ports.specs.declared.mode.Mode.{Mode}
 use Rattle.file_ports.specs.declared.mode.Mode.TheVariants.{Idle, ReadingFile, ReadingListing, Writing}

@@ -3,9 +3,9 @@ use Rattle.std.specs.Prelude.{◌≡◌, ℕ, ◌++◌, ◌≤◌, Bool, true, f
 use Rattle.std.specs.Prelude.{None, IfSome, IsSome, Result, Ok, Err}
 use Rattle.std.specs.Prelude.{length, take, is_none, if◌then◌else◌}
 use Rattle.std.specs.Option.{option_map}
-use Rattle.uxn_io.specs.declared.trees.Kind.TheVariants.{Folder}
-use Rattle.uxn_io.specs.Files.{Nodes, kind_at}
-use Rattle.uxn_io.specs.Outside.{Change, Creates}
+use Rattle.tree_io.specs.declared.trees.Kind.TheVariants.{Folder}
+use Rattle.tree_io.specs.Files.{Nodes, kind_at}
+use Rattle.tree_io.specs.Outside.{Change, Creates}
 use Rattle.uxn_memory.specs.Bytes.{with_bytes}
 use Rattle.file_ports.specs.declared.stop.FileStop.{FileStop}
 use Rattle.file_ports.specs.declared.stop.FileStop.TheVariants.{TreeFault, NoMemory}

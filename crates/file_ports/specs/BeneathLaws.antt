@@ -11,8 +11,8 @@ use Rattle.std.proofs.lemmas.List.{length-append, append-nil}
 use Rattle.std.proofs.lemmas.List.Splits.{join_with_byte-slice_split}
 use Rattle.std.proofs.lemmas.Slice.Eq.{bytes_eq-Decides}
 use Rattle.std.proofs.Math.Seq.{take-append-add}
-use Rattle.uxn_io.specs.PathText.{components, is_under, joined, parent_from, parent_of, ContinuesAfter}
-use Rattle.uxn_io.specs.PathLaws.{length-components, components-append, join-append, is_under-Decides, joined_after, parent_before}
+use Rattle.tree_io.specs.PathText.{components, is_under, joined, parent_from, parent_of, ContinuesAfter}
+use Rattle.tree_io.specs.PathLaws.{length-components, components-append, join-append, is_under-Decides, joined_after, parent_before}
 use Rattle.file_ports.specs.RootPart.{is_in, LiesIn}
 
 pub is_in-Decides : (root path : List ℕ) → Decides (is_in root path) (LiesIn root path)

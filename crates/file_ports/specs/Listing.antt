@@ -1,9 +1,9 @@
 -- The text that a device reads of a folder (Varvara device reference: File/read).
 use Rattle.std.specs.Prelude.{ℕ, List, [], ◌∷◌, ◌++◌}
 use Rattle.std.specs.List.{flat_map}
-use Rattle.uxn_io.specs.declared.trees.Kind.{Kind}
-use Rattle.uxn_io.specs.declared.trees.Kind.TheVariants.{Missing, File, Folder}
-use Rattle.uxn_io.specs.declared.trees.Entry.{Entry}
+use Rattle.tree_io.specs.declared.trees.Kind.{Kind}
+use Rattle.tree_io.specs.declared.trees.Kind.TheVariants.{Missing, File, Folder}
+use Rattle.tree_io.specs.declared.trees.Entry.{Entry}
 use Rattle.file_ports.specs.Signs.{signs}
 
 -- a slash behind the name of a folder

@@ -4,11 +4,11 @@ use Rattle.std.specs.Str.{bytes_eq}
 use Rattle.std.specs.FinMap as map
 use Rattle.std.proofs.Common.{refl, ap, sym, ◌∙◌}
 use Rattle.std.proofs.lemmas.Slice.Eq.{bytes_eq-Decides}
-use Rattle.uxn_io.specs.PathText.{parent_of}
-use Rattle.uxn_io.specs.Files.{Node, File, Folder, Nodes, bytes_of, bytes_at, file_at, is_folder, is_folder_at}
-use Rattle.uxn_io.specs.Changes.{with_appended}
-use Rattle.uxn_io.specs.NodeLaws.{get_put, put_elsewhere}
-use Rattle.uxn_io.specs.Outside.{Change, files_by}
+use Rattle.tree_io.specs.PathText.{parent_of}
+use Rattle.tree_io.specs.Files.{Node, File, Folder, Nodes, bytes_of, bytes_at, file_at, is_folder, is_folder_at}
+use Rattle.tree_io.specs.Changes.{with_appended}
+use Rattle.tree_io.specs.NodeLaws.{get_put, put_elsewhere}
+use Rattle.tree_io.specs.Outside.{Change, files_by}
 use Rattle.file_ports.specs.RootPart.{is_in, below, parent_is_folder, path_changed, is_in_part, LieIn, IsElsewhere, AreElsewhere}
 use Rattle.file_ports.specs.Device.{suits}
 use Rattle.file_ports.specs.PartLaws.{below-same}

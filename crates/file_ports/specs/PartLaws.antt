@@ -11,20 +11,20 @@ use Rattle.std.specs.FinMap as map
 use Rattle.std.specs.FinMap.Entries.{where_key, is_sorted-where_key, find-where_key}
 use Rattle.std.proofs.Common.{cond, refl, ap, sym, ◌∙◌, inl, inr}
 use Rattle.std.proofs.lemmas.Slice.Eq.{bytes_eq-Decides}
-use Rattle.uxn_io.specs.PathText.{path_of, joined, parent_of, child_name}
-use Rattle.uxn_io.specs.Files.{Node, File, Nodes, bytes_of, bytes_at, kind_of, is_folder, is_folder_at, has_parent}
-use Rattle.uxn_io.specs.Changes.{can_create, with_appended}
-use Rattle.uxn_io.specs.AppendingLaws.{appended_both}
-use Rattle.uxn_io.specs.Children.{children, entry_in}
-use Rattle.uxn_io.specs.Outside.{Change, ToOut, ToErr, Creates, ToFile, Removes, changed_files, files_by}
-use Rattle.uxn_io.specs.NodeLaws.{tied_path, same_path, same_nodes, put_elsewhere, taken_elsewhere}
+use Rattle.tree_io.specs.PathText.{path_of, joined, parent_of, child_name}
+use Rattle.tree_io.specs.Files.{Node, File, Nodes, bytes_of, bytes_at, kind_of, is_folder, is_folder_at, has_parent}
+use Rattle.tree_io.specs.Changes.{can_create, with_appended}
+use Rattle.tree_io.specs.AppendingLaws.{appended_both}
+use Rattle.tree_io.specs.Children.{children, entry_in}
+use Rattle.tree_io.specs.Outside.{Change, ToOut, ToErr, Creates, ToFile, Removes, changed_files, files_by}
+use Rattle.tree_io.specs.NodeLaws.{tied_path, same_path, same_nodes, put_elsewhere, taken_elsewhere}
 use Rattle.file_ports.specs.RootPart.{is_in, LiesIn, below, parent_is_folder, path_changed, IsIn, LieIn}
 use Rattle.file_ports.specs.Device.{FileState, idle_at, suits, Suits}
 use Rattle.file_ports.specs.Names.{bytes_around, before_zero, named_in, path_named}
 use Rattle.file_ports.specs.Actions.{FileAction, Seen, can_make_in, seen_in, seen_of, acts}
 use Rattle.file_ports.specs.Answers.{outcome_of}
 use Rattle.file_ports.specs.BeneathLaws.{is_in-Decides, root_in, joined_in, in_deeper, parent_in}
-use Rattle.uxn_io.specs.PathLaws.{parent_before}
+use Rattle.tree_io.specs.PathLaws.{parent_before}
 
 -- the node at a path of the root part, and at any other
 get-below : (root : List ℕ) (nodes : Nodes) (q : List ℕ) → map.get (below (Some root) nodes) q ≡ cond (is_in root q) (map.get nodes q) None

@@ -1,7 +1,7 @@
 //! A file device.
 ghost use Rattle.std.specs.Prelude.{◌≡◌, ℕ, ◌+◌, ◌≤◌, List, None};
 ghost use Rattle.std.specs.Option.{option_copied};
-ghost use Rattle.uxn_io.specs.Ended.{TreeEnded, TreeLooked};
+ghost use Rattle.tree_io.specs.Ended.{TreeEnded, TreeLooked, RefusedOnce};
 ghost use Rattle.file_ports.specs.Device.{idle_at, Suits};
 ghost use Rattle.file_ports.specs.Names.{path_named};
 ghost use Rattle.file_ports.specs.Actions.{Read, Write, Stat, Delete, count_from};
@@ -16,7 +16,7 @@ use crate::writing::add;
 use std::alloc::Global;
 use std::marker::Model;
 use std::mem;
-use uxn_io::{Kind, Path, Tree};
+use tree_io::{Kind, Path, Tree};
 use uxn_memory::Memory;
 
 /// A file device: the path that was named, if there is one, and what it is doing.
@@ -102,6 +102,7 @@ impl FileDevice {
     ) -> Result<u16, FileStop>
         ensures tree { TreeEnded (changes_by (Write at length keep) (T.state tree.old).told self.old memory.now) (has_failed result)
             (T.state tree.old) (T.state tree.new) }
+        ensures refused { RefusedOnce (T.state tree.old) (T.state tree.new) }
         ensures acted { ActedOrStopped (Write at length keep) self.old memory.now (T.state tree.old).told result self.new memory.now }
         ensures untouched { self.old.path ≡ None → tree.new ≡ tree.old }
     {

@@ -2,8 +2,8 @@
 ghost use Rattle.std.specs.Prelude.{◌≡◌, ℕ, Bool, false, List, Option, Some};
 ghost use Rattle.std.specs.Option.{option_map};
 ghost use Rattle.std.specs.FinMap as map;
-ghost use Rattle.uxn_io.specs.Files.{Nodes};
-ghost use Rattle.uxn_io.specs.Outside.{Change, files_by};
+ghost use Rattle.tree_io.specs.Files.{Nodes};
+ghost use Rattle.tree_io.specs.Outside.{Change, files_by};
 ghost use Rattle.file_ports.specs.RootPart.{below, parent_is_folder, LieIn};
 ghost use Rattle.file_ports.specs.Device.{FileState, suits, Suits};
 ghost use Rattle.file_ports.specs.Actions.{FileAction, act, acts, seen_of};

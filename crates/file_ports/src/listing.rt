@@ -5,7 +5,7 @@ ghost use Rattle.file_ports.specs.Listing.{line_of, listing_of};
 use crate::signs::four_signs;
 use std::alloc::{AllocError, Global};
 use std::marker::Model;
-use uxn_io::{Entry, Kind};
+use tree_io::{Entry, Kind};
 
 /// A folder's listing.
 #[derive(Drop)]

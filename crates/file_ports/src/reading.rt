@@ -1,9 +1,9 @@
 //! Reads: of a file, and of a folder's listing.
 ghost use Rattle.std.specs.Prelude.{◌≡◌, ℕ, ◌+◌, ◌-◌, ◌^◌, ◌<◌, ◌≤◌, false, take, drop, IfOk, IfSome, OnErr, Err, is_err, min};
 ghost use Rattle.std.specs.Option.{option_map};
-ghost use Rattle.uxn_io.specs.Files.{bytes_from, kind_at};
-ghost use Rattle.uxn_io.specs.Children.{children};
-ghost use Rattle.uxn_io.specs.Ended.{TreeLooked};
+ghost use Rattle.tree_io.specs.Files.{bytes_from, kind_at};
+ghost use Rattle.tree_io.specs.Children.{children};
+ghost use Rattle.tree_io.specs.Ended.{TreeLooked};
 ghost use Rattle.file_ports.specs.Device.{is_reading};
 ghost use Rattle.file_ports.specs.Listing.{listing_of};
 ghost use Rattle.file_ports.specs.Place.{last_place};
@@ -14,7 +14,7 @@ use crate::listing::Listing;
 use crate::mode::Mode;
 use crate::stop::FileStop;
 use std::alloc::Global;
-use uxn_io::{Failed, Kind, NamesStop, Path, Tree};
+use tree_io::{Failed, Kind, NamesStop, Path, Tree};
 use uxn_memory::Memory;
 
 /// How many bytes of a file are read at once.

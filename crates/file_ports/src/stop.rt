@@ -1,6 +1,6 @@
 //! Why an action of a file device stopped.
 use std::alloc::AllocError;
-use uxn_io::{Failed, NamesStop};
+use tree_io::{Failed, NamesStop};
 
 /// Why an action stopped.
 #[derive(Clone, Copy, PartialEq, Eq)]

@@ -1,12 +1,12 @@
 //! Writes.
 ghost use Rattle.std.specs.Prelude.{◌≡◌, ◌&&◌, ◌||◌, [], map, IfOk, IfSome, IsTrue, IsSome, is_err, is_some};
-ghost use Rattle.uxn_io.specs.Ended.{TreeEnded, TreeLooked};
-ghost use Rattle.uxn_io.specs.Files.{kind_at, file_at};
-ghost use Rattle.uxn_io.specs.Outside.{ToFile};
+ghost use Rattle.tree_io.specs.Ended.{TreeEnded, TreeLooked, RefusedOnce};
+ghost use Rattle.tree_io.specs.Files.{kind_at, file_at};
+ghost use Rattle.tree_io.specs.Outside.{ToFile};
 ghost use Rattle.file_ports.specs.Actions.{seen_of, is_file, begun};
 ghost use Rattle.file_ports.specs.Answers.{changes_written};
 
-use uxn_io::{Failed, Kind, Path, Tree, append_all};
+use tree_io::{Failed, Kind, Path, Tree, append_all};
 
 /// Whether a write goes on with a file that is there.
 fn goes_on<T: Tree>(tree: &mut T, path: &Path, is_writing: bool, keep: bool) -> Result<bool, Failed>
@@ -30,6 +30,7 @@ fn begin<T: Tree>(tree: &mut T, path: &Path, is_writing: bool, keep: bool) -> Re
     ensures file { IfOk result (λ goes. IsTrue goes → IfSome (T.state tree.new).told (λ nodes. IsSome (file_at nodes path.now))) }
     ensures tree { TreeEnded (changes_written is_writing keep (T.state tree.old).told path.now []) (is_err result)
         (T.state tree.old) (T.state tree.new) }
+    ensures refused { RefusedOnce (T.state tree.old) (T.state tree.new) }
 {
     if goes_on(tree, path, is_writing, keep)? {
         return Ok(true);
@@ -51,6 +52,7 @@ pub(crate) fn add<T: Tree>(
     ensures begun { IfOk result (λ goes. IfSome (T.state tree.old).told (λ nodes. goes ≡ is_some (begun is_writing keep (seen_of nodes path.now)))) }
     ensures tree { TreeEnded (changes_written is_writing keep (T.state tree.old).told path.now (map (λ byte. ToFile path.now byte) piece.now))
         (is_err result) (T.state tree.old) (T.state tree.new) }
+    ensures refused { RefusedOnce (T.state tree.old) (T.state tree.new) }
 {
     if !begin(tree, path, is_writing, keep)? {
         return Ok(false);

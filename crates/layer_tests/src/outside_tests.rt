@@ -163,7 +163,7 @@ enum Call<'a> {
 }
 
 /// Appends to a file.
-#[tactic(auto, using(uxn_io::specs::KindLaws::told_file))]
+#[tactic(auto, using(tree_io::specs::KindLaws::told_file))]
 fn append<T: Tree>(tree: &mut T, path: &Path, piece: &[u8]) -> Result<usize, Failed> {
     match tree.kind(path)? {
         Kind::File(_) => tree.append(path, piece),
@@ -172,7 +172,7 @@ fn append<T: Tree>(tree: &mut T, path: &Path, piece: &[u8]) -> Result<usize, Fai
 }
 
 /// Appends all of a piece to a file.
-#[tactic(auto, using(uxn_io::specs::KindLaws::told_file))]
+#[tactic(auto, using(tree_io::specs::KindLaws::told_file))]
 fn append_whole<T: Tree>(tree: &mut T, path: &Path, piece: &[u8]) -> Result<(), Failed> {
     match tree.kind(path)? {
         Kind::File(_) => append_all(tree, path, piece),
@@ -181,7 +181,7 @@ fn append_whole<T: Tree>(tree: &mut T, path: &Path, piece: &[u8]) -> Result<(), 
 }
 
 /// Lists a folder.
-#[tactic(auto, using(uxn_io::specs::KindLaws::told_folder))]
+#[tactic(auto, using(tree_io::specs::KindLaws::told_folder))]
 fn names<T: Tree>(alloc: Global, tree: &mut T, path: &Path) -> Result<Vec<Entry>, NamesStop> {
     match tree.kind(path) {
         Ok(Kind::Folder) => tree.names(alloc, path),
@@ -373,7 +373,7 @@ struct Endless;
 
 impl Tree for Endless {
     ghost use Rattle.std.specs.Prelude.{true, None};
-    ghost use Rattle.uxn_io.specs.Room.{no_promise};
+    ghost use Rattle.tree_io.specs.Room.{no_promise};
 
     ghost state = { λ _. record { told = None; tally = record { faults = 0; exact = true }; refusals = 0; sure = no_promise } };
 

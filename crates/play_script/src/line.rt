@@ -22,7 +22,7 @@ use line_texts::{
     LineFault, begins_with, byte_of, first_word, integer_within, keyword_line, number_within,
 };
 use std::alloc::{AllocError, Global};
-use uxn_io::Bytes;
+use tree_io::Bytes;
 
 /// The greatest seconds of a script's clock.
 const LAST_SECOND: u64 = 253_370_000_000;

@@ -13,7 +13,7 @@ use crate::script::{Clock, Event, LineStop, Script, ScriptKind, ScriptStop, Vers
 use line_texts::{Lines, begins_with, first_word};
 use std::alloc::{AllocError, Global};
 use std::marker::Model;
-use uxn_io::Bytes;
+use tree_io::Bytes;
 
 /// The greatest length of a script, in bytes.
 const LONGEST: usize = 4_194_304;

@@ -6,7 +6,7 @@ use input_ports::Input;
 use std::alloc::{AllocError, AllocFailed};
 use std::marker::Model;
 use thiserror::Error;
-use uxn_io::Bytes;
+use tree_io::Bytes;
 
 /// The moment at which a script begins.
 #[derive(Clone, Copy, PartialEq, Eq)]

@@ -11,7 +11,7 @@ ghost use Rattle.play_script.specs.Values.{text_of, bit_in, buttons, buttons_in,
 use hex::FromHexError;
 use line_texts::{begins_with, first_word, number_within};
 use std::alloc::{AllocError, Global};
-use uxn_io::Bytes;
+use tree_io::Bytes;
 
 /// A value of a line in plain text.
 #[derive(Clone, Copy)]

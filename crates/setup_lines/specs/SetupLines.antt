@@ -8,7 +8,7 @@ use Rattle.line_texts.specs.declared.row.LineFault.TheVariants as line
 use Rattle.line_texts.specs.Numbers.{begins_with, number_within}
 use Rattle.line_texts.specs.Reading.{Line}
 use Rattle.line_texts.specs.Rows.{Rows, row_of, counted}
-use Rattle.uxn_io.specs.PathText.{path_of}
+use Rattle.tree_io.specs.PathText.{path_of}
 use Rattle.setup_lines.specs.declared.keyword.Keyword.{Keyword}
 use Rattle.setup_lines.specs.declared.keyword.Keyword.TheVariants as word
 use Rattle.setup_lines.specs.declared.setup.SetupKind.{SetupKind}

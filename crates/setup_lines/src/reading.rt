@@ -7,7 +7,7 @@ use crate::setup_line::{SetupLine, line_of};
 use line_texts::Lines;
 use std::alloc::{AllocError, Global};
 use std::marker::Model;
-use uxn_io::Path;
+use tree_io::Path;
 
 /// The greatest length of a setup, in bytes.
 const LONGEST: usize = 4_194_304;

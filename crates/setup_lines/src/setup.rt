@@ -6,7 +6,7 @@ use line_texts::LineFault;
 use std::alloc::{AllocError, AllocFailed};
 use std::marker::Model;
 use thiserror::Error;
-use uxn_io::Path;
+use tree_io::Path;
 
 /// The budget of every vector where a setup gives none.
 const USUAL_BUDGET: u32 = 4_000_000;

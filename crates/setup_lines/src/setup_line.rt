@@ -9,7 +9,7 @@ ghost use Rattle.setup_lines.specs.declared.setup_line.SetupLine.TheVariants.{Tu
 use crate::keyword::{Keyword, rows};
 use crate::setup::{SetupKind, Turns};
 use line_texts::{begins_with, first_word, keyword_line, number_within};
-use uxn_io::Path;
+use tree_io::Path;
 
 /// The greatest number of a machine.
 const LAST_MACHINE: u64 = 8;

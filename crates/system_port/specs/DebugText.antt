@@ -1,7 +1,7 @@
 -- The debug text: the eight bytes below each pointer (profile).
 use Rattle.std.specs.Prelude.{ℕ, ◌%◌, List, [], ◌∷◌, ◌++◌, codes}
 use Rattle.std.specs.List.{flat_map}
-use Rattle.uxn_io.specs.NumberText.{hex_of_byte}
+use Rattle.tree_io.specs.NumberText.{hex_of_byte}
 use Rattle.uxn_stacks.specs.Cells.{Cells, byte_below}
 
 -- the eight bytes below the pointer, the deepest first

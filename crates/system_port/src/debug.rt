@@ -4,7 +4,7 @@ ghost use Rattle.arrayvec.specs.ArrayVec.{array_vec_len};
 ghost use Rattle.system_port.specs.DebugText.{eight_below, spaced, ring_line, debug_text_of, exit_code_of};
 
 use arrayvec::ArrayVec;
-use uxn_io::hex_byte;
+use tree_io::hex_byte;
 use uxn_stacks::Ring;
 
 /// The greatest length of a debug text, and the length of each.

@@ -2,10 +2,10 @@
 use Rattle.std.proofs.Common.{◌≡◌, ℕ, zero, suc, Bool, true, false, List, [], ◌∷◌, length, refl, ap, sym, ◌∙◌, subst, arith, Option, Some, None, Result, Ok, Err}
 use Rattle.std.specs.Prelude.{if◌then◌else◌, nat_le, ⊤}
 use Rattle.std.specs.List.{Contains}
-use Rattle.uxn_io.specs.Files.{Nodes}
-use Rattle.uxn_io.specs.ByteList.{ByteList}
-use Rattle.uxn_io.specs.declared.trees.FileBytes.{FileBytes}
-use Rattle.uxn_io.specs.declared.trees.FileBytes.TheVariants.{Found, Missing as NoFile, TooLong}
+use Rattle.tree_io.specs.Files.{Nodes}
+use Rattle.tree_io.specs.ByteList.{ByteList}
+use Rattle.tree_io.specs.declared.trees.FileBytes.{FileBytes}
+use Rattle.tree_io.specs.declared.trees.FileBytes.TheVariants.{Found, Missing as NoFile, TooLong}
 use Rattle.tal_words.specs.declared.fault.Fault.{Fault}
 use Rattle.tal_words.specs.declared.span.Word.{Word}
 use Rattle.tal_words.specs.Source.{word_text}

@@ -2,9 +2,9 @@
 use Rattle.std.proofs.Common.{◌≡◌, ℕ, ◌+◌, List, [], ◌∷◌, ◌++◌, length, Option, sym, subst, arith, IfSome}
 use Rattle.std.specs.List.{AllByRecursion}
 use Rattle.std.proofs.lemmas.List.{length-append}
-use Rattle.uxn_io.specs.Files.{Nodes, file_at}
-use Rattle.uxn_io.specs.WholeFile.{whole_file}
-use Rattle.uxn_io.specs.declared.trees.FileBytes.{FileBytes}
+use Rattle.tree_io.specs.Files.{Nodes, file_at}
+use Rattle.tree_io.specs.WholeFile.{whole_file}
+use Rattle.tree_io.specs.declared.trees.FileBytes.{FileBytes}
 use Rattle.tal_words.specs.Comments.{source_limit}
 use Rattle.tal_include.specs.Splice.{Reading}
 use Rattle.tal_include.specs.Parts.{Read, IsTold, Agrees, Along}

@@ -2,9 +2,9 @@
 use Rattle.std.proofs.Common.{◌≡◌, ℕ, zero, suc, ◌+◌, Bool, List, [], ◌∷◌, length, ap, sym, ◌∙◌, subst, arith, IfSome}
 use Rattle.std.proofs.Common.{Option, Some, None, Result, Err}
 use Rattle.std.specs.List.{AllByRecursion, list_any}
-use Rattle.uxn_io.specs.Files.{Nodes}
-use Rattle.uxn_io.specs.declared.trees.FileBytes.{FileBytes}
-use Rattle.uxn_io.specs.declared.trees.FileBytes.TheVariants.{Missing}
+use Rattle.tree_io.specs.Files.{Nodes}
+use Rattle.tree_io.specs.declared.trees.FileBytes.{FileBytes}
+use Rattle.tree_io.specs.declared.trees.FileBytes.TheVariants.{Missing}
 use Rattle.tal_words.specs.declared.span.Word.{Word}
 use Rattle.tal_words.specs.Source.{word_text}
 use Rattle.tal_words.specs.Comments.{words_of}

@@ -2,7 +2,7 @@
 use Rattle.std.proofs.Common.{◌≡◌, ℕ, ◌+◌, ◌-◌, ◌<◌, true, false, List, [], ◌∷◌, length, drop, ap, sym, ◌∙◌, subst, arith}
 use Rattle.std.proofs.Common.{Option, Result, Ok, Err, OnOk}
 use Rattle.std.proofs.lemmas.List.{length-append}
-use Rattle.uxn_io.specs.Files.{Nodes}
+use Rattle.tree_io.specs.Files.{Nodes}
 use Rattle.tal_words.specs.declared.span.Word.{Word}
 use Rattle.tal_words.specs.Source.{word_text}
 use Rattle.tal_include.specs.declared.faults.Origin.{Origin}

@@ -1,8 +1,8 @@
 -- What a call answers, by a walk.
 use Rattle.std.specs.Prelude.{◌≡◌, ℕ, List, Bool, true, false, Result, Ok, Err, ⊤}
-use Rattle.uxn_io.specs.Files.{Nodes, file_at}
-use Rattle.uxn_io.specs.WholeFile.{whole_file}
-use Rattle.uxn_io.specs.declared.trees.FileBytes.{FileBytes}
+use Rattle.tree_io.specs.Files.{Nodes, file_at}
+use Rattle.tree_io.specs.WholeFile.{whole_file}
+use Rattle.tree_io.specs.declared.trees.FileBytes.{FileBytes}
 use Rattle.tal_words.specs.Comments.{source_limit}
 use Rattle.tal_include.specs.declared.faults.SpliceStop.{SpliceStop}
 use Rattle.tal_include.specs.declared.faults.SpliceStop.TheVariants.{Refused, TreeFault, NoMemory}

@@ -1,10 +1,10 @@
 -- Include words, the paths that they name, and faults of includes (profile).
 use Rattle.std.specs.Prelude.{ℕ, zero, suc, Bool, false, ◌==◌, nat_le, if◌then◌else◌, List, [], ◌∷◌, codes, drop, take}
 use Rattle.std.specs.Prelude.{Option, Some, None, Result, Ok, Err}
-use Rattle.uxn_io.specs.PathText.{path_of, parent_of, joined}
-use Rattle.uxn_io.specs.declared.paths.PathFault.{PathFault}
-use Rattle.uxn_io.specs.declared.trees.FileBytes.{FileBytes}
-use Rattle.uxn_io.specs.declared.trees.FileBytes.TheVariants.{Found, TooLong, Missing as NoFile}
+use Rattle.tree_io.specs.PathText.{path_of, parent_of, joined}
+use Rattle.tree_io.specs.declared.paths.PathFault.{PathFault}
+use Rattle.tree_io.specs.declared.trees.FileBytes.{FileBytes}
+use Rattle.tree_io.specs.declared.trees.FileBytes.TheVariants.{Found, TooLong, Missing as NoFile}
 use Rattle.tal_words.specs.declared.fault.Fault.{Fault}
 use Rattle.tal_words.specs.Faults.{kind_name, fault_text}
 use Rattle.tal_include.specs.declared.faults.Origin.{Origin}

@@ -1,9 +1,9 @@
 -- What the parts of the walk answer to one another, and the files that were read on the way.
 use Rattle.std.specs.Prelude.{◌≡◌, ℕ, zero, suc, ◌+◌, List, [], ◌∷◌, length, Option, None, IfSome, Result, Ok, Err, ⊤}
 use Rattle.std.specs.List.{AllByRecursion}
-use Rattle.uxn_io.specs.Files.{Nodes, file_at}
-use Rattle.uxn_io.specs.WholeFile.{whole_file}
-use Rattle.uxn_io.specs.declared.trees.FileBytes.{FileBytes}
+use Rattle.tree_io.specs.Files.{Nodes, file_at}
+use Rattle.tree_io.specs.WholeFile.{whole_file}
+use Rattle.tree_io.specs.declared.trees.FileBytes.{FileBytes}
 use Rattle.tal_words.specs.Comments.{source_limit, words_of, word_fault}
 use Rattle.tal_include.specs.declared.faults.Origin.{Origin}
 use Rattle.tal_include.specs.declared.faults.SpliceStop.{SpliceStop}

@@ -8,7 +8,7 @@ use arrayvec::ArrayVec;
 use std::alloc::{AllocError, AllocFailed};
 use tal_words::FaultKind;
 use thiserror::Error;
-use uxn_io::Path;
+use tree_io::Path;
 
 /// Where a word stands: in which file, and at which line and column of it.
 #[derive(Clone, Copy, Debug, PartialEq, Eq)]

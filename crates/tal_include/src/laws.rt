@@ -1,7 +1,7 @@
 //! What flat texts are as sources.
 
 ghost use Rattle.std.specs.Prelude.{◌≡◌, ℕ, List};
-ghost use Rattle.uxn_io.specs.Files.{Nodes};
+ghost use Rattle.tree_io.specs.Files.{Nodes};
 ghost use Rattle.tal_include.specs.Splice.{Reading, spliced};
 ghost use Rattle.tal_include.specs.Answers.{told_file, told_reading};
 ghost use Rattle.tal_include.specs.FlatWords.{HasItsWords, IfCame};

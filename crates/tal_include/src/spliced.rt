@@ -7,7 +7,7 @@ use crate::faults::Origin;
 use std::alloc::{AllocError, Global};
 use std::marker::Model;
 use tal_words::Word;
-use uxn_io::Path;
+use tree_io::Path;
 
 /// A word of the flat text: the offset of its first byte there, its file by its number in the order of
 /// reading, where the main source has 0, and its line and column in that file.

@@ -2,7 +2,7 @@
 
 ghost use Rattle.std.specs.Prelude.{◌≡◌, ℕ, ◌+◌, ◌<◌, ◌==◌, ◌&&◌, false, length, nat_lt, IfOk, IfSome, OnOk, if◌then◌else◌};
 ghost use Rattle.std.specs.List.{list_any};
-ghost use Rattle.uxn_io.specs.Ended.{TreeLooked};
+ghost use Rattle.tree_io.specs.Ended.{TreeLooked};
 ghost use Rattle.tal_words.specs.declared.span.Word.{Word};
 ghost use Rattle.tal_words.specs.Source.{word_text};
 ghost use Rattle.tal_include.specs.declared.faults.SpliceStop.TheVariants.{Refused};
@@ -15,7 +15,7 @@ use crate::faults::{IncludeFault, IncludeKind, Origin, SpliceStop};
 use crate::spliced::Spliced;
 use std::alloc::{AllocError, Global};
 use tal_words::{AsmStop, SOURCE_LIMIT, Word, fault_word, words};
-use uxn_io::{Bytes, FileBytes, Path, ReadStop, Tree, read_file};
+use tree_io::{Bytes, FileBytes, Path, ReadStop, Tree, read_file};
 
 /// The greatest length of a file, in bytes.
 const FILE_LIMIT: u32 = 4_194_304;

@@ -18,7 +18,7 @@ use Rattle.tal_labels.specs.PlainWords.{Coded, texts_of_coded, bytes_of_coded, p
 use Rattle.tal_symbols.specs.SymbolFile.{are_readable}
 use Rattle.tal_rom.specs.PlainWords.{AssemblesTo}
 use Rattle.tal_rom.proofs.PlainLemmas.{plain_assembles}
-use Rattle.uxn_io.specs.NumberText.{hex_of_short, hex_digit, hex_of_byte}
+use Rattle.tree_io.specs.NumberText.{hex_of_short, hex_digit, hex_of_byte}
 use Rattle.tal_listing.specs.Texts.{hex_of_bytes, behind_name}
 use Rattle.tal_listing.specs.LabelChains.{labels_of_address}
 use Rattle.tal_listing.specs.Disassembly.{Instruction, immediate_length, instructions_from, immediate_items, instruction_items, label_item, label_items, items_of, rom_start, disassembly_items, disassembly}

@@ -6,7 +6,7 @@ use Rattle.tal_words.specs.declared.name.Label.{Label}
 use Rattle.tal_words.specs.Opcodes.{name_of_op}
 use Rattle.tal_words.specs.PlainTexts.{Item, Comment, PlainWord, text_of_items}
 use Rattle.tal_labels.specs.PlainWords.{pad_text}
-use Rattle.uxn_io.specs.NumberText.{hex_of_short}
+use Rattle.tree_io.specs.NumberText.{hex_of_short}
 use Rattle.tal_listing.specs.LabelChains.{labels_of_address}
 use Rattle.tal_listing.specs.Texts.{hex_of_bytes}
 

@@ -4,7 +4,7 @@ use Rattle.std.specs.Prelude.{filter, slice_index, slice_index_or, decimal}
 use Rattle.std.specs.List.{flat_map, range_with_len}
 use Rattle.tal_words.specs.declared.span.Word.{Word}
 use Rattle.tal_words.specs.Source.{bytes_at}
-use Rattle.uxn_io.specs.NumberText.{hex_of_byte, hex_of_short}
+use Rattle.tree_io.specs.NumberText.{hex_of_byte, hex_of_short}
 use Rattle.tal_labels.specs.declared.placed.PlacedWord.{PlacedWord}
 use Rattle.tal_rom.specs.Program.{Program}
 use Rattle.tal_rom.specs.Rom.{Piece, pieces_of}

@@ -8,7 +8,7 @@ use std::alloc::{AllocError, Global};
 use tal_labels::PlacedWord;
 use tal_rom::Assembly;
 use tal_words::Word;
-use uxn_io::{decimal, hex_byte, hex_short};
+use tree_io::{decimal, hex_byte, hex_short};
 
 /// The address of the first byte of a ROM.
 const ROM_START: u64 = 0x0100;

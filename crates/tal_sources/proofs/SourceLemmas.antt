@@ -2,8 +2,8 @@
 use Rattle.std.proofs.Common.{◌≡◌, List, ℕ, Bool, true, false, Option, Some, None, Result, ap, sym, subst}
 use Rattle.std.specs.Prelude.{if◌then◌else◌, IsSome, IfSome, is_none}
 use Rattle.std.proofs.lemmas.Bool.{and_parts}
-use Rattle.uxn_io.specs.Files.{Nodes}
-use Rattle.uxn_io.specs.declared.trees.FileBytes.TheVariants.{Missing}
+use Rattle.tree_io.specs.Files.{Nodes}
+use Rattle.tree_io.specs.declared.trees.FileBytes.TheVariants.{Missing}
 use Rattle.tal_words.specs.declared.span.Word.{Word}
 use Rattle.tal_words.specs.declared.fault.Fault.{Fault}
 use Rattle.tal_words.specs.Comments.{word_fault}

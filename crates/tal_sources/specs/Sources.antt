@@ -1,7 +1,7 @@
 -- A source with its includes: the text that is assembled, or the first fault (profile).
 use Rattle.std.specs.Prelude.{ℕ, List, [], Option, Some, None, Result, Ok, Err, if◌then◌else◌, unwrap_or, IfSome, IsSome}
 use Rattle.std.specs.Str.{bytes_eq}
-use Rattle.uxn_io.specs.ByteList.{tight}
+use Rattle.tree_io.specs.ByteList.{tight}
 use Rattle.tal_words.specs.declared.fault.Fault.{Fault}
 use Rattle.tal_words.specs.Faults.{fault_text}
 use Rattle.tal_rom.specs.Assembly.{first_fault}

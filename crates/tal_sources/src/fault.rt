@@ -1,7 +1,7 @@
 //! What can be wrong with a source and its includes.
 
 ghost use Rattle.std.specs.Prelude.{◌≡◌, IfOk};
-ghost use Rattle.uxn_io.specs.ByteList.{tight};
+ghost use Rattle.tree_io.specs.ByteList.{tight};
 ghost use Rattle.tal_sources.specs.Lines.{message_of};
 ghost use Rattle.tal_sources.specs.Sources.{fault_in, other_path, own_fault};
 ghost use Rattle.tal_sources.specs.declared.fault.SourceStop.TheVariants.{NoMemory};
@@ -10,7 +10,7 @@ use std::alloc::{AllocError, AllocFailed, Global};
 use tal_include::{IncludeKind, Origin};
 use tal_words::{Fault, fault_word};
 use thiserror::Error;
-use uxn_io::{Bytes, Path, decimal};
+use tree_io::{Bytes, Path, decimal};
 
 /// The first fault of a source: the file in which its word stands, where that is not the main source, and its place there; what
 /// is wrong, where `Words` has the fault that the text has as a source; and the word.

@@ -1,7 +1,7 @@
 //! What a source comes to.
 
 ghost use Rattle.std.specs.Prelude.{◌≡◌, ℕ, List, true};
-ghost use Rattle.uxn_io.specs.Files.{Nodes};
+ghost use Rattle.tree_io.specs.Files.{Nodes};
 ghost use Rattle.tal_include.specs.Answers.{told_file, told_reading};
 ghost use Rattle.tal_include.specs.Included.{IsIncluded};
 ghost use Rattle.tal_include.specs.FlatWords.{IfCame};

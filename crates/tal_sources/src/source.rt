@@ -1,7 +1,7 @@
 //! A source with its includes, assembled.
 
 ghost use Rattle.std.specs.Prelude.{◌≡◌, Ok, false, IfOk, IfSome};
-ghost use Rattle.uxn_io.specs.Ended.{TreeLooked};
+ghost use Rattle.tree_io.specs.Ended.{TreeLooked};
 ghost use Rattle.tal_words.specs.Faults.{fault_text};
 ghost use Rattle.tal_rom.specs.Assembly.{IsAssembled, first_fault};
 ghost use Rattle.tal_include.specs.declared.faults.IncludeKind.TheVariants.{Words};
@@ -16,7 +16,7 @@ use std::marker::Model;
 use tal_include::{IncludeKind, Origin, SpliceStop, Spliced, has_includes, splice};
 use tal_rom::{Assembly, assemble};
 use tal_words::{AsmStop, Fault, fault_word};
-use uxn_io::{Bytes, Path, Tree};
+use tree_io::{Bytes, Path, Tree};
 
 /// A source without a fault: the text that was assembled, which is its own or its flat text, the files that it includes, and
 /// what it is assembled to.

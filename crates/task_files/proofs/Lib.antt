@@ -1,3 +1,4 @@
+pub mod Common
 pub mod WordLemmas
 pub mod ReadingLemmas
 pub mod SourceLemmas

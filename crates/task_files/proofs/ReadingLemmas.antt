@@ -1,48 +1,15 @@
 -- Inputs that are read one after the other.
-use Rattle.std.proofs.Common.{◌≡◌, false, refl, ap, ◌∙◌, subst}
-use Rattle.std.specs.Prelude.{Option, Some, None, Result, Ok, Err, IfSome}
-use Rattle.std.specs.FinMap as fin
-use Rattle.tal_include.specs.Answers.{told_reading}
-use Rattle.tal_include.specs.Splice.{Reading}
-use Rattle.uxn_io.specs.Ended.{TreeLooked}
-use Rattle.uxn_io.specs.EndedLaws.{looked-nothing, looked-then}
-use Rattle.uxn_io.specs.Files.{Nodes}
-use Rattle.uxn_io.specs.State.{TreeState}
-use Rattle.uxn_io.specs.WholeFile.{has_failed}
-use Rattle.uxn_io.specs.declared.trees.FileBytes.{FileBytes}
-use Rattle.uxn_io.specs.declared.trees.FileBytes.TheVariants.{Missing as NoFile}
-use Rattle.uxn_io.specs.declared.trees.ReadStop.{ReadStop}
-use Rattle.uxn_io.specs.declared.trees.ReadStop.TheVariants.{Failed, NoMemory as WantsMemory}
-use Rattle.uxn_words.specs.declared.task.Task.{Task}
-use Rattle.task_files.specs.declared.refusal.Refusal.{Refusal}
-use Rattle.task_files.specs.declared.refusal.Halt.{Halt}
-use Rattle.task_files.specs.declared.refusal.Halt.TheVariants.{Refused, Stopped}
-use Rattle.task_files.specs.Blame.{halt_of_read, tree_failed}
+use Rattle.task_files.proofs.Common.{Err, IfSome, None, Ok, Option, Result, Some, arith, false, rules, ◌≡◌, common_steps, TreeLooked, looked-nothing}
+use Rattle.task_files.proofs.Common.{looked-then, Nodes, TreeState, FileBytes, Task, InputFile, NamedFiles, no_files, Reads, and_then, View}
+use Rattle.task_files.proofs.Common.{inputs_seen, Halt, Refusal}
+use Rattle.tree_io.specs.declared.trees.FileBytes.TheVariants.{Missing as NoFile}
 use Rattle.task_files.specs.Follows.{Follows}
-use Rattle.task_files.specs.Reading.{Sees, Accepts, Reads}
-use Rattle.task_files.specs.Setup.{InputFile, no_files}
-use Rattle.task_files.specs.Request.{and_then}
-use Rattle.task_files.specs.Views.{View, input_file}
-use Rattle.task_files.specs.Views.{inputs_seen}
-
--- what reading a file gives: what the tree tells, or nothing where it tells nothing
-abbrev pub reading_of : Option Nodes → Reading
-reading_of None = λ before path. NoFile
-reading_of (Some nodes) = told_reading nodes
-
--- a file beside which nothing is read
-abbrev pub input_with : Option Nodes → FileBytes → InputFile
-input_with tree bytes = record { bytes = bytes; beside = reading_of tree }
-
-pub seen_with : (tree : Option Nodes) (bytes : FileBytes) (bytes_in : Nodes → FileBytes) → IfSome tree (λ nodes. bytes ≡ bytes_in nodes)
-    → IfSome tree (λ nodes. input_with tree bytes ≡ input_file nodes (bytes_in nodes))
-seen_with None bytes bytes_in seen = tt
-seen_with (Some nodes) bytes bytes_in seen = ap (input_file nodes) seen
+use Rattle.std.specs.FinMap as fin
 
 -- nothing is seen
 abbrev pub no_view : View
 no_view = record {
-  file = input_with None NoFile;
+  file = record { bytes = NoFile; beside = λ before path. NoFile };
   symbols = NoFile;
   script = NoFile;
   commands = NoFile;
@@ -52,118 +19,102 @@ no_view = record {
   blocked = None;
 }
 
+-- what a tree tells, or anything
+abbrev pub seen_or : {V : Type 0} → V → (Nodes → V) → Option Nodes → V
+seen_or any seen_in None = any
+seen_or any seen_in (Some nodes) = seen_in nodes
+
 -- the view of the inputs, where a tree tells them
 abbrev pub inputs_or : Option Nodes → Task → View
-inputs_or None task = no_view
-inputs_or (Some nodes) task = inputs_seen nodes task
+inputs_or tree task = seen_or no_view (λ nodes. inputs_seen nodes task) tree
 
--- what was seen of two inputs
-pub record Both (S R : Type 0) : Type 0 where
-  pub first : S
-  pub second : R
+-- an input in a view
+abbrev pub with_file : View → InputFile → View
+with_file view file = record view { file = file }
 
-abbrev pub both : {S R : Type 0} → S → R → Both S R
-both first second = record { first = first; second = second }
+abbrev pub with_bytes : View → FileBytes → View
+with_bytes view bytes = record view { file = record view.file { bytes = bytes } }
 
--- a file that could not be read is denied, whatever it would say
-pub reads-stopped : {S A C : Type 0} (view : C → A) (seen_in : Nodes → S) (said : S → Result A Refusal) (a b : TreeState) (stop : ReadStop)
-    → TreeLooked (has_failed {T = FileBytes} (Err stop)) a b → Reads view seen_in said a b (Err (halt_of_read stop))
-reads-stopped view seen_in said a b Failed looked = record { looked = looked; accepts = λ is. absurd cc }
-reads-stopped view seen_in said a b WantsMemory looked = record { looked = looked; accepts = λ is. absurd cc }
+abbrev pub with_symbols : View → FileBytes → View
+with_symbols view file = record view { symbols = file }
 
--- what holds of whatever a tree tells
-pub of-told : (t : Option Nodes) (P : Nodes → Type 0) → ((nodes : Nodes) → P nodes) → IfSome t P
-of-told None P holds = tt
-of-told (Some nodes) P holds = holds nodes
+abbrev pub with_script : View → FileBytes → View
+with_script view file = record view { script = file }
+
+abbrev pub with_commands : View → FileBytes → View
+with_commands view file = record view { commands = file }
+
+abbrev pub with_named : View → NamedFiles → View
+with_named view files = record view { named = files }
+
+-- what was seen so far, of a tree at which was only looked
+pub record Front {V : Type 0} (seen_in : Nodes → V) (v : V) (before now : TreeState) : Type 0 where
+  pub looked : TreeLooked false before now
+  pub seen : IfSome before.told (λ nodes. v ≡ seen_in nodes)
+
+pub front-none : {V : Type 0} (any : V) (seen_in : Nodes → V) (now : TreeState) → Front seen_in (seen_or any seen_in now.told) now now
+front-none any seen_in now = record { looked = looked-nothing now; seen = grind arith }
+
+pub front-inputs : (task : Task) (now : TreeState) → Front (λ nodes. inputs_seen nodes task) (inputs_or now.told task) now now
+front-inputs task now = front-none no_view (λ nodes. inputs_seen nodes task) now
+
+-- what follows of all that was seen
+pub front-said : {V B D : Type 0} (seen_in : Nodes → V) (said : V → Result B Refusal) (last : D → B) (v : V) (a b : TreeState) (r : Result D Halt)
+    → Front seen_in v a b → Follows last r (said v) → Reads last seen_in said a b r
+front-said seen_in said last v a b r f follows = grind (arith, common_steps)
+
+-- one input more is put into what was seen
+module _ {V S A : Type 0} (seen_in : Nodes → V) (one_in : Nodes → S) (said : S → Result A Refusal) (put : V → S → V) (v : V) (a b : TreeState)
+    (f : Front seen_in v a b) (fits : (nodes : Nodes) → v ≡ seen_in nodes → put (seen_in nodes) (one_in nodes) ≡ seen_in nodes) where
+  put-seen : (file : S) → IfSome b.told (λ nodes. file ≡ one_in nodes) → IfSome a.told (λ nodes. put v file ≡ seen_in nodes)
+  put-seen file seen = (let all = f.seen in let same = f.looked.told in grind (arith, common_steps, fits, all, same, seen))
+
+  module _ {C : Type 0} (view : C → A) (c : TreeState) where
+    -- it is accepted
+    pub front-more : (value : C) (p : Reads view one_in said b c (Ok value)) → Front seen_in (put v p.accepts.file) a c
+    front-more value p = record { looked = looked-then false a b c f.looked p.looked; seen = put-seen p.accepts.file p.accepts.seen }
+
+    -- it is denied
+    pub front-denied : {B D : Type 0} (all_said : V → Result B Refusal) (last : D → B) (halt : Halt) → Reads view one_in said b c (Err halt)
+        → ((file : S) (refusal : Refusal) → said file ≡ Err refusal → all_said (put v file) ≡ Err refusal)
+        → Reads last seen_in all_said a c (Err halt)
+    front-denied all_said last halt p is =
+        let looked = f.looked in
+        let more = p.looked in
+        let accepts = p.accepts in
+        grind (arith, common_steps, looked-then, put-seen, is)
+
+    -- it is the last
+    pub front-last : (all_said : V → Result A Refusal) (r : Result C Halt) → Reads view one_in said b c r
+        → ((file : S) → all_said (put v file) ≡ said file)
+        → Reads view seen_in all_said a c r
+    front-last all_said r p is =
+        let looked = f.looked in
+        let more = p.looked in
+        let accepts = p.accepts in
+        grind (arith, common_steps, looked-then, put-seen, is)
+
+-- ---- one input
 
 -- a tree that is not asked: what would be seen says this
-module _ {S A C : Type 0} (view : C → A) (seen_in : Nodes → S) (said : S → Result A Refusal) (now : TreeState) (file : S)
-    (seen : IfSome now.told (λ nodes. file ≡ seen_in nodes)) where
-  pub reads-none : (r : Result C Halt) → Follows view r (said file) → Reads view seen_in said now now r
-  reads-none (Ok value) follows = record { looked = looked-nothing now; accepts = record { file = file; seen = seen; said_so = follows } }
-  reads-none (Err (Refused refusal)) follows = record { looked = looked-nothing now; accepts = record { file = file; seen = seen; said_so = follows } }
-  reads-none (Err (Stopped stop)) follows = rw follows (record { looked = looked-nothing now; accepts = λ no. absurd cc })
+pub reads-none : {S A C : Type 0} (view : C → A) (seen_in : Nodes → S) (said : S → Result A Refusal) (now : TreeState) (file : S)
+    → IfSome now.told (λ nodes. file ≡ seen_in nodes) → (r : Result C Halt) → Follows view r (said file) → Reads view seen_in said now now r
+reads-none view seen_in said now file seen r follows =
+    front-said seen_in said view file now now r (record { looked = looked-nothing now; seen = seen }) follows
 
 -- what is judged behind an input that was read: it was denied, or it says this
-module _ {S A B C D : Type 0} (seen_in : Nodes → S) (said : S → Result A Refusal) (next : A → Result B Refusal) (view : C → A) (last : D → B) (a b : TreeState) where
+module _ {S A B C D : Type 0} (seen_in : Nodes → S) (said : S → Result A Refusal) (next : A → Result B Refusal) (view : C → A) (last : D → B)
+    (a b : TreeState) where
   pub reads-ended : (halt : Halt) → Reads view seen_in said a b (Err halt) → Reads last seen_in (λ file. and_then (said file) next) a b (Err halt)
-  reads-ended (Refused refusal) p = record {
-    looked = p.looked;
-    accepts = record { file = p.accepts.file; seen = p.accepts.seen; said_so = ap (λ s. and_then s next) p.accepts.said_so };
-  }
-  reads-ended (Stopped stop) p = record { looked = p.looked; accepts = p.accepts }
+  reads-ended halt p = search rules
 
   pub reads-on : (value : C) (r : Result D Halt) → Reads view seen_in said a b (Ok value) → Follows last r (next (view value))
       → Reads last seen_in (λ file. and_then (said file) next) a b r
-  reads-on value (Ok made) p follows = record {
-    looked = p.looked;
-    accepts = record { file = p.accepts.file; seen = p.accepts.seen; said_so = ap (λ s. and_then s next) p.accepts.said_so ∙ follows };
-  }
-  reads-on value (Err (Refused refusal)) p follows = record {
-    looked = p.looked;
-    accepts = record { file = p.accepts.file; seen = p.accepts.seen; said_so = ap (λ s. and_then s next) p.accepts.said_so ∙ follows };
-  }
-  reads-on value (Err (Stopped stop)) p follows = rw follows (record { looked = p.looked; accepts = λ is. absurd cc })
-
--- two inputs, the second of which is read once the first is accepted
-module _ {S R A B : Type 0} (one_in : Nodes → S) (said : S → Result A Refusal) (more_in : Nodes → R) (next : A → R → Result B Refusal) where
-  abbrev pub both_in : Nodes → Both S R
-  both_in nodes = both (one_in nodes) (more_in nodes)
-
-  abbrev pub both_said : Both S R → Result B Refusal
-  both_said f = and_then (said f.first) (λ x. next x f.second)
-
-  both-seen : (t : Option Nodes) (one : S) (more : R) → IfSome t (λ nodes. one ≡ one_in nodes) → IfSome t (λ nodes. more ≡ more_in nodes)
-      → IfSome t (λ nodes. both one more ≡ both_in nodes)
-  both-seen None one more p q = tt
-  both-seen (Some nodes) one more p q = rw (p, q) refl
-
-  sees-then : (tree told : Option Nodes) (value : A) (says : Result B Refusal) → told ≡ tree → Sees tree one_in said (Ok value) → Sees told more_in (next value) says
-      → Sees tree both_in both_said says
-  sees-then tree told value says same one there =
-      let more : Sees tree more_in (next value) says = subst (λ t. Sees t more_in (next value) says) same there in
-      record {
-        file = both one.file more.file;
-        seen = both-seen tree one.file more.file one.seen more.seen;
-        said_so = ap (λ s. and_then s (λ x. next x more.file)) one.said_so ∙ more.said_so;
-      }
-
-  module _ {C D : Type 0} (view : C → A) (last : D → B) (a b : TreeState) where
-    pub reads-then : (c : TreeState) (value : C) (r : Result D Halt) → Reads view one_in said a b (Ok value) → Reads last more_in (next (view value)) b c r
-        → Reads last both_in both_said a c r
-    reads-then c value r p q = record { looked = looked-then (tree_failed r) a b c p.looked q.looked; accepts = go r q.accepts }
-      where
-        go : (r : Result D Halt) → Accepts last b.told more_in (next (view value)) r → Accepts last a.told both_in both_said r
-        go (Ok made) more = sees-then a.told b.told (view value) (Ok (last made)) (p.looked.told) p.accepts more
-        go (Err (Refused refusal)) more = sees-then a.told b.told (view value) (Err refusal) (p.looked.told) p.accepts more
-        go (Err (Stopped stop)) more = more
-
-    pub reads-first : (any : R) (halt : Halt) → Reads view one_in said a b (Err halt) → Reads last both_in both_said a b (Err halt)
-    reads-first any (Refused refusal) p = record {
-      looked = p.looked;
-      accepts = record {
-        file = both p.accepts.file (other a.told).0;
-        seen = both-seen a.told p.accepts.file (other a.told).0 p.accepts.seen (other a.told).1;
-        said_so = ap (λ s. and_then s (λ x. next x (other a.told).0)) p.accepts.said_so;
-      };
-    }
-      where
-        other : (t : Option Nodes) → (more : R) × IfSome t (λ nodes. more ≡ more_in nodes)
-        other None = (any, tt)
-        other (Some nodes) = (more_in nodes, refl)
-    reads-first any (Stopped stop) p = record { looked = p.looked; accepts = p.accepts }
+  reads-on value r p follows = grind (arith, common_steps)
 
 -- what was seen, put into something larger that says the same
-module _ {S R A C : Type 0} (seen_in : Nodes → S) (said : S → Result A Refusal) (there : Nodes → R) (says : R → Result A Refusal) (put : Option Nodes → S → R)
-    (view : C → A) (a b : TreeState) (fits : (nodes : Nodes) → put (Some nodes) (seen_in nodes) ≡ there nodes) (is : (file : S) → says (put a.told file) ≡ said file) where
-  through : (x : Result A Refusal) → Sees a.told seen_in said x → Sees a.told there says x
-  through x sees = record { file = put a.told sees.file; seen = go a.told sees.file sees.seen; said_so = is sees.file ∙ sees.said_so }
-    where
-      go : (t : Option Nodes) (file : S) → IfSome t (λ nodes. file ≡ seen_in nodes) → IfSome t (λ nodes. put t file ≡ there nodes)
-      go None file seen = tt
-      go (Some nodes) file seen = ap (put (Some nodes)) seen ∙ fits nodes
-
+module _ {S R A C : Type 0} (seen_in : Nodes → S) (said : S → Result A Refusal) (there : Nodes → R) (says : R → Result A Refusal)
+    (put : Option Nodes → S → R) (view : C → A) (a b : TreeState) (fits : (nodes : Nodes) → put (Some nodes) (seen_in nodes) ≡ there nodes)
+    (is : (file : S) → says (put a.told file) ≡ said file) where
   pub reads-through : (r : Result C Halt) → Reads view seen_in said a b r → Reads view there says a b r
-  reads-through (Ok made) p = record { looked = p.looked; accepts = through (Ok (view made)) p.accepts }
-  reads-through (Err (Refused refusal)) p = record { looked = p.looked; accepts = through (Err refusal) p.accepts }
-  reads-through (Err (Stopped stop)) p = record { looked = p.looked; accepts = p.accepts }
+  reads-through r p = (let accepts = p.accepts in grind (arith, common_steps, fits, is, accepts))

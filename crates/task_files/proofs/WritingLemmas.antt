@@ -1,19 +1,9 @@
 -- What a tree with room for files surely takes, as they are written.
-use Rattle.std.proofs.Common.{true, false, cond, ◌≡◌, ℕ, ◌+◌, ◌<◌, ◌≤◌, List, [], ◌∷◌, ◌++◌, map, length, refl, ap, ◌∙◌, arith}
-use Rattle.std.proofs.lemmas.List.{length-append, length-map}
-use Rattle.uxn_io.specs.AppendingLaws.{appended_both}
-use Rattle.uxn_io.specs.Changes.{makes_file, new_files, with_appended}
-use Rattle.uxn_io.specs.Files.{Nodes, bytes_at}
-use Rattle.uxn_io.specs.NodeLaws.{bytes_put}
-use Rattle.uxn_io.specs.Outside.{Change, ToOut, ToErr, Creates, ToFile, Removes, changed_files, files_by}
-use Rattle.uxn_io.specs.Room.{Room}
-use Rattle.uxn_io.specs.Taking.{TreeTakes, makes_more, files_made}
-use Rattle.task_files.specs.Writing.{creating, filling_all, writing}
-use Rattle.task_files.specs.World.{Text, CanFill}
-
--- a call makes at most one file
-one_file : (nodes : Nodes) (path : List ℕ) → new_files nodes path ≤ 1
-one_file nodes path = elim (makes_file nodes path) as (λ b. cond b 1 0 ≤ 1) [ true ↦ omega arith | false ↦ omega arith ]
+use Rattle.task_files.proofs.Common.{List, [], ap, arith, length, map, refl, ℕ, ◌++◌, ◌+◌, ◌<◌, ◌∙◌, ◌∷◌, ◌≡◌, ◌≤◌, length-append, length-map}
+use Rattle.task_files.proofs.Common.{with_appended, Nodes, bytes_at, bytes_put, Change, Creates, ToFile, changed_files, files_by, TreeTakes}
+use Rattle.task_files.proofs.Common.{files_made, CanFill, Text, creating, filling_all, writing}
+use Rattle.tree_io.specs.AppendingLaws.{appended_both}
+use Rattle.tree_io.specs.Room.{Room}
 
 -- how many files changes make at most
 abbrev is_creation : Change → ℕ
@@ -24,16 +14,9 @@ abbrev creations : List Change → ℕ
 creations [] = 0
 creations (change ∷ changes) = is_creation change + creations changes
 
-makes_few : (nodes : Nodes) (change : Change) → makes_more nodes change ≤ is_creation change
-makes_few nodes (ToOut byte) = omega arith
-makes_few nodes (ToErr byte) = omega arith
-makes_few nodes (Creates path) = one_file nodes path
-makes_few nodes (ToFile path byte) = omega arith
-makes_few nodes (Removes path) = omega arith
-
 made_few : (nodes : Nodes) (changes : List Change) → files_made nodes changes ≤ creations changes
 made_few nodes [] = omega arith
-made_few nodes (change ∷ changes) = (let more = made_few (changed_files change nodes) changes in omega (arith, makes_few nodes change, more))
+made_few nodes (change ∷ changes) = (let more = made_few (changed_files change nodes) changes in grind (arith, more))
 
 creations-both : (first more : List Change) → creations (first ++ more) ≡ creations first + creations more
 creations-both [] more = omega arith
@@ -56,7 +39,8 @@ module _ (limit : ℕ) (rest : List Change) (path : List ℕ) (byte : ℕ) where
   abbrev Fits : Nodes → List Change → Type 0
   Fits nodes changes = (first : List Change) → changes ≡ first ++ ToFile path byte ∷ rest → length (bytes_at (files_by nodes first) path) < limit
 
-  text-fits : (file text : List ℕ) (after : List Change) (nodes : Nodes) → length (bytes_at nodes file) + length text ≤ limit → Fits (with_appended file text nodes) after
+  text-fits : (file text : List ℕ) (after : List Change) (nodes : Nodes) → length (bytes_at nodes file) + length text ≤ limit
+      → Fits (with_appended file text nodes) after
       → Fits nodes (map (λ byte. ToFile file byte) text ++ after)
   text-fits file [] after nodes room later first is = later first is
   text-fits file (b ∷ text) after nodes room later [] is = (let same : file ≡ path = cc in rw (← same) (omega (arith, room)))
@@ -74,7 +58,8 @@ module _ (limit : ℕ) (rest : List Change) (path : List ℕ) (byte : ℕ) where
   texts-fit (text ∷ texts) nodes can first is =
       text-fits text.path text.bytes (filling_all texts) nodes can.0 (texts-fit texts (with_appended text.path text.bytes nodes) can.1) first is
 
-  made-fit : (paths : List (List ℕ)) (after : List Change) (nodes : Nodes) → Fits (files_by nodes (creating paths)) after → Fits nodes (creating paths ++ after)
+  made-fit : (paths : List (List ℕ)) (after : List Change) (nodes : Nodes) → Fits (files_by nodes (creating paths)) after
+      → Fits nodes (creating paths ++ after)
   made-fit [] after nodes later first is = later first is
   made-fit (file ∷ paths) after nodes later [] is = absurd cc
   made-fit (file ∷ paths) after nodes later (change ∷ first) is =

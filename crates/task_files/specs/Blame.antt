@@ -1,8 +1,8 @@
 -- Who is to blame where a call ended early, and the status that says so.
 use Rattle.std.specs.Prelude.{ℕ, ◌==◌, Bool, true, false, Result, Ok, Err, if◌then◌else◌}
-use Rattle.uxn_io.specs.Faults.{Blame, Nobody, TheTree, ASink}
-use Rattle.uxn_io.specs.declared.trees.ReadStop.{ReadStop}
-use Rattle.uxn_io.specs.declared.trees.ReadStop.TheVariants.{Failed, NoMemory as WantsMemory}
+use Rattle.tree_io.specs.Faults.{Blame, Nobody, TheTree, ASink}
+use Rattle.tree_io.specs.declared.trees.ReadStop.{ReadStop}
+use Rattle.tree_io.specs.declared.trees.ReadStop.TheVariants.{Failed, NoMemory as WantsMemory}
 use Rattle.tal_sources.specs.declared.fault.SourceStop.{SourceStop}
 use Rattle.tal_sources.specs.declared.fault.SourceStop.TheVariants.{Refused as BadSource, TreeFault as SourceTree, NoMemory as SourceMemory}
 use Rattle.uxn_words.specs.declared.words.WordFault.TheVariants as words
@@ -24,9 +24,9 @@ abbrev pub halt_blame : Halt → Blame
 halt_blame (Refused refusal) = Nobody
 halt_blame (Stopped stop) = blame_of stop
 
-abbrev pub blame_in : {A : Type 0} → Result A Halt → Blame
-blame_in (Ok value) = Nobody
-blame_in (Err halt) = halt_blame halt
+abbrev pub result_blame : {A : Type 0} → Result A Halt → Blame
+result_blame (Ok value) = Nobody
+result_blame (Err halt) = halt_blame halt
 
 -- whether the tree failed in it
 abbrev pub is_of_tree : Blame → Bool
@@ -35,19 +35,16 @@ is_of_tree TheTree = true
 is_of_tree ASink = false
 
 abbrev pub tree_failed : {A : Type 0} → Result A Halt → Bool
-tree_failed result = is_of_tree (blame_in result)
+tree_failed result = is_of_tree (result_blame result)
 
 -- a call that may stop is a step that is not refused
 abbrev pub as_step : {A : Type 0} → Result A Stop → Result A Halt
 as_step (Ok value) = Ok value
 as_step (Err stop) = Err (Stopped stop)
 
-abbrev pub blame_by : {A : Type 0} → Result A Stop → Blame
-blame_by result = blame_in (as_step result)
-
 -- of a status
-abbrev pub blame_at : ℕ → Blame
-blame_at status = if status == 136 then TheTree else if status == 137 then ASink else Nobody
+abbrev pub status_blame : ℕ → Blame
+status_blame status = if status == 136 then TheTree else if status == 137 then ASink else Nobody
 
 -- this holds where a step is refused
 abbrev pub OnRefused : {A : Type 0} → Result A Halt → Type 0 → Type 0

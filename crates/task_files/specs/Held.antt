@@ -5,7 +5,7 @@ use Rattle.play_script.specs.Held.{bytes_in}
 use Rattle.tal_sources.specs.Answers.{SourceView}
 use Rattle.tal_sources.specs.Sources.{Sourced}
 use Rattle.tal_words.specs.declared.name.Label.{Label}
-use Rattle.uxn_io.specs.ByteList.{ByteList}
+use Rattle.tree_io.specs.ByteList.{ByteList}
 use Rattle.uxn_memory.specs.Bytes.{largest_rom}
 use Rattle.task_files.specs.declared.assembling.Written.{Written}
 use Rattle.task_files.specs.declared.machines.LineInputs.{LineInputs}
@@ -16,37 +16,37 @@ use Rattle.task_files.specs.Accepted.{Loaded, loaded_rom, debug_labels, Given, S
 use Rattle.task_files.specs.Outputs.{seen_texts}
 
 -- a source that was read: the text that is assembled, and the paths of the files that it includes
-abbrev pub sourced_by : SourceView → Sourced
-sourced_by source = record { text = source.text; paths = source.paths }
+abbrev pub held_source : SourceView → Sourced
+held_source source = record { text = source.text; paths = source.paths }
 
 -- a program that was loaded
-abbrev pub loaded_by : Program → Loaded
-loaded_by (Rom rom) = loaded_rom rom.list
-loaded_by (Source source) = record { rom = source.assembly.rom; labels = source.assembly.labels; included = source.paths }
+abbrev pub held_program : Program → Loaded
+held_program (Rom rom) = loaded_rom rom.list
+held_program (Source source) = record { rom = source.assembly.rom; labels = source.assembly.labels; included = source.paths }
 
 -- labels that a symbol file gave, and the labels of a debugger: those, else those of the source
-abbrev pub given_labels : Option (Vec Label) → Option (List Label)
-given_labels given = option_map (λ (labels : Vec Label). labels.items) given
+abbrev pub held_labels : Option (Vec Label) → Option (List Label)
+held_labels given = option_map (λ (labels : Vec Label). labels.items) given
 
-abbrev pub labels_with : Loaded → Option (Vec Label) → List Label
-labels_with program given = debug_labels (given_labels given) program
+abbrev pub held_debug_labels : Loaded → Option (Vec Label) → List Label
+held_debug_labels program given = debug_labels (held_labels given) program
 
 -- all that a run is given
-abbrev pub given_by : RunInputs → Given
-given_by inputs = record {
-  program = loaded_by inputs.program;
-  labels = given_labels inputs.given;
+abbrev pub held_inputs : RunInputs → Given
+held_inputs inputs = record {
+  program = held_program inputs.program;
+  labels = held_labels inputs.given;
   script = inputs.script;
   commands = inputs.commands.items;
 }
 
 -- the files that are written out of a source
-abbrev pub files_by : Written → SourceFiles
-files_by written = record { texts = seen_texts written.outputs.items; included = written.source.paths }
+abbrev pub held_files : Written → SourceFiles
+held_files written = record { texts = seen_texts written.outputs.items; included = written.source.paths }
 
 -- the machines of a setup
-abbrev pub machines_by : LineInputs → Machines
-machines_by inputs = record { setup = inputs.setup; roms = bytes_in inputs.roms.items; script = inputs.script }
+abbrev pub held_machines : LineInputs → Machines
+held_machines inputs = record { setup = inputs.setup; roms = bytes_in inputs.roms.items; script = inputs.script }
 
 -- 2 to 8 machines, each with a ROM that fits
 pub record AreMachines (paths : List (List ℕ)) (roms : List ByteList) : Type 0 where

@@ -4,6 +4,7 @@ pub mod World
 pub mod Writing
 pub mod Outputs
 pub mod Request
+pub mod Inputs
 pub mod Setup
 pub mod Follows
 pub mod Blame

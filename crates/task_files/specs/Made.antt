@@ -3,13 +3,13 @@ use Rattle.std.specs.Prelude.{◌≡◌, ◌≢◌, ◌⊎◌, ℕ, ◌<◌, ◌
 use Rattle.std.specs.Prelude.{Option, None, Some, Result, Ok, Err, IfSome, IsSome, All, ◌++◌}
 use Rattle.std.specs.List.{list_any}
 use Rattle.std.specs.Str.{bytes_eq}
-use Rattle.uxn_io.specs.Changes.{can_create}
-use Rattle.uxn_io.specs.Ended.{TreeEnded, TreeLooked, Refused as CreateRefused}
-use Rattle.uxn_io.specs.Faults.{Counted}
-use Rattle.uxn_io.specs.Files.{Nodes, file_at}
-use Rattle.uxn_io.specs.declared.sinks.Failed.{Failed}
-use Rattle.uxn_io.specs.Room.{Room}
-use Rattle.uxn_io.specs.State.{TreeState}
+use Rattle.tree_io.specs.Changes.{can_create}
+use Rattle.tree_io.specs.Ended.{TreeEnded, TreeLooked, Refused as CreateRefused}
+use Rattle.tree_io.specs.Faults.{Counted}
+use Rattle.tree_io.specs.Files.{Nodes, file_at}
+use Rattle.tree_io.specs.declared.sinks.Failed.{Failed}
+use Rattle.tree_io.specs.Room.{Room}
+use Rattle.tree_io.specs.State.{TreeState}
 use Rattle.uxn_opcodes.specs.declared.Stop.TheVariants.{TreeFault, SinkFault, NoMemory}
 use Rattle.uxn_words.specs.declared.task.Task.{Task}
 use Rattle.uxn_words.specs.Places.{HasApartOutputs, outputs_of}
@@ -75,12 +75,16 @@ pub record HalfMade (included paths : List (List ℕ)) (before now : TreeState) 
   pub did : TreeEnded (creating paths) true before now
   pub refusals : CreateRefused false before now
 
+-- why not all of them were: one is refused; or the tree failed, as it was looked at or once some was done; or memory was wanting
+abbrev pub Ends : List (List ℕ) → List (List ℕ) → TreeState → TreeState → Type 0 → Halt → Type 0
+Ends included paths before now Half (Refused refusal) = Refuses included paths refusal before now
+Ends included paths before now Half (Stopped TreeFault) = TreeLooked true before now ⊎ Half
+Ends included paths before now Half (Stopped NoMemory) = TreeLooked false before now
+Ends included paths before now Half (Stopped SinkFault) = ⊥
+
 abbrev pub MakesOutputs : List (List ℕ) → List (List ℕ) → TreeState → TreeState → Result (Unit {0}) Halt → Type 0
 MakesOutputs included paths before now (Ok _) = Made included paths before now
-MakesOutputs included paths before now (Err (Refused refusal)) = Refuses included paths refusal before now
-MakesOutputs included paths before now (Err (Stopped TreeFault)) = TreeLooked true before now ⊎ HalfMade included paths before now
-MakesOutputs included paths before now (Err (Stopped NoMemory)) = TreeLooked false before now
-MakesOutputs included paths before now (Err (Stopped SinkFault)) = ⊥
+MakesOutputs included paths before now (Err halt) = Ends included paths before now (HalfMade included paths before now) halt
 
 -- a tree surely takes files: it has room for more files than these, and each is no longer than a file may be
 pub record Takes (room : Room) (texts : List Text) : Type 0 where
@@ -102,10 +106,7 @@ pub record HalfWrote (included paths : List (List ℕ)) (texts : List Text) (bef
 
 abbrev pub WritesOutputs : List (List ℕ) → List (List ℕ) → List Text → TreeState → TreeState → Result (Unit {0}) Halt → Type 0
 WritesOutputs included paths texts before now (Ok _) = Wrote included paths texts before now
-WritesOutputs included paths texts before now (Err (Refused refusal)) = Refuses included paths refusal before now
-WritesOutputs included paths texts before now (Err (Stopped TreeFault)) = TreeLooked true before now ⊎ HalfWrote included paths texts before now
-WritesOutputs included paths texts before now (Err (Stopped NoMemory)) = TreeLooked false before now
-WritesOutputs included paths texts before now (Err (Stopped SinkFault)) = ⊥
+WritesOutputs included paths texts before now (Err halt) = Ends included paths before now (HalfWrote included paths texts before now) halt
 
 -- the tree itself refused to create an output
 abbrev pub was_refused : {A : Type 0} → Result (Option A) Failed → Bool

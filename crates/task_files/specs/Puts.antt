@@ -1,7 +1,7 @@
 -- Bytes that are put on a sink.
 use Rattle.std.specs.Prelude.{◌≡◌, ℕ, true, false, List, Result, Ok, Err}
-use Rattle.uxn_io.specs.Ended.{SinkEnded}
-use Rattle.uxn_io.specs.State.{SinkState}
+use Rattle.tree_io.specs.Ended.{SinkEnded}
+use Rattle.tree_io.specs.State.{SinkState}
 use Rattle.uxn_opcodes.specs.declared.Stop.TheVariants.{TreeFault, SinkFault, NoMemory}
 use Rattle.task_files.specs.declared.refusal.Halt.{Halt}
 use Rattle.task_files.specs.declared.refusal.Halt.TheVariants.{Refused, Stopped}

@@ -1,8 +1,8 @@
 -- Inputs that are read, and what they say.
 use Rattle.std.specs.Prelude.{◌≡◌, ◌≢◌, Option, Result, Ok, Err, IfSome}
-use Rattle.uxn_io.specs.Ended.{TreeLooked}
-use Rattle.uxn_io.specs.Files.{Nodes}
-use Rattle.uxn_io.specs.State.{TreeState}
+use Rattle.tree_io.specs.Ended.{TreeLooked}
+use Rattle.tree_io.specs.Files.{Nodes}
+use Rattle.tree_io.specs.State.{TreeState}
 use Rattle.uxn_opcodes.specs.declared.Stop.TheVariants.{SinkFault}
 use Rattle.task_files.specs.declared.refusal.Refusal.{Refusal}
 use Rattle.task_files.specs.declared.refusal.Halt.{Halt}

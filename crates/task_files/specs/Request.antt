@@ -13,6 +13,11 @@ abbrev pub and_then : {A B : Type 0} → Result A Refusal → (A → Result B Re
 and_then (Ok value) next = next value
 and_then (Err refusal) next = Err refusal
 
+-- a verdict of its own as a step: its fault is a refusal
+abbrev pub or_refused : {A E : Type 0} → (E → Refusal) → Result A E → Result A Refusal
+or_refused why (Ok value) = Ok value
+or_refused why (Err fault) = Err (why fault)
+
 -- the words are legal (128), and each that names a file is a path (129)
 abbrev pub refused : Result Task WordFault → Result Task Refusal
 refused (Ok task) = Ok task
@@ -20,12 +25,12 @@ refused (Err words.NotUnderstood) = Err NotUnderstood
 refused (Err (words.NoPath word)) = Err (NoPath word)
 
 -- no output clashes (135)
-abbrev pub apart_by : Task → Option (List ℕ) → Result Task Refusal
-apart_by task None = Ok task
-apart_by task (Some path) = Err (NoOutput path)
+abbrev pub judged_clash : Task → Option (List ℕ) → Result Task Refusal
+judged_clash task None = Ok task
+judged_clash task (Some path) = Err (NoOutput path)
 
 abbrev pub apart : Task → Result Task Refusal
-apart task = apart_by task (first_clash task)
+apart task = judged_clash task (first_clash task)
 
 -- what the words alone determine: the task, or why they are refused whatever the tree holds
 unfoldable pub request : List (List ℕ) → Result Task Refusal

@@ -1,29 +1,31 @@
 -- What the tree shows a task: the files that it reads, what lies beneath its root, and the first output that cannot be made.
-use Rattle.std.specs.Prelude.{ℕ, Bool, not, List, map, find, Option, Some, None, Result, Ok, Err, if◌then◌else◌}
+use Rattle.std.specs.Prelude.{ℕ, Bool, true, false, not, List, map, find, Option, Some, None, Result, Ok, Err}
 use Rattle.file_ports.specs.RootPart.{below, parent_is_folder}
 use Rattle.setup_lines.specs.Setups.{SetupView}
 use Rattle.tal_include.specs.Answers.{told_reading}
-use Rattle.tal_rom.specs.Rom.{rom_limit}
-use Rattle.uxn_io.specs.declared.trees.FileBytes.{FileBytes}
-use Rattle.uxn_io.specs.declared.trees.FileBytes.TheVariants.{Missing as NoFile}
-use Rattle.uxn_io.specs.Changes.{can_create}
-use Rattle.uxn_io.specs.Files.{Nodes, file_at}
-use Rattle.uxn_io.specs.State.{TreeState}
-use Rattle.uxn_io.specs.WholeFile.{whole_file}
-use Rattle.uxn_memory.specs.Bytes.{largest_rom}
+use Rattle.tree_io.specs.declared.trees.FileBytes.{FileBytes}
+use Rattle.tree_io.specs.declared.trees.FileBytes.TheVariants.{Missing as NoFile}
+use Rattle.tree_io.specs.Changes.{can_create}
+use Rattle.tree_io.specs.Files.{Nodes, file_at}
+use Rattle.tree_io.specs.State.{TreeState}
+use Rattle.tree_io.specs.WholeFile.{whole_file}
 use Rattle.uxn_words.specs.declared.words.Command.{Command}
 use Rattle.uxn_words.specs.declared.words.Command.TheVariants.{Play, Debug, Assemble, Disassemble, Generate, Line}
 use Rattle.uxn_words.specs.declared.task.Task.{Task}
 use Rattle.uxn_words.specs.declared.role.Role.TheVariants as role
-use Rattle.uxn_words.specs.Places.{outputs_of, root_by}
+use Rattle.uxn_words.specs.Places.{outputs_of, command_root}
 use Rattle.uxn_words.specs.Tasks.{role_path}
+use Rattle.task_files.specs.declared.inputs.InputKind.{InputKind}
+use Rattle.task_files.specs.declared.inputs.InputKind.TheVariants as kinds
 use Rattle.task_files.specs.declared.refusal.Refusal.{Refusal}
 use Rattle.task_files.specs.declared.refusal.Halt.{Halt}
+use Rattle.task_files.specs.Inputs.{limit_of, InputFile, NamedFiles, no_files}
 use Rattle.task_files.specs.Reading.{Reads}
-use Rattle.task_files.specs.Setup.{InputFile, NamedFiles, no_files, setup_in}
+use Rattle.task_files.specs.Setup.{accepted_setup}
 
 -- what the tree shows a task: its file, with those that it may include, its file of symbols, its script, its commands, what lies
--- beneath its root and whether the root's parent is a folder, the files that its setup names, and the first output that cannot be made
+-- beneath its root and whether the root's parent is a folder, the files that its setup names, and the first output that cannot be made.
+-- Each role has a field of its own: a tree that tells nothing may answer differently when the same path is read again
 pub record View : Type 0 where
   pub file : InputFile
   pub symbols : FileBytes
@@ -34,90 +36,86 @@ pub record View : Type 0 where
   pub named : NamedFiles
   pub blocked : Option (List ℕ)
 
--- no more bytes of a file are looked at: all banks are filled by a ROM that is run, bank 0 by one that is disassembled, as by one
--- that a source is assembled to; and 4,194,304 of a source or a setup
-abbrev pub limit_by : Command → Bool → ℕ
-limit_by Play rom = if rom then largest_rom else 4194304
-limit_by Debug rom = if rom then largest_rom else 4194304
-limit_by Assemble rom = 4194304
-limit_by Disassemble rom = rom_limit
-limit_by Generate rom = 0
-limit_by Line rom = 4194304
+-- a file that is read at a path, as a tree tells it; nothing, where it is not asked for
+abbrev pub bytes_seen : InputKind → List ℕ → Nodes → FileBytes
+bytes_seen kind path nodes = whole_file (file_at nodes path) (limit_of kind)
 
-abbrev pub file_limit : Task → ℕ
-file_limit task = limit_by task.command task.rom
-
--- the file that a command is about; a workload reads none
-abbrev pub file_input : Command → Task → Option (List ℕ)
-file_input Play task = Some task.file
-file_input Debug task = Some task.file
-file_input Assemble task = Some task.file
-file_input Disassemble task = Some task.file
-file_input Generate task = None
-file_input Line task = Some task.file
-
-abbrev pub input_by : Nodes → Option (List ℕ) → ℕ → FileBytes
-input_by nodes None limit = NoFile
-input_by nodes (Some path) limit = whole_file (file_at nodes path) limit
+abbrev pub input_seen : InputKind → Option (List ℕ) → Nodes → FileBytes
+input_seen kind None nodes = NoFile
+input_seen kind (Some path) nodes = bytes_seen kind path nodes
 
 -- a file in a tree, in which those stand that it may include
 abbrev pub input_file : Nodes → FileBytes → InputFile
 input_file nodes bytes = record { bytes = bytes; beside = told_reading nodes }
 
+abbrev pub source_seen : List ℕ → Nodes → InputFile
+source_seen path nodes = input_file nodes (bytes_seen kinds.Source path nodes)
+
+abbrev pub sources_seen : List (List ℕ) → Nodes → List InputFile
+sources_seen paths nodes = map (λ path. source_seen path nodes) paths
+
+-- a program is a ROM file or a source
+abbrev pub program_kind : Bool → InputKind
+program_kind true = kinds.Rom
+program_kind false = kinds.Source
+
+abbrev pub program_seen : Bool → List ℕ → Nodes → InputFile
+program_seen rom path nodes = input_file nodes (bytes_seen (program_kind rom) path nodes)
+
+-- the file that a command is about; a workload reads none
+abbrev pub main_file_seen : Command → Bool → List ℕ → Nodes → FileBytes
+main_file_seen Play rom path nodes = bytes_seen (program_kind rom) path nodes
+main_file_seen Debug rom path nodes = bytes_seen (program_kind rom) path nodes
+main_file_seen Assemble rom path nodes = bytes_seen kinds.Source path nodes
+main_file_seen Disassemble rom path nodes = bytes_seen kinds.BankRom path nodes
+main_file_seen Generate rom path nodes = NoFile
+main_file_seen Line rom path nodes = bytes_seen kinds.Setup path nodes
+
 abbrev pub file_seen : Nodes → Task → InputFile
-file_seen nodes task = input_file nodes (input_by nodes (file_input task.command task) (file_limit task))
+file_seen nodes task = input_file nodes (main_file_seen task.command task.rom task.file nodes)
 
 -- the file of symbols, where it is an input
-abbrev pub symbols_by : Nodes → Option (List ℕ) → FileBytes
-symbols_by nodes path = input_by nodes path 16777216
-
 abbrev pub symbols_input : Command → Task → Option (List ℕ)
 symbols_input Play task = None
-symbols_input Debug task = (role_path task role.Symbols)
+symbols_input Debug task = role_path task role.Symbols
 symbols_input Assemble task = None
-symbols_input Disassemble task = (role_path task role.Symbols)
+symbols_input Disassemble task = role_path task role.Symbols
 symbols_input Generate task = None
 symbols_input Line task = None
 
 abbrev pub symbols_seen : Nodes → Task → FileBytes
-symbols_seen nodes task = symbols_by nodes (symbols_input task.command task)
+symbols_seen nodes task = input_seen kinds.Symbols (symbols_input task.command task) nodes
 
 -- the script, where it is an input
-abbrev pub script_by : Nodes → Option (List ℕ) → FileBytes
-script_by nodes path = input_by nodes path 4194304
-
 abbrev pub script_seen : Nodes → Task → FileBytes
-script_seen nodes task = script_by nodes (role_path task role.Script)
+script_seen nodes task = input_seen kinds.Script (role_path task role.Script) nodes
 
 -- the commands of a debugger
+abbrev pub commands_input : Command → Task → Option (List ℕ)
+commands_input Debug task = role_path task role.Commands
+commands_input _ task = None
+
 abbrev pub commands_seen : Nodes → Task → FileBytes
-commands_seen nodes task = script_by nodes (role_path task role.Commands)
+commands_seen nodes task = input_seen kinds.Commands (commands_input task.command task) nodes
 
 -- what lies beneath the root, and whether its parent is a folder
 abbrev pub part_seen : Nodes → Task → Nodes
-part_seen nodes task = below (root_by task.command task) nodes
+part_seen nodes task = below (command_root task.command task) nodes
 
 abbrev pub parent_seen : Nodes → Task → Bool
-parent_seen nodes task = parent_is_folder (root_by task.command task) nodes
+parent_seen nodes task = parent_is_folder (command_root task.command task) nodes
 
 -- the source of each machine that a setup gives, and its script; other commands have no setup
-abbrev pub source_at : Nodes → List ℕ → InputFile
-source_at nodes path = input_file nodes (whole_file (file_at nodes path) 4194304)
+abbrev pub named_files_seen : Result SetupView Refusal → Nodes → NamedFiles
+named_files_seen (Ok setup) nodes = record { sources = sources_seen setup.sources nodes; script = input_seen kinds.Script setup.script nodes }
+named_files_seen (Err refusal) nodes = no_files
 
-abbrev pub named_by : Nodes → Result SetupView Refusal → NamedFiles
-named_by nodes (Ok setup) = record { sources = map (source_at nodes) setup.sources; script = script_by nodes setup.script }
-named_by nodes (Err refusal) = no_files
-
-abbrev pub named_in : Command → Nodes → Task → NamedFiles
-named_in Play nodes task = no_files
-named_in Debug nodes task = no_files
-named_in Assemble nodes task = no_files
-named_in Disassemble nodes task = no_files
-named_in Generate nodes task = no_files
-named_in Line nodes task = named_by nodes (setup_in task.file (file_seen nodes task).bytes)
+abbrev pub command_files_seen : Command → Nodes → Task → NamedFiles
+command_files_seen Line nodes task = named_files_seen (accepted_setup task.file (file_seen nodes task).bytes) nodes
+command_files_seen _ nodes task = no_files
 
 abbrev pub named_seen : Nodes → Task → NamedFiles
-named_seen nodes task = named_in task.command nodes task
+named_seen nodes task = command_files_seen task.command nodes task
 
 abbrev pub blocked_seen : Nodes → Task → Option (List ℕ)
 blocked_seen nodes task = find (λ path. not (can_create nodes path)) (outputs_of task)
@@ -133,10 +131,6 @@ view_of nodes task = record {
   named = named_seen nodes task;
   blocked = blocked_seen nodes task;
 }
-
-abbrev pub commands_input : Command → Task → Option (List ℕ)
-commands_input Debug task = (role_path task role.Commands)
-commands_input _ task = None
 
 -- all that a task looks at before the outputs, as a tree tells it
 abbrev pub inputs_seen : Nodes → Task → View

@@ -1,9 +1,9 @@
 -- What a call can see and change.
 use Rattle.std.specs.Prelude.{◌≡◌, ℕ, ◌+◌, ◌≤◌, true, List, [], ◌∷◌, length, map, fold, All}
 use Rattle.std.specs.Prelude.{Option, Some, None, IsSome}
-use Rattle.uxn_io.specs.Files.{Nodes, file_at, bytes_at}
-use Rattle.uxn_io.specs.Changes.{can_create, with_created, with_appended}
-use Rattle.uxn_io.specs.Outside.{World}
+use Rattle.tree_io.specs.Files.{Nodes, file_at, bytes_at}
+use Rattle.tree_io.specs.Changes.{can_create, with_created, with_appended}
+use Rattle.tree_io.specs.Outside.{World}
 
 -- the files of the tree and the bytes that the two outputs took, where they are told
 abbrev pub world : Option Nodes → Option (List ℕ) → Option (List ℕ) → World
@@ -14,13 +14,13 @@ pub record Text : Type 0 where
   pub path : List ℕ
   pub bytes : List ℕ
 
-abbrev pub paths_in : List Text → List (List ℕ)
-paths_in texts = map (λ (text : Text). text.path) texts
+abbrev pub text_paths : List Text → List (List ℕ)
+text_paths texts = map (λ (text : Text). text.path) texts
 
 -- a text in a file, where the file is asked for
-abbrev pub text_at : Option (List ℕ) → List ℕ → List Text
-text_at None bytes = []
-text_at (Some path) bytes = record { path = path; bytes = bytes } ∷ []
+abbrev pub asked_output : Option (List ℕ) → List ℕ → List Text
+asked_output None bytes = []
+asked_output (Some path) bytes = record { path = path; bytes = bytes } ∷ []
 
 -- files that are made empty, in order
 abbrev pub with_empty : List Text → Nodes → Nodes

@@ -1,7 +1,9 @@
 -- Files that are made and filled, as changes in order.
-use Rattle.std.specs.Prelude.{ℕ, List, ◌++◌, map}
+use Rattle.std.specs.Prelude.{ℕ, Bool, List, ◌++◌, map}
 use Rattle.std.specs.List.{flat_map}
-use Rattle.uxn_io.specs.Outside.{Change, Creates, ToFile}
+use Rattle.tree_io.specs.Ended.{TreeEnded, Refused}
+use Rattle.tree_io.specs.Outside.{Change, Creates, ToFile}
+use Rattle.tree_io.specs.State.{TreeState}
 use Rattle.task_files.specs.World.{Text}
 
 -- files made, empty and in order
@@ -18,3 +20,8 @@ filling_all texts = flat_map filling texts
 -- files are written: all are made, and then they get their bytes
 unfoldable pub writing : List Text → List Change
 writing texts = creating (map (λ text. text.path) texts) ++ filling_all texts
+
+-- changes were made, or a front of them where the tree failed; and whether the tree itself refused to create a file
+pub record Did (changes : List Change) (failed refused : Bool) (before now : TreeState) : Type 0 where
+  pub done : TreeEnded changes failed before now
+  pub refusals : Refused refused before now

@@ -4,11 +4,11 @@ ghost use Rattle.tal_rom.specs.Assembly.{IsAssembled};
 ghost use Rattle.tal_symbols.specs.SymbolFile.{symbol_file};
 ghost use Rattle.tal_listing.specs.Listing.{listing_of};
 ghost use Rattle.task_files.specs.Accepted.{source_files, texts_of};
-ghost use Rattle.task_files.specs.Held.{files_by};
+ghost use Rattle.task_files.specs.Held.{held_files};
 ghost use Rattle.task_files.specs.Made.{AreApart, WritesOutputs};
 ghost use Rattle.task_files.specs.Outputs.{paths_of, seen_texts};
 ghost use Rattle.task_files.specs.Views.{ReadsInputs};
-ghost use Rattle.task_files.specs.World.{text_at};
+ghost use Rattle.task_files.specs.World.{asked_output};
 
 use super::making::look_at;
 use super::outputs::{Output, write_all};
@@ -19,7 +19,7 @@ use tal_listing::listing;
 use tal_rom::Assembly;
 use tal_sources::AssembledSource;
 use tal_symbols::write_symbols;
-use uxn_io::{Path, Tree};
+use tree_io::{Path, Tree};
 use uxn_words::{Command, Role, Task};
 
 /// The file of a ROM, where it was asked for.
@@ -30,7 +30,7 @@ fn push_rom(
     path: &Option<Path>,
     assembly: &Assembly,
 ) -> Result<(), AllocError>
-    ensures { OnOk result (seen_texts outputs.new.items ≡ seen_texts outputs.old.items ++ text_at path.now assembly.now.rom) }
+    ensures { OnOk result (seen_texts outputs.new.items ≡ seen_texts outputs.old.items ++ asked_output path.now assembly.now.rom) }
 {
     if let Some(path) = path {
         let bytes = Vec::from_slice(alloc, assembly.rom())?;
@@ -47,7 +47,7 @@ fn push_symbols(
     path: &Option<Path>,
     assembly: &Assembly,
 ) -> Result<(), AllocError>
-    ensures { OnOk result (seen_texts outputs.new.items ≡ seen_texts outputs.old.items ++ text_at path.now (symbol_file assembly.now.labels)) }
+    ensures { OnOk result (seen_texts outputs.new.items ≡ seen_texts outputs.old.items ++ asked_output path.now (symbol_file assembly.now.labels)) }
 {
     if let Some(path) = path {
         let bytes = write_symbols(alloc, assembly.labels())?;
@@ -65,7 +65,7 @@ fn push_listing(
     source: &AssembledSource,
 ) -> Result<(), AllocError>
     requires { IsAssembled source.now.text (Ok source.now.assembly) }
-    ensures { OnOk result (seen_texts outputs.new.items ≡ seen_texts outputs.old.items ++ text_at path.now (listing_of source.now.text source.now.assembly)) }
+    ensures { OnOk result (seen_texts outputs.new.items ≡ seen_texts outputs.old.items ++ asked_output path.now (listing_of source.now.text source.now.assembly)) }
 {
     if let Some(path) = path {
         let bytes = listing(alloc, source.text(), source.assembly())?;
@@ -112,7 +112,7 @@ pub struct Written {
 /// Assembles the source in a file. All that takes memory is done here, before the first file is made.
 pub fn assemble<T: Tree>(alloc: Global, task: &Task, tree: &mut T) -> Result<Written, Halt>
     requires { task.now.command ≡ Command.Assemble }
-    ensures { ReadsInputs files_by task.now (source_files task.now) (T.state tree.old) (T.state tree.new) result }
+    ensures { ReadsInputs held_files task.now (source_files task.now) (T.state tree.old) (T.state tree.new) result }
 {
     let source = accept_source(alloc, &task.file, tree)?;
     let outputs = outputs_of(alloc, task, &source)?;
@@ -120,6 +120,7 @@ pub fn assemble<T: Tree>(alloc: Global, task: &Task, tree: &mut T) -> Result<Wri
 }
 
 /// Writes the files that were asked for.
+#[tactic(auto, using(crate::proofs::WriteLemmas::writes))]
 pub fn write_outputs<T: Tree>(written: &Written, tree: &mut T) -> Result<(), Halt>
     requires { AreApart (paths_of written.now.outputs.items) }
     ensures { WritesOutputs written.now.source.paths (paths_of written.now.outputs.items) (seen_texts written.now.outputs.items) (T.state tree.old) (T.state tree.new) result }

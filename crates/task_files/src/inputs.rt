@@ -1,41 +1,124 @@
-//! Inputs: what stands at the paths of files that are read, one after the other.
-ghost use Rattle.std.specs.Prelude.{◌≡◌, Ok, IfOk};
-ghost use Rattle.uxn_io.specs.Files.{file_at};
-ghost use Rattle.uxn_io.specs.WholeFile.{KeepsLimit, whole_file};
+//! Inputs: the files that are read, one after the other, each by its kind.
+ghost use Rattle.std.specs.Prelude.{◌≡◌, ◌≤◌, length, option_map, IfOk};
+ghost use Rattle.tree_io.specs.WholeFile.{KeepsLimit};
+ghost use Rattle.task_files.specs.Follows.{Follows};
+ghost use Rattle.task_files.specs.Inputs.{asked_text, limit_of, long_refusal, kind_text, too_long};
 ghost use Rattle.task_files.specs.Reading.{Reads};
-ghost use Rattle.task_files.specs.Views.{input_by, input_file};
+ghost use Rattle.task_files.specs.Views.{bytes_seen, input_seen};
 
-use super::refusal::Halt;
+use super::refusal::{Halt, Refusal};
+use debug_commands::CommandKind;
+use play_script::ScriptKind;
+use setup_lines::SetupKind;
 use std::alloc::Global;
-use uxn_io::{FileBytes, Path, Tree, read_file};
+use tal_sources::{IncludeKind, SourceFault};
+use tal_symbols::SymbolKind;
+use tal_words::FaultKind;
+use tree_io::{Bytes, FileBytes, Path, Tree, read_file};
+use uxn_memory::LARGEST_ROM;
 
-/// What stands at the path of an input, of which no more bytes than the limit are looked at.
-pub fn read_path<T: Tree>(
-    alloc: Global,
-    path: &Path,
-    limit: u32,
-    tree: &mut T,
-) -> Result<FileBytes, Halt>
-    ensures reads { Reads (λ bytes. bytes) (λ nodes. input_file nodes (whole_file (file_at nodes path.now) limit)) (λ file. Ok file.bytes)
-        (T.state tree.old) (T.state tree.new) result }
-    ensures limit { IfOk result (KeepsLimit limit) }
-{
-    let file = read_file(alloc, tree, path, limit)?;
-    Ok(file)
+/// What a file is read as.
+#[derive(Clone, Copy)]
+pub enum InputKind {
+    /// A source, or a file that is run as one.
+    Source,
+    /// A ROM that is run.
+    Rom,
+    /// A ROM that is disassembled, which ends with bank 0.
+    BankRom,
+    /// Symbols.
+    Symbols,
+    /// A script.
+    Script,
+    /// The commands of a debugger.
+    Commands,
+    /// The setup of a line of machines.
+    Setup,
 }
 
-/// The same of an input that may be left out, where nothing stands then.
-pub fn read_input<T: Tree>(
+impl InputKind {
+    /// No more bytes of a file are read.
+    fn limit(self) -> u32
+        ensures { result ≡ limit_of self }
+    {
+        match self {
+            InputKind::Source => 4_194_304,
+            InputKind::Rom => LARGEST_ROM as u32,
+            InputKind::BankRom => 65_280,
+            InputKind::Symbols => 16_777_216,
+            InputKind::Script => 4_194_304,
+            InputKind::Commands => 4_194_304,
+            InputKind::Setup => 4_194_304,
+        }
+    }
+
+    /// Why a longer file is refused.
+    fn long_refusal(self, alloc: Global, length: u64) -> Refusal
+        ensures { result ≡ long_refusal self length }
+    {
+        match self {
+            InputKind::Source => Refusal::Faulty(long_source(alloc)),
+            InputKind::Rom => Refusal::LongRom(length),
+            InputKind::BankRom => Refusal::LongRom(length),
+            InputKind::Symbols => Refusal::BadSymbols(0, SymbolKind::Long),
+            InputKind::Script => Refusal::BadScript(1, ScriptKind::LongScript),
+            InputKind::Commands => Refusal::BadCommands(1, CommandKind::LongCommands),
+            InputKind::Setup => Refusal::BadSetup(1, SetupKind::LongSetup),
+        }
+    }
+
+    /// The bytes of a file that is there and not too long.
+    fn kind_text(self, alloc: Global, path: &Path, file: FileBytes) -> Result<Bytes, Halt>
+        ensures follows { Follows (λ text. text.list) result (kind_text self path.now file) }
+        ensures limit { KeepsLimit (limit_of self) file → IfOk result (λ text. length text.list ≤ limit_of self) }
+    {
+        match file {
+            FileBytes::Found(text) => Ok(text),
+            FileBytes::Missing => Err(Halt::Refused(Refusal::Missing(*path))),
+            FileBytes::TooLong(length) => Err(Halt::Refused(self.long_refusal(alloc, length))),
+        }
+    }
+}
+
+/// The fault of a source that is too long.
+fn long_source(alloc: Global) -> SourceFault
+    ensures { result ≡ too_long }
+{
+    SourceFault {
+        file: None,
+        line: 1,
+        column: 1,
+        kind: IncludeKind::Words(FaultKind::LongSource),
+        word: Bytes::from(Vec::new(alloc)),
+    }
+}
+
+/// The bytes of the file at a path, unless none is there or it is too long.
+pub fn read_text<T: Tree>(
     alloc: Global,
-    path: &Option<Path>,
-    limit: u32,
+    kind: InputKind,
+    path: &Path,
     tree: &mut T,
-) -> Result<FileBytes, Halt>
-    ensures { Reads (λ bytes. bytes) (λ nodes. input_by nodes path.now limit) (λ bytes. Ok bytes)
+) -> Result<Bytes, Halt>
+    ensures text { Reads (λ text. text.list) (bytes_seen kind path.now) (kind_text kind path.now) (T.state tree.old) (T.state tree.new) result }
+    ensures limit { IfOk result (λ text. length text.list ≤ limit_of kind) }
+{
+    let file = read_file(alloc, tree, path, kind.limit())?;
+    kind.kind_text(alloc, path, file)
+}
+
+/// The same, where the file is asked for.
+pub fn read_asked<T: Tree>(
+    alloc: Global,
+    kind: InputKind,
+    path: &Option<Path>,
+    tree: &mut T,
+) -> Result<Option<Bytes>, Halt>
+    ensures { Reads (option_map (λ text. text.list)) (input_seen kind path.now) (asked_text kind path.now)
         (T.state tree.old) (T.state tree.new) result }
 {
     match path {
-        Some(path) => read_path(alloc, path, limit, tree),
-        None => Ok(FileBytes::Missing),
+        Some(path) => Ok(Some(read_text(alloc, kind, path, tree)?)),
+        None => Ok(None),
     }
 }

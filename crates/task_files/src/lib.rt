@@ -19,6 +19,7 @@ mod tasks;
 
 pub use assembling::{Written, assemble, write_outputs};
 pub use disassembling::disassemble_rom;
+pub use inputs::InputKind;
 pub use machines::{LineInputs, read_machines};
 pub use making::{empty_outputs, make_outputs};
 pub use outputs::Output;
@@ -26,5 +27,5 @@ pub use printing::print;
 pub use program::Program;
 pub use refusal::{Halt, Refusal};
 pub use run_inputs::{RunInputs, labels_of, read_run};
-pub use scripts::script_of;
+pub use scripts::judge_script;
 pub use tasks::request;

@@ -3,26 +3,25 @@ ghost use Rattle.std.specs.Prelude.{◌≡◌, ◌≤◌, map, length, Ok, IfOk}
 ghost use Rattle.std.specs.List.{All};
 ghost use Rattle.uxn_memory.specs.Bytes.{largest_rom};
 ghost use Rattle.play_script.specs.Held.{bytes_in};
-ghost use Rattle.task_files.specs.Accepted.{machine_rom, machines_given, machines_in, roms_in};
+ghost use Rattle.setup_lines.specs.Setups.{setup_of};
+ghost use Rattle.task_files.specs.Accepted.{accepted_machine, accepted_machines, accepted_roms, machines_given};
 ghost use Rattle.task_files.specs.Follows.{Follows};
-ghost use Rattle.task_files.specs.Held.{AreMachines, machines_by};
+ghost use Rattle.task_files.specs.Held.{AreMachines, held_machines};
 ghost use Rattle.task_files.specs.Reading.{Reads};
-ghost use Rattle.task_files.specs.Setup.{setup_in};
-ghost use Rattle.task_files.specs.Views.{ReadsInputs, named_by, source_at};
+ghost use Rattle.task_files.specs.Setup.{accepted_setup, judged_setup};
+ghost use Rattle.task_files.specs.Views.{ReadsInputs, bytes_seen, named_files_seen, source_seen, sources_seen};
+ghost use Rattle.task_files.specs.declared.inputs.InputKind.TheVariants as kinds;
 
-use super::inputs::read_path;
+use super::inputs::{InputKind, read_text};
 use super::refusal::{Halt, Refusal};
 use super::scripts::accept_script;
 use super::sources::accept_source;
 use play_script::Script;
-use setup_lines::{Setup, SetupKind, SetupStop, read_setup};
+use setup_lines::{Setup, SetupStop, read_setup};
 use std::alloc::Global;
-use uxn_io::{Bytes, FileBytes, Path, Tree};
+use tree_io::{Bytes, Path, Tree};
 use uxn_opcodes::Stop;
 use uxn_words::{Command, Task};
-
-/// The greatest length of a setup in bytes.
-const SETUP_LIMIT: u32 = 4_194_304;
 
 /// What a line is made of, once all that its setup names is accepted.
 #[derive(Drop)]
@@ -35,35 +34,31 @@ pub struct LineInputs {
     pub script: Script,
 }
 
-/// The setup that a file holds, unless none is there or it is refused.
-fn setup_in(alloc: Global, path: &Path, file: FileBytes) -> Result<Setup, Halt>
-    ensures { Follows (λ setup. setup) result (setup_in path.now file) }
+/// The setup of a text.
+fn judge_setup(alloc: Global, text: &[u8]) -> Result<Setup, Halt>
+    ensures { Follows (λ setup. setup) result (judged_setup (setup_of text.now)) }
 {
-    match file {
-        FileBytes::Found(text) => match read_setup(alloc, text.as_slice()) {
-            Ok(setup) => Ok(setup),
-            Err(SetupStop::Refused { line, kind }) => {
-                Err(Halt::Refused(Refusal::BadSetup(line, kind)))
-            }
-            Err(SetupStop::NoMemory) => Err(Halt::Stopped(Stop::NoMemory)),
-        },
-        FileBytes::Missing => Err(Halt::Refused(Refusal::Missing(*path))),
-        FileBytes::TooLong(_) => Err(Halt::Refused(Refusal::BadSetup(1, SetupKind::LongSetup))),
+    match read_setup(alloc, text) {
+        Ok(setup) => Ok(setup),
+        Err(SetupStop::Refused { line, kind }) => {
+            Err(Halt::Refused(Refusal::BadSetup(line, kind)))
+        }
+        Err(SetupStop::NoMemory) => Err(Halt::Stopped(Stop::NoMemory)),
     }
 }
 
 /// The setup at a path.
 fn accept_setup<T: Tree>(alloc: Global, path: &Path, tree: &mut T) -> Result<Setup, Halt>
-    ensures { Reads (λ setup. setup) (λ nodes. source_at nodes path.now) (λ file. setup_in path.now file.bytes)
+    ensures { Reads (λ setup. setup) (bytes_seen kinds.Setup path.now) (accepted_setup path.now)
         (T.state tree.old) (T.state tree.new) result }
 {
-    let file = read_path(alloc, path, SETUP_LIMIT, tree)?;
-    setup_in(alloc, path, file)
+    let text = read_text(alloc, InputKind::Setup, path, tree)?;
+    judge_setup(alloc, text.as_slice())
 }
 
 /// The ROM of the source in a file, where it is accepted.
 fn accept_machine<T: Tree>(alloc: Global, path: &Path, tree: &mut T) -> Result<Bytes, Halt>
-    ensures rom { Reads (λ rom. rom.list) (λ nodes. source_at nodes path.now) (machine_rom path.now)
+    ensures rom { Reads (λ rom. rom.list) (source_seen path.now) (accepted_machine path.now)
         (T.state tree.old) (T.state tree.new) result }
     ensures fits { IfOk result (λ rom. length rom.list ≤ largest_rom) }
 {
@@ -72,8 +67,8 @@ fn accept_machine<T: Tree>(alloc: Global, path: &Path, tree: &mut T) -> Result<B
 }
 
 /// The ROMs of all machines, one after the other.
-fn accept_machines<T: Tree>(alloc: Global, paths: &[Path], tree: &mut T) -> Result<Vec<Bytes>, Halt>
-    ensures roms { Reads (λ roms. bytes_in roms.items) (λ nodes. map (source_at nodes) paths.now) (roms_in paths.now)
+fn accept_roms<T: Tree>(alloc: Global, paths: &[Path], tree: &mut T) -> Result<Vec<Bytes>, Halt>
+    ensures roms { Reads (λ roms. bytes_in roms.items) (sources_seen paths.now) (accepted_roms paths.now)
         (T.state tree.old) (T.state tree.new) result }
     ensures count { IfOk result (λ roms. length roms.items ≡ length paths.now) }
     ensures fit { IfOk result (λ roms. All (λ rom. length rom.list ≤ largest_rom) roms.items) }
@@ -86,12 +81,12 @@ fn accept_machines<T: Tree>(alloc: Global, paths: &[Path], tree: &mut T) -> Resu
 }
 
 /// The files that an accepted setup names.
-fn read_named<T: Tree>(alloc: Global, setup: Setup, tree: &mut T) -> Result<LineInputs, Halt>
-    ensures reads { Reads machines_by (λ nodes. named_by nodes (Ok setup)) (machines_in setup)
+fn accept_machines<T: Tree>(alloc: Global, setup: Setup, tree: &mut T) -> Result<LineInputs, Halt>
+    ensures reads { Reads held_machines (named_files_seen (Ok setup)) (accepted_machines setup)
         (T.state tree.old) (T.state tree.new) result }
     ensures machines { IfOk result (λ inputs. AreMachines inputs.setup.sources inputs.roms.items) }
 {
-    let roms = accept_machines(alloc, setup.sources(), tree)?;
+    let roms = accept_roms(alloc, setup.sources(), tree)?;
     let script = accept_script(alloc, &setup.script(), tree)?;
     Ok(LineInputs {
         setup,
@@ -103,9 +98,9 @@ fn read_named<T: Tree>(alloc: Global, setup: Setup, tree: &mut T) -> Result<Line
 /// The machines of the setup of a task.
 pub fn read_machines<T: Tree>(alloc: Global, task: &Task, tree: &mut T) -> Result<LineInputs, Halt>
     requires { task.now.command ≡ Command.Line }
-    ensures reads { ReadsInputs machines_by task.now (machines_given task.now) (T.state tree.old) (T.state tree.new) result }
+    ensures reads { ReadsInputs held_machines task.now (machines_given task.now) (T.state tree.old) (T.state tree.new) result }
     ensures machines { IfOk result (λ inputs. AreMachines inputs.setup.sources inputs.roms.items) }
 {
     let setup = accept_setup(alloc, &task.file, tree)?;
-    read_named(alloc, setup, tree)
+    accept_machines(alloc, setup, tree)
 }

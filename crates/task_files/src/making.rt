@@ -1,6 +1,6 @@
 //! The outputs of a run, which are made before it.
 ghost use Rattle.std.specs.Prelude.{◌≡◌, ◌++◌, IfOk, OnOk, ◌∷◌, []};
-ghost use Rattle.uxn_io.specs.Ended.{TreeLooked};
+ghost use Rattle.tree_io.specs.Ended.{TreeLooked};
 ghost use Rattle.task_files.specs.Outputs.{paths_of};
 ghost use Rattle.task_files.specs.Blame.{tree_failed};
 ghost use Rattle.task_files.specs.Made.{AreApart, LooksAt, MakesOutputs};
@@ -8,7 +8,7 @@ ghost use Rattle.task_files.specs.Made.{AreApart, LooksAt, MakesOutputs};
 use super::outputs::{Output, first_blocked, first_unmade, make_all};
 use super::refusal::{Halt, Refusal};
 use std::alloc::{AllocError, Global};
-use uxn_io::{Path, Tree};
+use tree_io::{Path, Tree};
 
 /// Puts a file without bytes behind others.
 #[tactic(auto, using(crate::proofs::OutputLemmas::pushed))]
@@ -44,6 +44,7 @@ pub fn look_at<T: Tree>(included: &[Path], outputs: &[Output], tree: &mut T) -> 
 }
 
 /// Makes the files that a run writes, unless one of them cannot be made or is an included file: then it makes none.
+#[tactic(auto, using(crate::proofs::MakingLemmas::making))]
 pub fn make_outputs<T: Tree>(
     included: &[Path],
     outputs: &[Output],

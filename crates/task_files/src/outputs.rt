@@ -3,16 +3,16 @@ ghost use Rattle.std.specs.Prelude.{◌≡◌, false, Some, not, ◌++◌, find,
 ghost use Rattle.std.specs.List.{list_any};
 ghost use Rattle.std.specs.Option.{option_to_list};
 ghost use Rattle.std.specs.Str.{bytes_eq};
-ghost use Rattle.uxn_io.specs.Changes.{can_create};
-ghost use Rattle.uxn_io.specs.Files.{is_folder_at, has_parent, kind_at};
-ghost use Rattle.uxn_io.specs.Ended.{Refused, TreeEnded, TreeLooked};
-ghost use Rattle.task_files.specs.Writing.{creating, filling_all, writing};
+ghost use Rattle.tree_io.specs.Changes.{can_create};
+ghost use Rattle.tree_io.specs.Files.{is_folder_at, has_parent, kind_at};
+ghost use Rattle.tree_io.specs.Ended.{TreeLooked};
+ghost use Rattle.task_files.specs.Writing.{Did, creating, filling_all, writing};
 ghost use Rattle.task_files.specs.World.{CanMake, AreFiles};
 ghost use Rattle.task_files.specs.Outputs.{seen_texts, paths_of};
 ghost use Rattle.task_files.specs.Made.{IsUnmade, was_refused};
 ghost use Rattle.task_files.specs.Made.{first_unmade};
 
-use uxn_io::{Failed, Kind, Path, Tree, append_all};
+use tree_io::{Failed, Kind, Path, Tree, append_all};
 
 /// A file that is to be written.
 #[derive(Drop)]
@@ -117,8 +117,7 @@ pub fn first_unmade(blocked: &Option<Path>, included: &[Path], outputs: &[Output
 /// that tells its contents each is made.
 pub fn make_all<T: Tree>(tree: &mut T, outputs: &[Output]) -> Result<Option<Path>, Failed>
     requires { IfSome (T.state tree.old).told (CanMake (seen_texts outputs.now)) }
-    ensures did { TreeEnded (creating (paths_of outputs.now)) (is_err result) (T.state tree.old) (T.state tree.new) }
-    ensures refusals { Refused (was_refused result) (T.state tree.old) (T.state tree.new) }
+    ensures did { Did (creating (paths_of outputs.now)) (is_err result) (was_refused result) (T.state tree.old) (T.state tree.new) }
     ensures unmade { IfOk result (λ refused. IfSome refused (IsUnmade (T.state tree.old).told (paths_of outputs.now))) }
 {
     for output in outputs {
@@ -132,8 +131,7 @@ pub fn make_all<T: Tree>(tree: &mut T, outputs: &[Output]) -> Result<Option<Path
 /// Appends to each file its bytes, in order.
 fn fill_all<T: Tree>(tree: &mut T, outputs: &[Output]) -> Result<(), Failed>
     requires { IfSome (T.state tree.old).told (AreFiles (seen_texts outputs.now)) }
-    ensures did { TreeEnded (filling_all (seen_texts outputs.now)) (is_err result) (T.state tree.old) (T.state tree.new) }
-    ensures refusals { Refused false (T.state tree.old) (T.state tree.new) }
+    ensures { Did (filling_all (seen_texts outputs.now)) (is_err result) false (T.state tree.old) (T.state tree.new) }
 {
     for output in outputs {
         append_all(tree, &output.path, &output.bytes)?;
@@ -145,8 +143,7 @@ fn fill_all<T: Tree>(tree: &mut T, outputs: &[Output]) -> Result<(), Failed>
 /// make, which comes only on a tree that tells nothing.
 pub fn write_all<T: Tree>(tree: &mut T, outputs: &[Output]) -> Result<Option<Path>, Failed>
     requires { IfSome (T.state tree.old).told (CanMake (seen_texts outputs.now)) }
-    ensures did { TreeEnded (writing (seen_texts outputs.now)) (is_err result) (T.state tree.old) (T.state tree.new) }
-    ensures refusals { Refused (was_refused result) (T.state tree.old) (T.state tree.new) }
+    ensures did { Did (writing (seen_texts outputs.now)) (is_err result) (was_refused result) (T.state tree.old) (T.state tree.new) }
     ensures unmade { IfOk result (λ refused. IfSome refused (IsUnmade (T.state tree.old).told (paths_of outputs.now))) }
 {
     match make_all(tree, outputs)? {

@@ -2,7 +2,7 @@
 ghost use Rattle.task_files.specs.Puts.{Puts};
 
 use super::refusal::Halt;
-use uxn_io::{Failed, Sink, put_all};
+use tree_io::{Failed, Sink, put_all};
 use uxn_opcodes::Stop;
 
 /// Prints a text.

@@ -12,7 +12,7 @@ use setup_lines::SetupKind;
 use std::alloc::{AllocError, AllocFailed, Global};
 use tal_sources::{SourceFault, SourceStop};
 use tal_symbols::SymbolKind;
-use uxn_io::{Bytes, Failed, Path, ReadStop, Sink, decimal, put_all};
+use tree_io::{Bytes, Failed, Path, ReadStop, Sink, decimal, put_all};
 use uxn_opcodes::Stop;
 use uxn_words::{WordFault, WordStop};
 
@@ -29,7 +29,7 @@ pub enum Refusal {
     Missing(Path),
     /// The first fault of a source, or of a file that it includes.
     Faulty(SourceFault),
-    /// A ROM file has so many bytes, over 65,280.
+    /// A ROM file has so many bytes, which are too many.
     LongRom(u64),
     /// The first faulty entry of a symbol file, counted from 0, and what is wrong with it.
     BadSymbols(u32, SymbolKind),

@@ -2,11 +2,11 @@
 ghost use Rattle.std.specs.Prelude.{◌≡◌, ◌≤◌, length, IfOk};
 ghost use Rattle.uxn_memory.specs.Bytes.{largest_rom};
 ghost use Rattle.task_files.specs.Accepted.{run_given};
-ghost use Rattle.task_files.specs.Held.{given_by, labels_with, loaded_by};
+ghost use Rattle.task_files.specs.Held.{held_debug_labels, held_inputs, held_program};
 ghost use Rattle.task_files.specs.Views.{ReadsInputs, RunsMachine, commands_input, symbols_input};
 
 use super::commands::accept_commands;
-use super::program::{Program, load};
+use super::program::{Program, accept_program};
 use super::refusal::Halt;
 use super::scripts::accept_script;
 use super::symbols::{accept_symbols, labels_or};
@@ -14,7 +14,7 @@ use debug_commands::DebugCommand;
 use play_script::Script;
 use std::alloc::Global;
 use tal_words::Label;
-use uxn_io::{Path, Tree};
+use tree_io::{Path, Tree};
 use uxn_words::{Command, Role, Task};
 
 /// The file of symbols that a run is given.
@@ -57,10 +57,10 @@ pub struct RunInputs {
 /// Reads the inputs of a run, one after the other.
 pub fn read_run<T: Tree>(alloc: Global, task: &Task, tree: &mut T) -> Result<RunInputs, Halt>
     requires { RunsMachine task.now.command }
-    ensures reads { ReadsInputs given_by task.now (run_given task.now.command task.now) (T.state tree.old) (T.state tree.new) result }
-    ensures room { IfOk result (λ inputs. length (loaded_by inputs.program).rom ≤ largest_rom) }
+    ensures reads { ReadsInputs held_inputs task.now (run_given task.now.command task.now) (T.state tree.old) (T.state tree.new) result }
+    ensures room { IfOk result (λ inputs. length (held_program inputs.program).rom ≤ largest_rom) }
 {
-    let program = load(alloc, task, tree)?;
+    let program = accept_program(alloc, task.rom, &task.file, tree)?;
     let given = accept_symbols(alloc, &symbols_input(task), tree)?;
     let script = accept_script(alloc, &task.path(Role::Script), tree)?;
     let labels = labels_of(&program, &given);
@@ -75,7 +75,7 @@ pub fn read_run<T: Tree>(alloc: Global, task: &Task, tree: &mut T) -> Result<Run
 
 /// The labels that a log names: those of a symbol file, else those of the source.
 pub fn labels_of<'a>(program: &'a Program, given: &'a Option<Vec<Label>>) -> &'a [Label]
-    ensures { result.now ≡ labels_with (loaded_by program.now) given.now }
+    ensures { result.now ≡ held_debug_labels (held_program program.now) given.now }
 {
     labels_or(given, program.labels())
 }

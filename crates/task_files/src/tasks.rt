@@ -22,6 +22,7 @@ fn apart(alloc: Global, task: Task) -> Result<Task, Halt>
 }
 
 /// What the words ask for, unless they are not legal or name no path.
+#[tactic(auto, unfolding(crate::specs::Request::request))]
 pub fn request(alloc: Global, words: &[String]) -> Result<Task, Halt>
     ensures follows { Follows (λ task. task) result (request (map string_bytes words.now)) }
     ensures apart { IfOk result HasApartOutputs }

@@ -1,22 +1,12 @@
 -- What stands at a path after changes depends on what stood there before, and on nothing else.
-use Rattle.std.proofs.Common.{◌≡◌, ℕ, Bool, true, false, cond, List, [], ◌∷◌, ◌++◌, refl, ap, sym, ◌∙◌}
-use Rattle.std.specs.Prelude.{Option, Some, None, option_map, IfSome}
+use Rattle.uxn_cli.proofs.Common.{◌≡◌, ℕ, Bool, true, false, cond, List, [], ◌∷◌, ◌++◌, refl, ap, sym, ◌∙◌, Option, Some, None, option_map, IfSome}
+use Rattle.uxn_cli.proofs.Common.{Nodes, Node, File, bytes_of, bytes_at, unwrap_or, is_in, below, below-same, get_in, extended, Change, ToOut, ToErr}
+use Rattle.uxn_cli.proofs.Common.{Creates, ToFile, Removes, World, changed_files, changed, changed_by, files_by, Each, told_at, files-told, same_path}
+use Rattle.uxn_cli.proofs.Common.{IsOfTree, changed_by-files, IfSome_then}
 use Rattle.std.specs.Ordering.{nat_cmp, eq_by_cmp}
 use Rattle.std.specs.Cmp.Lexicographic.{slice_cmp, nat_list_cmp_total}
 use Rattle.std.specs.FinMap as fin
-use Rattle.uxn_io.specs.Files.{Nodes, Node, File, bytes_of, bytes_at}
-use Rattle.std.specs.Option.{unwrap_or}
-use Rattle.file_ports.specs.RootPart.{is_in, below}
-use Rattle.file_ports.specs.PartLaws.{below-same, get_in}
-use Rattle.uxn_io.specs.Told.{extended}
-use Rattle.uxn_io.specs.Outside.{Change, ToOut, ToErr, Creates, ToFile, Removes, World, changed_files, changed, changed_by, files_by}
-use Rattle.varvara_bus.specs.Touching.{Each, each-append, each-map, told_at}
-use Rattle.uxn_io.specs.ChangeLaws.{files-told}
-use Rattle.uxn_io.specs.NodeLaws.{same_path, get_put}
-use Rattle.uxn_io.specs.Ended.{IsOfTree, AreOfTree}
-use Rattle.uxn_io.specs.EndedLaws.{changed_by-files}
-use Rattle.task_files.specs.World.{Text}
-use Rattle.task_files.specs.Writing.{creating, filling, filling_all}
+use Rattle.uxn_cli.proofs.ChangeLemmas.{are-of-tree}
 
 -- ---- files
 
@@ -29,27 +19,16 @@ put-same path other m n x y here e =
     go true is = ap Some (here (same_path path other is))
     go false is = e
 
--- a file that is made there
-pub made-here : (path other : List ℕ) (m n : Nodes) → path ≡ other → fin.get (changed_files (Creates other) m) path ≡ fin.get (changed_files (Creates other) n) path
-made-here path other m n same = here m ∙ sym (here n)
-  where
-    here : (nodes : Nodes) → fin.get (fin.insert nodes other (File [])) path ≡ Some (File [])
-    here nodes = ap (λ p. fin.get (fin.insert nodes other (File [])) p) same ∙ get_put nodes other (File [])
-
-taken-same : (path other : List ℕ) (m n : Nodes) → fin.get m path ≡ fin.get n path → fin.get (fin.remove m other) path ≡ fin.get (fin.remove n other) path
-taken-same path other m n e =
-    fin.get-remove nat_list_cmp_total m other path ∙ ap (cond (eq_by_cmp (slice_cmp nat_cmp) path other) None) e ∙ sym (fin.get-remove nat_list_cmp_total n other path)
-
-bytes-same : (path other byte : List ℕ) (m n : Nodes) → fin.get m path ≡ fin.get n path → path ≡ other → File (bytes_at m other ++ byte) ≡ File (bytes_at n other ++ byte)
-bytes-same path other byte m n e same = ap (λ o. File (unwrap_or (bytes_of o) [] ++ byte)) (rw same at e)
-
 pub same-one : (path : List ℕ) (m n : Nodes) (change : Change) → fin.get m path ≡ fin.get n path → fin.get (changed_files change m) path ≡ fin.get (changed_files change n) path
 same-one path m n (ToOut byte) e = e
 same-one path m n (ToErr byte) e = e
 same-one path m n (Creates other) e = put-same path other m n (File []) (File []) (λ same. refl) e
 same-one path m n (ToFile other byte) e =
-    put-same path other m n (File (bytes_at m other ++ byte ∷ [])) (File (bytes_at n other ++ byte ∷ [])) (bytes-same path other (byte ∷ []) m n e) e
-same-one path m n (Removes other) e = taken-same path other m n e
+    put-same path other m n (File (bytes_at m other ++ byte ∷ [])) (File (bytes_at n other ++ byte ∷ []))
+    (λ same. ap (λ o. File (unwrap_or (bytes_of o) [] ++ byte ∷ [])) (rw same at e)) e
+same-one path m n (Removes other) e =
+    fin.get-remove nat_list_cmp_total m other path ∙ ap (cond (eq_by_cmp (slice_cmp nat_cmp) path other) None) e
+    ∙ sym (fin.get-remove nat_list_cmp_total n other path)
 
 -- the same for changes in order
 pub same-node : (path : List ℕ) (m n : Nodes) (changes : List Change) → fin.get m path ≡ fin.get n path → fin.get (files_by m changes) path ≡ fin.get (files_by n changes) path
@@ -92,25 +71,10 @@ outputs-after a b (Removes other ∷ changes) e = outputs-after (changed a (Remo
 
 -- ---- changes of files put nothing on the outputs
 
-are-of-tree : (changes : List Change) → Each IsOfTree changes → AreOfTree changes
-are-of-tree [] all = tt
-are-of-tree (change ∷ changes) all = (all.0, are-of-tree changes all.1)
-
 pub quiet : (world : World) (changes : List Change) → Each IsOfTree changes → HaveSameOutputs (changed_by world changes) world
 quiet world changes all = let is = changed_by-files world changes (are-of-tree changes all) in (ap (λ w. w.out) is, ap (λ w. w.err) is)
 
-pub creating-quiet : (paths : List (List ℕ)) → Each IsOfTree (creating paths)
-creating-quiet paths = each-map IsOfTree (λ path. Creates path) paths (λ path. tt)
-
-pub filling-quiet : (texts : List Text) → Each IsOfTree (filling_all texts)
-filling-quiet [] = tt
-filling-quiet (text ∷ texts) = each-append IsOfTree (filling text) (filling_all texts) (each-map IsOfTree (λ byte. ToFile text.path byte) text.bytes (λ byte. tt)) (filling-quiet texts)
-
 -- ---- root parts
-
-pub if-some : {A : Type 0} (o : Option A) (P Q : A → Type 0) → ((x : A) → P x → Q x) → IfSome o P → IfSome o Q
-if-some None P Q f h = tt
-if-some (Some x) P Q f h = f x h
 
 pub parts-same : (told : Option Nodes) (root : Option (List ℕ)) (xs ys : List Change)
     → IfSome root (λ r. (path : List ℕ) → is_in r path ≡ true → told_at path (option_map (λ n. files_by n xs) told) ≡ told_at path (option_map (λ n. files_by n ys) told))
@@ -118,4 +82,4 @@ pub parts-same : (told : Option Nodes) (root : Option (List ℕ)) (xs ys : List 
 parts-same None root xs ys all = refl
 parts-same (Some nodes) root xs ys all =
     ap Some (same-below root (files_by nodes xs) (files_by nodes ys)
-    (if-some root _ _ (λ r h path inside. (let told = h path inside in let same : fin.get (files_by nodes xs) path ≡ fin.get (files_by nodes ys) path = cc in same)) all))
+    (IfSome_then root all (λ r h path inside. (let told = h path inside in let same : fin.get (files_by nodes xs) path ≡ fin.get (files_by nodes ys) path = cc in same))))

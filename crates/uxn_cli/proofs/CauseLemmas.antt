@@ -1,33 +1,17 @@
 -- Which status a verdict has, and who is to blame for one.
-use Rattle.std.proofs.Common.{◌≡◌, ℕ, true, false, ◌≤◌, ◌⊎◌, nat_le, ◌==◌, if◌then◌else◌, refl, ap, sym, ◌∙◌, inl, inr, subst, arith}
-use Rattle.std.proofs.lemmas.Bool.{le-leb}
-use Rattle.std.specs.Prelude.{Some, Result, Ok, Err}
-use Rattle.system_port.specs.DebugText.{exit_code_of}
-use Rattle.uxn_io.specs.Faults.{Counts, Rose, Ledger, AllCounted}
-use Rattle.uxn_io.specs.Files.{Nodes}
-use Rattle.uxn_line.specs.Moves.{last_of}
-use Rattle.uxn_line.specs.Streams.{Job as LineJob, run_at}
-use Rattle.uxn_opcodes.specs.declared.Stop.{Stop}
-use Rattle.uxn_opcodes.specs.declared.Stop.TheVariants.{TreeFault, SinkFault, NoMemory}
-use Rattle.uxn_words.specs.declared.task.Task.{Task}
-use Rattle.varvara_bus.specs.History.{stored}
-use Rattle.task_files.specs.declared.refusal.Refusal.{Refusal}
-use Rattle.uxn_cli.specs.Answer.{IsViewOf, Judges}
-use Rattle.task_files.specs.Blame.{blame_of, blame_at}
-use Rattle.uxn_cli.specs.Causes.{verdict_on, EndsWith}
-use Rattle.uxn_cli.specs.Job.{trail_of}
-use Rattle.uxn_cli.specs.Outcome.{line_exit, outcome_of}
-use Rattle.task_files.specs.Statuses.{Reason, Illegal, Pathless, NoInput, FaultySource, FaultyScript, FaultyCommands, Unfit, FaultySetup, Status, Exits, Refuses, EndsBy, number, reason_of, early_status, IsRefusedFor}
+use Rattle.uxn_cli.proofs.Common.{◌≡◌, ℕ, true, false, ◌≤◌, ◌⊎◌, nat_le, ◌==◌, if◌then◌else◌, refl, ap, sym, ◌∙◌, inl, inr, arith, le-leb, Some}
+use Rattle.uxn_cli.proofs.Common.{Result, Ok, Err, Counts, Rose, Ledger, AllCounted, Nodes, Stop, TreeFault, SinkFault, NoMemory, Task, Refusal}
+use Rattle.uxn_cli.proofs.Common.{IsViewOf, Judges, blame_of, status_blame, tree_verdict, EndsWith, outcome_of, Reason, Illegal, Pathless}
+use Rattle.uxn_cli.proofs.Common.{NoInput, FaultySource, FaultyScript, FaultyCommands, Unfit, FaultySetup, Status, Exits, Refuses, EndsBy, number}
+use Rattle.uxn_cli.proofs.Common.{reason_of, early_status, IsRefusedFor, View, view_of, Work, judged}
 use Rattle.task_files.specs.Statuses.{Blocked}
-use Rattle.task_files.specs.Views.{View, view_of}
-use Rattle.uxn_cli.specs.Verdict.{Work, Run, Write, Print, RunLine, judged}
 
 -- ---- the verdict on what stands in a tree that tells its contents
 
 same_view : (nodes : Nodes) (task : Task) (view : View) → IsViewOf (Some nodes) task view → view ≡ view_of nodes task
 same_view nodes task view seen = rw (← seen.file, ← seen.symbols, ← seen.script, ← seen.commands, ← seen.part, ← seen.parent, ← seen.named, ← seen.blocked) refl
 
-pub told_verdict : (nodes : Nodes) (asked : Result Task Refusal) (found : Result Work Refusal) → Judges asked (Some nodes) found → found ≡ verdict_on nodes asked
+pub told_verdict : (nodes : Nodes) (asked : Result Task Refusal) (found : Result Work Refusal) → Judges asked (Some nodes) found → found ≡ tree_verdict nodes asked
 told_verdict nodes (Err refusal) found j = sym j.judged
 told_verdict nodes (Ok task) found j = sym j.judged ∙ ap (judged task) (same_view nodes task j.view j.seen)
 
@@ -47,20 +31,8 @@ IsStatus (Exits code) = code ≤ 127
 IsStatus (Refuses reason) = Unit {0}
 IsStatus (EndsBy stop) = Unit {0}
 
-code-small : (state : ℕ) → exit_code_of state ≤ 127
-code-small state = omega arith
-
-pub line-small : (job : LineJob) → line_exit job ≤ 127
-line-small job = code-small (stored (run_at job (last_of job)).last.devices.history 0x0f)
-
-is_code : (work : Work) → (outcome_of (Ok work)).status ≤ 127
-is_code (Run job) = code-small (stored (trail_of job).last.devices.history 0x0f)
-is_code (Write texts) = omega arith
-is_code (Print text) = omega arith
-is_code (RunLine job) = line-small job
-
 pub is_status : (found : Result Work Refusal) → IsStatus (status_in found)
-is_status (Ok work) = is_code work
+is_status (Ok work) = (let small : (outcome_of (Ok work)).status ≤ 127 = grind arith in small)
 is_status (Err refusal) = tt
 
 -- the status that a number stands for
@@ -83,17 +55,7 @@ said-number (EndsBy stop) _ = grind arith
 pub one_status : (a b : Status) → IsStatus a → IsStatus b → number a ≡ number b → a ≡ b
 one_status a b is_a is_b same = sym (said-number a is_a) ∙ ap said same ∙ said-number b is_b
 
--- what a status is: a refusal for a reason, an exit with a code, no early end
-abbrev pub IsRefusal : Reason → Status → Type 0
-IsRefusal reason (Exits code) = ⊥
-IsRefusal reason (Refuses other) = other ≡ reason
-IsRefusal reason (EndsBy stop) = ⊥
-
-abbrev pub IsExit : ℕ → Status → Type 0
-IsExit code (Exits other) = other ≡ code
-IsExit code (Refuses reason) = ⊥
-IsExit code (EndsBy stop) = ⊥
-
+-- a status of no early end
 abbrev pub IsUsual : Status → Type 0
 IsUsual (Exits code) = Unit {0}
 IsUsual (Refuses reason) = Unit {0}
@@ -104,29 +66,26 @@ is_usual found = grind arith
 
 -- the verdicts that have a status
 pub only_refused : (reason : Reason) (found : Result Work Refusal) → status_in found ≡ Refuses reason → IsRefusedFor reason found
-only_refused reason (Ok work) is = absurd (subst (IsRefusal reason) (sym is) refl)
-only_refused reason (Err refusal) is = (refusal, refl, subst (IsRefusal reason) (sym is) refl)
+only_refused reason (Ok work) is = absurd cc
+only_refused reason (Err refusal) is = (refusal, refl, cc)
 
 pub is_refused : (reason : Reason) (found : Result Work Refusal) → IsRefusedFor reason found → status_in found ≡ Refuses reason
 is_refused reason found refused = ap status_in refused.1 ∙ ap Refuses refused.2
 
 pub only_exit : (code : ℕ) (found : Result Work Refusal) → status_in found ≡ Exits code → EndsWith code found
-only_exit code (Ok work) is = (work, refl, subst (IsExit code) (sym is) refl)
-only_exit code (Err refusal) is = absurd (subst (IsExit code) (sym is) refl)
-
-pub is_exit : (code : ℕ) (found : Result Work Refusal) → EndsWith code found → status_in found ≡ Exits code
-is_exit code found ends = ap status_in ends.1 ∙ ap Exits ends.2
+only_exit code (Ok work) is = (work, refl, cc)
+only_exit code (Err refusal) is = absurd cc
 
 -- ---- who is to blame
 
-pub blame_early : (stop : Stop) → blame_at (early_status stop) ≡ blame_of stop
+pub blame_early : (stop : Stop) → status_blame (early_status stop) ≡ blame_of stop
 blame_early stop = grind arith
 
 -- which counts rose with a status
-pub tree-rose : (before now : Counts) (status : ℕ) → Ledger before now (blame_at status) → status ≡ 136 → Rose before.tree.faults now.tree.faults
+pub tree-rose : (before now : Counts) (status : ℕ) → Ledger before now (status_blame status) → status ≡ 136 → Rose before.tree.faults now.tree.faults
 tree-rose before now status ledger is = (let rose : AllCounted before now true false false = rw is at ledger in rose.tree.rose refl)
 
-pub sink-rose : (before now : Counts) (status : ℕ) → Ledger before now (blame_at status) → status ≡ 137 → Rose before.out.faults now.out.faults ⊎ Rose before.err.faults now.err.faults
+pub sink-rose : (before now : Counts) (status : ℕ) → Ledger before now (status_blame status) → status ≡ 137 → Rose before.out.faults now.out.faults ⊎ Rose before.err.faults now.err.faults
 sink-rose before now status ledger is =
     (let rose : AllCounted before now false true false ⊎ AllCounted before now false false true = rw is at ledger in
     elim rose [ inl rise ↦ inl (rise.out.rose refl) | inr rise ↦ inr (rise.err.rose refl) ])

@@ -1,51 +1,36 @@
 -- Files that are written and texts that are put, as changes in order.
-use Rattle.std.proofs.Common.{◌≡◌, ◌≢◌, ℕ, ◌<◌, false, List, [], ◌∷◌, ◌++◌, map, take, drop, length, refl, ap, sym, ◌∙◌, arith, take-append-drop, length-drop}
-use Rattle.std.specs.Prelude.{Option}
-use Rattle.std.specs.List.{list_any}
-use Rattle.std.specs.Str.{bytes_eq}
-use Rattle.std.proofs.lemmas.Bool.{or_parts}
-use Rattle.std.proofs.lemmas.List.{map-append}
-use Rattle.uxn_io.specs.Told.{extended, HasTakenFront}
-use Rattle.uxn_io.specs.Ended.{AreOfTree}
-use Rattle.uxn_io.specs.Files.{Nodes}
-use Rattle.uxn_io.specs.Outside.{Change, ToOut, ToErr, ToFile, World, changed_by, IsCutOff}
-use Rattle.uxn_io.specs.ChangeLaws.{changed_by-out, changed_by-err}
-use Rattle.varvara_bus.specs.Touching.{Spares, Each, each-append, each-map}
-use Rattle.task_files.specs.World.{world, Text, paths_in}
-use Rattle.task_files.specs.Writing.{creating, filling, filling_all, writing}
-use Rattle.uxn_cli.specs.Outcome.{printing}
+use Rattle.uxn_cli.proofs.Common.{◌≡◌, ◌≢◌, ℕ, ◌<◌, false, List, [], ◌∷◌, map, take, drop, length, ap, sym, ◌∙◌, arith, take-append-drop, length-drop}
+use Rattle.uxn_cli.proofs.Common.{Option, list_any, bytes_eq, or_parts, map-append, extended, HasTakenFront, AreOfTree, Nodes, Change, ToOut, ToErr}
+use Rattle.uxn_cli.proofs.Common.{ToFile, World, changed_by, IsCutOff, changed_by-out, changed_by-err, Spares, Each, each-append, each-map, world}
+use Rattle.uxn_cli.proofs.Common.{Text, text_paths, creating, filling, filling_all, writing, printing, IsOfTree, Creates, length-map}
 
 -- files that are made and filled are changes of a tree
-of-creating : (paths : List (List ℕ)) (after : List Change) → AreOfTree after → AreOfTree (creating paths ++ after)
-of-creating [] after of = of
-of-creating (path ∷ paths) after of = (tt, of-creating paths after of)
+pub are-of-tree : (changes : List Change) → Each IsOfTree changes → AreOfTree changes
+are-of-tree [] all = tt
+are-of-tree (change ∷ changes) all = (all.0, are-of-tree changes all.1)
+
+pub creating-quiet : (paths : List (List ℕ)) → Each IsOfTree (creating paths)
+creating-quiet paths = each-map IsOfTree (λ path. Creates path) paths (λ path. tt)
+
+pub filling-quiet : (texts : List Text) → Each IsOfTree (filling_all texts)
+filling-quiet [] = tt
+filling-quiet (text ∷ texts) =
+    each-append IsOfTree (filling text) (filling_all texts) (each-map IsOfTree (λ byte. ToFile text.path byte) text.bytes (λ byte. tt)) (filling-quiet texts)
 
 pub made-of-tree : (paths : List (List ℕ)) → AreOfTree (creating paths)
-made-of-tree [] = tt
-made-of-tree (path ∷ paths) = (tt, made-of-tree paths)
-
-of-text : (path bytes : List ℕ) (after : List Change) → AreOfTree after → AreOfTree (map (λ byte. ToFile path byte) bytes ++ after)
-of-text path [] after of = of
-of-text path (byte ∷ bytes) after of = (tt, of-text path bytes after of)
+made-of-tree paths = are-of-tree (creating paths) (creating-quiet paths)
 
 pub filled-of-tree : (texts : List Text) → AreOfTree (filling_all texts)
-filled-of-tree [] = tt
-filled-of-tree (text ∷ texts) = of-text text.path text.bytes (filling_all texts) (filled-of-tree texts)
+filled-of-tree texts = are-of-tree (filling_all texts) (filling-quiet texts)
 
 pub written-of-tree : (texts : List Text) → AreOfTree (writing texts)
 unfolding writing
-written-of-tree texts = of-creating (paths_in texts) (filling_all texts) (filled-of-tree texts)
+written-of-tree texts =
+    are-of-tree _ (each-append IsOfTree (creating (text_paths texts)) (filling_all texts) (creating-quiet (text_paths texts)) (filling-quiet texts))
 
 -- a text that was printed, and a front of it
 pub printed : (tree : Option Nodes) (out err new : Option (List ℕ)) (text : List ℕ) → new ≡ extended out text → world tree new err ≡ changed_by (world tree out err) (printing text)
 printed tree out err new text e = ap (λ o. world tree o err) e ∙ sym (changed_by-out (world tree out err) text)
-
-some-left : (count : ℕ) (text : List ℕ) (f : ℕ → Change) → count < length text → map f (drop count text) ≢ []
-some-left count text f less none = absurd (omega (arith, less, length-drop count text, mapped (drop count text) none))
-  where
-    mapped : (xs : List ℕ) → map f xs ≡ [] → length xs ≡ 0
-    mapped [] e = refl
-    mapped (x ∷ xs) e = absurd cc
 
 -- a front of a text that is shorter: some of it is left
 pub record IsCutText (before now : World) (changes : List Change) : Type 0 where
@@ -61,7 +46,8 @@ front-cut f before now text count less is = record {
     parts = ap (map f) (sym (take-append-drop count text)) ∙ map-append f (take count text) (drop count text);
     left = is;
   };
-  short = some-left count text f less;
+  short = λ none.
+      let gone : map f (drop count text) ≡ [] = none in absurd (omega (arith, less, length-drop count text, length-map (drop count text) f, ap length gone));
 }
 
 pub print-cut : (tree : Option Nodes) (out err new : Option (List ℕ)) (text : List ℕ) → HasTakenFront out new text
@@ -83,13 +69,13 @@ creating-spares path (other ∷ paths) none =
     let p = or_parts (bytes_eq path other) (list_any (bytes_eq path) paths) none in
     (p.0, creating-spares path paths p.1)
 
-pub filling-spares : (path : List ℕ) (texts : List Text) → list_any (bytes_eq path) (paths_in texts) ≡ false → Each (Spares path) (filling_all texts)
+pub filling-spares : (path : List ℕ) (texts : List Text) → list_any (bytes_eq path) (text_paths texts) ≡ false → Each (Spares path) (filling_all texts)
 filling-spares path [] none = tt
 filling-spares path (text ∷ texts) none =
-    let p = or_parts (bytes_eq path text.path) (list_any (bytes_eq path) (paths_in texts)) none in
+    let p = or_parts (bytes_eq path text.path) (list_any (bytes_eq path) (text_paths texts)) none in
     each-append (Spares path) (filling text) (filling_all texts) (each-map (Spares path) (λ byte. ToFile text.path byte) text.bytes (λ byte. p.0)) (filling-spares path texts p.1)
 
-pub writing-spares : (path : List ℕ) (texts : List Text) → list_any (bytes_eq path) (paths_in texts) ≡ false → Each (Spares path) (writing texts)
+pub writing-spares : (path : List ℕ) (texts : List Text) → list_any (bytes_eq path) (text_paths texts) ≡ false → Each (Spares path) (writing texts)
 unfolding writing
 writing-spares path texts none =
-    each-append (Spares path) (creating (paths_in texts)) (filling_all texts) (creating-spares path (paths_in texts) none) (filling-spares path texts none)
+    each-append (Spares path) (creating (text_paths texts)) (filling_all texts) (creating-spares path (text_paths texts) none) (filling-spares path texts none)

@@ -1,43 +1,15 @@
 -- The clauses of a call, from its outcome.
-use Rattle.std.proofs.Common.{◌≡◌, ℕ, ◌⊎◌, List, refl, ap, sym, ◌∙◌, inl, inr, subst, arith}
+use Rattle.uxn_cli.proofs.Common.{◌≡◌, ℕ, ◌⊎◌, List, refl, ap, sym, ◌∙◌, inl, inr, subst, arith, Option, Some, Result, Ok, Err, changed_by-err}
+use Rattle.uxn_cli.proofs.Common.{Nobody, Ledger, Nodes, World, extended, Stop, TreeFault, SinkFault, NoMemory, Task, Refusal, IsUntold, Judges}
+use Rattle.uxn_cli.proofs.Common.{HasOutcome, HasEnded, EndsEarly, HasFront, HasCut, IsCut, MayStop, Answers, as_step, status_blame, Call, call_request}
+use Rattle.uxn_cli.proofs.Common.{step_status, IsExactly, tree_verdict, EndsWith, PutsLine, HasStatuses, EndsEarlyByFaults, ComesOut, DoesWork, text_of}
+use Rattle.uxn_cli.proofs.Common.{line_of, outcome_of, request, Reason, Status, Exits, Refuses, EndsBy, number, early_status, IsEarly, IsRefusing}
+use Rattle.uxn_cli.proofs.Common.{IsRefusedFor, IsOfWords, View, Work, verdict, Gives, IfSome_then, HostState, seen_outside}
 use Rattle.std.proofs.lemmas.Bool.Decides.{nat_tests}
-use Rattle.std.specs.Prelude.{Option, Some, None, Result, Ok, Err, IfSome}
-use Rattle.uxn_io.specs.ChangeLaws.{changed_by-err}
-use Rattle.uxn_io.specs.Faults.{Nobody, Ledger}
-use Rattle.uxn_io.specs.Files.{Nodes}
-use Rattle.uxn_io.specs.Outside.{World}
-use Rattle.uxn_io.specs.Told.{extended}
-use Rattle.uxn_opcodes.specs.declared.Stop.{Stop}
-use Rattle.uxn_opcodes.specs.declared.Stop.TheVariants.{TreeFault, SinkFault, NoMemory}
-use Rattle.uxn_words.specs.declared.task.Task.{Task}
-use Rattle.task_files.specs.declared.refusal.Refusal.{Refusal}
-use Rattle.uxn_cli.specs.Answer.{IsUntold, Judges, HasOutcome, HasEnded, EndsEarly, HasFront, HasCut, IsCut, MayStop, Answers}
-use Rattle.task_files.specs.Blame.{as_step, blame_at}
-use Rattle.uxn_cli.specs.Call.{Call, asked_by, status_by}
-use Rattle.uxn_io.specs.State.{Outside}
-use Rattle.uxn_cli.specs.Causes.{IsExactly, verdict_on, EndsWith, PutsLine}
-use Rattle.uxn_cli.specs.Clauses.{HasItsOutcome, HasStatuses, EndsEarlyByFaults, ComesOut}
-use Rattle.uxn_cli.specs.Outside.{DoesWork}
-use Rattle.task_files.specs.Lines.{text_of, line_of}
-use Rattle.uxn_cli.specs.Outcome.{outcome_of}
-use Rattle.task_files.specs.Request.{request}
-use Rattle.task_files.specs.Statuses.{Reason, Status, Exits, Refuses, EndsBy, number, early_status, IsEarly, IsRefusing, IsRefusedFor, IsOfWords}
-use Rattle.task_files.specs.Views.{View}
-use Rattle.uxn_cli.specs.Verdict.{Work, verdict}
-use Rattle.uxn_cli.proofs.CauseLemmas.{told_verdict, status_in, has_status, IsStatus, is_status, one_status, IsRefusal, IsUsual, is_usual, only_refused, is_refused, only_exit, is_exit, blame_early, tree-rose, sink-rose}
-use Rattle.uxn_cli.proofs.SureLemmas.{never}
-use Rattle.task_files.proofs.GivesLemmas.{Gives}
+use Rattle.uxn_cli.proofs.CauseLemmas.{told_verdict, status_in, has_status, IsStatus, is_status, one_status, IsUsual, is_usual, only_refused}
+use Rattle.uxn_cli.proofs.CauseLemmas.{only_exit, blame_early, tree-rose, sink-rose, is_refused}
+use Rattle.uxn_cli.proofs.SureLemmas.{where_told, always}
 use Rattle.uxn_cli.proofs.GivesLemmas.{Writes, judged-gives}
-
--- this holds where a tree tells its contents
-pub where_told : (tree : Option Nodes) (P : Nodes → Type 0) → ((nodes : Nodes) → tree ≡ Some nodes → P nodes) → IfSome tree P
-where_told None P all = tt
-where_told (Some nodes) P all = all nodes refl
-
--- what holds whatever it tells
-pub always : (tree : Option Nodes) (A : Nodes → Type 0) (P : Type 0) → P → IfSome tree (λ nodes. A nodes → P)
-always None A P is = tt
-always (Some nodes) A P is = λ a. is
 
 -- of what was to be done over a tree that tells its contents a front was done
 pub record IsCutBy (found : Result Work Refusal) (before now : World) (stop : Stop) : Type 0 where
@@ -55,11 +27,11 @@ module _ (asked : Result Task Refusal) (before now : World) where
     is_told found (inl is) = is
     is_told found (inr untold) = absurd (subst (λ t. IsUntold t found) told untold)
 
-    is_verdict : (found : Result Work Refusal) → Judges asked before.files found → found ≡ verdict_on nodes asked
+    is_verdict : (found : Result Work Refusal) → Judges asked before.files found → found ≡ tree_verdict nodes asked
     is_verdict found judges = told_verdict nodes asked found (subst (λ t. Judges asked t found) told judges)
 
     -- what stands after an early end
-    pub early_told : (stop : Stop) → IsCut asked before now stop → (now ≡ before) ⊎ IsCutBy (verdict_on nodes asked) before now stop
+    pub early_told : (stop : Stop) → IsCut asked before now stop → (now ≡ before) ⊎ IsCutBy (tree_verdict nodes asked) before now stop
     early_told stop cut = elim (cut_either stop cut) [
       | inl same ↦ inl same
       | inr cut ↦ inr (subst (λ found. IsCutBy found before now stop) (is_verdict cut.found cut.judges)
@@ -67,7 +39,7 @@ module _ (asked : Result Task Refusal) (before now : World) where
     ]
 
     -- the answer is that of the outcome, or the call ended early
-    pub ends_told : (answer : ℕ) → Answers asked before now answer → HasOutcome (outcome_of (verdict_on nodes asked)) before now answer ⊎ EndsEarly asked before now answer
+    pub ends_told : (answer : ℕ) → Answers asked before now answer → HasOutcome (outcome_of (tree_verdict nodes asked)) before now answer ⊎ EndsEarly asked before now answer
     ends_told answer (inr early) = inr early
     ends_told answer (inl ended) = elim ended.has [
       | inl has ↦ inl (subst (λ found. HasOutcome (outcome_of found) before now answer) (is_verdict ended.found ended.judges) has)
@@ -77,8 +49,8 @@ module _ (asked : Result Task Refusal) (before now : World) where
 -- ---- statuses
 
 -- an answer that is the number of two statuses
-refusal_by : (answer : ℕ) (reason : Reason) (status : Status) → IsStatus status → answer ≡ number status → answer ≡ number (Refuses reason) → IsRefusal reason status
-refusal_by answer reason status is a b = subst (IsRefusal reason) (one_status (Refuses reason) status tt is (sym b ∙ a)) refl
+refusal_by : (answer : ℕ) (reason : Reason) (status : Status) → IsStatus status → answer ≡ number status → answer ≡ number (Refuses reason) → status ≡ Refuses reason
+refusal_by answer reason status is a b = one_status status (Refuses reason) is tt (sym a ∙ b)
 
 -- an early end has no other status
 not_usual : (answer : ℕ) (status : Status) → IsStatus status → IsUsual status → answer ≡ number status → IsEarly answer → ⊥
@@ -107,22 +79,14 @@ exactly_early answer status P is usual early = record {
   whenever = λ p. inr early;
 }
 
-abbrev refusal_or : {A : Type 0} → Refusal → Result A Refusal → Refusal
-refusal_or other (Ok value) = other
-refusal_or other (Err refusal) = refusal
-
 -- words that are refused for a reason of theirs are so whatever was seen
 asked_refused : (reason : Reason) (asked : Result Task Refusal) (view : View) → IsOfWords reason → IsRefusedFor reason (verdict asked view) → IsRefusedFor reason asked
-asked_refused reason (Err refusal) view of refused = (refused.0, ap Err (ap (refusal_or refusal) refused.1), refused.2)
+asked_refused reason (Err refusal) view of refused = (let same : refusal ≡ refused.0 = cc in (refused.0, ap Err same, refused.2))
 asked_refused reason (Ok task) view of refused = absurd (subst (Gives (Writes task.command task)) refused.1 (judged-gives task view) (subst IsOfWords (sym refused.2) of))
 
-refused_asked : (reason : Reason) (asked : Result Task Refusal) (view : View) → IsRefusedFor reason asked → IsRefusedFor reason (verdict asked view)
-refused_asked reason asked view refused = (refused.0, ap (λ a. verdict a view) refused.1, refused.2)
-
 -- what is refused is told
-refused_told : (tree : Option Nodes) (found : Result Work Refusal) (refusal : Refusal) → found ≡ Err refusal → IsUntold tree found → ⊥
-refused_told (Some nodes) found refusal e untold = untold
-refused_told None found refusal e untold = subst (IsUntold None) e untold
+refused_told : (tree : Option Nodes) (refusal : Refusal) → IsUntold tree (Err refusal) → ⊥
+refused_told tree refusal untold = grind arith
 
 module _ (asked : Result Task Refusal) (before now : World) (answer : ℕ) (answers : Answers asked before now answer) where
   early_is : EndsEarly asked before now answer → IsEarly answer
@@ -137,15 +101,15 @@ module _ (asked : Result Task Refusal) (before now : World) (answer : ℕ) (answ
       go (inl ended) =
           let same = ended.judges.judged in
           let refused : IsRefusedFor reason asked → IsRefusedFor reason ended.found =
-          λ refused. subst (IsRefusedFor reason) same (refused_asked reason asked ended.judges.view refused) in
+          λ refused. subst (IsRefusedFor reason) same (refused.0, ap (λ a. verdict a ended.judges.view) refused.1, refused.2) in
           elim ended.has [
             | inl has ↦
                 exactly_by ended.found answer (Refuses reason) (IsRefusedFor reason asked) tt has.status
                 (λ e. asked_refused reason asked ended.judges.view of (subst (IsRefusedFor reason) (sym same) (only_refused reason ended.found e)))
                 (λ p. is_refused reason ended.found (refused p))
             | inr untold ↦ record {
-              only = λ e. absurd (refusal_by answer reason (Exits answer) untold.1 refl e);
-              whenever = λ p. absurd (refused_told before.files ended.found (refused p).0 (refused p).1 untold.0);
+              only = λ e. (let no = refusal_by answer reason (Exits answer) untold.1 refl e in absurd cc);
+              whenever = λ p. absurd (refused_told before.files (refused p).0 (subst (IsUntold before.files) (refused p).1 untold.0));
             }
           ]
 
@@ -154,14 +118,14 @@ module _ (asked : Result Task Refusal) (before now : World) (answer : ℕ) (answ
   refusal_of refusing = go answers
     where
       by : (found : Result Work Refusal) → HasOutcome (outcome_of found) before now answer → (refusal : Refusal) × HasOutcome (outcome_of (Err refusal)) before now answer
-      by (Ok work) has = absurd (refusal_by answer refusing.0 (status_in (Ok work)) (is_status (Ok work)) has.status refusing.1)
+      by (Ok work) has = (let no = refusal_by answer refusing.0 (status_in (Ok work)) (is_status (Ok work)) has.status refusing.1 in absurd cc)
       by (Err refusal) has = (refusal, has)
 
       go : Answers asked before now answer → (refusal : Refusal) × HasOutcome (outcome_of (Err refusal)) before now answer
       go (inr early) = absurd (not_usual answer (Refuses refusing.0) tt tt refusing.1 (early_is early))
       go (inl ended) = elim ended.has [
         | inl has ↦ by ended.found has
-        | inr untold ↦ absurd (refusal_by answer refusing.0 (Exits answer) untold.1 refl refusing.1)
+        | inr untold ↦ (let no = refusal_by answer refusing.0 (Exits answer) untold.1 refl refusing.1 in absurd cc)
       ]
 
   pub line_put : (refusing : IsRefusing answer) → now ≡ record before { err = extended before.err (line_of (refusal_of refusing).0) }
@@ -172,16 +136,16 @@ module _ (asked : Result Task Refusal) (before now : World) (answer : ℕ) (answ
 
   module _ (nodes : Nodes) (told : before.files ≡ Some nodes) where
     -- what stands in the tree decides
-    exactly_told : (status : Status) → IsStatus status → IsUsual status → (P : Type 0) → (status_in (verdict_on nodes asked) ≡ status → P) → (P → status_in (verdict_on nodes asked) ≡ status)
+    exactly_told : (status : Status) → IsStatus status → IsUsual status → (P : Type 0) → (status_in (tree_verdict nodes asked) ≡ status → P) → (P → status_in (tree_verdict nodes asked) ≡ status)
         → IsExactly answer status P
     exactly_told status is usual P only whenever = elim (ends_told asked before now nodes told answer answers) [
-      | inl has ↦ exactly_by (verdict_on nodes asked) answer status P is has.status only whenever
+      | inl has ↦ exactly_by (tree_verdict nodes asked) answer status P is has.status only whenever
       | inr early ↦ exactly_early answer status P is usual (early_is early)
     ]
 
     -- what is accepted ends with its exit code, unless a count rose or memory was wanting
     completes : (TreeRose OutRose ErrRose : Type 0) → (answer ≡ 136 → TreeRose) → (answer ≡ 137 → OutRose ⊎ ErrRose)
-        → (work : Work) → verdict_on nodes asked ≡ Ok work → (TreeRose → ⊥) → (OutRose → ⊥) → (ErrRose → ⊥) → (answer ≡ (outcome_of (Ok work)).status) ⊎ (answer ≡ 138)
+        → (work : Work) → tree_verdict nodes asked ≡ Ok work → (TreeRose → ⊥) → (OutRose → ⊥) → (ErrRose → ⊥) → (answer ≡ (outcome_of (Ok work)).status) ⊎ (answer ≡ 138)
     completes TreeRose OutRose ErrRose by_tree by_sink work accepted t o e = elim (ends_told asked before now nodes told answer answers) [
       | inl has ↦ inl (has.status ∙ ap (λ v. (outcome_of v).status) accepted)
       | inr early ↦ inr (go early.stop early.status)
@@ -193,65 +157,68 @@ module _ (asked : Result Task Refusal) (before now : World) (answer : ℕ) (answ
         go NoMemory is = is
 
     -- where memory was wanting all is as it was, or the verdict is of a run in which it may be wanting
-    wanting : answer ≡ 138 → (now ≡ before) ⊎ MayStop (verdict_on nodes asked) NoMemory
+    wanting : answer ≡ 138 → (now ≡ before) ⊎ MayStop (tree_verdict nodes asked) NoMemory
     wanting is = elim (ends_told asked before now nodes told answer answers) [
-      | inl has ↦ absurd (outcome_usual (verdict_on nodes asked) before now answer has (NoMemory, is))
+      | inl has ↦ absurd (outcome_usual (tree_verdict nodes asked) before now answer has (NoMemory, is))
       | inr early ↦ go early.stop (sym early.status ∙ is) early.stands
     ]
       where
-        go : (stop : Stop) → early_status stop ≡ 138 → IsCut asked before now stop → (now ≡ before) ⊎ MayStop (verdict_on nodes asked) NoMemory
+        go : (stop : Stop) → early_status stop ≡ 138 → IsCut asked before now stop → (now ≡ before) ⊎ MayStop (tree_verdict nodes asked) NoMemory
         go TreeFault e cut = absurd (omega (arith, e))
         go SinkFault e cut = absurd (omega (arith, e))
         go NoMemory e cut = elim (early_told asked before now nodes told NoMemory cut) [ inl same ↦ inl same | inr front ↦ inr front.may ]
 
-pub has_statuses : (c : Call) → HasItsOutcome c → HasStatuses c
-has_statuses c answers =
+pub has_statuses : (c : Call) → ComesOut c → HasStatuses c
+has_statuses c comes =
+    let answers = comes.outcome in
     let before = c.before.world in
     let now = c.now.world in
     record {
-      asked = exactly_asked (asked_by c) before now c.status answers;
+      asked = exactly_asked (call_request c) before now c.status answers;
       refused = where_told before.files _ (λ nodes told reason.
-          exactly_told (asked_by c) before now c.status answers nodes told (Refuses reason) tt tt (IsRefusedFor reason (verdict_on nodes (asked_by c)))
-          (only_refused reason (verdict_on nodes (asked_by c))) (is_refused reason (verdict_on nodes (asked_by c))));
+          exactly_told (call_request c) before now c.status answers nodes told (Refuses reason) tt tt (IsRefusedFor reason (tree_verdict nodes (call_request c)))
+          (only_refused reason (tree_verdict nodes (call_request c))) (is_refused reason (tree_verdict nodes (call_request c))));
       accepted = where_told before.files _ (λ nodes told code small.
-          exactly_told (asked_by c) before now c.status answers nodes told (Exits code) small tt (EndsWith code (verdict_on nodes (asked_by c)))
-          (only_exit code (verdict_on nodes (asked_by c))) (is_exit code (verdict_on nodes (asked_by c))));
+          exactly_told (call_request c) before now c.status answers nodes told (Exits code) small tt (EndsWith code (tree_verdict nodes (call_request c)))
+          (only_exit code (tree_verdict nodes (call_request c))) (λ ends. ap status_in ends.1 ∙ ap Exits ends.2));
     }
 
-pub ends_early : (c : Call) → HasItsOutcome c → Ledger c.before.faults c.now.faults (blame_at c.status) → EndsEarlyByFaults c
-ends_early c answers ledger =
+pub ends_early : (c : Call) → ComesOut c → EndsEarlyByFaults c
+ends_early c comes =
+    let answers = comes.outcome in
+    let ledger = comes.ledger in
     let by_tree = tree-rose c.before.faults c.now.faults c.status ledger in
     let by_sink = sink-rose c.before.faults c.now.faults c.status ledger in
     record {
       ledger = ledger;
       tree_fault = by_tree;
       sink_fault = by_sink;
-      complete = where_told c.before.world.files _ (λ nodes told. completes (asked_by c) c.before.world c.now.world c.status answers nodes told _ _ _ by_tree by_sink);
-      wanting = where_told c.before.world.files _ (λ nodes told. wanting (asked_by c) c.before.world c.now.world c.status answers nodes told);
+      complete = where_told c.before.world.files _ (λ nodes told. completes (call_request c) c.before.world c.now.world c.status answers nodes told _ _ _ by_tree by_sink);
+      wanting = where_told c.before.world.files _ (λ nodes told. wanting (call_request c) c.before.world c.now.world c.status answers nodes told);
     }
 
 -- ---- a call comes out as it answered or stopped
 
-blameless : (answer : ℕ) → (answer ≡ 136 → ⊥) → (answer ≡ 137 → ⊥) → blame_at answer ≡ Nobody
+blameless : (answer : ℕ) → (answer ≡ 136 → ⊥) → (answer ≡ 137 → ⊥) → status_blame answer ≡ Nobody
 blameless answer tree sink = grind (arith, nat_tests)
 
-pub comes_out : (words : List (List ℕ)) (before now : Outside) (result : Result ℕ Stop) → DoesWork (request words) before now (as_step result)
-    → ComesOut (record { words = words; before = before; now = now; status = status_by result })
+pub comes_out : (words : List (List ℕ)) (before now : HostState) (result : Result ℕ Stop) → DoesWork (request words) before now (as_step result)
+    → ComesOut (record { words = words; before = seen_outside before; now = seen_outside now; status = step_status result })
 comes_out words before now (Ok status) e =
-    let usual = ended_usual (request words) before.world now.world status e.performs in
+    let usual = ended_usual (request words) (seen_outside before).world (seen_outside now).world status e.performs in
     record {
       outcome = inl e.performs;
-      ledger = subst (Ledger before.faults now.faults) (sym (blameless status (λ is. usual (TreeFault, is)) (λ is. usual (SinkFault, is)))) e.ledger;
+      ledger = subst (Ledger (seen_outside before).faults (seen_outside now).faults) (sym (blameless status (λ is. usual (TreeFault, is)) (λ is. usual (SinkFault, is)))) e.ledger;
       sure = record {
-        tree = always before.world.files _ _ (λ is. usual (TreeFault, is));
-        sinks = always before.world.files _ _ (λ is. usual (SinkFault, is));
+        tree = always before.tree.told _ _ (λ is. usual (TreeFault, is));
+        sinks = always before.tree.told _ _ (λ is. usual (SinkFault, is));
       };
     }
 comes_out words before now (Err stop) e = record {
   outcome = inr (record { stop = stop; status = refl; stands = e.performs });
-  ledger = subst (Ledger before.faults now.faults) (sym (blame_early stop)) e.ledger;
+  ledger = subst (Ledger (seen_outside before).faults (seen_outside now).faults) (sym (blame_early stop)) e.ledger;
   sure = record {
-    tree = never before.world.files _ _ _ (λ not_blamed is. not_blamed (sym (blame_early stop) ∙ ap blame_at is)) e.sure_tree;
-    sinks = never before.world.files _ _ _ (λ not_blamed is. not_blamed (sym (blame_early stop) ∙ ap blame_at is)) e.sure_sinks;
+    tree = IfSome_then before.tree.told e.sure_tree (λ nodes not suffices is. not suffices (sym (blame_early stop) ∙ ap status_blame is));
+    sinks = IfSome_then before.tree.told e.sure_sinks (λ nodes not suffices is. not suffices (sym (blame_early stop) ∙ ap status_blame is));
   };
 }

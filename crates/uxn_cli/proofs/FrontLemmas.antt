@@ -1,39 +1,19 @@
 -- What a file holds, where the changes that write it were cut off.
-use Rattle.std.proofs.Common.{◌≡◌, ℕ, ◌⊎◌, Bool, true, false, List, [], ◌∷◌, ◌++◌, map, refl, ap, sym, ◌∙◌, subst, inl, inr, append_assoc, append-nil}
-use Rattle.std.specs.Prelude.{Option, Some, None, Result, Ok, Err, IfOk, ◌||◌}
-use Rattle.std.specs.List.{list_any}
-use Rattle.std.specs.Option.{unwrap_or}
-use Rattle.std.specs.Str.{bytes_eq}
-use Rattle.std.specs.FinMap as fin
-use Rattle.std.proofs.lemmas.Slice.Eq.{bytes_eq-Decides}
-use Rattle.uxn_io.specs.ChangeLaws.{changed_by-append, files_by-append, files-told, extended-nothing, extended-extended}
-use Rattle.uxn_io.specs.Files.{Nodes, Node, File, bytes_of, bytes_at}
-use Rattle.uxn_io.specs.NodeLaws.{get_put}
-use Rattle.uxn_io.specs.Outside.{Change, ToOut, ToErr, Creates, ToFile, Removes, World, changed_files, files_by, changed, changed_by}
-use Rattle.uxn_io.specs.Told.{extended}
-use Rattle.uxn_opcodes.specs.Rule.{new_core}
-use Rattle.varvara_bus.specs.Bus.{IsOutside}
-use Rattle.varvara_bus.specs.Touching.{Each, each-append, each-front, each-map, inserted-other, removed-other, told_at}
+use Rattle.uxn_cli.proofs.Common.{◌≡◌, ℕ, ◌⊎◌, Bool, true, false, List, [], ◌∷◌, ◌++◌, map, refl, ap, sym, ◌∙◌, subst, inl, inr, append_assoc}
+use Rattle.uxn_cli.proofs.Common.{append-nil, Option, Some, None, Result, Ok, Err, IfOk, ◌||◌, list_any, unwrap_or, bytes_eq, bytes_eq-Decides}
+use Rattle.uxn_cli.proofs.Common.{changed_by-append, files_by-append, files-told, extended-nothing, extended-extended, Nodes, Node, File, bytes_of}
+use Rattle.uxn_cli.proofs.Common.{bytes_at, get_put, Change, ToOut, ToErr, Creates, ToFile, Removes, World, changed_files, files_by, changed}
+use Rattle.uxn_cli.proofs.Common.{changed_by, extended, new_core, IsOutside, Each, each-append, each-front, each-map, inserted-other, removed-other}
+use Rattle.uxn_cli.proofs.Common.{told_at, first_clash, HasApartOutputs, Task, Refusal, Call, call_request, tree_verdict, IsOutputOf, HoldsFileFront}
+use Rattle.uxn_cli.proofs.Common.{IsFrontOf, StandsCutOff, IsCutShort, Job, job_outputs, first_state, reference_trail, trail_of, log_texts, report_of, outcome_of}
+use Rattle.uxn_cli.proofs.Common.{reporting, running, creating, filling, filling_all, writing, refused, apart, judged_clash, request, and_then, Work, Run}
+use Rattle.uxn_cli.proofs.Common.{Write, Print, RunLine, judged, view_of, Text, ComesOut}
 use Rattle.vector_loop.specs.AppendingLaws.{Adds, run-adds}
-use Rattle.uxn_words.specs.Places.{first_clash, HasApartOutputs}
 use Rattle.uxn_words.specs.Words.{task_of}
-use Rattle.uxn_words.specs.declared.task.Task.{Task}
-use Rattle.task_files.specs.declared.refusal.Refusal.{Refusal}
-use Rattle.uxn_cli.specs.Answer.{Answers}
-use Rattle.uxn_cli.specs.Call.{Call, asked_by}
-use Rattle.uxn_cli.specs.Causes.{verdict_on}
-use Rattle.uxn_cli.specs.Clauses.{IsOutputOf, HoldsFileFront, IsFrontOf, StandsCutOff, HasItsOutcome, IsCutShort}
-use Rattle.uxn_cli.specs.Job.{Job, outputs_in, outputs_by, start_with, trail_by, trail_of, log_by, report_of}
-use Rattle.uxn_cli.specs.Outcome.{outcome_of, reporting, running}
-use Rattle.task_files.specs.Writing.{creating, filling, filling_all, writing}
-use Rattle.task_files.specs.Request.{refused, apart}
-use Rattle.task_files.specs.Request.{apart_by, request}
-use Rattle.task_files.specs.Statuses.{IsEarly}
-use Rattle.task_files.specs.Request.{and_then}
-use Rattle.uxn_cli.specs.Verdict.{Work, Run, Write, Print, RunLine, judged}
-use Rattle.task_files.specs.Views.{view_of}
-use Rattle.task_files.specs.World.{Text}
-use Rattle.uxn_cli.proofs.ClauseLemmas.{where_told, early_told, ends_told, outcome_usual}
+use Rattle.uxn_cli.specs.Job.{wanted_outputs}
+use Rattle.std.specs.FinMap as fin
+use Rattle.uxn_cli.proofs.SureLemmas.{where_told}
+use Rattle.uxn_cli.proofs.ClauseLemmas.{early_told, ends_told, outcome_usual}
 use Rattle.uxn_cli.proofs.RootLemmas.{outputs-outside}
 use Rattle.uxn_cli.proofs.GivesLemmas.{judged-writes}
 
@@ -112,9 +92,6 @@ module _ (path : List ℕ) where
         let more : creating paths ++ later ≡ made ++ rest = cc in
         subst (λ (c : Change). Fronts nodes (c ∷ made)) same (front-of paths (changed_files (Creates other) nodes) made more (go (bytes_eq path other) refl state))
       where
-        here : Nodes
-        here = changed_files (Creates other) nodes
-
         go : (b : Bool) → bytes_eq path other ≡ b → ((fin.get nodes path ≡ before) × (list_any (bytes_eq path) (other ∷ paths) ≡ true)) ⊎ (fin.get nodes path ≡ Some (File []))
             → ((fin.get (changed_files (Creates other) nodes) path ≡ before) × (list_any (bytes_eq path) paths ≡ true)) ⊎ (fin.get (changed_files (Creates other) nodes) path ≡ Some (File []))
         go true same state = inr (ap (λ q. fin.get (changed_files (Creates q) nodes) path) (sym ((bytes_eq-Decides path other).0 same)) ∙ get_put nodes path (File []))
@@ -123,9 +100,9 @@ module _ (path : List ℕ) where
 
 -- the run of a job only adds to files outside its root
 trail-adds : (path : List ℕ) (job : Job) → IsOutside job.home.root path → Each (Adds path) (trail_of job).changes
-unfolding trail_by
+unfolding reference_trail
 trail-adds path job outside =
-    run-adds path job.budget (outputs_by job.frames job.samples) job.script (start_with (new_core job.rom) job.script job.home)
+    run-adds path job.budget (wanted_outputs job.frames job.samples) job.script (first_state (new_core job.rom) job.script job.home)
     (record { outside = outside; first = refl; second = refl })
 
 -- work that writes a file
@@ -136,11 +113,11 @@ unfolding running writing
 work-front path task nodes (Run job) made rest apart e whole parts =
     let writes = judged-writes task (view_of nodes task) (Run job) e in
     let outside = outputs-outside task path apart (ap (list_any (bytes_eq path)) (sym writes.paths) ∙ whole) in
-    let adds = each-append (Adds path) (reporting job.report job.script.version (trail_of job)) (filling_all (log_by job.debug (trail_of job)))
+    let adds = each-append (Adds path) (reporting job.report job.script.version (trail_of job)) (filling_all (log_texts job.debug (trail_of job)))
     (each-append (Adds path) (trail_of job).changes (filling_all (report_of job.report job.script.version (trail_of job).last)) (trail-adds path job (rw writes.root outside))
-    (filling-adds path (report_of job.report job.script.version (trail_of job).last))) (filling-adds path (log_by job.debug (trail_of job))) in
+    (filling-adds path (report_of job.report job.script.version (trail_of job).last))) (filling-adds path (log_texts job.debug (trail_of job))) in
     subst (λ changes. IsFront path (fin.get nodes path) (fin.get (files_by nodes made) path) (fin.get (files_by nodes changes) path)) (sym parts)
-    (front-of path _ rest adds (fin.get nodes path) (outputs_in job) nodes made parts (inl (refl, whole)))
+    (front-of path _ rest adds (fin.get nodes path) (job_outputs job) nodes made parts (inl (refl, whole)))
 work-front path task nodes (Write texts) made rest apart e whole parts =
     subst (λ changes. IsFront path (fin.get nodes path) (fin.get (files_by nodes made) path) (fin.get (files_by nodes changes) path)) (sym parts)
     (front-of path (filling_all texts) rest (filling-adds path texts) (fin.get nodes path) (map (λ text. text.path) texts) nodes made parts (inl (refl, whole)))
@@ -149,8 +126,8 @@ work-front path task nodes (RunLine job) made rest apart e whole parts = absurd 
 
 -- so of what was cut off
 pub holds-front : (path : List ℕ) (asked : Result Task Refusal) (before : World) (nodes : Nodes) (made rest : List Change) → IfOk asked HasApartOutputs → before.files ≡ Some nodes
-    → (outcome_of (verdict_on nodes asked)).changes ≡ made ++ rest → IsOutputOf (verdict_on nodes asked) path
-    → HoldsFileFront (told_at path before.files) (told_at path (changed_by before made).files) (told_at path (changed_by before (outcome_of (verdict_on nodes asked)).changes).files)
+    → (outcome_of (tree_verdict nodes asked)).changes ≡ made ++ rest → IsOutputOf (tree_verdict nodes asked) path
+    → HoldsFileFront (told_at path before.files) (told_at path (changed_by before made).files) (told_at path (changed_by before (outcome_of (tree_verdict nodes asked)).changes).files)
 holds-front path (Err refusal) before nodes made rest apart told parts whole = absurd whole
 holds-front path (Ok task) before nodes made rest apart told parts whole = go (judged task (view_of nodes task)) refl parts whole
   where
@@ -184,7 +161,7 @@ asked_apart : (words : List (List ℕ)) → IfOk (request words) HasApartOutputs
 unfolding request
 asked_apart words = named (refused (task_of words))
   where
-    clashing : (task : Task) (clash : Option (List ℕ)) → first_clash task ≡ clash → IfOk (apart_by task clash) HasApartOutputs
+    clashing : (task : Task) (clash : Option (List ℕ)) → first_clash task ≡ clash → IfOk (judged_clash task clash) HasApartOutputs
     clashing task None is = is
     clashing task (Some path) is = tt
 
@@ -194,11 +171,11 @@ asked_apart words = named (refused (task_of words))
 
 -- a front of the changes gives a front of each
 module _ (asked : Result Task Refusal) (before : World) (nodes : Nodes) (told : before.files ≡ Some nodes) (apart_too : IfOk asked HasApartOutputs) where
-  stands_cut : (made rest : List Change) → (outcome_of (verdict_on nodes asked)).changes ≡ made ++ rest → StandsCutOff (verdict_on nodes asked) before (changed_by before made)
+  stands_cut : (made rest : List Change) → (outcome_of (tree_verdict nodes asked)).changes ≡ made ++ rest → StandsCutOff (tree_verdict nodes asked) before (changed_by before made)
   stands_cut made rest parts =
       let first = adds_to before made in
       let last = adds_to (changed_by before made) rest in
-      let whole : changed_by before (outcome_of (verdict_on nodes asked)).changes ≡ changed_by (changed_by before made) rest = ap (changed_by before) parts ∙ changed_by-append before made rest in
+      let whole : changed_by before (outcome_of (tree_verdict nodes asked)).changes ≡ changed_by (changed_by before made) rest = ap (changed_by before) parts ∙ changed_by-append before made rest in
       record {
         cut = record { made = made; rest = rest; parts = parts; left = refl };
         out = record { kept = first.0; front = subst (λ (w : World). IsFrontOf (changed_by before made).out w.out) (sym whole) last.0 };
@@ -206,15 +183,17 @@ module _ (asked : Result Task Refusal) (before : World) (nodes : Nodes) (told : 
         files = λ path is. holds-front path asked before nodes made rest apart_too told parts is;
       }
 
-  cut_short : (now : World) (answer : ℕ) → Answers asked before now answer → IsEarly answer → StandsCutOff (verdict_on nodes asked) before now
-  cut_short now answer answers is = elim (ends_told asked before now nodes told answer answers) [
-    | inl has ↦ absurd (outcome_usual (verdict_on nodes asked) before now answer has is)
-    | inr early ↦ elim (early_told asked before now nodes told early.stop early.stands) [
-      | inl same ↦ subst (StandsCutOff (verdict_on nodes asked) before) (sym same) (stands_cut [] (outcome_of (verdict_on nodes asked)).changes refl)
-      | inr cut ↦ subst (StandsCutOff (verdict_on nodes asked) before) (sym cut.front.cut.left) (stands_cut cut.front.cut.made cut.front.cut.rest cut.front.cut.parts)
-    ]
-  ]
-
-pub is_cut_short : (c : Call) → HasItsOutcome c → IsCutShort c
-is_cut_short c answers =
-    where_told c.before.world.files _ (λ nodes told is. cut_short (asked_by c) c.before.world nodes told (asked_apart c.words) c.now.world c.status answers is)
+pub is_cut_short : (c : Call) → ComesOut c → IsCutShort c
+is_cut_short c comes =
+    let before = c.before.world in
+    let now = c.now.world in
+    let verdict = λ (nodes : Nodes). tree_verdict nodes (call_request c) in
+    where_told before.files _ (λ nodes told is. elim (ends_told (call_request c) before now nodes told c.status comes.outcome) [
+      | inl has ↦ absurd (outcome_usual (verdict nodes) before now c.status has is)
+      | inr early ↦ elim (early_told (call_request c) before now nodes told early.stop early.stands) [
+        | inl same ↦ subst (StandsCutOff (verdict nodes) before) (sym same)
+            (stands_cut (call_request c) before nodes told (asked_apart c.words) [] (outcome_of (verdict nodes)).changes refl)
+        | inr cut ↦ subst (StandsCutOff (verdict nodes) before) (sym cut.front.cut.left)
+            (stands_cut (call_request c) before nodes told (asked_apart c.words) cut.front.cut.made cut.front.cut.rest cut.front.cut.parts)
+      ]
+    ])

@@ -1,40 +1,21 @@
 -- What a call sees of a tree, and what it leaves alone.
-use Rattle.std.proofs.Common.{◌≡◌, ℕ, true, false, List, [], ◌∷◌, ◌++◌, refl, ap, sym, ◌∙◌, subst, inl, inr}
-use Rattle.std.specs.Prelude.{Some, option_map, Result, Ok, Err, IfOk, ◌||◌}
-use Rattle.std.specs.List.{list_any}
-use Rattle.std.specs.Str.{bytes_eq}
-use Rattle.std.specs.FinMap as fin
-use Rattle.std.proofs.lemmas.Slice.Eq.{bytes_eq-Decides}
-use Rattle.file_ports.specs.RootPart.{below}
-use Rattle.uxn_io.specs.Files.{Nodes}
-use Rattle.uxn_io.specs.ChangeLaws.{files-told}
-use Rattle.uxn_io.specs.Outside.{Change, Creates, World, changed_files, files_by}
-use Rattle.varvara_bus.specs.Touching.{told_at}
-use Rattle.uxn_words.specs.declared.words.Command.{Command}
-use Rattle.uxn_words.specs.declared.words.Command.TheVariants.{Play, Debug, Assemble, Disassemble, Generate, Line}
-use Rattle.uxn_words.specs.declared.task.Task.{Task}
-use Rattle.task_files.specs.declared.refusal.Refusal.{Refusal}
-use Rattle.uxn_cli.specs.Answer.{HasOutcome, Answers}
-use Rattle.uxn_words.specs.Places.{root_by}
-use Rattle.task_files.specs.Request.{and_then}
-use Rattle.task_files.specs.Views.{View, view_of}
-use Rattle.uxn_cli.specs.Verdict.{Work, Run, Write, Print, RunLine, judged, work_of, made_for, line_in}
-use Rattle.uxn_cli.specs.Prepared.{paths_for}
-use Rattle.uxn_cli.specs.Outcome.{outcome_of, running}
-use Rattle.task_files.specs.Writing.{creating, writing}
-use Rattle.uxn_cli.specs.Causes.{verdict_on}
+use Rattle.uxn_cli.proofs.Common.{◌≡◌, ℕ, true, false, List, [], ◌∷◌, ◌++◌, refl, ap, sym, ◌∙◌, subst, inl, inr, Some, option_map, Result, Ok, Err}
+use Rattle.uxn_cli.proofs.Common.{IfOk, ◌||◌, list_any, bytes_eq, bytes_eq-Decides, below, Nodes, files-told, Change, Creates, World, changed_files}
+use Rattle.uxn_cli.proofs.Common.{files_by, told_at, Command, Play, Debug, Assemble, Disassemble, Generate, Line, Task, Refusal, HasOutcome, Answers}
+use Rattle.uxn_cli.proofs.Common.{command_root, and_then, View, view_of, Work, Run, Write, Print, RunLine, judged, work_of, judged_outputs, accepted_line, work_paths}
+use Rattle.uxn_cli.proofs.Common.{outcome_of, running, creating, writing, tree_verdict, run_given, run_plan, accepted_run, write_plan, text_plan, seen_home}
+use Rattle.uxn_cli.proofs.Common.{role_path, ap₂, get_put, File, Call, call_request, ComesOut, GivesTheSame}
 use Rattle.task_files.specs.SameView.{HaveSameView}
 use Rattle.uxn_cli.specs.Isolation.{LookSame, files_after, IsWritten, IsOutcomeOn, GivesAsOn}
-use Rattle.uxn_cli.proofs.AfterLemmas.{made-here, same-node, same-part}
 use Rattle.task_files.proofs.SameViewLemmas.{same-run, same-files, same-disassembly, same-machines}
 pub use Rattle.task_files.proofs.SameViewLemmas.{SourceLaw}
+use Rattle.std.specs.FinMap as fin
+use Rattle.uxn_words.specs.declared.role.Role.TheVariants as role
+use Rattle.uxn_cli.proofs.AfterLemmas.{same-node, same-part}
 use Rattle.uxn_cli.proofs.ClauseLemmas.{ends_told}
 use Rattle.uxn_cli.proofs.GivesLemmas.{judged-writes}
-use Rattle.task_files.specs.Accepted.{run_given}
-use Rattle.uxn_cli.specs.Verdict.{run_plan, run_in, write_plan, text_plan, line_in, home_by}
-use Rattle.uxn_words.specs.Tasks.{role_path}
-use Rattle.uxn_words.specs.declared.role.Role.TheVariants as role
-use Rattle.std.proofs.Common.{ap₂}
+use Rattle.uxn_cli.proofs.SureLemmas.{where_told}
+use Rattle.uxn_cli.proofs.ObservationLemmas.{call-shows}
 
 -- what stands at a path where a file is made does not depend on what stood there
 made-same : (path : List ℕ) (m n : Nodes) (paths : List (List ℕ)) (rest : List Change) → list_any (bytes_eq path) paths ≡ true
@@ -43,12 +24,13 @@ made-same path m n [] rest among = absurd cc
 made-same path m n (other ∷ paths) rest among =
     elim (bytes_eq path other) as (λ b. bytes_eq path other ≡ b → (b || list_any (bytes_eq path) paths) ≡ true
     → fin.get (files_by (changed_files (Creates other) m) (creating paths ++ rest)) path ≡ fin.get (files_by (changed_files (Creates other) n) (creating paths ++ rest)) path) [
-      | true ↦ λ same e. same-node path (changed_files (Creates other) m) (changed_files (Creates other) n) (creating paths ++ rest) (made-here path other m n ((bytes_eq-Decides path other).0 same))
+      | true ↦ λ same e. same-node path (changed_files (Creates other) m) (changed_files (Creates other) n) (creating paths ++ rest)
+          (rw ((bytes_eq-Decides path other).0 same) (get_put m other (File []) ∙ sym (get_put n other (File []))))
       | false ↦ λ same e. made-same path (changed_files (Creates other) m) (changed_files (Creates other) n) paths rest e
     ] refl among
 
 -- the outputs of work are made first
-work-outputs : (path : List ℕ) (m n : Nodes) (work : Work) → list_any (bytes_eq path) (paths_for work) ≡ true
+work-outputs : (path : List ℕ) (m n : Nodes) (work : Work) → list_any (bytes_eq path) (work_paths work) ≡ true
     → fin.get (files_by m (outcome_of (Ok work)).changes) path ≡ fin.get (files_by n (outcome_of (Ok work)).changes) path
 unfolding running writing
 work-outputs path m n (Run job) among = made-same path m n _ _ among
@@ -66,10 +48,10 @@ module _ (law : SourceLaw) (nodes other : Nodes) where
 
     -- a run of the same, from the same folder
     run-same : (c : Command) → run_given c task here ≡ run_given c task there
-        → run_in c task (home_by (role_path task role.Root) here.part here.parent) here ≡ run_in c task (home_by (role_path task role.Root) there.part there.parent) there
+        → accepted_run c task (seen_home (role_path task role.Root) here.part here.parent) here ≡ accepted_run c task (seen_home (role_path task role.Root) there.part there.parent) there
     run-same c given =
-        ap (λ said. and_then said (λ g. Ok (run_plan c task (home_by (role_path task role.Root) here.part here.parent) g))) given
-        ∙ ap₂ (λ part parent. run_in c task (home_by (role_path task role.Root) part parent) there) same.part same.parent
+        ap (λ said. and_then said (λ g. Ok (run_plan c task (seen_home (role_path task role.Root) here.part here.parent) g))) given
+        ∙ ap₂ (λ part parent. accepted_run c task (seen_home (role_path task role.Root) part parent) there) same.part same.parent
 
     -- the work of each command
     same-work : (command : Command) → task.command ≡ command → work_of command task here ≡ work_of command task there
@@ -78,20 +60,20 @@ module _ (law : SourceLaw) (nodes other : Nodes) where
     same-work Assemble is = ap (λ said. and_then said (λ files. Ok (write_plan files))) (same-files law nodes other task same is)
     same-work Disassemble is = ap (λ said. and_then said (λ text. Ok (text_plan text))) (same-disassembly law nodes other task same)
     same-work Generate is = refl
-    same-work Line is = ap (λ said. and_then said line_in) (same-machines law nodes other task same is)
+    same-work Line is = ap (λ said. and_then said accepted_line) (same-machines law nodes other task same is)
 
     same-judged : judged task here ≡ judged task there
     same-judged =
-        ap (λ said. and_then said (made_for task here.blocked)) (same-work task.command refl) ∙ ap (λ blocked. and_then (work_of task.command task there) (made_for task blocked)) same.blocked
+        ap (λ said. and_then said (judged_outputs task here.blocked)) (same-work task.command refl) ∙ ap (λ blocked. and_then (work_of task.command task there) (judged_outputs task blocked)) same.blocked
 
-  same-verdict : (asked : Result Task Refusal) → LookSame asked nodes other → verdict_on nodes asked ≡ verdict_on other asked
+  same-verdict : (asked : Result Task Refusal) → LookSame asked nodes other → tree_verdict nodes asked ≡ tree_verdict other asked
   same-verdict (Err refusal) same = refl
   same-verdict (Ok task) same = same-judged task same
 
   module _ (asked : Result Task Refusal) (same : LookSame asked nodes other) (before now : World) (answer : ℕ) (told : before.files ≡ Some nodes)
-      (has : HasOutcome (outcome_of (verdict_on other asked)) before now answer) where
-    here-changes : now.files ≡ Some (files_by nodes (outcome_of (verdict_on other asked)).changes)
-    here-changes = ap (λ w. w.files) has.world ∙ files-told before (outcome_of (verdict_on other asked)).changes ∙ ap (option_map (λ n. files_by n (outcome_of (verdict_on other asked)).changes)) told
+      (has : HasOutcome (outcome_of (tree_verdict other asked)) before now answer) where
+    here-changes : now.files ≡ Some (files_by nodes (outcome_of (tree_verdict other asked)).changes)
+    here-changes = ap (λ w. w.files) has.world ∙ files-told before (outcome_of (tree_verdict other asked)).changes ∙ ap (option_map (λ n. files_by n (outcome_of (tree_verdict other asked)).changes)) told
 
     outcome-on : IsOutcomeOn asked other before now answer
     outcome-on = record {
@@ -102,15 +84,15 @@ module _ (law : SourceLaw) (nodes other : Nodes) where
       outputs = λ work accepted path among. ap (told_at path) here-changes ∙ ap Some (same-outputs asked work accepted path among);
     }
       where
-        same-parts : (asks : Result Task Refusal) → LookSame asks nodes other → now.files ≡ Some (files_by nodes (outcome_of (verdict_on other asks)).changes)
-            → IfOk asks (λ task. option_map (below (root_by task.command task)) now.files ≡ Some (below (root_by task.command task) (files_after asks other)))
+        same-parts : (asks : Result Task Refusal) → LookSame asks nodes other → now.files ≡ Some (files_by nodes (outcome_of (tree_verdict other asks)).changes)
+            → IfOk asks (λ task. option_map (below (command_root task.command task)) now.files ≡ Some (below (command_root task.command task) (files_after asks other)))
         same-parts (Err refusal) same is = tt
         same-parts (Ok task) same is =
-            ap (option_map (below (root_by task.command task))) is
-            ∙ ap Some (same-part (root_by task.command task) nodes other (outcome_of (judged task (view_of other task))).changes same.part)
+            ap (option_map (below (command_root task.command task))) is
+            ∙ ap Some (same-part (command_root task.command task) nodes other (outcome_of (judged task (view_of other task))).changes same.part)
 
-        same-outputs : (asks : Result Task Refusal) (work : Work) → verdict_on other asks ≡ Ok work → (path : List ℕ) → IsWritten asks path
-            → fin.get (files_by nodes (outcome_of (verdict_on other asks)).changes) path ≡ fin.get (files_after asks other) path
+        same-outputs : (asks : Result Task Refusal) (work : Work) → tree_verdict other asks ≡ Ok work → (path : List ℕ) → IsWritten asks path
+            → fin.get (files_by nodes (outcome_of (tree_verdict other asks)).changes) path ≡ fin.get (files_after asks other) path
         same-outputs (Err refusal) work e path among = absurd cc
         same-outputs (Ok task) work e path among =
             let writes = judged-writes task (view_of other task) work e in
@@ -119,7 +101,7 @@ module _ (law : SourceLaw) (nodes other : Nodes) where
             ∙ ap (λ v. fin.get (files_by other (outcome_of v).changes) path) (sym e)
 
 -- so another tree that looks the same gives the same
-pub gives-as-on : SourceLaw → (asked : Result Task Refusal) (before now : World) (answer : ℕ) (nodes : Nodes) → before.files ≡ Some nodes → Answers asked before now answer
+gives-as-on : SourceLaw → (asked : Result Task Refusal) (before now : World) (answer : ℕ) (nodes : Nodes) → before.files ≡ Some nodes → Answers asked before now answer
     → (other : Nodes) → LookSame asked nodes other → GivesAsOn asked nodes other before now answer
 gives-as-on law asked before now answer nodes told answers other same =
     let verdict = same-verdict law nodes other asked same in
@@ -130,3 +112,10 @@ gives-as-on law asked before now answer nodes told answers other same =
         | inr early ↦ inl (early.stop, early.status)
       ];
     }
+
+-- what other calls give the same
+pub gives_the_same : SourceLaw → (c : Call) → ComesOut c → GivesTheSame c
+gives_the_same law c comes = record {
+  watched = where_told c.before.world.files _ (λ nodes told. call-shows c.words c.before.world c.now.world c.status nodes told comes.outcome);
+  isolated = where_told c.before.world.files _ (λ nodes told. gives-as-on law (call_request c) c.before.world c.now.world c.status nodes told comes.outcome);
+}

@@ -1,50 +1,48 @@
 -- Scripts of the console alone, and what comes of a line that runs.
-use Rattle.std.proofs.Common.{◌≡◌, ℕ, Bool, true, false, List, [], ◌∷◌, refl, ap}
-use Rattle.std.specs.Prelude.{Result, Ok, Err, IfOk, is_err, if◌then◌else◌}
-use Rattle.std.specs.List.{list_all}
+use Rattle.uxn_cli.proofs.Common.{◌≡◌, ℕ, true, false, List, [], ◌∷◌, refl, Result, Ok, Err, IfOk, is_err, list_all, SinkEnded, SinkState, Failed}
+use Rattle.uxn_cli.proofs.Common.{IsUnderWay, is_of_console, GoesOn, HasDone, line_bytes, line_exit, and_parts, arith, accepted_line, line_plan}
+use Rattle.uxn_cli.proofs.Common.{false_from_ne_true, Task, Line, TreeState, Halt, ReadsInputs, held_machines, machines_given, ReadsPlan, joined_plan}
+use Rattle.uxn_cli.proofs.Common.{reads-ended, reads-on, inputs_seen, Follows}
 use Rattle.play_script.specs.declared.script.Event.{Event}
-use Rattle.play_script.specs.declared.script.Event.TheVariants.{Input, EndInput, Frame, Device, Shot, Expect}
-use Rattle.play_script.specs.Scripts.{ScriptView}
-use Rattle.uxn_io.specs.Ended.{SinkEnded}
-use Rattle.uxn_io.specs.State.{SinkState}
-use Rattle.uxn_io.specs.declared.sinks.Failed.{Failed}
 use Rattle.uxn_line.specs.declared.line.Line.{Line as LineOf}
-use Rattle.uxn_line.specs.Moves.{IsUnderWay}
-use Rattle.uxn_line.specs.Streams.{Job as LineJob, AreOfConsole}
+use Rattle.uxn_line.specs.Streams.{Job as LineJob, AreOfConsole, IsOfConsole}
 use Rattle.task_files.specs.declared.refusal.Refusal.TheVariants.{OtherEvents}
-use Rattle.uxn_cli.specs.Console.{is_of_console, console_script}
-use Rattle.uxn_cli.specs.Joined.{GoesOn, HasDone}
-use Rattle.uxn_cli.specs.Outcome.{line_bytes, line_exit}
+use Rattle.task_files.specs.Accepted.{Machines}
+use Rattle.task_files.specs.declared.machines.LineInputs.{LineInputs}
+use Rattle.uxn_cli.proofs.PlanLemmas.{reads-work-of}
 
 -- ---- events of the console, as the code looks at them
 
+of-event : (event : Event) → is_of_console event ≡ true → IsOfConsole event
+of-event event is = grind arith
+
+is-event : (event : Event) → IsOfConsole event → is_of_console event ≡ true
+is-event event of = grind arith
+
 are-of-console : (events : List Event) → list_all is_of_console events ≡ true → AreOfConsole events
 are-of-console [] e = tt
-are-of-console (Input byte ∷ events) e = (tt, are-of-console events e)
-are-of-console (EndInput ∷ events) e = (tt, are-of-console events e)
-are-of-console (Frame ∷ events) e = absurd cc
-are-of-console (Device input ∷ events) e = absurd cc
-are-of-console (Shot ∷ events) e = absurd cc
-are-of-console (Expect port byte ∷ events) e = absurd cc
+are-of-console (event ∷ events) e =
+    let parts = and_parts (is_of_console event) (list_all is_of_console events) e in (of-event event parts.0, are-of-console events parts.1)
 
 of-console : (events : List Event) → AreOfConsole events → list_all is_of_console events ≡ true
 of-console [] of = refl
-of-console (Input byte ∷ events) of = of-console events of.1
-of-console (EndInput ∷ events) of = of-console events of.1
-of-console (Frame ∷ events) of = absurd of.0
-of-console (Device input ∷ events) of = absurd of.0
-of-console (Shot ∷ events) of = absurd of.0
-of-console (Expect port byte ∷ events) of = absurd of.0
+of-console (event ∷ events) of = rw (is-event event of.0, of-console events of.1) refl
 
-pub console-accepted : (script : ScriptView) → AreOfConsole script.events → console_script script ≡ Ok script
-console-accepted script of = ap (λ b. if b then Ok script else Err OtherEvents) (of-console script.events of)
+pub line-accepted : (machines : Machines) → AreOfConsole machines.script.events → accepted_line machines ≡ Ok (line_plan machines machines.script)
+line-accepted machines of = rw (of-console machines.script.events of) refl
 
-pub console-denied : (script : ScriptView) → (AreOfConsole script.events → ⊥) → console_script script ≡ Err OtherEvents
-console-denied script other = go (list_all is_of_console script.events) refl
-  where
-    go : (b : Bool) → list_all is_of_console script.events ≡ b → (if b then Ok script else Err OtherEvents) ≡ Err OtherEvents
-    go true e = absurd (other (are-of-console script.events e))
-    go false e = refl
+pub line-denied : (machines : Machines) → (AreOfConsole machines.script.events → ⊥) → accepted_line machines ≡ Err OtherEvents
+line-denied machines other = rw (false_from_ne_true (list_all is_of_console machines.script.events) (λ all. other (are-of-console machines.script.events all))) refl
+
+-- the setup and what it names could not be read, or were
+module _ (task : Task) (is : task.command ≡ Line) (a b : TreeState) where
+  pub line-unread : (halt : Halt) → ReadsInputs held_machines task (machines_given task) a b (Err halt) → ReadsPlan joined_plan task a b (Err halt)
+  line-unread halt reads = reads-work-of task Line is joined_plan a b _ (reads-ended (λ nodes. inputs_seen nodes task) (machines_given task) accepted_line held_machines joined_plan a b halt reads)
+
+  pub line-read : (inputs : LineInputs) (r : Result LineInputs Halt) → ReadsInputs held_machines task (machines_given task) a b (Ok inputs) → Follows joined_plan r (accepted_line (held_machines inputs))
+      → ReadsPlan joined_plan task a b r
+  line-read inputs r reads follows =
+      reads-work-of task Line is joined_plan a b r (reads-on (λ nodes. inputs_seen nodes task) (machines_given task) accepted_line held_machines joined_plan a b inputs r reads follows)
 
 -- ---- turns, one after the other
 

@@ -1,3 +1,4 @@
+pub mod Common
 pub mod ChangeLemmas
 pub mod VerdictLemmas
 pub mod PlanLemmas

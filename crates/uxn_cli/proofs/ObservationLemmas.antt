@@ -1,48 +1,23 @@
 -- `debug` and `play` with the same items.
-use Rattle.std.proofs.Common.{◌≡◌, ℕ, true, false, true≢false, not, List, [], ◌++◌, refl, ap, sym, ◌∙◌, subst, append_assoc, append-nil, arith, inl, inr}
-use Rattle.std.specs.Prelude.{Option, Some, None, Result, Ok, Err, option_to_list, option_map, find, IfSome, ◌⊎◌}
-use Rattle.std.specs.List.{list_any}
-use Rattle.std.specs.Str.{bytes_eq}
-use Rattle.std.proofs.lemmas.Bool.{or_parts, false_from_ne_true}
-use Rattle.std.proofs.lemmas.List.{map-append}
-use Rattle.std.proofs.lemmas.List.Folds.{list_any-append}
-use Rattle.file_ports.specs.RootPart.{is_in, below, parent_is_folder}
-use Rattle.uxn_io.specs.Changes.{can_create}
-use Rattle.uxn_io.specs.Files.{Nodes}
-use Rattle.uxn_io.specs.Outside.{Change, Creates, World, changed_by}
-use Rattle.uxn_io.specs.ChangeLaws.{changed_by-append}
-use Rattle.uxn_io.specs.ChangeLaws.{files-told}
-use Rattle.uxn_io.specs.Ended.{IsOfTree}
-use Rattle.varvara_bus.specs.Touching.{Each, told_at, spared}
-use Rattle.play_script.specs.Scripts.{ScriptView}
-use Rattle.uxn_words.specs.declared.words.Command.TheVariants.{Play, Debug}
-use Rattle.uxn_words.specs.declared.task.Task.{Task}
-use Rattle.task_files.specs.declared.refusal.Refusal.{Refusal}
-use Rattle.task_files.specs.Request.{and_then, apart_by, request}
-use Rattle.task_files.specs.Request.{apart}
-use Rattle.uxn_words.specs.Places.{inputs_by, outputs_of, root_by, meets, clashes, first_clash}
-use Rattle.uxn_words.specs.Tasks.{role_path}
-use Rattle.uxn_words.specs.declared.role.Role.TheVariants as role
-use Rattle.uxn_cli.specs.Verdict.{run_plan, Work, Run, Plan, planned, judged, work_of, made_by, made_for, debugging, home_by, job_of}
-use Rattle.task_files.specs.Accepted.{Loaded, run_given, program_in, given_in, script_in, commands_in, debug_labels}
-use Rattle.task_files.specs.Views.{View, view_of, blocked_seen}
-use Rattle.task_files.specs.Made.{first_unmade}
-use Rattle.uxn_cli.specs.Job.{Job, Debugging, outputs_in, trail_of, log_by}
-use Rattle.uxn_cli.specs.Outcome.{outcome_of, reporting, running}
-use Rattle.task_files.specs.Writing.{creating, filling_all}
-use Rattle.uxn_cli.specs.Answer.{HasOutcome, Answers}
-use Rattle.task_files.specs.Statuses.{IsEarly}
-use Rattle.uxn_cli.specs.Causes.{verdict_on}
+use Rattle.uxn_cli.proofs.Common.{◌≡◌, ℕ, true, false, true≢false, not, List, [], ◌++◌, refl, ap, sym, ◌∙◌, subst, append_assoc, append-nil, arith}
+use Rattle.uxn_cli.proofs.Common.{inl, inr, Option, Some, None, Result, Ok, Err, option_to_list, option_map, find, IfSome, ◌⊎◌, list_any, bytes_eq}
+use Rattle.uxn_cli.proofs.Common.{or_parts, false_from_ne_true, map-append, list_any-append, is_in, below, parent_is_folder, can_create, Nodes}
+use Rattle.uxn_cli.proofs.Common.{Change, Creates, World, changed_by, changed_by-append, files-told, told_at, spared, ScriptView, Play, Debug, Task}
+use Rattle.uxn_cli.proofs.Common.{Refusal, and_then, judged_clash, request, apart, command_inputs, outputs_of, command_root, meets, clashes, first_clash, role_path}
+use Rattle.uxn_cli.proofs.Common.{run_plan, Work, Run, Plan, planned, judged, work_of, unblocked, judged_outputs, debugging, seen_home, job_of, Loaded}
+use Rattle.uxn_cli.proofs.Common.{run_given, accepted_program, accepted_symbols, accepted_script, accepted_commands, debug_labels, View, view_of, blocked_seen, first_unmade}
+use Rattle.uxn_cli.proofs.Common.{Job, Debugging, job_outputs, trail_of, log_texts, outcome_of, reporting, running, creating, filling_all, HasOutcome}
+use Rattle.uxn_cli.proofs.Common.{Answers, IsEarly, tree_verdict, none_last, none_each, count-parts, clash_parts, clash_from, IfSome_then, ◌||◌}
 use Rattle.uxn_cli.specs.Observation.{unwatched, watched, with_log, played, HaveSameItems, ComeToOneRun, IsOutcomeButLog, ShowsWhatPlayDoes}
-use Rattle.uxn_cli.proofs.AfterLemmas.{quiet, creating-quiet, filling-quiet, HaveSameOutputs, outputs-after, files-after, if-some, parts-same}
-use Rattle.uxn_cli.proofs.ClauseLemmas.{ends_told}
-use Rattle.uxn_cli.proofs.ChangeLemmas.{creating-spares}
 use Rattle.task_files.proofs.FreeLemmas.{are_free}
-use Rattle.uxn_cli.proofs.OthersLemmas.{log-spares}
-use Rattle.task_files.proofs.PlaceLemmas.{none_last, none_each, count-parts, clash_parts, clash_from}
-use Rattle.uxn_cli.proofs.RootLemmas.{outputs-outside}
-use Rattle.uxn_cli.proofs.RunLemmas.{run_outputs, debug-outputs, any-left}
 use Rattle.task_files.proofs.WordLemmas.{words-read}
+use Rattle.uxn_words.specs.declared.role.Role.TheVariants as role
+use Rattle.uxn_cli.proofs.AfterLemmas.{quiet, HaveSameOutputs, outputs-after, files-after, parts-same}
+use Rattle.uxn_cli.proofs.ChangeLemmas.{creating-quiet, filling-quiet, creating-spares}
+use Rattle.uxn_cli.proofs.ClauseLemmas.{ends_told}
+use Rattle.uxn_cli.proofs.OthersLemmas.{log-spares}
+use Rattle.uxn_cli.proofs.RootLemmas.{outputs-outside}
+use Rattle.uxn_cli.proofs.RunLemmas.{run_outputs, debug-outputs}
 
 -- ---- one step after another
 
@@ -58,13 +33,13 @@ same_ok x y e = cc
 
 -- outputs that do not clash
 is_apart : (task found : Task) → apart task ≡ Ok found → (task ≡ found) × (first_clash task ≡ None)
-is_apart task found e = elim (first_clash task) as (λ o. first_clash task ≡ o → apart_by task o ≡ Ok found → (task ≡ found) × (first_clash task ≡ None)) [
+is_apart task found e = elim (first_clash task) as (λ o. first_clash task ≡ o → judged_clash task o ≡ Ok found → (task ≡ found) × (first_clash task ≡ None)) [
   | None ↦ λ is h. (same_ok task found h, is)
   | Some path ↦ λ is h. absurd cc
 ] refl e
 
 -- what `play` reads `debug` reads too
-inputs-fewer : (task : Task) (path : List ℕ) → list_any (bytes_eq path) (inputs_by Debug task) ≡ false → list_any (bytes_eq path) (inputs_by Play (played task)) ≡ false
+inputs-fewer : (task : Task) (path : List ℕ) → list_any (bytes_eq path) (command_inputs Debug task) ≡ false → list_any (bytes_eq path) (command_inputs Play (played task)) ≡ false
 inputs-fewer task path e =
     let symbols = option_to_list (role_path task role.Symbols) in
     let script = option_to_list (role_path task role.Script) ++ [] in
@@ -77,16 +52,16 @@ inputs-fewer task path e =
 clash-fewer : (task : Task) → task.command ≡ Debug → first_clash task ≡ None → first_clash (played task) ≡ None
 clash-fewer task debug none =
     let places = option_to_list (role_path task role.Root) ++ (option_to_list (role_path task role.Log) ++ run_outputs task) in
-    let all : find (clashes (inputs_by Debug task) places) (option_to_list (role_path task role.Log) ++ run_outputs task) ≡ None = rw debug at none in
-    none_each (clashes (inputs_by Debug task) places) (clashes (inputs_by Play (played task)) (option_to_list (role_path task role.Root) ++ run_outputs task)) (run_outputs task)
+    let all : find (clashes (command_inputs Debug task) places) (option_to_list (role_path task role.Log) ++ run_outputs task) ≡ None = rw debug at none in
+    none_each (clashes (command_inputs Debug task) places) (clashes (command_inputs Play (played task)) (option_to_list (role_path task role.Root) ++ run_outputs task)) (run_outputs task)
     (λ path apart.
-    let both = clash_parts (inputs_by Debug task) places path apart in
+    let both = clash_parts (command_inputs Debug task) places path apart in
     let root = option_to_list (role_path task role.Root) in
     let log = option_to_list (role_path task role.Log) in
     let all = count-parts (meets path) root (log ++ run_outputs task) in
     let last = count-parts (meets path) log (run_outputs task) in
-    clash_from (inputs_by Play (played task)) (root ++ run_outputs task) path (omega (arith, both.0, count-parts (meets path) root (run_outputs task), all, last)) (inputs-fewer task path both.1))
-    (none_last (clashes (inputs_by Debug task) places) (option_to_list (role_path task role.Log)) (run_outputs task) all)
+    clash_from (command_inputs Play (played task)) (root ++ run_outputs task) path (omega (arith, both.0, count-parts (meets path) root (run_outputs task), all, last)) (inputs-fewer task path both.1))
+    (none_last (clashes (command_inputs Debug task) places) (option_to_list (role_path task role.Log)) (run_outputs task) all)
 
 pub record AsksForBoth (words others : List (List ℕ)) : Type 0 where
   pub task : Task
@@ -103,14 +78,14 @@ asks-both words others asked items e =
       command = items.command;
       apart = free.1;
       debugs = e ∙ ap Ok (sym free.0);
-      plays = words-read others (played items.task) items.plays ∙ ap (apart_by (played items.task)) (clash-fewer items.task items.command free.1);
+      plays = words-read others (played items.task) items.plays ∙ ap (judged_clash (played items.task)) (clash-fewer items.task items.command free.1);
     }
 
 -- ---- the inputs
 
 -- the same work, but that nobody watches
-work-played : (task : Task) (view : View) (program : Loaded) (script : ScriptView) → program_in task.rom task.file view.file ≡ Ok program → script_in (role_path task role.Script) view.script ≡ Ok script
-    → work_of Play (played task) view ≡ Ok (planned (Run (job_of task (home_by (role_path task role.Root) view.part view.parent) program.rom script None)) program.included)
+work-played : (task : Task) (view : View) (program : Loaded) (script : ScriptView) → accepted_program task.rom task.file view.file ≡ Ok program → accepted_script (role_path task role.Script) view.script ≡ Ok script
+    → work_of Play (played task) view ≡ Ok (planned (Run (job_of task (seen_home (role_path task role.Root) view.part view.parent) program.rom script None)) program.included)
 work-played task view program script a b = rw (a, b) refl
 
 -- `debug` plans a run under a debugger, and `play` the same run of a source that includes the same files
@@ -125,39 +100,39 @@ plays-work : (task : Task) (view other : View) (accepted : Plan) → other.file 
     → PlanOneRun task accepted (work_of Play (played task) other)
 plays-work task view other accepted file script part parent e =
     let all = both_ok (run_given Debug task view) _ accepted e in
-    let program = both_ok (program_in task.rom task.file view.file) _ all.0 all.1 in
-    let given = both_ok (given_in (role_path task role.Symbols) view.symbols) _ all.0 program.2 in
-    let scripted = both_ok (script_in (role_path task role.Script) view.script) _ all.0 given.2 in
-    let commands = both_ok (commands_in (debug_labels given.0 program.0) (role_path task role.Commands) view.commands) _ all.0 scripted.2 in
-    let is : planned (Run (job_of task (home_by (role_path task role.Root) view.part view.parent) program.0.rom scripted.0 (Some (debugging task commands.0 (debug_labels given.0 program.0))))) program.0.included ≡ accepted =
-    ap (run_plan Debug task (home_by (role_path task role.Root) view.part view.parent)) (same_ok _ all.0 commands.2) ∙ same_ok _ accepted all.2 in
+    let program = both_ok (accepted_program task.rom task.file view.file) _ all.0 all.1 in
+    let given = both_ok (accepted_symbols (role_path task role.Symbols) view.symbols) _ all.0 program.2 in
+    let scripted = both_ok (accepted_script (role_path task role.Script) view.script) _ all.0 given.2 in
+    let commands = both_ok (accepted_commands (debug_labels given.0 program.0) (role_path task role.Commands) view.commands) _ all.0 scripted.2 in
+    let is : planned (Run (job_of task (seen_home (role_path task role.Root) view.part view.parent) program.0.rom scripted.0 (Some (debugging task commands.0 (debug_labels given.0 program.0))))) program.0.included ≡ accepted =
+    ap (run_plan Debug task (seen_home (role_path task role.Root) view.part view.parent)) (same_ok _ all.0 commands.2) ∙ same_ok _ accepted all.2 in
     record {
-      job = job_of task (home_by (role_path task role.Root) view.part view.parent) program.0.rom scripted.0 None;
+      job = job_of task (seen_home (role_path task role.Root) view.part view.parent) program.0.rom scripted.0 None;
       debugging = debugging task commands.0 (debug_labels given.0 program.0);
       log = refl;
       debugs = ap (λ (p : Plan). p.work) (sym is);
-      plays = work-played task other program.0 scripted.0 (ap (program_in task.rom task.file) file ∙ program.1) (ap (script_in (role_path task role.Script)) script ∙ scripted.1)
-          ∙ ap (λ home. Ok (planned (Run (job_of task home program.0.rom scripted.0 None)) program.0.included)) (ap (λ p. home_by (role_path task role.Root) p other.parent) part ∙ ap (home_by (role_path task role.Root) view.part) parent)
-          ∙ ap (λ included. Ok (planned (Run (job_of task (home_by (role_path task role.Root) view.part view.parent) program.0.rom scripted.0 None)) included)) (ap (λ (p : Plan). p.included) is);
+      plays = work-played task other program.0 scripted.0 (ap (accepted_program task.rom task.file) file ∙ program.1) (ap (accepted_script (role_path task role.Script)) script ∙ scripted.1)
+          ∙ ap (λ home. Ok (planned (Run (job_of task home program.0.rom scripted.0 None)) program.0.included)) (ap (λ p. seen_home (role_path task role.Root) p other.parent) part ∙ ap (seen_home (role_path task role.Root) view.part) parent)
+          ∙ ap (λ included. Ok (planned (Run (job_of task (seen_home (role_path task role.Root) view.part view.parent) program.0.rom scripted.0 None)) included)) (ap (λ (p : Plan). p.included) is);
     }
 
-pub made-all : (first : Option (List ℕ)) (work found : Work) → made_by first work ≡ Ok found → (first ≡ None) × (work ≡ found)
+pub made-all : (first : Option (List ℕ)) (work found : Work) → unblocked first work ≡ Ok found → (first ≡ None) × (work ≡ found)
 made-all None work found e = (refl, same_ok work found e)
 made-all (Some path) work found e = absurd cc
 
 accepted-all : (task : Task) (blocked : Option (List ℕ)) (said : Result Plan Refusal) (accepted : Plan) → said ≡ Ok accepted → first_unmade blocked accepted.included (outputs_of task) ≡ None
-    → and_then said (made_for task blocked) ≡ Ok accepted.work
-accepted-all task blocked said accepted is free = ap (λ s. and_then s (made_for task blocked)) is ∙ ap (λ first. made_by first accepted.work) free
+    → and_then said (judged_outputs task blocked) ≡ Ok accepted.work
+accepted-all task blocked said accepted is free = ap (λ s. and_then s (judged_outputs task blocked)) is ∙ ap (λ first. unblocked first accepted.work) free
 
 pub plays-too : (nodes : Nodes) (task : Task) (work : Work) → task.command ≡ Debug → judged task (view_of nodes task) ≡ Ok work
     → (one : ComeToOneRun (Ok work) (judged (played task) (view_of nodes (played task)))) × (one.debugging.log ≡ (role_path task role.Log))
 plays-too nodes task work debug e =
     let view = view_of nodes task in
     let other = view_of nodes (played task) in
-    let said = both_ok (work_of task.command task view) (made_for task view.blocked) work e in
+    let said = both_ok (work_of task.command task view) (judged_outputs task view.blocked) work e in
     let made = made-all (first_unmade view.blocked said.0.included (outputs_of task)) said.0.work work said.2 in
     let free = are_free (Some nodes) view.blocked said.0.included (outputs_of task) refl made.0 in
-    let one = plays-work task view other said.0 (rw debug refl) refl (ap (λ c. below (root_by c task) nodes) (sym debug)) (ap (λ c. parent_is_folder (root_by c task) nodes) (sym debug)) (ap (λ c. work_of c task view) (sym debug) ∙ said.1) in
+    let one = plays-work task view other said.0 (rw debug refl) refl (ap (λ c. below (command_root c task) nodes) (sym debug)) (ap (λ c. parent_is_folder (command_root c task) nodes) (sym debug)) (ap (λ c. work_of c task view) (sym debug) ∙ said.1) in
     let outputs = debug-outputs task debug in
     let looked : find (λ path. not (can_create nodes path)) (option_to_list (role_path task role.Log) ++ run_outputs task) ≡ None = ap (find (λ path. not (can_create nodes path))) (sym outputs) ∙ sym free.looked in
     let none : blocked_seen nodes (played task) ≡ None = none_last (λ path. not (can_create nodes path)) (option_to_list (role_path task role.Log)) (run_outputs task) looked in
@@ -175,20 +150,16 @@ plays-too nodes task work debug e =
 -- ---- what is done
 
 -- the log is made before a run, and written behind it
-pub log-around : (job : Job) (debugging : Debugging) → running (watched job debugging) ≡ with_log job debugging
+pub log_around : (job : Job) (debugging : Debugging) → running (watched job debugging) ≡ with_log job debugging
 unfolding running
-log-around job debugging =
+log_around job debugging =
     let first = creating (option_to_list debugging.log) in
-    let made = creating (outputs_in (unwatched job)) in
+    let made = creating (job_outputs (unwatched job)) in
     let run = reporting job.report job.script.version (trail_of job) in
-    let log = filling_all (log_by (Some debugging) (trail_of job)) in
-    ap (λ made. made ++ (run ++ log)) (map-append (λ path. Creates path) (option_to_list debugging.log) (outputs_in (unwatched job)))
+    let log = filling_all (log_texts (Some debugging) (trail_of job)) in
+    ap (λ made. made ++ (run ++ log)) (map-append (λ path. Creates path) (option_to_list debugging.log) (job_outputs (unwatched job)))
     ∙ append_assoc first made (run ++ log)
     ∙ ap (λ rest. first ++ rest) (sym (append_assoc (made) (run ++ []) log ∙ ap (λ r. made ++ (r ++ log)) (append-nil run)))
-
--- changes between others
-between : (before : World) (first middle last : List Change) → changed_by before (first ++ (middle ++ last)) ≡ changed_by (changed_by (changed_by before first) middle) last
-between before first middle last = changed_by-append before first (middle ++ last) ∙ changed_by-append (changed_by before first) middle last
 
 -- all but the log is as without the debugger
 module _ (before : World) (job : Job) (debugging : Debugging) where
@@ -196,7 +167,7 @@ module _ (before : World) (job : Job) (debugging : Debugging) where
   first = creating (option_to_list debugging.log)
 
   abbrev last : List Change
-  last = filling_all (log_by (Some debugging) (trail_of job))
+  last = filling_all (log_texts (Some debugging) (trail_of job))
 
   abbrev shown : World
   shown = changed_by before (running (watched job debugging))
@@ -205,15 +176,14 @@ module _ (before : World) (job : Job) (debugging : Debugging) where
   done = changed_by before (running (unwatched job))
 
   parted : shown ≡ changed_by (changed_by (changed_by before first) (running (unwatched job))) last
-  parted = ap (changed_by before) (log-around job debugging) ∙ between before first (running (unwatched job)) last
-
-  log-quiet : Each IsOfTree last
-  log-quiet = filling-quiet (log_by (Some debugging) (trail_of job))
+  parted =
+      ap (changed_by before) (log_around job debugging) ∙ changed_by-append before first (running (unwatched job) ++ last)
+      ∙ changed_by-append (changed_by before first) (running (unwatched job)) last
 
   same-outputs : HaveSameOutputs shown done
   same-outputs =
       let middle = changed_by (changed_by before first) (running (unwatched job)) in
-      let log = quiet middle last log-quiet in
+      let log = quiet middle last (filling-quiet (log_texts (Some debugging) (trail_of job))) in
       let run = outputs-after (changed_by before first) before (running (unwatched job)) (quiet before first (creating-quiet (option_to_list debugging.log))) in
       (ap (λ w. w.out) parted ∙ log.0 ∙ run.0, ap (λ w. w.err) parted ∙ log.1 ∙ run.1)
 
@@ -229,19 +199,21 @@ module _ (before : World) (job : Job) (debugging : Debugging) where
   same-root root outside =
       ap (option_map (below root)) (files-told before (running (watched job debugging)))
       ∙ parts-same before.files root (running (watched job debugging)) (running (unwatched job))
-      (if-some root _ _ (λ r all path inside.
-      ap (told_at path) (sym (files-told before (running (watched job debugging)))) ∙ same-files path (all path inside) ∙ ap (told_at path) (files-told before (running (unwatched job)))) outside)
+      (IfSome_then root outside (λ r all path inside.
+      ap (told_at path) (sym (files-told before (running (watched job debugging)))) ∙ same-files path (all path inside) ∙ ap (told_at path) (files-told before (running (unwatched job)))))
       ∙ ap (option_map (below root)) (sym (files-told before (running (unwatched job))))
 
 -- where the log lies outside the root
 log-outside : (task : Task) → task.command ≡ Debug → first_clash task ≡ None
     → IfSome (role_path task role.Root) (λ r. (path : List ℕ) → is_in r path ≡ true → list_any (bytes_eq path) (option_to_list (role_path task role.Log)) ≡ false)
-log-outside task debug apart = go (role_path task role.Root) (ap (λ c. root_by c task) debug)
+log-outside task debug apart = go (role_path task role.Root) (ap (λ c. command_root c task) debug)
   where
     among-outputs : (path : List ℕ) → list_any (bytes_eq path) (option_to_list (role_path task role.Log)) ≡ true → list_any (bytes_eq path) (outputs_of task) ≡ true
-    among-outputs path among = ap (list_any (bytes_eq path)) (debug-outputs task debug) ∙ any-left path (option_to_list (role_path task role.Log)) (run_outputs task) among
+    among-outputs path among =
+        ap (list_any (bytes_eq path)) (debug-outputs task debug)
+        ∙ list_any-append (bytes_eq path) (option_to_list (role_path task role.Log)) (run_outputs task) ∙ ap (λ b. b || list_any (bytes_eq path) (run_outputs task)) among
 
-    go : (root : Option (List ℕ)) → root_by task.command task ≡ root → IfSome root (λ r. (path : List ℕ) → is_in r path ≡ true → list_any (bytes_eq path) (option_to_list (role_path task role.Log)) ≡ false)
+    go : (root : Option (List ℕ)) → command_root task.command task ≡ root → IfSome root (λ r. (path : List ℕ) → is_in r path ≡ true → list_any (bytes_eq path) (option_to_list (role_path task role.Log)) ≡ false)
     go None is = tt
     go (Some root) is = λ path inside.
         false_from_ne_true (list_any (bytes_eq path) (option_to_list (role_path task role.Log)))
@@ -259,7 +231,7 @@ but-log task job debugging log outside before = record {
   out = (same-outputs before job debugging).0;
   err = (same-outputs before job debugging).1;
   files = λ path other. same-files before job debugging path (ap (λ l. list_any (bytes_eq path) (option_to_list l)) log ∙ other);
-  part = same-root before job debugging (role_path task role.Root) (if-some (role_path task role.Root) _ _ (λ r all path inside. ap (λ l. list_any (bytes_eq path) (option_to_list l)) log ∙ all path inside) outside);
+  part = same-root before job debugging (role_path task role.Root) (IfSome_then (role_path task role.Root) outside (λ r all path inside. ap (λ l. list_any (bytes_eq path) (option_to_list l)) log ∙ all path inside));
 }
 
 given-by : (asked : Result Task Refusal) (other found : Result Work Refusal) (task : Task) (job : Job) (debugging : Debugging) → asked ≡ Ok task → other ≡ Ok (Run (unwatched job))
@@ -268,31 +240,27 @@ given-by : (asked : Result Task Refusal) (other found : Result Work Refusal) (ta
     → (before : World) → IsOutcomeButLog asked (outcome_of other) before (changed_by before (outcome_of found).changes) (outcome_of found).status
 given-by asked other found task job debugging a b c given before = rw (a, b, c) (given before)
 
-pub shows-what-play-does : (nodes : Nodes) (words others : List (List ℕ)) (work : Work) → HaveSameItems words others → verdict_on nodes (request words) ≡ Ok work
+pub shows-what-play-does : (nodes : Nodes) (words others : List (List ℕ)) (work : Work) → HaveSameItems words others → tree_verdict nodes (request words) ≡ Ok work
     → ShowsWhatPlayDoes nodes (request words) (request others) work
 shows-what-play-does nodes words others work items e =
     let found = both_ok (request words) (λ task. judged task (view_of nodes task)) work e in
     let both = asks-both words others found.0 items found.1 in
-    let one = plays-too nodes both.task work both.command (ap (verdict_on nodes) (sym both.debugs) ∙ e) in
-    let plays : verdict_on nodes (request others) ≡ Ok (Run (unwatched one.0.job)) = ap (verdict_on nodes) both.plays ∙ one.0.plays in
+    let one = plays-too nodes both.task work both.command (ap (tree_verdict nodes) (sym both.debugs) ∙ e) in
+    let plays : tree_verdict nodes (request others) ≡ Ok (Run (unwatched one.0.job)) = ap (tree_verdict nodes) both.plays ∙ one.0.plays in
     let given = but-log both.task one.0.job one.0.debugging one.1 (log-outside both.task both.command both.apart) in
     record {
       run = record { job = one.0.job; debugging = one.0.debugging; debugs = one.0.debugs; plays = plays };
-      given = given-by (request words) (verdict_on nodes (request others)) (Ok work) both.task one.0.job one.0.debugging both.debugs plays one.0.debugs given;
+      given = given-by (request words) (tree_verdict nodes (request others)) (Ok work) both.task one.0.job one.0.debugging both.debugs plays one.0.debugs given;
     }
 
 -- so does the call
 module _ (words : List (List ℕ)) (before now : World) (answer : ℕ) where
-  ended-shows : (nodes : Nodes) (others : List (List ℕ)) (work : Work) → HaveSameItems words others → verdict_on nodes (request words) ≡ Ok work
-      → HasOutcome (outcome_of (Ok work)) before now answer → IsOutcomeButLog (request words) (outcome_of (verdict_on nodes (request others))) before now answer
-  ended-shows nodes others work items e has =
-      let given = (shows-what-play-does nodes words others work items e).given before in
-      subst (λ a. IsOutcomeButLog (request words) (outcome_of (verdict_on nodes (request others))) before now a) (sym has.status)
-      (subst (λ w. IsOutcomeButLog (request words) (outcome_of (verdict_on nodes (request others))) before w (outcome_of (Ok work)).status) (sym has.world) given)
-
   pub call-shows : (nodes : Nodes) → before.files ≡ Some nodes → Answers (request words) before now answer → (others : List (List ℕ)) (work : Work) → HaveSameItems words others
-      → verdict_on nodes (request words) ≡ Ok work → IsEarly answer ⊎ IsOutcomeButLog (request words) (outcome_of (verdict_on nodes (request others))) before now answer
+      → tree_verdict nodes (request words) ≡ Ok work → IsEarly answer ⊎ IsOutcomeButLog (request words) (outcome_of (tree_verdict nodes (request others))) before now answer
   call-shows nodes told answers others work items e = elim (ends_told (request words) before now nodes told answer answers) [
-    | inl has ↦ inr (ended-shows nodes others work items e (subst (λ v. HasOutcome (outcome_of v) before now answer) e has))
+    | inl has ↦ inr (
+        let done = subst (λ v. HasOutcome (outcome_of v) before now answer) e has in
+        rw (done.world, done.status) ((shows-what-play-does nodes words others work items e).given before)
+        )
     | inr early ↦ inl (early.stop, early.status)
   ]

@@ -1,7 +1,4 @@
-use Rattle.std.proofs.Common.{◌≡◌, ℕ, suc, zero, ◌<◌, Bool, true, ◌&&◌, refl, inl, inr, arith}
-use Rattle.std.specs.Str.{bytes_eq}
-use Rattle.std.proofs.lemmas.Bool.{and_parts, cases_lt}
-use Rattle.std.proofs.lemmas.Slice.Eq.{bytes_eq-Decides}
+use Rattle.uxn_cli.proofs.Common.{◌≡◌, ℕ, suc, zero, ◌<◌, Bool, true, ◌&&◌, refl, inl, inr, arith, bytes_eq, and_parts, cases_lt, bytes_eq-Decides}
 use Rattle.tal_words.specs.Opcodes.{name_of_op}
 use Rattle.uxn_opcodes.specs.Table.{op_of, mode_of}
 use Rattle.uxn_cli.specs.OpcodeNames.{row_name}

@@ -1,22 +1,8 @@
 -- What was read of the inputs of a task, as its plan.
-use Rattle.std.proofs.Common.{◌≡◌, ℕ, List, refl, ap, sym, subst}
-use Rattle.std.specs.Prelude.{Option, Some, None, Result, Ok, Err, IfSome}
-use Rattle.std.specs.Global.{Vec}
-use Rattle.uxn_io.specs.Files.{Nodes}
-use Rattle.uxn_io.specs.State.{TreeState}
-use Rattle.uxn_words.specs.declared.task.Task.{Task}
-use Rattle.uxn_words.specs.declared.words.Command.{Command}
-use Rattle.uxn_words.specs.declared.words.Command.TheVariants.{Generate}
-use Rattle.task_files.specs.declared.refusal.Refusal.{Refusal}
-use Rattle.task_files.specs.declared.refusal.Halt.{Halt}
-use Rattle.task_files.specs.declared.refusal.Halt.TheVariants.{Refused, Stopped}
-use Rattle.task_files.specs.Follows.{Follows}
-use Rattle.task_files.specs.Request.{and_then}
-use Rattle.task_files.specs.Views.{View, ReadsInputs, inputs_seen}
-use Rattle.task_files.proofs.ReadingLemmas.{inputs_or, reads-none, reads-ended, reads-on}
-use Rattle.uxn_cli.specs.Prepared.{IsPlanned, ReadsPlan, SeesWork}
-use Rattle.uxn_cli.specs.Verdict.{Work, Plan, planned, text_plan, summary_in, work_of}
-use Rattle.task_files.proofs.GivesLemmas.{Gives}
+use Rattle.uxn_cli.proofs.Common.{◌≡◌, ℕ, List, refl, ap, sym, subst, Option, Some, None, Result, Ok, Err, IfSome, Vec, Nodes, TreeState, Task}
+use Rattle.uxn_cli.proofs.Common.{Command, Generate, Refusal, Halt, Refused, Stopped, Follows, and_then, View, ReadsInputs, inputs_seen, inputs_or}
+use Rattle.uxn_cli.proofs.Common.{reads-none, reads-ended, reads-on, IsPlanned, ReadsPlan, SeesWork, Work, Plan, planned, text_plan, accepted_summary}
+use Rattle.uxn_cli.proofs.Common.{work_of, Gives}
 use Rattle.uxn_cli.proofs.GivesLemmas.{PlanWrites, work-gives}
 
 -- the files of work that is planned are the outputs of the task
@@ -39,7 +25,7 @@ reads-mapped task said next view a b (Ok made) p = reads-on (λ nodes. inputs_se
 reads-mapped task said next view a b (Err halt) p = reads-ended (λ nodes. inputs_seen nodes task) said (λ x. Ok (next x)) view (λ made. next (view made)) a b halt p
 
 -- `gen` looks at nothing
-pub reads-own : (task : Task) → task.command ≡ Generate → (now : TreeState) (r : Result (Vec ℕ) Halt) → Follows (λ (text : Vec ℕ). text.items) r (summary_in task.count)
+pub reads-own : (task : Task) → task.command ≡ Generate → (now : TreeState) (r : Result (Vec ℕ) Halt) → Follows (λ (text : Vec ℕ). text.items) r (accepted_summary task.count)
     → ReadsPlan (λ (text : Vec ℕ). text_plan text.items) task now now r
 reads-own task own now r follows =
     reads-none (λ (text : Vec ℕ). text_plan text.items) (λ nodes. inputs_seen nodes task) (work_of task.command task) now (inputs_or now.told task) (seen now.told) r (go r follows)
@@ -48,7 +34,7 @@ reads-own task own now r follows =
     seen None = tt
     seen (Some nodes) = refl
 
-    go : (r : Result (Vec ℕ) Halt) → Follows (λ (text : Vec ℕ). text.items) r (summary_in task.count) → Follows (λ (text : Vec ℕ). text_plan text.items) r (work_of task.command task (inputs_or now.told task))
+    go : (r : Result (Vec ℕ) Halt) → Follows (λ (text : Vec ℕ). text.items) r (accepted_summary task.count) → Follows (λ (text : Vec ℕ). text_plan text.items) r (work_of task.command task (inputs_or now.told task))
     go (Ok text) follows = rw own (ap (λ s. and_then s (λ made. Ok (text_plan made))) follows)
     go (Err (Refused refusal)) follows = rw own (ap (λ s. and_then s (λ made. Ok (text_plan made))) follows)
     go (Err (Stopped stop)) follows = follows

@@ -1,27 +1,9 @@
 -- The moments of a run are regular: a debugger keeps the log over them.
-use Rattle.std.proofs.Common.{◌≡◌, ℕ, zero, suc, ◌+◌, ◌<◌, List, [], ◌∷◌, length, Some, inl, inr, refl, sym, ap, ◌∙◌, arith}
-use Rattle.std.specs.Prelude.{map, slice_get, slice_index, EachIndex}
-use Rattle.std.proofs.lemmas.Bool.{cases_lt}
-use Rattle.std.proofs.lemmas.List.{length-map, get_or_past}
-use Rattle.play_script.specs.Scripts.{ScriptView}
-use Rattle.uxn_opcodes.specs.declared.Core.{Core}
-use Rattle.uxn_stacks.specs.Cells.{Cells}
-use Rattle.vector_loop.specs.declared.output.Outputs.{Outputs}
-use Rattle.vector_loop.specs.State.{State}
+use Rattle.uxn_cli.proofs.Common.{◌≡◌, ℕ, zero, suc, ◌+◌, List, [], ◌∷◌, Some, refl, sym, ap, ◌∙◌, arith, map, slice_get, length-map, ScriptView}
+use Rattle.uxn_cli.proofs.Common.{Core, Outputs, State, AreCounted, CountingLaw, IsMachine, given_at, RunLaw, Home, first_state, reference_trail, shown_of}
 use Rattle.vector_loop.specs.Run.{run}
 use Rattle.vector_loop.specs.Watch.{ports_stored}
-use Rattle.vector_loop.specs.Counted.{AreCounted, CountingLaw}
-use Rattle.uxn_undo.specs.Row.{HoldsBytes, IsMachine}
-use Rattle.uxn_undo.specs.Runs.{given_at, RunLaw}
 use Rattle.uxn_debugger.specs.Log.{Shown, given_of, IsRegular}
-use Rattle.uxn_cli.specs.Job.{Home, start_with, trail_by, shown_of}
-
--- a ring holds bytes at each of its places, and zeros at no place
-pub holds-bytes : (ring : Cells) → EachIndex ring.bytes (λ k. slice_index ring.bytes k < 256) → HoldsBytes ring
-holds-bytes ring bytes place = elim (cases_lt place (length ring.bytes)) [
-  | inl within ↦ bytes place within
-  | inr past ↦ let none = get_or_past ring.bytes place 0 past in rw none (omega arith)
-]
 
 counted-at : (count : ℕ) (states : List State) → AreCounted count states → (index : ℕ) (s : Shown) → slice_get (map shown_of states) index ≡ Some s
     → s.moment.instructions ≡ count + index
@@ -44,10 +26,10 @@ given-all [] = refl
 given-all (state ∷ states) = ap (λ given. given_at state ∷ given) (given-all states)
 
 pub is-regular : CountingLaw → RunLaw → (budget : ℕ) (outputs : Outputs) (script : ScriptView) (home : Home) (core : Core) → IsMachine core
-    → IsRegular (map shown_of (trail_by budget outputs script home core).moments) (shown_of (trail_by budget outputs script home core).last)
-unfolding trail_by
+    → IsRegular (map shown_of (reference_trail budget outputs script home core).moments) (shown_of (reference_trail budget outputs script home core).last)
+unfolding reference_trail
 is-regular counting run_law budget outputs script home core is =
-    let start = start_with core script home in
+    let start = first_state core script home in
     let trail = run budget outputs script start in
     let counted = counting budget outputs script start in
     record {

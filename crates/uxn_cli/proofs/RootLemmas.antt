@@ -1,23 +1,12 @@
 -- Outputs that do not clash lie outside the root, and the root is not beneath them.
-use Rattle.std.proofs.Common.{◌≡◌, ℕ, true, false, true≢false, List, [], ◌∷◌, ◌++◌, refl, ap, sym, ◌∙◌, arith}
-use Rattle.std.specs.Prelude.{Option, Some, None, IfSome, option_to_list, find}
-use Rattle.std.specs.List.{list_any}
-use Rattle.std.specs.Str.{bytes_eq}
-use Rattle.std.proofs.lemmas.Bool.{or_parts, false_from_ne_true}
+use Rattle.uxn_cli.proofs.Common.{◌≡◌, ℕ, true, false, true≢false, List, [], ◌∷◌, ◌++◌, refl, ap, sym, ◌∙◌, arith, Option, Some, None, IfSome}
+use Rattle.uxn_cli.proofs.Common.{option_to_list, find, list_any, bytes_eq, or_parts, false_from_ne_true, is_in, below, parent_is_folder, below-same}
+use Rattle.uxn_cli.proofs.Common.{suits, Nodes, File, is_folder, is_folder_at, Creates, changed_files, files_by, inserted-other, job_home, creating}
+use Rattle.uxn_cli.proofs.Common.{Task, command_inputs, outputs_of, command_root, meets, clashes, HasApartOutputs, one_if, none_among, count-first, meets_parts}
+use Rattle.uxn_cli.proofs.Common.{meets_one, clash_parts}
+use Rattle.tree_io.specs.PathText.{parent_of}
+use Rattle.tree_io.specs.PathLaws.{parent_under}
 use Rattle.std.specs.FinMap as fin
-use Rattle.file_ports.specs.RootPart.{is_in, below, parent_is_folder}
-use Rattle.file_ports.specs.PartLaws.{below-same}
-use Rattle.file_ports.specs.Device.{suits}
-use Rattle.uxn_io.specs.Files.{Nodes, File, is_folder, is_folder_at}
-use Rattle.uxn_io.specs.Outside.{Creates, changed_files, files_by}
-use Rattle.uxn_io.specs.PathText.{parent_of}
-use Rattle.varvara_bus.specs.Touching.{inserted-other}
-use Rattle.uxn_cli.specs.Job.{home_in}
-use Rattle.task_files.specs.Writing.{creating}
-use Rattle.uxn_io.specs.PathLaws.{parent_under}
-use Rattle.uxn_words.specs.declared.task.Task.{Task}
-use Rattle.uxn_words.specs.Places.{inputs_by, outputs_of, root_by, meets, clashes, HasApartOutputs}
-use Rattle.task_files.proofs.PlaceLemmas.{one_if, none_among, count-first, meets_parts, meets_one, clash_parts}
 
 -- an output does not meet the root
 apart_from : (inputs outputs : List (List ℕ)) (root path : List ℕ) → find (clashes inputs (root ∷ outputs)) outputs ≡ None → list_any (bytes_eq path) outputs ≡ true → meets path root ≡ false
@@ -27,21 +16,21 @@ apart_from inputs outputs root path none among =
     (λ is. let one = ap one_if is in omega (arith, few, count-first (meets path) root outputs, meets_one path outputs among, one))
 
 -- the outputs of a task lie apart from its root
-pub all-apart : (task : Task) → HasApartOutputs task → IfSome (root_by task.command task) (λ r. (path : List ℕ) → list_any (bytes_eq path) (outputs_of task) ≡ true → meets path r ≡ false)
-all-apart task apart = go (root_by task.command task) apart
+pub all-apart : (task : Task) → HasApartOutputs task → IfSome (command_root task.command task) (λ r. (path : List ℕ) → list_any (bytes_eq path) (outputs_of task) ≡ true → meets path r ≡ false)
+all-apart task apart = go (command_root task.command task) apart
   where
-    go : (root : Option (List ℕ)) → find (clashes (inputs_by task.command task) (option_to_list root ++ outputs_of task)) (outputs_of task) ≡ None
+    go : (root : Option (List ℕ)) → find (clashes (command_inputs task.command task) (option_to_list root ++ outputs_of task)) (outputs_of task) ≡ None
         → IfSome root (λ r. (path : List ℕ) → list_any (bytes_eq path) (outputs_of task) ≡ true → meets path r ≡ false)
     go None none = tt
-    go (Some root) none = λ path among. apart_from (inputs_by task.command task) (outputs_of task) root path none among
+    go (Some root) none = λ path among. apart_from (command_inputs task.command task) (outputs_of task) root path none among
 
 apart-outside : (root path : List ℕ) → meets path root ≡ false → is_in root path ≡ false
 unfolding is_in
 apart-outside root path apart = let parts = meets_parts path root apart in rw (parts.0, parts.1) refl
 
 -- so a device at its path would not suit the root
-pub outputs-outside : (task : Task) (path : List ℕ) → HasApartOutputs task → list_any (bytes_eq path) (outputs_of task) ≡ true → suits (root_by task.command task) (Some path) ≡ false
-outputs-outside task path apart among = go (root_by task.command task) (all-apart task apart)
+pub outputs-outside : (task : Task) (path : List ℕ) → HasApartOutputs task → list_any (bytes_eq path) (outputs_of task) ≡ true → suits (command_root task.command task) (Some path) ≡ false
+outputs-outside task path apart among = go (command_root task.command task) (all-apart task apart)
   where
     go : (root : Option (List ℕ)) → IfSome root (λ r. (path : List ℕ) → list_any (bytes_eq path) (outputs_of task) ≡ true → meets path r ≡ false) → suits root (Some path) ≡ false
     go None all = refl
@@ -71,6 +60,6 @@ parent-made root paths nodes apart = go (parent_of root) refl
         ap is_folder (spared-node parent nodes paths (λ among. true≢false (sym (parent_under root parent is) ∙ (meets_parts parent root (apart parent among)).2)))
 
 pub home-made : (root : Option (List ℕ)) (paths : List (List ℕ)) (nodes : Nodes) → IfSome root (λ r. (path : List ℕ) → list_any (bytes_eq path) paths ≡ true → meets path r ≡ false)
-    → home_in root (files_by nodes (creating paths)) ≡ home_in root nodes
+    → job_home root (files_by nodes (creating paths)) ≡ job_home root nodes
 home-made None paths nodes apart = refl
 home-made (Some root) paths nodes apart = λ i. record { root = Some root; part = below-made root paths nodes apart i; parent = parent-made root paths nodes apart i }

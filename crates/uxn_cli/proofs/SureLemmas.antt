@@ -1,12 +1,11 @@
 -- What is said of a tree that tells its contents.
-use Rattle.std.specs.Prelude.{Option, Some, None, IfSome}
-use Rattle.uxn_io.specs.Files.{Nodes}
+use Rattle.uxn_cli.proofs.Common.{◌≡◌, Option, Some, None, IfSome, Nodes, refl}
 
--- where a fact is false, all follows from what gives it
-pub never : (tree : Option Nodes) (A : Nodes → Type 0) (P Q : Type 0) → (P → Q) → IfSome tree (λ nodes. A nodes → P) → IfSome tree (λ nodes. A nodes → Q)
-never None A P Q f h = tt
-never (Some nodes) A P Q f h = λ a. f (h a)
+-- this holds where a tree tells its contents
+pub where_told : (tree : Option Nodes) (P : Nodes → Type 0) → ((nodes : Nodes) → tree ≡ Some nodes → P nodes) → IfSome tree P
+where_told None P all = tt
+where_told (Some nodes) P all = all nodes refl
 
-pub always : (tree : Option Nodes) (A : Nodes → Type 0) (Q : Type 0) → Q → IfSome tree (λ nodes. A nodes → Q)
-always None A Q q = tt
-always (Some nodes) A Q q = λ a. q
+-- what holds whatever it tells
+pub always : (tree : Option Nodes) (A : Nodes → Type 0) (P : Type 0) → P → IfSome tree (λ nodes. A nodes → P)
+always tree A P is = where_told tree (λ nodes. A nodes → P) (λ nodes told a. is)

@@ -1,12 +1,13 @@
 -- A call of the program: its words, what stands outside before it and after it, and the status that it gives.
 use Rattle.std.specs.Prelude.{ℕ, List, map, String, string_bytes, Result, Ok, Err, IfSome}
-use Rattle.uxn_io.specs.declared.sinks.Sink as sink
-use Rattle.uxn_io.specs.declared.trees.Tree as tree
+use Rattle.tree_io.specs.declared.sinks.Sink as sink
+use Rattle.tree_io.specs.declared.trees.Tree as tree
 use Rattle.uxn_opcodes.specs.declared.Stop.{Stop}
 use Rattle.uxn_words.specs.declared.task.Task.{Task}
 use Rattle.task_files.specs.declared.refusal.Refusal.{Refusal}
-use Rattle.uxn_cli.specs.Causes.{verdict_on}
-use Rattle.uxn_io.specs.State.{Outside, outside}
+use Rattle.uxn_cli.specs.Causes.{tree_verdict}
+use Rattle.uxn_cli.specs.declared.host.Host.{Host}
+use Rattle.tree_io.specs.State.{Outside, outside}
 use Rattle.task_files.specs.Request.{request}
 use Rattle.task_files.specs.Statuses.{early_status}
 use Rattle.uxn_cli.specs.Verdict.{Work}
@@ -27,15 +28,21 @@ call of_tree of_out of_err words files out err files_now out_now err_now status 
   status = status;
 }
 
+-- the same over a host, as it was and as it is
+abbrev pub call_on : {T O E Z : Type 0} → tree.Ghosts T → sink.Ghosts O → sink.Ghosts E → List (String Z)
+    → Host T O E → Host T O E → ℕ → Call
+call_on of_tree of_out of_err words before now status =
+    call of_tree of_out of_err words before.tree.now before.out.now before.err.now now.tree.now now.out.now now.err.now status
+
 -- what its words ask for
-abbrev pub asked_by : Call → Result Task Refusal
-asked_by c = request c.words
+abbrev pub call_request : Call → Result Task Refusal
+call_request c = request c.words
 
 -- this holds of the verdict on its words and on what the tree shows them, where the tree tells its contents
 abbrev pub OfVerdict : Call → (Result Work Refusal → Type 0) → Type 0
-OfVerdict c P = IfSome c.before.world.files (λ nodes. P (verdict_on nodes (asked_by c)))
+OfVerdict c P = IfSome c.before.world.files (λ nodes. P (tree_verdict nodes (call_request c)))
 
 -- the status of a call that may have stopped
-abbrev pub status_by : Result ℕ Stop → ℕ
-status_by (Ok status) = status
-status_by (Err stop) = early_status stop
+abbrev pub step_status : Result ℕ Stop → ℕ
+step_status (Ok status) = status
+step_status (Err stop) = early_status stop

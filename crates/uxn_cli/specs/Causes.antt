@@ -5,12 +5,12 @@ use Rattle.std.specs.List.{list_any}
 use Rattle.std.specs.Str.{bytes_eq}
 use Rattle.std.specs.FinMap as map
 use Rattle.file_ports.specs.Device.{suits}
-use Rattle.uxn_io.specs.Told.{extended}
-use Rattle.uxn_io.specs.Files.{Nodes}
+use Rattle.tree_io.specs.Told.{extended}
+use Rattle.tree_io.specs.Files.{Nodes}
 use Rattle.uxn_words.specs.declared.task.Task.{Task}
 use Rattle.task_files.specs.declared.refusal.Refusal.{Refusal}
 use Rattle.uxn_cli.specs.Verdict.{Work, judged}
-use Rattle.uxn_words.specs.Places.{outputs_of, root_by}
+use Rattle.uxn_words.specs.Places.{outputs_of, command_root}
 use Rattle.task_files.specs.Request.{and_then}
 use Rattle.task_files.specs.Views.{view_of}
 use Rattle.task_files.specs.Statuses.{Status, number, IsEarly}
@@ -22,8 +22,8 @@ pub record IsExactly (answer : ℕ) (status : Status) (P : Type 0) : Type 0 wher
   pub whenever : P → (answer ≡ number status) ⊎ IsEarly answer
 
 -- the verdict on words and on what stands in a tree
-abbrev pub verdict_on : Nodes → Result Task Refusal → Result Work Refusal
-verdict_on nodes asked = and_then asked (λ task. judged task (view_of nodes task))
+abbrev pub tree_verdict : Nodes → Result Task Refusal → Result Work Refusal
+tree_verdict nodes asked = and_then asked (λ task. judged task (view_of nodes task))
 
 -- what is accepted ends with this exit code
 abbrev pub EndsWith : ℕ → Result Work Refusal → Type 0
@@ -36,7 +36,7 @@ PutsLine before now = (text : List ℕ) × (now ≡ extended before (text ++ 10 
 -- the path is no file that the task writes, and lies outside its root
 pub record IsAside (task : Task) (path : List ℕ) : Type 0 where
   pub output : list_any (bytes_eq path) (outputs_of task) ≡ false
-  pub outside : suits (root_by task.command task) (Some path) ≡ false
+  pub outside : suits (command_root task.command task) (Some path) ≡ false
 
 -- every path but those of the outputs and those beneath the root has its old node
 abbrev pub KeepsOthers : Result Task Refusal → Option Nodes → Option Nodes → Type 0

@@ -2,19 +2,19 @@
 use Rattle.std.specs.Prelude.{◌≡◌, ℕ, ◌≤◌, ◌⊎◌, true, List, ◌++◌, map, Option, Some, Result, Ok, IfSome}
 use Rattle.std.specs.List.{list_any}
 use Rattle.std.specs.Str.{bytes_eq}
-use Rattle.uxn_io.specs.Faults.{Rose, Ledger}
-use Rattle.uxn_io.specs.Files.{Nodes, Node, File}
-use Rattle.uxn_io.specs.Outside.{World, changed_by, IsCutOff}
-use Rattle.uxn_io.specs.Told.{extended}
+use Rattle.tree_io.specs.Faults.{Rose, Ledger}
+use Rattle.tree_io.specs.Files.{Nodes, Node, File}
+use Rattle.tree_io.specs.Outside.{World, changed_by, IsCutOff}
+use Rattle.tree_io.specs.Told.{extended}
 use Rattle.uxn_opcodes.specs.declared.Stop.TheVariants.{NoMemory}
 use Rattle.varvara_bus.specs.Touching.{told_at}
 use Rattle.task_files.specs.declared.refusal.Refusal.{Refusal}
 use Rattle.uxn_cli.specs.Answer.{MayStop, Answers}
-use Rattle.task_files.specs.Blame.{blame_at}
-use Rattle.uxn_cli.specs.Call.{Call, asked_by, OfVerdict}
-use Rattle.uxn_cli.specs.Causes.{IsExactly, verdict_on, EndsWith, KeepsOthers, PutsLine}
+use Rattle.task_files.specs.Blame.{status_blame}
+use Rattle.uxn_cli.specs.Call.{Call, call_request, OfVerdict}
+use Rattle.uxn_cli.specs.Causes.{IsExactly, tree_verdict, EndsWith, KeepsOthers, PutsLine}
 use Rattle.uxn_cli.specs.Isolation.{LookSame, GivesAsOn}
-use Rattle.uxn_cli.specs.Job.{outputs_in}
+use Rattle.uxn_cli.specs.Job.{job_outputs}
 use Rattle.uxn_cli.specs.Observation.{HaveSameItems, IsOutcomeButLog}
 use Rattle.uxn_cli.specs.Outcome.{outcome_of}
 use Rattle.task_files.specs.Request.{request}
@@ -24,12 +24,12 @@ use Rattle.uxn_cli.specs.Verdict.{Work, Run, Write}
 
 -- the status, the bytes on both outputs and the files are the outcome of what was asked and seen; or the call ended early
 abbrev pub HasItsOutcome : Call → Type 0
-HasItsOutcome c = Answers (asked_by c) c.before.world c.now.world c.status
+HasItsOutcome c = Answers (call_request c) c.before.world c.now.world c.status
 
 -- what stands as before
 pub record LeavesTheRest (c : Call) : Type 0 where
   -- every path that is no output and lies outside the root has its old node
-  pub others : KeepsOthers (asked_by c) c.before.world.files c.now.world.files
+  pub others : KeepsOthers (call_request c) c.before.world.files c.now.world.files
   -- a refusal changes nothing in the tree, puts nothing on the standard output, and one line on the error output
   pub untouched : IsRefusing c.status → c.now.world.files ≡ c.before.world.files
   pub quiet : IsRefusing c.status → c.now.world.out ≡ c.before.world.out
@@ -38,7 +38,7 @@ pub record LeavesTheRest (c : Call) : Type 0 where
 -- when each status is given, unless the call ends early
 pub record HasStatuses (c : Call) : Type 0 where
   -- 128 and 129, which hang on the words alone
-  pub asked : (reason : Reason) → IsOfWords reason → IsExactly c.status (Refuses reason) (IsRefusedFor reason (asked_by c))
+  pub asked : (reason : Reason) → IsOfWords reason → IsExactly c.status (Refuses reason) (IsRefusedFor reason (call_request c))
   -- every refusal, and every exit code
   pub refused : OfVerdict c (λ verdict. (reason : Reason) → IsExactly c.status (Refuses reason) (IsRefusedFor reason verdict))
   pub accepted : OfVerdict c (λ verdict. (code : ℕ) → code ≤ 127 → IsExactly c.status (Exits code) (EndsWith code verdict))
@@ -46,7 +46,7 @@ pub record HasStatuses (c : Call) : Type 0 where
 -- why a call ends early
 pub record EndsEarlyByFaults (c : Call) : Type 0 where
   -- the count of whoever is to blame for the status rose in this call, and no other did
-  pub ledger : Ledger c.before.faults c.now.faults (blame_at c.status)
+  pub ledger : Ledger c.before.faults c.now.faults (status_blame c.status)
   pub tree_fault : c.status ≡ 136 → Rose c.before.faults.tree.faults c.now.faults.tree.faults
   pub sink_fault : c.status ≡ 137
       → Rose c.before.faults.out.faults c.now.faults.out.faults ⊎ Rose c.before.faults.err.faults c.now.faults.err.faults
@@ -74,7 +74,7 @@ pub record HoldsFront (before now whole : Option (List ℕ)) : Type 0 where
 
 -- a file that the work of a verdict writes
 abbrev pub IsOutputOf : Result Work Refusal → List ℕ → Type 0
-IsOutputOf (Ok (Run job)) path = list_any (bytes_eq path) (outputs_in job) ≡ true
+IsOutputOf (Ok (Run job)) path = list_any (bytes_eq path) (job_outputs job) ≡ true
 IsOutputOf (Ok (Write texts)) path = list_any (bytes_eq path) (map (λ text. text.path) texts) ≡ true
 IsOutputOf _ path = ⊥
 
@@ -101,20 +101,20 @@ IsCutShort c = OfVerdict c (λ verdict. IsEarly c.status → StandsCutOff verdic
 pub record GivesTheSame (c : Call) : Type 0 where
   -- where `debug` comes to its run, `play` with the same items, but for the log
   pub watched : IfSome c.before.world.files (λ nodes. (others : List (List ℕ)) (work : Work) → HaveSameItems c.words others
-      → verdict_on nodes (asked_by c) ≡ Ok work
-      → IsEarly c.status ⊎ IsOutcomeButLog (asked_by c) (outcome_of (verdict_on nodes (request others))) c.before.world c.now.world c.status)
+      → tree_verdict nodes (call_request c) ≡ Ok work
+      → IsEarly c.status ⊎ IsOutcomeButLog (call_request c) (outcome_of (tree_verdict nodes (request others))) c.before.world c.now.world c.status)
   -- the same call over every other tree that looks the same to it
-  pub isolated : IfSome c.before.world.files (λ nodes. (other : Nodes) → LookSame (asked_by c) nodes other
-      → GivesAsOn (asked_by c) nodes other c.before.world c.now.world c.status)
+  pub isolated : IfSome c.before.world.files (λ nodes. (other : Nodes) → LookSame (call_request c) nodes other
+      → GivesAsOn (call_request c) nodes other c.before.world c.now.world c.status)
 
 -- where the tree and the sinks surely take what the verdict asks of them, none of them fails
 pub record FailsNotWhereSure (c : Call) : Type 0 where
-  pub tree : IfSome c.before.world.files (λ nodes. TreeSuffices (verdict_on nodes (asked_by c)) c.before.sure.tree nodes
+  pub tree : IfSome c.before.world.files (λ nodes. TreeSuffices (tree_verdict nodes (call_request c)) c.before.sure.tree nodes
       → c.status ≡ 136 → ⊥)
   pub sinks : OfVerdict c (λ verdict. SinksSuffice verdict c.before.sure.out c.before.sure.err → c.status ≡ 137 → ⊥)
 
 -- what a call comes to, from which the rest follows
 pub record ComesOut (c : Call) : Type 0 where
   pub outcome : HasItsOutcome c
-  pub ledger : Ledger c.before.faults c.now.faults (blame_at c.status)
+  pub ledger : Ledger c.before.faults c.now.faults (status_blame c.status)
   pub sure : FailsNotWhereSure c

@@ -2,7 +2,7 @@
 -- report; and the commands of a debugger that watches it.
 use Rattle.std.specs.Prelude.{ℕ, Bool, false, List, map, [], ◌++◌, codes, decimal, Option, Some, None, option_to_list}
 use Rattle.std.specs.FinMap as nodes_map
-use Rattle.uxn_io.specs.Files.{Nodes}
+use Rattle.tree_io.specs.Files.{Nodes}
 use Rattle.file_ports.specs.RootPart.{below, parent_is_folder}
 use Rattle.uxn_opcodes.specs.declared.Core.{Core}
 use Rattle.uxn_opcodes.specs.Rule.{new_core}
@@ -23,7 +23,7 @@ use Rattle.vector_loop.specs.Watch.{page_in, moment_of}
 use Rattle.tal_words.specs.declared.name.Label.{Label}
 use Rattle.debug_commands.specs.declared.command.DebugCommand.{DebugCommand}
 use Rattle.uxn_debugger.specs.Log.{Shown, log_of}
-use Rattle.task_files.specs.World.{Text, text_at}
+use Rattle.task_files.specs.World.{Text, asked_output}
 use Rattle.uxn_cli.specs.declared.running.RunEnd.{RunEnd}
 
 -- what a debugger does: its commands, the labels that its log names, and the file of the log
@@ -43,8 +43,8 @@ abbrev pub no_home : Home
 no_home = record { root = None; part = nodes_map.empty; parent = false }
 
 -- as the files of a tree tell it
-abbrev pub home_in : Option (List ℕ) → Nodes → Home
-home_in root nodes = record { root = root; part = below root nodes; parent = parent_is_folder root nodes }
+abbrev pub job_home : Option (List ℕ) → Nodes → Home
+job_home root nodes = record { root = root; part = below root nodes; parent = parent_is_folder root nodes }
 
 pub record Job : Type 0 where
   pub rom : List ℕ
@@ -57,45 +57,45 @@ pub record Job : Type 0 where
   pub debug : Option Debugging
 
 -- the files that it writes, in the order of the usage line
-abbrev pub log_in : Option Debugging → List (List ℕ)
-log_in None = []
-log_in (Some debugging) = option_to_list debugging.log
+abbrev pub log_paths : Option Debugging → List (List ℕ)
+log_paths None = []
+log_paths (Some debugging) = option_to_list debugging.log
 
-abbrev pub outputs_in : Job → List (List ℕ)
-outputs_in job = log_in job.debug ++ (option_to_list job.frames ++ option_to_list job.samples ++ option_to_list job.report)
+abbrev pub job_outputs : Job → List (List ℕ)
+job_outputs job = log_paths job.debug ++ (option_to_list job.frames ++ option_to_list job.samples ++ option_to_list job.report)
 
 -- the files that it appends to while it runs
-abbrev pub outputs_by : Option (List ℕ) → Option (List ℕ) → Outputs
-outputs_by frames samples = record { frames = frames; samples = samples }
+abbrev pub wanted_outputs : Option (List ℕ) → Option (List ℕ) → Outputs
+wanted_outputs frames samples = record { frames = frames; samples = samples }
 
 -- the clock of a script is that of the machine
-abbrev pub clock_by : ScriptClock → Clock
-clock_by clock = record { seconds = clock.seconds; offset = clock.offset }
+abbrev pub bus_clock : ScriptClock → Clock
+bus_clock clock = record { seconds = clock.seconds; offset = clock.offset }
 
 -- a new machine, and the reference run from there
-abbrev pub devices_with : ScriptView → Home → DeviceState
-devices_with script home = new_state (clock_by script.clock) home.root home.part home.parent
+abbrev pub first_devices : ScriptView → Home → DeviceState
+first_devices script home = new_state (bus_clock script.clock) home.root home.part home.parent
 
-abbrev pub start_with : Core → ScriptView → Home → State
-start_with core script home = record { core = core; devices = devices_with script home; tally = new_tally }
+abbrev pub first_state : Core → ScriptView → Home → State
+first_state core script home = record { core = core; devices = first_devices script home; tally = new_tally }
 
-unfoldable pub trail_by : ℕ → Outputs → ScriptView → Home → Core → Trail
-trail_by budget outputs script home core = run budget outputs script (start_with core script home)
+unfoldable pub reference_trail : ℕ → Outputs → ScriptView → Home → Core → Trail
+reference_trail budget outputs script home core = run budget outputs script (first_state core script home)
 
 -- that of the ROM
 abbrev pub trail_of : Job → Trail
-trail_of job = trail_by job.budget (outputs_by job.frames job.samples) job.script job.home (new_core job.rom)
+trail_of job = reference_trail job.budget (wanted_outputs job.frames job.samples) job.script job.home (new_core job.rom)
 
 -- the exit code: the low seven bits of port 0f at the end
-abbrev pub exit_in : State → ℕ
-exit_in state = exit_code_of (stored state.devices.history 0x0f)
+abbrev pub state_exit : State → ℕ
+state_exit state = exit_code_of (stored state.devices.history 0x0f)
 
 -- how a run ended, by its last state
-abbrev pub end_in : State → RunEnd
-end_in state = record { exit = exit_in state; tally = state.tally }
+abbrev pub run_end : State → RunEnd
+run_end state = record { exit = state_exit state; tally = state.tally }
 
 abbrev pub exit_of : Job → ℕ
-exit_of job = exit_in (trail_of job).last
+exit_of job = state_exit (trail_of job).last
 
 -- a line of a report: a word and a number
 abbrev pub report_line : List ℕ → ℕ → List ℕ
@@ -122,7 +122,7 @@ unfoldable pub report_text : Version → ℕ → Tally → List ℕ
 report_text version exit tally = common_lines exit tally ++ further_lines version tally
 
 abbrev pub report_of : Option (List ℕ) → Version → State → List Text
-report_of path version end = text_at path (report_text version (exit_in end) end.tally)
+report_of path version end = asked_output path (report_text version (state_exit end) end.tally)
 
 -- what a debugger is shown of a state, and its log over a whole run
 abbrev pub shown_of : State → Shown
@@ -131,6 +131,6 @@ shown_of state = record { core = state.core; page = page_in state; moment = mome
 unfoldable pub log_text : Debugging → Trail → List ℕ
 log_text debugging trail = log_of debugging.labels (map shown_of trail.moments) (shown_of trail.last) debugging.commands
 
-abbrev pub log_by : Option Debugging → Trail → List Text
-log_by None trail = []
-log_by (Some debugging) trail = text_at debugging.log (log_text debugging trail)
+abbrev pub log_texts : Option Debugging → Trail → List Text
+log_texts None trail = []
+log_texts (Some debugging) trail = asked_output debugging.log (log_text debugging trail)

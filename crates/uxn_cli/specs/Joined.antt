@@ -1,8 +1,8 @@
 -- What a line has before it begins: the ROM of each machine, and the script of the first one.
 use Rattle.std.specs.Prelude.{◌≡◌, ℕ, Bool, [], Result, IfOk, is_err}
-use Rattle.uxn_io.specs.Ended.{SinkEnded}
-use Rattle.uxn_io.specs.State.{SinkState}
-use Rattle.uxn_io.specs.declared.sinks.Failed.{Failed}
+use Rattle.tree_io.specs.Ended.{SinkEnded}
+use Rattle.tree_io.specs.State.{SinkState}
+use Rattle.tree_io.specs.declared.sinks.Failed.{Failed}
 use Rattle.play_script.specs.Held.{bytes_in}
 use Rattle.uxn_line.specs.declared.line.Line.{Line}
 use Rattle.uxn_line.specs.Moves.{IsUnderWay, StaysUnderWay}

@@ -1,6 +1,6 @@
 -- What is to be done once all inputs are accepted, as the code holds it.
 use Rattle.std.specs.Prelude.{Option, Result, Ok, Err}
-use Rattle.uxn_io.specs.Files.{Nodes}
+use Rattle.tree_io.specs.Files.{Nodes}
 use Rattle.uxn_words.specs.declared.task.Task.{Task}
 use Rattle.uxn_cli.specs.declared.work.Work.{Work as HeldWork}
 use Rattle.uxn_cli.specs.declared.work.Work.TheVariants.{Run as RunIt, Write as WriteIt, Print as PrintIt, Join as JoinIt}
@@ -8,12 +8,12 @@ use Rattle.task_files.specs.declared.refusal.Halt.{Halt}
 use Rattle.uxn_cli.specs.Joined.{IsRunnable, joined_plan}
 use Rattle.uxn_cli.specs.Prepared.{IsReadyRun, SeesWork, Unready}
 use Rattle.uxn_cli.specs.Verdict.{text_plan, write_plan}
-use Rattle.task_files.specs.Held.{files_by}
+use Rattle.task_files.specs.Held.{held_files}
 
 -- it is the work that a task asks for, over what was seen in a tree
 abbrev pub IsWork : Option Nodes → Task → HeldWork → Type 0
 IsWork tree task (RunIt prepared) = IsReadyRun tree task prepared
-IsWork tree task (WriteIt written) = SeesWork tree task (Ok (write_plan (files_by written)))
+IsWork tree task (WriteIt written) = SeesWork tree task (Ok (write_plan (held_files written)))
 IsWork tree task (PrintIt text) = SeesWork tree task (Ok (text_plan text.items))
 IsWork tree task (JoinIt joined) = SeesWork tree task (Ok (joined_plan joined)) × IsRunnable joined
 

@@ -3,8 +3,8 @@ use Rattle.std.specs.Prelude.{◌≡◌, ℕ, false, List, ◌++◌, Option, Som
 use Rattle.std.specs.List.{list_any}
 use Rattle.std.specs.Str.{bytes_eq}
 use Rattle.file_ports.specs.RootPart.{below}
-use Rattle.uxn_io.specs.Files.{Nodes}
-use Rattle.uxn_io.specs.Outside.{Change, World, changed_by}
+use Rattle.tree_io.specs.Files.{Nodes}
+use Rattle.tree_io.specs.Outside.{Change, World, changed_by}
 use Rattle.varvara_bus.specs.Touching.{told_at}
 use Rattle.uxn_words.specs.declared.words.Command.TheVariants.{Play, Debug}
 use Rattle.uxn_words.specs.declared.task.Task.{Task}
@@ -13,11 +13,11 @@ use Rattle.uxn_words.specs.Words.{task_of}
 use Rattle.uxn_words.specs.declared.role.Role.{Role}
 use Rattle.uxn_words.specs.Tasks.{role_path, with_paths}
 use Rattle.uxn_words.specs.declared.role.Role.TheVariants as role
-use Rattle.uxn_cli.specs.Job.{Debugging, Job, trail_of, exit_of, log_by}
+use Rattle.uxn_cli.specs.Job.{Debugging, Job, trail_of, exit_of, log_texts}
 use Rattle.uxn_cli.specs.Verdict.{Work, Run}
 use Rattle.uxn_cli.specs.Outcome.{Outcome, outcome_of, running}
 use Rattle.task_files.specs.Writing.{creating, filling_all}
-use Rattle.uxn_cli.specs.Causes.{verdict_on}
+use Rattle.uxn_cli.specs.Causes.{tree_verdict}
 
 -- a run that nobody watches, and the same run under a debugger
 abbrev pub unwatched : Job → Job
@@ -29,7 +29,7 @@ watched job debugging = record job { debug = Some debugging }
 -- the file of the log is made, the run is made, and the log is written
 abbrev pub with_log : Job → Debugging → List Change
 with_log job debugging =
-    creating (option_to_list debugging.log) ++ (running (unwatched job) ++ filling_all (log_by (Some debugging) (trail_of job)))
+    creating (option_to_list debugging.log) ++ (running (unwatched job) ++ filling_all (log_texts (Some debugging) (trail_of job)))
 
 pub record OnlyWatches : Type 0 where
   pub status : (job : Job) (debugging : Debugging) → exit_of (watched job debugging) ≡ exit_of (unwatched job)
@@ -78,6 +78,6 @@ pub record IsOutcomeButLog (asked : Result Task Refusal) (o : Outcome) (before n
 
 -- where `debug` comes to its run, it gives what `play` gives with the same items, but for the log
 pub record ShowsWhatPlayDoes (nodes : Nodes) (asked other : Result Task Refusal) (work : Work) : Type 0 where
-  pub run : ComeToOneRun (Ok work) (verdict_on nodes other)
-  pub given : (before : World) → IsOutcomeButLog asked (outcome_of (verdict_on nodes other)) before
+  pub run : ComeToOneRun (Ok work) (tree_verdict nodes other)
+  pub given : (before : World) → IsOutcomeButLog asked (outcome_of (tree_verdict nodes other)) before
       (changed_by before (outcome_of (Ok work)).changes) (outcome_of (Ok work)).status

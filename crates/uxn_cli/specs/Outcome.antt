@@ -1,13 +1,13 @@
 -- What a verdict gives: the status, and the changes outside, in order.
 use Rattle.std.specs.Prelude.{ℕ, List, ◌++◌, map, Option, Result, Ok, Err}
-use Rattle.uxn_io.specs.Outside.{Change, ToOut, ToErr}
+use Rattle.tree_io.specs.Outside.{Change, ToOut, ToErr}
 use Rattle.task_files.specs.declared.refusal.Refusal.{Refusal}
 use Rattle.task_files.specs.Statuses.{status_of}
 use Rattle.task_files.specs.Lines.{line_of}
 use Rattle.vector_loop.specs.Trail.{Trail}
 use Rattle.play_script.specs.declared.script.Version.{Version}
 use Rattle.task_files.specs.Writing.{creating, filling_all, writing}
-use Rattle.uxn_cli.specs.Job.{Job, outputs_in, trail_of, exit_of, report_of, log_by}
+use Rattle.uxn_cli.specs.Job.{Job, job_outputs, trail_of, exit_of, report_of, log_texts}
 use Rattle.uxn_line.specs.Streams.{Job as LineJob, run_at, stream, exit_code_at}
 use Rattle.uxn_line.specs.Moves.{last_of}
 use Rattle.uxn_cli.specs.Verdict.{Work, Run, Write, Print, RunLine}
@@ -27,8 +27,8 @@ reporting report version trail = trail.changes ++ filling_all (report_of report 
 -- a run: its files are made, it runs, its report is written, and then the log of a debugger
 unfoldable pub running : Job → List Change
 running job =
-    creating (outputs_in job)
-    ++ (reporting job.report job.script.version (trail_of job) ++ filling_all (log_by job.debug (trail_of job)))
+    creating (job_outputs job)
+    ++ (reporting job.report job.script.version (trail_of job) ++ filling_all (log_texts job.debug (trail_of job)))
 
 -- of machines in a line: the exit code of the last one's run, and what it writes to port 18
 abbrev pub line_exit : LineJob → ℕ

@@ -1,8 +1,8 @@
 -- What the tree and the sinks must surely take for a verdict (profile).
 use Rattle.std.specs.Prelude.{ℕ, ◌<◌, length, Result, Ok, Err}
-use Rattle.uxn_io.specs.Files.{Nodes}
-use Rattle.uxn_io.specs.Room.{Room}
-use Rattle.uxn_io.specs.Taking.{TreeTakes, SinkTakes, bytes_out, bytes_err}
+use Rattle.tree_io.specs.Files.{Nodes}
+use Rattle.tree_io.specs.Room.{Room}
+use Rattle.tree_io.specs.Taking.{TreeTakes, SinkTakes, bytes_out, bytes_err}
 use Rattle.task_files.specs.declared.refusal.Refusal.{Refusal}
 use Rattle.task_files.specs.Lines.{line_of}
 use Rattle.task_files.specs.Made.{Takes}

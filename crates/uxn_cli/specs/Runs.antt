@@ -1,11 +1,11 @@
 -- What the run of a machine does, and what is written behind it.
 use Rattle.std.specs.Prelude.{◌≡◌, ◌≤◌, ◌⊎◌, ℕ, List, ◌++◌, Option, None, Some}
 use Rattle.std.specs.Prelude.{Result, Ok, Err, IfOk, IfErr, OnOk, IfSome, IsSome}
-use Rattle.uxn_io.specs.Ended.{Ended}
-use Rattle.uxn_io.specs.Faults.{Blame, Ledger}
-use Rattle.uxn_io.specs.Files.{Nodes}
-use Rattle.uxn_io.specs.Outside.{Change}
-use Rattle.uxn_io.specs.State.{Outside}
+use Rattle.tree_io.specs.Ended.{Ended}
+use Rattle.tree_io.specs.Faults.{Blame, Ledger}
+use Rattle.tree_io.specs.Files.{Nodes}
+use Rattle.tree_io.specs.Outside.{Change}
+use Rattle.tree_io.specs.State.{Outside}
 use Rattle.uxn_opcodes.specs.Ports.{blame_of}
 use Rattle.uxn_opcodes.specs.declared.Core.{Core}
 use Rattle.uxn_opcodes.specs.declared.Stop.{Stop}
@@ -20,7 +20,7 @@ use Rattle.vector_loop.specs.declared.watch.Moment.{Moment}
 use Rattle.uxn_words.specs.Tasks.{role_path}
 use Rattle.uxn_words.specs.declared.role.Role.TheVariants as role
 use Rattle.uxn_words.specs.declared.task.Task.{Task}
-use Rattle.uxn_cli.specs.Job.{Debugging, Home, outputs_by, trail_by, end_in, log_by}
+use Rattle.uxn_cli.specs.Job.{Debugging, Home, wanted_outputs, reference_trail, run_end, log_texts}
 use Rattle.task_files.specs.Writing.{filling_all}
 use Rattle.uxn_cli.specs.Outcome.{reporting}
 use Rattle.uxn_cli.specs.declared.machine.Machine.{Machine}
@@ -32,22 +32,22 @@ abbrev pub AtHome : Option (List ℕ) → Option Nodes → (Home → Type 0) →
 AtHome root tree P = (home : Home) → home.root ≡ root → HasFiles tree home.root home.part home.parent → P home
 
 -- how the machine of a task is run
-abbrev pub settings_for : Task → Settings
-settings_for task = record { outputs = outputs_by (role_path task role.Frames) (role_path task role.Samples); budget = task.budget }
+abbrev pub task_settings : Task → Settings
+task_settings task = record { outputs = wanted_outputs (role_path task role.Frames) (role_path task role.Samples); budget = task.budget }
 
 -- the run of a machine, from the folder of the program's own files
-abbrev pub trail_from : Settings → Machine → Home → Trail
-trail_from settings machine home = trail_by settings.budget settings.outputs machine.script home machine.core
+abbrev pub machine_trail : Settings → Machine → Home → Trail
+machine_trail settings machine home = reference_trail settings.budget settings.outputs machine.script home machine.core
 
-abbrev pub trail_for : Task → Machine → Home → Trail
-trail_for task machine = trail_from (settings_for task) machine
+abbrev pub task_trail : Task → Machine → Home → Trail
+task_trail task machine = machine_trail (task_settings task) machine
 
 -- what is done by a run, its report, and the log of a debugger
-abbrev pub reporting_for : Task → Machine → Trail → List Change
-reporting_for task machine trail = reporting (role_path task role.Report) machine.script.version trail
+abbrev pub reported_changes : Task → Machine → Trail → List Change
+reported_changes task machine trail = reporting (role_path task role.Report) machine.script.version trail
 
-abbrev pub logging_for : Task → Machine → Option Debugging → Trail → List Change
-logging_for task machine debug trail = reporting_for task machine trail ++ filling_all (log_by debug trail)
+abbrev pub logged_changes : Task → Machine → Option Debugging → Trail → List Change
+logged_changes task machine debug trail = reported_changes task machine trail ++ filling_all (log_texts debug trail)
 
 -- the outputs of a run are files outside its root
 pub record RunFiles (task : Task) (tree : Option Nodes) : Type 0 where
@@ -65,7 +65,7 @@ blame_if (Err stop) = Some (blame_of {T = Unit {0}} (Err stop))
 pub record RunsOn (trail : Trail) (changes : List Change) (watched : Type 0) (before now : Outside) (result : Result RunEnd Stop)
     : Type 0 where
   pub made : Ended changes (blame_if result) before now
-  pub ends : IfOk result (λ end. end ≡ end_in trail.last)
+  pub ends : IfOk result (λ end. end ≡ run_end trail.last)
   pub names : IfErr result (λ stop. stop ≡ NoMemory → watched ⊎ TakesNames trail)
 
 -- a machine was run beneath a root, on a trail that hangs on what lies there, and what is to be written behind it was written

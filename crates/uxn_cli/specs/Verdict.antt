@@ -7,13 +7,13 @@ use Rattle.tal_sources.specs.Sources.{own_by}
 use Rattle.tal_words.specs.declared.name.Label.{Label}
 use Rattle.task_files.specs.declared.refusal.Refusal.{Refusal}
 use Rattle.task_files.specs.declared.refusal.Refusal.TheVariants.{NoOutput}
-use Rattle.task_files.specs.Accepted.{source_by, script_from, debug_labels, Given, run_given, SourceFiles, source_files}
-use Rattle.task_files.specs.Accepted.{disassembly_in, Machines, machines_given}
+use Rattle.task_files.specs.Accepted.{judged_source, judged_script, debug_labels, Given, run_given, SourceFiles, source_files}
+use Rattle.task_files.specs.Accepted.{disassembly_given, Machines, machines_given}
 use Rattle.task_files.specs.Made.{first_unmade}
 use Rattle.task_files.specs.Request.{and_then}
 use Rattle.task_files.specs.Views.{View}
 use Rattle.task_files.specs.World.{Text}
-use Rattle.uxn_io.specs.Files.{Nodes}
+use Rattle.tree_io.specs.Files.{Nodes}
 use Rattle.uxn_line.specs.Streams.{Job as LineJob}
 use Rattle.uxn_words.specs.declared.words.Command.{Command}
 use Rattle.uxn_words.specs.declared.words.Command.TheVariants.{Play, Debug, Assemble, Disassemble, Generate, Line}
@@ -30,14 +30,14 @@ abbrev pub debugging : Task → List DebugCommand → List Label → Debugging
 debugging task commands labels = record { commands = commands; labels = labels; log = (role_path task role.Log) }
 
 -- the folder of a program's own files, as it was seen
-abbrev pub home_by : Option (List ℕ) → Nodes → Bool → Home
-home_by None part parent = no_home
-home_by (Some root) part parent = record { root = Some root; part = part; parent = parent }
+abbrev pub seen_home : Option (List ℕ) → Nodes → Bool → Home
+seen_home None part parent = no_home
+seen_home (Some root) part parent = record { root = Some root; part = part; parent = parent }
 
 -- `debug` has a debugger, whose commands are an input
-abbrev pub debugger_by : Command → Debugging → Option Debugging
-debugger_by Debug debugging = Some debugging
-debugger_by _ debugging = None
+abbrev pub command_debugging : Command → Debugging → Option Debugging
+command_debugging Debug debugging = Some debugging
+command_debugging _ debugging = None
 
 -- a run of a ROM with a script beneath a root, which a debugger may watch
 abbrev pub job_of : Task → Home → List ℕ → ScriptView → Option Debugging → Job
@@ -53,10 +53,10 @@ job_of task home rom script debug = record {
 }
 
 -- the summary of a workload: its source has no fault, and is run over 60 frames
-abbrev pub summary_in : ℕ → Result (List ℕ) Refusal
-summary_in count =
-    and_then (source_by (own_by (source_of count) (first_fault (source_of count)))) (λ source.
-    and_then (script_from (script_of (codes "frame 60"))) (λ script.
+abbrev pub accepted_summary : ℕ → Result (List ℕ) Refusal
+accepted_summary count =
+    and_then (judged_source (own_by (source_of count) (first_fault (source_of count)))) (λ source.
+    and_then (judged_script (script_of (codes "frame 60"))) (λ script.
     Ok (workload_text source.text (rom_of source.text) script)))
 
 -- what is to be done: a ROM is run, files are written, a text is printed, or machines in a line are run
@@ -81,11 +81,11 @@ text_plan text = planned (Print text) []
 -- a run, once its inputs are accepted
 abbrev pub run_plan : Command → Task → Home → Given → Plan
 run_plan c task home given =
-    let debugger = debugger_by c (debugging task given.commands (debug_labels given.labels given.program)) in
+    let debugger = command_debugging c (debugging task given.commands (debug_labels given.labels given.program)) in
     planned (Run (job_of task home given.program.rom given.script debugger)) given.program.included
 
-abbrev pub run_in : Command → Task → Home → View → Result Plan Refusal
-run_in c task home view = and_then (run_given c task view) (λ given. Ok (run_plan c task home given))
+abbrev pub accepted_run : Command → Task → Home → View → Result Plan Refusal
+accepted_run c task home view = and_then (run_given c task view) (λ given. Ok (run_plan c task home given))
 
 -- files that are written out of a source
 abbrev pub write_plan : SourceFiles → Plan
@@ -95,28 +95,28 @@ write_plan files = planned (Write files.texts) files.included
 abbrev pub line_plan : Machines → ScriptView → Plan
 line_plan machines script = planned (RunLine (line_job machines.setup machines.roms script)) []
 
-abbrev pub line_in : Machines → Result Plan Refusal
-line_in machines = and_then (console_script machines.script) (λ script. Ok (line_plan machines script))
+abbrev pub accepted_line : Machines → Result Plan Refusal
+accepted_line machines = and_then (console_script machines.script) (λ script. Ok (line_plan machines script))
 
 -- the work of a command, once its inputs are accepted
 abbrev pub work_of : Command → Task → View → Result Plan Refusal
-work_of Play task view = run_in Play task (home_by (role_path task role.Root) view.part view.parent) view
-work_of Debug task view = run_in Debug task (home_by (role_path task role.Root) view.part view.parent) view
+work_of Play task view = accepted_run Play task (seen_home (role_path task role.Root) view.part view.parent) view
+work_of Debug task view = accepted_run Debug task (seen_home (role_path task role.Root) view.part view.parent) view
 work_of Assemble task view = and_then (source_files task view) (λ files. Ok (write_plan files))
-work_of Disassemble task view = and_then (disassembly_in task view) (λ text. Ok (text_plan text))
-work_of Generate task view = and_then (summary_in task.count) (λ text. Ok (text_plan text))
-work_of Line task view = and_then (machines_given task view) line_in
+work_of Disassemble task view = and_then (disassembly_given task view) (λ text. Ok (text_plan text))
+work_of Generate task view = and_then (accepted_summary task.count) (λ text. Ok (text_plan text))
+work_of Line task view = and_then (machines_given task view) accepted_line
 
 -- then each output can be made and is no included file (135)
-abbrev pub made_by : Option (List ℕ) → Work → Result Work Refusal
-made_by None work = Ok work
-made_by (Some path) work = Err (NoOutput path)
+abbrev pub unblocked : Option (List ℕ) → Work → Result Work Refusal
+unblocked None work = Ok work
+unblocked (Some path) work = Err (NoOutput path)
 
-abbrev pub made_for : Task → Option (List ℕ) → Plan → Result Work Refusal
-made_for task blocked accepted = made_by (first_unmade blocked accepted.included (outputs_of task)) accepted.work
+abbrev pub judged_outputs : Task → Option (List ℕ) → Plan → Result Work Refusal
+judged_outputs task blocked accepted = unblocked (first_unmade blocked accepted.included (outputs_of task)) accepted.work
 
 abbrev pub judged : Task → View → Result Work Refusal
-judged task view = and_then (work_of task.command task view) (made_for task view.blocked)
+judged task view = and_then (work_of task.command task view) (judged_outputs task view.blocked)
 
 abbrev pub verdict : Result Task Refusal → View → Result Work Refusal
 verdict asked view = and_then asked (λ task. judged task view)

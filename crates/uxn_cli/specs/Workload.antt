@@ -1,13 +1,13 @@
 -- The run of a workload, and what is told of it (profile).
 use Rattle.std.specs.Prelude.{◌≡◌, ℕ, List, [], length, Some, None, unwrap_or}
 use Rattle.std.specs.FinMap as nodes_map
-use Rattle.uxn_io.specs.Outside.{World, changed_by}
+use Rattle.tree_io.specs.Outside.{World, changed_by}
 use Rattle.uxn_opcodes.specs.declared.Core.{Core}
 use Rattle.uxn_opcodes.specs.Rule.{new_core}
 use Rattle.play_script.specs.Scripts.{ScriptView}
 use Rattle.vector_loop.specs.Trail.{Trail}
 use Rattle.uxn_workload.specs.Summary.{Summary, summary_text}
-use Rattle.uxn_cli.specs.Job.{no_home, outputs_by, trail_by, end_in}
+use Rattle.uxn_cli.specs.Job.{no_home, wanted_outputs, reference_trail, run_end}
 use Rattle.uxn_cli.specs.declared.running.RunEnd.{RunEnd}
 
 -- its own outside before the run: nothing was put, and there is no file
@@ -16,7 +16,7 @@ empty_world = record { out = Some []; err = Some []; files = Some nodes_map.empt
 
 -- it runs with no root, keeps neither pictures nor samples, and a vector has at most 4,000,000 instructions
 abbrev pub lone_trail : Core → ScriptView → Trail
-lone_trail core script = trail_by 4000000 (outputs_by None None) script no_home core
+lone_trail core script = reference_trail 4000000 (wanted_outputs None None) script no_home core
 
 abbrev pub workload_trail : List ℕ → ScriptView → Trail
 workload_trail rom script = lone_trail (new_core rom) script
@@ -27,11 +27,11 @@ console_of trail = unwrap_or (changed_by empty_world trail.changes).out []
 
 -- a run that is over, and the bytes that it put on an output of its own
 pub record HasRunAlone (trail : Trail) (end : RunEnd) (put : List ℕ) : Type 0 where
-  pub ends : end ≡ end_in trail.last
+  pub ends : end ≡ run_end trail.last
   pub bytes : put ≡ console_of trail
 
-abbrev pub told_by : List ℕ → List ℕ → RunEnd → List ℕ → Summary
-told_by source rom end console = record {
+abbrev pub run_summary : List ℕ → List ℕ → RunEnd → List ℕ → Summary
+run_summary source rom end console = record {
   source = length source;
   rom = length rom;
   instructions = end.tally.instructions;
@@ -42,9 +42,9 @@ told_by source rom end console = record {
   exit = end.exit;
 }
 
-abbrev pub told_of : List ℕ → List ℕ → Trail → Summary
-told_of source rom trail = told_by source rom (end_in trail.last) (console_of trail)
+abbrev pub trail_summary : List ℕ → List ℕ → Trail → Summary
+trail_summary source rom trail = run_summary source rom (run_end trail.last) (console_of trail)
 
 -- the summary of a source, its ROM, and its run over a script
 unfoldable pub workload_text : List ℕ → List ℕ → ScriptView → List ℕ
-workload_text source rom script = summary_text (told_of source rom (workload_trail rom script))
+workload_text source rom script = summary_text (trail_summary source rom (workload_trail rom script))

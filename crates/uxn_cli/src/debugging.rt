@@ -1,19 +1,20 @@
 //! The debugger of a run, and the log that it writes.
 ghost use Rattle.std.specs.Prelude.{◌≡◌, ◌≤◌, List, Some, IfSome, ◌<◌, Option, IsSome};
-ghost use Rattle.uxn_io.specs.State.{outside};
+ghost use Rattle.uxn_cli.specs.Outside.{SameHost, outside_of};
 ghost use Rattle.uxn_debugger.specs.Watching.{held_by, new_watching};
 ghost use Rattle.uxn_cli.specs.Verdict.{debugging};
 ghost use Rattle.vector_loop.specs.Outputs.{IsOutput};
 ghost use Rattle.uxn_cli.specs.Prepared.{AreNew};
-ghost use Rattle.uxn_cli.specs.Runs.{Runs, RunFiles, trail_for, logging_for};
+ghost use Rattle.uxn_cli.specs.Runs.{Runs, RunFiles, task_trail, logged_changes};
 ghost use Rattle.uxn_words.specs.Tasks.{role_path};
 
+use super::host::Host;
 use super::machine::{Machine, core_known};
 use super::running::{RunEnd, run_made, write_text};
 use debug_commands::DebugCommand;
 use tal_words::Label;
+use tree_io::{Sink, Tree};
 use uxn_debugger::{Debugger, the_log_is_that_of_the_run};
-use uxn_io::{Sink, Tree};
 use uxn_opcodes::Stop;
 use uxn_undo::{Undo, the_moments_of_a_run_are_in_a_row};
 use uxn_words::{Role, Task};
@@ -35,25 +36,24 @@ pub fn debug_made<T: Tree, O: Sink, E: Sink>(
     task: &Task,
     machine: Machine,
     debugger: &mut Debugger<'_>,
-    tree: &mut T,
-    out: &mut O,
-    err: &mut E,
+    host: &mut Host<'_, '_, '_, T, O, E>,
 ) -> Result<RunEnd, Stop>
     requires devices { AreNew machine.devices machine.script (role_path task.now Role.Root) }
     requires budget { 1 ≤ task.now.budget }
-    requires files { RunFiles task.now (T.state tree.old).told }
-    requires log { IfSome (role_path task.now Role.Log) (IsOutput (role_path task.now Role.Root) (T.state tree.old).told) }
-    ensures { (commands : List DebugCommand) (labels : List Label) → held_by debugger.old ≡ new_watching commands labels
-        → Runs (role_path task.now Role.Root) (trail_for task.now machine) (logging_for task.now machine (Some (debugging task.now commands labels)))
+    requires files { RunFiles task.now (T.state host.old.tree.now).told }
+    requires log { IfSome (role_path task.now Role.Log) (IsOutput (role_path task.now Role.Root) (T.state host.old.tree.now).told) }
+    ensures runs { (commands : List DebugCommand) (labels : List Label) → held_by debugger.old ≡ new_watching commands labels
+        → Runs (role_path task.now Role.Root) (task_trail task.now machine) (logged_changes task.now machine (Some (debugging task.now commands labels)))
         (IsSome (Some (debugging task.now commands labels)))
-        (outside (T.state tree.old) (O.state out.old) (E.state err.old)) (outside (T.state tree.new) (O.state out.new) (E.state err.new)) result }
+        (outside_of T.Tree O.Sink E.Sink host.old) (outside_of T.Tree O.Sink E.Sink host.new) result }
+    ensures same { SameHost host.old host.new }
 {
     the_log_is_that_of_the_run();
     the_moments_of_a_run_are_counted();
     the_moments_of_a_run_are_in_a_row();
     core_known(&machine.core);
-    let end = run_made(task, machine, tree, out, err, debugger)?;
-    write_text(&task.path(Role::Log), debugger.log(), tree)
+    let end = run_made(task, machine, host, debugger)?;
+    write_text(&task.path(Role::Log), debugger.log(), host.tree)
         .and(Ok(end))
         .or(Err(Stop::TreeFault))
 }

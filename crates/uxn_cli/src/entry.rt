@@ -1,56 +1,49 @@
 //! The top call, from the words to the status.
-ghost use Rattle.std.specs.Prelude.{◌≡◌, ◌≤◌, map, string_bytes, IfOk};
+ghost use Rattle.std.specs.Prelude.{◌≡◌, map, string_bytes};
 ghost use Rattle.task_files.specs.Request.{request};
-ghost use Rattle.uxn_words.specs.Places.{HasApartOutputs};
-ghost use Rattle.task_files.specs.Follows.{Follows};
-ghost use Rattle.task_files.specs.Blame.{as_step, OnRefused};
+ghost use Rattle.task_files.specs.Blame.{as_step};
 ghost use Rattle.task_files.specs.Statuses.{early_status};
-ghost use Rattle.uxn_cli.specs.Call.{call, status_by};
-ghost use Rattle.uxn_io.specs.State.{outside};
+ghost use Rattle.uxn_cli.specs.Call.{call, call_on};
 ghost use Rattle.uxn_cli.specs.Clauses.{HasItsOutcome, LeavesTheRest, HasStatuses, EndsEarlyByFaults, IsCutShort, GivesTheSame, FailsNotWhereSure};
 ghost use Rattle.uxn_cli.specs.Clauses.{ComesOut};
-ghost use Rattle.uxn_cli.specs.Outside.{DoesWork};
-ghost use Rattle.uxn_cli.specs.Refused.{CountsRefusals, PassesNoneOver};
+ghost use Rattle.uxn_cli.specs.Outside.{DoesWork, SameHost, state_of};
+ghost use Rattle.uxn_cli.specs.Refused.{PassesNoneOver};
 
+use super::host::Host;
 use super::work::carry_out;
 use std::alloc::Global;
 use tal_sources::a_source_looks_at_its_files_alone;
 use task_files::{Halt, request};
-use uxn_io::{Sink, Tree};
+use tree_io::{Sink, Tree};
 use uxn_opcodes::Stop;
 
 /// Does what the words ask for. Where it is refused its line is not put yet.
 fn perform<T: Tree, O: Sink, E: Sink>(
     alloc: Global,
     words: &[String],
-    tree: &mut T,
-    out: &mut O,
-    err: &mut E,
+    host: &mut Host<'_, '_, '_, T, O, E>,
 ) -> Result<u8, Halt>
-    ensures does { DoesWork (request (map string_bytes words.now)) (outside (T.state tree.old) (O.state out.old) (E.state err.old))
-        (outside (T.state tree.new) (O.state out.new) (E.state err.new)) result }
-    ensures refusals { CountsRefusals (request (map string_bytes words.now)) (T.state tree.old) (T.state tree.new) result }
-    ensures kept { OnRefused result (err.new ≡ err.old) }
+    ensures does { DoesWork (request (map string_bytes words.now))
+        (state_of T.Tree O.Sink E.Sink host.old) (state_of T.Tree O.Sink E.Sink host.new) result }
+    ensures same { SameHost host.old host.new }
 {
     let task = request(alloc, words)?;
-    carry_out(alloc, &task, tree, out, err)
+    carry_out(alloc, &task, host)
 }
 
 /// Does what the words ask for, or puts the line that says why not.
 fn answer<T: Tree, O: Sink, E: Sink>(
     alloc: Global,
     words: &[String],
-    tree: &mut T,
-    out: &mut O,
-    err: &mut E,
+    host: &mut Host<'_, '_, '_, T, O, E>,
 ) -> Result<u8, Stop>
-    ensures does { DoesWork (request (map string_bytes words.now)) (outside (T.state tree.old) (O.state out.old) (E.state err.old))
-        (outside (T.state tree.new) (O.state out.new) (E.state err.new)) (as_step result) }
-    ensures refusals { PassesNoneOver (request (map string_bytes words.now)) (T.state tree.old) (T.state tree.new) (status_by result) }
+    ensures does { DoesWork (request (map string_bytes words.now))
+        (state_of T.Tree O.Sink E.Sink host.old) (state_of T.Tree O.Sink E.Sink host.new) (as_step result) }
+    ensures same { SameHost host.old host.new }
 {
-    match perform(alloc, words, tree, out, err) {
+    match perform(alloc, words, host) {
         Ok(status) => Ok(status),
-        Err(Halt::Refused(refusal)) => refusal.put(alloc, err),
+        Err(Halt::Refused(refusal)) => refusal.put(alloc, host.err),
         Err(Halt::Stopped(stop)) => Err(stop),
     }
 }
@@ -67,17 +60,17 @@ fn early_status(stop: Stop) -> u8
 }
 
 /// Does what the words ask for, and gives the status.
+#[tactic(auto, using(crate::proofs::ClauseLemmas::comes_out))]
 fn status_of<T: Tree, O: Sink, E: Sink>(
     alloc: Global,
     words: &[String],
-    tree: &mut T,
-    out: &mut O,
-    err: &mut E,
+    host: &mut Host<'_, '_, '_, T, O, E>,
 ) -> u8
-    ensures refusals { PassesNoneOver (request (map string_bytes words.now)) (T.state tree.old) (T.state tree.new) result }
-    ensures comes { ComesOut (call T.Tree O.Sink E.Sink words.now tree.old out.old err.old tree.new out.new err.new result) }
+    ensures refusals { PassesNoneOver (request (map string_bytes words.now)) (T.state host.old.tree.now) (T.state host.new.tree.now) result }
+    ensures comes { ComesOut (call_on T.Tree O.Sink E.Sink words.now host.old host.new result) }
+    ensures same { SameHost host.old host.new }
 {
-    match answer(alloc, words, tree, out, err) {
+    match answer(alloc, words, host) {
         Ok(status) => status,
         Err(stop) => early_status(stop),
     }
@@ -97,8 +90,8 @@ fn status_of<T: Tree, O: Sink, E: Sink>(
 /// - `line SETUP` runs the machines of a setup in a line: what each writes to port 18 is given to the next one, and the bytes of
 ///   the last one go to `out`. Bytes to port 19 and debug texts are dropped.
 ///
-/// The status of a run is its exit code, 0 to 127, that of a line is the exit code of its last machine, and else it is 0. A refusal puts its one line on `err` and nothing
-/// else: 128 for words that are not legal, 129 for a word that is no path, 130 for an input that is no file, 131
+/// The status of a run is its exit code, 0 to 127, that of a line is the exit code of its last machine, and else it is 0. A refusal puts
+/// its one line on `err` and nothing else: 128 for words that are not legal, 129 for a word that is no path, 130 for an input that is no file, 131
 /// for a source with a fault, 132 for a script and 133 for commands with a faulty line, 134 for a ROM of more than
 /// 65,280 bytes or a faulty symbol file, 135 for an output that clashes or cannot be made, 139 for a setup with a faulty line or
 /// the script of one that has other events than input and its end. The call ends early with
@@ -142,5 +135,6 @@ pub fn uxn<T: Tree, O: Sink, E: Sink>(
     ensures refusals { PassesNoneOver (request (map string_bytes words.now)) (T.state tree.old) (T.state tree.new) result }
 {
     a_source_looks_at_its_files_alone();
-    status_of(alloc, words, tree, out, err)
+    let mut host = Host { tree, out, err };
+    status_of(alloc, words, &mut host)
 }

@@ -3,13 +3,14 @@ ghost use Rattle.std.specs.Prelude.{◌≡◌, ◌≤◌, [], None, Ok, length, 
 ghost use Rattle.tal_rom.specs.Rom.{rom_limit};
 ghost use Rattle.uxn_workload.specs.Summary.{summary_text};
 ghost use Rattle.uxn_cli.specs.Prepared.{AreNew};
-ghost use Rattle.uxn_cli.specs.Workload.{HasRunAlone, lone_trail, told_by, workload_text};
+ghost use Rattle.uxn_cli.specs.Workload.{HasRunAlone, lone_trail, run_summary, workload_text};
 ghost use Rattle.tal_rom.specs.Assembly.{IsAssembled, first_fault};
 ghost use Rattle.tal_sources.specs.Sources.{own_by};
-ghost use Rattle.task_files.specs.Accepted.{source_by};
-ghost use Rattle.uxn_cli.specs.Verdict.{summary_in};
+ghost use Rattle.task_files.specs.Accepted.{judged_source};
+ghost use Rattle.uxn_cli.specs.Verdict.{accepted_summary};
 ghost use Rattle.task_files.specs.Follows.{Follows};
 
+use super::host::Host;
 use super::machine::{Machine, new_machine};
 use super::running::{RunEnd, Settings, run_machine};
 use play_script::Script;
@@ -17,7 +18,7 @@ use std::alloc::{AllocError, Global};
 use tal_rom::{Assembly, assemble};
 use tal_sources::SourceFault;
 use tal_words::AsmStop;
-use task_files::{Halt, Refusal, script_of};
+use task_files::{Halt, Refusal, judge_script};
 use uxn_io::MemTree;
 use uxn_opcodes::Stop;
 use uxn_words::Task;
@@ -39,7 +40,7 @@ fn sum_up(
     end: &RunEnd,
     out: &GrowingSink,
 ) -> Result<Vec<u8>, AllocError>
-    ensures { IfOk result (λ text. text.items ≡ summary_text (told_by source.now rom.now end.now out.now.taken)) }
+    ensures { IfOk result (λ text. text.items ≡ summary_text (run_summary source.now rom.now end.now out.now.taken)) }
 {
     let ran = Ran {
         source: source.len() as u64,
@@ -73,7 +74,12 @@ fn run_alone(
     };
     let mut tree = MemTree::new(alloc, &[], 0, 0, &[])?;
     let mut err = GrowingSink::new(alloc);
-    match run_machine(machine, &settings, &mut tree, out, &mut err, &mut NoWatch) {
+    let mut host = Host {
+        tree: &mut tree,
+        out,
+        err: &mut err,
+    };
+    match run_machine(machine, &settings, &mut host, &mut NoWatch) {
         Ok(end) => Ok(end),
         Err(_) => Err(AllocError),
     }
@@ -97,7 +103,7 @@ fn run_workload(
 
 /// The assembly of a workload.
 fn assembly_of(alloc: Global, source: &[u8]) -> Result<Assembly, Halt>
-    ensures follows { Follows (λ _. record { text = source.now; paths = [] }) result (source_by (own_by source.now (first_fault source.now))) }
+    ensures follows { Follows (λ _. record { text = source.now; paths = [] }) result (judged_source (own_by source.now (first_fault source.now))) }
     ensures assembled { IfOk result (λ assembly. IsAssembled source.now (Ok assembly)) }
 {
     match assemble(alloc, source) {
@@ -111,11 +117,12 @@ fn assembly_of(alloc: Global, source: &[u8]) -> Result<Assembly, Halt>
 }
 
 /// The summary of a workload.
+#[inline(never)]
 pub fn summarize(alloc: Global, task: &Task) -> Result<Vec<u8>, Halt>
-    ensures { Follows (λ text. text.items) result (summary_in task.now.count) }
+    ensures { Follows (λ text. text.items) result (accepted_summary task.now.count) }
 {
     let text = source(alloc, task.count)?;
     let assembly = assembly_of(alloc, &text)?;
-    let script = script_of(alloc, SCRIPT)?;
+    let script = judge_script(alloc, SCRIPT)?;
     Ok(run_workload(alloc, &text, assembly.rom(), script)?)
 }

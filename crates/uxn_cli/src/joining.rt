@@ -10,12 +10,13 @@ ghost use Rattle.uxn_cli.specs.Prepared.{ReadsPlan};
 use setup_lines::Turns;
 use std::alloc::Global;
 use task_files::{Halt, LineInputs, Refusal, read_machines};
-use uxn_io::{Failed, Sink, Tree};
+use tree_io::{Failed, Sink, Tree};
 use uxn_line::{Line, are_of_console};
 use uxn_opcodes::Stop;
 use uxn_words::{Command, Task};
 
 /// The machines of the setup of a task, where they can be run in a line.
+#[inline(never)]
 pub fn join_up<T: Tree>(alloc: Global, task: &Task, tree: &mut T) -> Result<LineInputs, Halt>
     requires { task.now.command ≡ Command.Line }
     ensures joins { ReadsPlan joined_plan task.now (T.state tree.old) (T.state tree.new) result }

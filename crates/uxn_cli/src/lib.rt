@@ -4,6 +4,7 @@
 mod debugging;
 mod entry;
 mod generating;
+mod host;
 mod joining;
 mod laws;
 mod machine;

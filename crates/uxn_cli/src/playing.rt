@@ -1,26 +1,23 @@
 //! What `play` and `debug` do: a program is run over a script, and a debugger may watch it.
 ghost use Rattle.std.specs.Prelude.{◌≡◌, ◌≤◌, [], Ok, IfOk, IfSome, IsSome, length};
-ghost use Rattle.uxn_io.specs.Ended.{TreeLooked};
+ghost use Rattle.tree_io.specs.Ended.{TreeLooked};
 ghost use Rattle.uxn_memory.specs.Bytes.{largest_rom};
-ghost use Rattle.uxn_cli.specs.Job.{Home};
-ghost use Rattle.task_files.specs.Reading.{Reads};
 ghost use Rattle.uxn_words.specs.Places.{HasApartOutputs};
 ghost use Rattle.uxn_words.specs.Tasks.{role_path};
 ghost use Rattle.vector_loop.specs.Outputs.{IsOutput};
-ghost use Rattle.task_files.specs.Blame.{OnRefused, tree_failed};
+ghost use Rattle.task_files.specs.Blame.{tree_failed};
 ghost use Rattle.task_files.specs.Accepted.{Loaded};
-ghost use Rattle.task_files.specs.Views.{commands_input, symbols_input};
-ghost use Rattle.uxn_cli.specs.Verdict.{debugger_by, debugging, run_in};
-ghost use Rattle.uxn_io.specs.State.{outside};
-ghost use Rattle.uxn_cli.specs.Outside.{DoesWork};
-ghost use Rattle.uxn_cli.specs.Refused.{CountsRefusals};
-ghost use Rattle.uxn_cli.specs.Prepared.{Prepares, IsReadyRun, AreNew, debugger_of, debugger_in};
-ghost use Rattle.task_files.specs.Views.{inputs_seen, RunsMachine};
-ghost use Rattle.task_files.specs.Held.{labels_with, loaded_by};
-ghost use Rattle.uxn_cli.specs.Verdict.{run_plan};
-ghost use Rattle.uxn_cli.specs.Runs.{Runs, RunFiles, trail_for, logging_for};
+ghost use Rattle.uxn_cli.specs.Verdict.{command_debugging, debugging};
+ghost use Rattle.uxn_cli.specs.Outside.{DoesWork, SameHost, outside_of, state_of};
+ghost use Rattle.uxn_cli.specs.Prepared.{Prepares, IsReadyRun, AreNew, session_debugging, prepared_debugging};
+ghost use Rattle.task_files.specs.Views.{ReadsInputs, RunsMachine};
+ghost use Rattle.task_files.specs.Accepted.{run_given};
+ghost use Rattle.tree_io.specs.State.{TreeState};
+ghost use Rattle.task_files.specs.Held.{held_inputs, held_debug_labels, held_program};
+ghost use Rattle.uxn_cli.specs.Runs.{Runs, RunFiles, task_trail, logged_changes};
 
 use super::debugging::{Session, debug_made};
+use super::host::Host;
 use super::machine::{Machine, new_machine};
 use super::running::{RunEnd, run_made};
 use debug_commands::DebugCommand;
@@ -29,8 +26,8 @@ use tal_words::Label;
 use task_files::{
     Halt, Output, Program, RunInputs, empty_outputs, labels_of, make_outputs, read_run,
 };
+use tree_io::{Sink, Tree};
 use uxn_debugger::Debugger;
-use uxn_io::{Sink, Tree};
 use uxn_opcodes::Stop;
 use uxn_undo::Undo;
 use uxn_words::{Command, Role, Task};
@@ -57,7 +54,7 @@ fn open_session(
     given: Option<Vec<Label>>,
 ) -> Result<Option<Session>, AllocError>
     ensures debugger { IfOk result (λ session. (task : Task) (program : Loaded)
-        → debugger_of task program session ≡ debugger_by command (debugging task commands.items (labels_with program given))) }
+        → session_debugging task program session ≡ command_debugging command (debugging task commands.items (held_debug_labels program given))) }
     ensures undo { IfOk result (λ session. IfSome session (λ opened. opened.undo ≡ [])) }
 {
     match command {
@@ -77,18 +74,19 @@ fn open_session(
     }
 }
 
-/// The machine that is asked for, and what a debugger does with its run.
-pub fn prepare<T: Tree>(alloc: Global, task: &Task, tree: &mut T) -> Result<Prepared, Halt>
-    requires { RunsMachine task.now.command }
-    ensures prepares { Prepares (T.state tree.old).told task.now result }
-    ensures looked { TreeLooked (tree_failed result) (T.state tree.old) (T.state tree.new) }
+/// What a run has before it begins, of the inputs that were read.
+fn ready(alloc: Global, task: &Task, inputs: RunInputs) -> Result<Prepared, AllocError>
+    requires runs { RunsMachine task.now.command }
+    requires room { length (held_program inputs.program).rom ≤ largest_rom }
+    ensures { (before now : TreeState) → ReadsInputs held_inputs task.now (run_given task.now.command task.now) before now (Ok inputs)
+        → IfOk result (IsReadyRun before.told task.now) }
 {
     let RunInputs {
         program,
         given,
         script,
         commands,
-    } = read_run(alloc, task, tree)?;
+    } = inputs;
     let paths = task.outputs(alloc)?;
     let outputs = empty_outputs(alloc, &paths)?;
     let session = open_session(alloc, task.command, commands, given)?;
@@ -101,23 +99,34 @@ pub fn prepare<T: Tree>(alloc: Global, task: &Task, tree: &mut T) -> Result<Prep
     })
 }
 
+/// The machine that is asked for, and what a debugger does with its run.
+#[inline(never)]
+pub fn prepare<T: Tree>(alloc: Global, task: &Task, tree: &mut T) -> Result<Prepared, Halt>
+    requires { RunsMachine task.now.command }
+    ensures prepares { Prepares (T.state tree.old).told task.now result }
+    ensures looked { TreeLooked (tree_failed result) (T.state tree.old) (T.state tree.new) }
+{
+    let inputs = read_run(alloc, task, tree)?;
+    Ok(ready(alloc, task, inputs)?)
+}
+
 /// Runs a machine that is ready, under its debugger where it has one, and writes the report and the log.
 fn run_prepared<T: Tree, O: Sink, E: Sink>(
     alloc: Global,
     task: &Task,
     prepared: Prepared,
-    tree: &mut T,
-    out: &mut O,
-    err: &mut E,
+    host: &mut Host<'_, '_, '_, T, O, E>,
 ) -> Result<RunEnd, Stop>
     requires devices { AreNew prepared.machine.devices prepared.machine.script (role_path task.now Role.Root) }
     requires undo { IfSome prepared.session (λ session. session.undo ≡ []) }
     requires budget { 1 ≤ task.now.budget }
-    requires files { RunFiles task.now (T.state tree.old).told }
-    requires log { IfSome (debugger_in task.now prepared) (λ debug. IfSome debug.log (IsOutput (role_path task.now Role.Root) (T.state tree.old).told)) }
-    ensures { Runs (role_path task.now Role.Root) (trail_for task.now prepared.machine)
-        (logging_for task.now prepared.machine (debugger_in task.now prepared)) (IsSome (debugger_in task.now prepared))
-        (outside (T.state tree.old) (O.state out.old) (E.state err.old)) (outside (T.state tree.new) (O.state out.new) (E.state err.new)) result }
+    requires files { RunFiles task.now (T.state host.old.tree.now).told }
+    requires log { IfSome (prepared_debugging task.now prepared) (λ debug. IfSome debug.log
+        (IsOutput (role_path task.now Role.Root) (T.state host.old.tree.now).told)) }
+    ensures runs { Runs (role_path task.now Role.Root) (task_trail task.now prepared.machine)
+        (logged_changes task.now prepared.machine (prepared_debugging task.now prepared)) (IsSome (prepared_debugging task.now prepared))
+        (outside_of T.Tree O.Sink E.Sink host.old) (outside_of T.Tree O.Sink E.Sink host.new) result }
+    ensures same { SameHost host.old host.new }
 {
     let Prepared {
         machine,
@@ -135,9 +144,9 @@ fn run_prepared<T: Tree, O: Sink, E: Sink>(
         ) => {
             let labels = labels_of(&program, &given);
             let mut debugger = Debugger::new(alloc, commands, labels, undo);
-            debug_made(task, machine, &mut debugger, tree, out, err)
+            debug_made(task, machine, &mut debugger, host)
         }
-        None => run_made(task, machine, tree, out, err, &mut NoWatch),
+        None => run_made(task, machine, host, &mut NoWatch),
     }
 }
 
@@ -146,22 +155,16 @@ pub fn run<T: Tree, O: Sink, E: Sink>(
     alloc: Global,
     task: &Task,
     prepared: Prepared,
-    tree: &mut T,
-    out: &mut O,
-    err: &mut E,
+    host: &mut Host<'_, '_, '_, T, O, E>,
 ) -> Result<u8, Halt>
-    requires ready { IsReadyRun (T.state tree.old).told task.now prepared }
+    requires ready { IsReadyRun (T.state host.old.tree.now).told task.now prepared }
     requires apart { HasApartOutputs task.now }
     requires budget { 1 ≤ task.now.budget }
-    ensures does { DoesWork (Ok task.now)
-        (outside (T.state tree.old) (O.state out.old) (E.state err.old))
-        (outside (T.state tree.new) (O.state out.new) (E.state err.new))
-        result }
-    ensures refusals { CountsRefusals (Ok task.now) (T.state tree.old) (T.state tree.new) result }
-    ensures kept { OnRefused result (err.new ≡ err.old) }
+    ensures does { DoesWork (Ok task.now) (state_of T.Tree O.Sink E.Sink host.old) (state_of T.Tree O.Sink E.Sink host.new) result }
+    ensures same { SameHost host.old host.new }
 {
-    make_outputs(prepared.program.included(), &prepared.outputs, tree)?;
-    match run_prepared(alloc, task, prepared, tree, out, err) {
+    make_outputs(prepared.program.included(), &prepared.outputs, host.tree)?;
+    match run_prepared(alloc, task, prepared, host) {
         Ok(end) => Ok(end.exit),
         Err(stop) => Err(Halt::Stopped(stop)),
     }

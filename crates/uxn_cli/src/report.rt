@@ -7,7 +7,7 @@ ghost use Rattle.play_script.specs.declared.script.Version.TheVariants.{Second a
 ghost use Rattle.uxn_cli.specs.Job.{common_lines, further_lines, report_line, report_text};
 
 use arrayvec::ArrayVec;
-use uxn_io::decimal;
+use tree_io::decimal;
 use vector_loop::Tally;
 
 /// Puts a line behind others: a word and a number.

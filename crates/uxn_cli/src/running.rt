@@ -1,19 +1,21 @@
 //! The run of a machine, and what is written after it.
-ghost use Rattle.std.specs.Prelude.{◌≡◌, ◌≤◌, IfOk, OnOk, IfSome, is_err};
-ghost use Rattle.uxn_io.specs.State.{outside};
+ghost use Rattle.std.specs.Prelude.{◌≡◌, ◌≤◌, OnOk, IfSome, is_err};
+ghost use Rattle.uxn_cli.specs.Outside.{SameHost, outside_of};
 ghost use Rattle.varvara_bus.specs.Bus.{IsFileWhereTold};
 ghost use Rattle.vector_loop.specs.Outputs.{OutputsThere};
-ghost use Rattle.task_files.specs.World.{text_at};
+ghost use Rattle.vector_loop.specs.Watch.{MayRefuse};
+ghost use Rattle.task_files.specs.World.{asked_output};
 ghost use Rattle.task_files.specs.Writing.{filling_all};
 ghost use Rattle.uxn_cli.specs.Prepared.{AreNew};
-ghost use Rattle.uxn_io.specs.Ended.{TreeEnded};
-ghost use Rattle.uxn_cli.specs.Runs.{AtHome, Runs, RunFiles, WasShown, settings_for, trail_from, trail_for, reporting_for};
+ghost use Rattle.tree_io.specs.Ended.{TreeEnded};
+ghost use Rattle.uxn_cli.specs.Runs.{AtHome, Runs, RunFiles, WasShown, task_settings, machine_trail, task_trail, reported_changes};
 ghost use Rattle.uxn_words.specs.Tasks.{role_path};
 
+use super::host::Host;
 use super::machine::Machine;
 use super::report::report;
 use system_port::exit_code;
-use uxn_io::{Failed, Path, Sink, Tree, append_all};
+use tree_io::{Failed, Path, Sink, Tree, append_all};
 use uxn_opcodes::Stop;
 use uxn_words::{Role, Task};
 use varvara_bus::Bus;
@@ -45,20 +47,20 @@ pub struct Settings {
 pub fn run_machine<T: Tree, O: Sink, E: Sink, W: Watcher>(
     machine: &mut Machine,
     settings: &Settings,
-    tree: &mut T,
-    out: &mut O,
-    err: &mut E,
+    host: &mut Host<'_, '_, '_, T, O, E>,
     watcher: &mut W,
 ) -> Result<RunEnd, Stop>
     requires devices { AreNew machine.old.devices machine.old.script machine.old.devices.root }
     requires budget { 1 ≤ settings.now.budget }
-    requires outputs { OutputsThere settings.now.outputs machine.old.devices.root (T.state tree.old).told }
-    ensures runs { Runs machine.old.devices.root (trail_from settings.now machine.old) (λ trail. trail.changes) W.may_refuse
-        (outside (T.state tree.old) (O.state out.old) (E.state err.old)) (outside (T.state tree.new) (O.state out.new) (E.state err.new)) result }
-    ensures watcher { AtHome machine.old.devices.root (T.state tree.old).told (λ home. OnOk result (WasShown W.shown W.ended (W.held watcher.old)
-        (trail_from settings.now machine.old home) (W.held watcher.new))) }
+    requires outputs { OutputsThere settings.now.outputs machine.old.devices.root (T.state host.old.tree.now).told }
+    ensures runs { Runs machine.old.devices.root (machine_trail settings.now machine.old) (λ trail. trail.changes) (MayRefuse W.may_refuse)
+        (outside_of T.Tree O.Sink E.Sink host.old) (outside_of T.Tree O.Sink E.Sink host.new) result }
+    ensures watcher { AtHome machine.old.devices.root (T.state host.old.tree.now).told (λ home. OnOk result
+        (WasShown W.shown W.ended (W.held watcher.old)
+        (machine_trail settings.now machine.old home) (W.held watcher.new))) }
+    ensures same { SameHost host.old host.new }
 {
-    let mut bus = Bus::new(&mut machine.devices, tree, out, err);
+    let mut bus = Bus::new(&mut machine.devices, host.tree, host.out, host.err);
     let tally = run_script(
         &mut machine.core,
         &mut bus,
@@ -76,7 +78,7 @@ pub fn run_machine<T: Tree, O: Sink, E: Sink, W: Watcher>(
 /// Writes a text to the end of a file, where one is asked for.
 pub fn write_text<T: Tree>(path: &Option<Path>, text: &[u8], tree: &mut T) -> Result<(), Failed>
     requires { IfSome path.now (IsFileWhereTold (T.state tree.old).told) }
-    ensures { TreeEnded (filling_all (text_at path.now text.now)) (is_err result) (T.state tree.old) (T.state tree.new) }
+    ensures { TreeEnded (filling_all (asked_output path.now text.now)) (is_err result) (T.state tree.old) (T.state tree.new) }
 {
     match path {
         Some(path) => append_all(tree, path, text),
@@ -86,7 +88,7 @@ pub fn write_text<T: Tree>(path: &Option<Path>, text: &[u8], tree: &mut T) -> Re
 
 /// How a task's machine is run.
 fn settings_of(task: &Task) -> Settings
-    ensures { result ≡ settings_for task.now }
+    ensures { result ≡ task_settings task.now }
 {
     Settings {
         outputs: Outputs {
@@ -101,24 +103,24 @@ fn settings_of(task: &Task) -> Settings
 pub fn run_made<T: Tree, O: Sink, E: Sink, W: Watcher>(
     task: &Task,
     machine: Machine,
-    tree: &mut T,
-    out: &mut O,
-    err: &mut E,
+    host: &mut Host<'_, '_, '_, T, O, E>,
     watcher: &mut W,
 ) -> Result<RunEnd, Stop>
     requires devices { AreNew machine.devices machine.script (role_path task.now Role.Root) }
     requires budget { 1 ≤ task.now.budget }
-    requires files { RunFiles task.now (T.state tree.old).told }
-    ensures runs { Runs (role_path task.now Role.Root) (trail_for task.now machine) (reporting_for task.now machine) W.may_refuse
-        (outside (T.state tree.old) (O.state out.old) (E.state err.old)) (outside (T.state tree.new) (O.state out.new) (E.state err.new)) result }
-    ensures watcher { AtHome (role_path task.now Role.Root) (T.state tree.old).told (λ home. OnOk result (WasShown W.shown W.ended (W.held watcher.old)
-        (trail_for task.now machine home) (W.held watcher.new))) }
+    requires files { RunFiles task.now (T.state host.old.tree.now).told }
+    ensures runs { Runs (role_path task.now Role.Root) (task_trail task.now machine) (reported_changes task.now machine) (MayRefuse W.may_refuse)
+        (outside_of T.Tree O.Sink E.Sink host.old) (outside_of T.Tree O.Sink E.Sink host.new) result }
+    ensures watcher { AtHome (role_path task.now Role.Root) (T.state host.old.tree.now).told (λ home. OnOk result
+        (WasShown W.shown W.ended (W.held watcher.old)
+        (task_trail task.now machine home) (W.held watcher.new))) }
+    ensures same { SameHost host.old host.new }
 {
     let mut machine = machine;
     let version = machine.script.version();
-    let end = run_machine(&mut machine, &settings_of(task), tree, out, err, watcher)?;
+    let end = run_machine(&mut machine, &settings_of(task), host, watcher)?;
     let text = report(version, end.exit, &end.tally);
-    write_text(&task.path(Role::Report), &text, tree)
+    write_text(&task.path(Role::Report), &text, host.tree)
         .and(Ok(end))
         .or(Err(Stop::TreeFault))
 }

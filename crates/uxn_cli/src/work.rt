@@ -1,22 +1,22 @@
 //! What is to be done is judged, and then it is done.
-ghost use Rattle.std.specs.Prelude.{◌≡◌, ◌≤◌, Ok};
-ghost use Rattle.uxn_io.specs.Ended.{TreeLooked};
+ghost use Rattle.std.specs.Prelude.{◌≤◌, Ok};
+ghost use Rattle.tree_io.specs.Ended.{TreeLooked};
 ghost use Rattle.uxn_words.specs.Places.{HasApartOutputs};
-ghost use Rattle.task_files.specs.Blame.{OnRefused, tree_failed};
+ghost use Rattle.task_files.specs.Blame.{tree_failed};
 ghost use Rattle.uxn_cli.specs.Judged.{IsWork, Judged};
-ghost use Rattle.uxn_io.specs.State.{SinkState, outside};
-ghost use Rattle.task_files.specs.Held.{files_by};
+ghost use Rattle.tree_io.specs.State.{SinkState};
+ghost use Rattle.task_files.specs.Held.{held_files};
 ghost use Rattle.uxn_cli.specs.Prepared.{SeesWork};
 ghost use Rattle.uxn_cli.specs.Verdict.{write_plan};
-ghost use Rattle.uxn_cli.specs.Outside.{DoesWork};
-ghost use Rattle.uxn_cli.specs.Refused.{CountsRefusals};
+ghost use Rattle.uxn_cli.specs.Outside.{DoesWork, SameHost, host_state, state_of};
 
 use super::generating::summarize;
+use super::host::Host;
 use super::joining::{join_up, run_line};
 use super::playing::{Prepared, prepare, run};
 use std::alloc::Global;
 use task_files::{Halt, LineInputs, Written, assemble, disassemble_rom, print, write_outputs};
-use uxn_io::{Sink, Tree};
+use tree_io::{Sink, Tree};
 use uxn_words::{Command, Task};
 
 /// What is to be done, once all inputs are accepted.
@@ -48,13 +48,11 @@ fn judge<T: Tree>(alloc: Global, task: &Task, tree: &mut T) -> Result<Work, Halt
 
 /// Writes the files that were asked for.
 fn write<T: Tree>(task: &Task, written: &Written, tree: &mut T) -> Result<u8, Halt>
-    requires planned { SeesWork (T.state tree.old).told task.now (Ok (write_plan (files_by written.now))) }
+    requires planned { SeesWork (T.state tree.old).told task.now (Ok (write_plan (held_files written.now))) }
     requires apart { HasApartOutputs task.now }
-    ensures does { (out err : SinkState) → DoesWork (Ok task.now) (outside (T.state tree.old) out err) (outside (T.state tree.new) out err) result }
-    ensures refusals { CountsRefusals (Ok task.now) (T.state tree.old) (T.state tree.new) result }
+    ensures { (out err : SinkState) → DoesWork (Ok task.now) (host_state (T.state tree.old) out err) (host_state (T.state tree.new) out err) result }
 {
-    write_outputs(written, tree)?;
-    Ok(0)
+    write_outputs(written, tree).and(Ok(0))
 }
 
 /// Does the work of a task.
@@ -62,25 +60,19 @@ fn do_work<T: Tree, O: Sink, E: Sink>(
     alloc: Global,
     task: &Task,
     work: Work,
-    tree: &mut T,
-    out: &mut O,
-    err: &mut E,
+    host: &mut Host<'_, '_, '_, T, O, E>,
 ) -> Result<u8, Halt>
-    requires work { IsWork (T.state tree.old).told task.now work }
+    requires work { IsWork (T.state host.old.tree.now).told task.now work }
     requires apart { HasApartOutputs task.now }
     requires budget { 1 ≤ task.now.budget }
-    ensures does { DoesWork (Ok task.now)
-        (outside (T.state tree.old) (O.state out.old) (E.state err.old))
-        (outside (T.state tree.new) (O.state out.new) (E.state err.new))
-        result }
-    ensures refusals { CountsRefusals (Ok task.now) (T.state tree.old) (T.state tree.new) result }
-    ensures kept { OnRefused result (err.new ≡ err.old) }
+    ensures does { DoesWork (Ok task.now) (state_of T.Tree O.Sink E.Sink host.old) (state_of T.Tree O.Sink E.Sink host.new) result }
+    ensures same { SameHost host.old host.new }
 {
     match work {
-        Work::Run(prepared) => run(alloc, task, prepared, tree, out, err),
-        Work::Write(written) => write(task, &written, tree),
-        Work::Print(text) => print(&text, out),
-        Work::Join(joined) => run_line(alloc, &joined, out),
+        Work::Run(prepared) => run(alloc, task, prepared, host),
+        Work::Write(written) => write(task, &written, host.tree),
+        Work::Print(text) => print(&text, host.out),
+        Work::Join(joined) => run_line(alloc, &joined, host.out),
     }
 }
 
@@ -88,19 +80,13 @@ fn do_work<T: Tree, O: Sink, E: Sink>(
 pub fn carry_out<T: Tree, O: Sink, E: Sink>(
     alloc: Global,
     task: &Task,
-    tree: &mut T,
-    out: &mut O,
-    err: &mut E,
+    host: &mut Host<'_, '_, '_, T, O, E>,
 ) -> Result<u8, Halt>
     requires apart { HasApartOutputs task.now }
     requires budget { 1 ≤ task.now.budget }
-    ensures does { DoesWork (Ok task.now)
-        (outside (T.state tree.old) (O.state out.old) (E.state err.old))
-        (outside (T.state tree.new) (O.state out.new) (E.state err.new))
-        result }
-    ensures refusals { CountsRefusals (Ok task.now) (T.state tree.old) (T.state tree.new) result }
-    ensures kept { OnRefused result (err.new ≡ err.old) }
+    ensures does { DoesWork (Ok task.now) (state_of T.Tree O.Sink E.Sink host.old) (state_of T.Tree O.Sink E.Sink host.new) result }
+    ensures same { SameHost host.old host.new }
 {
-    let work = judge(alloc, task, tree)?;
-    do_work(alloc, task, work, tree, out, err)
+    let work = judge(alloc, task, host.tree)?;
+    do_work(alloc, task, work, host)
 }

@@ -2,7 +2,7 @@
 use Rattle.std.specs.Prelude.{ℕ, ◌+◌, ◌-◌, ◌%◌, ◌||◌, ◌==◌, nat_le, if◌then◌else◌, List, []}
 use Rattle.std.specs.Prelude.{◌∷◌, ◌++◌, codes, decimal, slice_index, Option, Some, None}
 use Rattle.std.specs.List.{flat_map, range_with_len}
-use Rattle.uxn_io.specs.NumberText.{hex_of_byte, hex_of_short}
+use Rattle.tree_io.specs.NumberText.{hex_of_byte, hex_of_short}
 use Rattle.uxn_stacks.specs.Cells.{Cells}
 use Rattle.uxn_opcodes.specs.declared.Core.{Core}
 use Rattle.system_port.specs.DebugText.{spaced, debug_text_of}

@@ -173,8 +173,9 @@ after_moment held core page moment = shown held (shown_of core page moment)
 abbrev pub after_end : Watching → Core → Page → Moment → Watching
 after_end held core page moment = ended held (shown_of core page moment)
 
-abbrev pub MayWantMemory : Type 0
-MayWantMemory = Unit {0}
+-- where memory was wanting to it, it has kept no moment, and names the same labels
+abbrev pub KeptNone : Watching → Watching → Type 0
+KeptNone before now = (now.undo ≡ before.undo) × (now.labels ≡ before.labels)
 
 -- a new debugger that is shown the moments of a run in order, and then its end, keeps the log of the run
 abbrev pub KeepsTheLog : Type 0

@@ -5,6 +5,7 @@ ghost use Rattle.vector_loop.specs.Watch.{Page, IsPage};
 ghost use Rattle.uxn_debugger.specs.Printing.{view};
 ghost use Rattle.uxn_debugger.specs.Watching.{
   KeepsTheLog,
+  KeptNone,
   arrived,
   back_after,
   done,
@@ -84,6 +85,7 @@ impl<'a> Debugger<'a> {
         ensures awaited { result ≡ is_awaited (held_by self.old).goal (held_by self.old).breaks address }
         ensures later { held_by self.new ≡ (if result then held_by self.old
             else record (held_by self.old) { goal = goal_later self.old.goal }) }
+        ensures kept { KeptNone (held_by self.old) (held_by self.new) }
     {
         match self.goal {
             Goal::BreakAddress => self.breaks.contains(address),
@@ -99,8 +101,9 @@ impl<'a> Debugger<'a> {
     // Does commands where the moment is the one that was waited for.
     #[inline(always)]
     fn follow<P: Ports>(&mut self, core: &Core, ports: &P, moment: Moment) -> Result<(), AllocError>
-        ensures { OnOk result ((page : Page) → IsPage (P.rules.reads ports.now core.now) (P.stored ports.now) page
+        ensures ok { OnOk result ((page : Page) → IsPage (P.rules.reads ports.now core.now) (P.stored ports.now) page
             → held_by self.new ≡ followed (held_by self.old) (shown_of core.now page moment)) }
+        ensures kept { KeptNone (held_by self.old) (held_by self.new) }
     {
         if !self.ends_wait(moment.address) {
             return Ok(());
@@ -123,8 +126,9 @@ impl<'a> Debugger<'a> {
     #[inline(never)]
     #[tactic(auto, unfolding(crate::specs::Watching::arrived))]
     fn arrive<P: Ports>(&mut self, core: &Core, ports: &P, place: Place) -> Result<(), AllocError>
-        ensures { OnOk result ((page : Page) → IsPage (P.rules.reads ports.now core.now) (P.stored ports.now) page
+        ensures ok { OnOk result ((page : Page) → IsPage (P.rules.reads ports.now core.now) (P.stored ports.now) page
             → held_by self.new ≡ arrived (view core.now page.read place) (held_by self.old)) }
+        ensures kept { KeptNone (held_by self.old) (held_by self.new) }
     {
         self.put_arrival(core, place)?;
         self.go_on(core, ports, place)
@@ -132,8 +136,9 @@ impl<'a> Debugger<'a> {
 
     // Prints the place, unless the run begins.
     fn put_arrival(&mut self, core: &Core, place: Place) -> Result<(), AllocError>
-        ensures { OnOk result ((page : List ℕ)
+        ensures ok { OnOk result ((page : List ℕ)
             → held_by self.new ≡ with_arrival (view core.now page place) (held_by self.old)) }
+        ensures kept { KeptNone (held_by self.old) (held_by self.new) }
     {
         match self.goal {
             Goal::FirstMoment => Ok(()),
@@ -151,8 +156,9 @@ impl<'a> Debugger<'a> {
 
     // Does commands until one goes on, or none is left.
     fn go_on<P: Ports>(&mut self, core: &Core, ports: &P, place: Place) -> Result<(), AllocError>
-        ensures { OnOk result ((page : Page) → IsPage (P.rules.reads ports.now core.now) (P.stored ports.now) page
+        ensures ok { OnOk result ((page : Page) → IsPage (P.rules.reads ports.now core.now) (P.stored ports.now) page
             → held_by self.new ≡ done (view core.now page.read place) 0 (held_by self.old).commands (held_by self.old)) }
+        ensures kept { KeptNone (held_by self.old) (held_by self.new) }
     {
         let mut back = 0;
         while let Some(command) = self.commands.get(self.next) {
@@ -248,6 +254,7 @@ impl<'a> Debugger<'a> {
         ensures held { IfOk result (λ there. there ≤ length (held_by self.new).undo) }
         ensures ok { OnOk result ((page : Page) → IsPage (P.rules.reads ports.now core.now) (P.stored ports.now) page
             → held_by self.new ≡ obeyed (view core.now page.read place) back command (held_by self.old)) }
+        ensures kept { KeptNone (held_by self.old) (held_by self.new) }
     {
         let reach = self.undo.held() - back;
         let there = self.back_after(place, back, command);
@@ -274,7 +281,7 @@ impl<'a> Watcher for Debugger<'a> {
       held_by,
       after_moment,
       after_end,
-      MayWantMemory,
+      KeptNone,
     };
 
     ghost Held = { Watching };
@@ -285,7 +292,7 @@ impl<'a> Watcher for Debugger<'a> {
 
     ghost ended = { after_end };
 
-    ghost may_refuse = { MayWantMemory };
+    ghost may_refuse = { KeptNone };
 
     #[inline(always)]
     fn before<P: Ports>(

@@ -24,7 +24,7 @@ use std::alloc::AllocError;
 use system_port::debug_text;
 use tal_symbols::{Label, nearest};
 use tal_words::op_name;
-use uxn_io::{decimal, hex_byte, hex_short};
+use tree_io::{decimal, hex_byte, hex_short};
 use uxn_opcodes::Ports;
 
 /// How many bytes a line shows.

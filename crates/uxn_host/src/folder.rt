@@ -1,16 +1,16 @@
 //! The files beneath the current folder as a tree.
 ghost use Rattle.std.specs.Prelude.{◌≡◌, ◌<◌, ◌≤◌, Ok, IfOk, IfSome, is_err, length, drop, take, min};
 ghost use Rattle.std.specs.List.{All};
-ghost use Rattle.uxn_io.specs.Faults.{Counted};
-ghost use Rattle.uxn_io.specs.Untold.{exactly};
-ghost use Rattle.uxn_io.specs.Children.{IsEntry};
+ghost use Rattle.tree_io.specs.Faults.{Counted};
+ghost use Rattle.tree_io.specs.Untold.{exactly};
+ghost use Rattle.tree_io.specs.Children.{IsEntry};
 
 use std::alloc::{AllocError, Global};
 use std::fs::{File, OpenOptions};
 use std::io::{ErrorKind, Read, Seek, SeekFrom, Write};
 use std::rt::Files;
 use std::{fs, io, str};
-use uxn_io::{Entry, Failed, Kind, NamesStop, Path, Tree};
+use tree_io::{Entry, Failed, Kind, NamesStop, Path, Tree};
 
 /// How many bytes are read at once.
 const CHUNK: usize = 4096;
@@ -101,7 +101,7 @@ impl<'a, R: Files> CurrentFolder<'a, R> {
     }
 
     /// What was done, or one fault more.
-    #[tactic(auto, using(uxn_io::specs::UntoldLaws::nothing_counted, uxn_io::specs::UntoldLaws::fault_counted))]
+    #[tactic(auto, using(tree_io::specs::UntoldLaws::nothing_counted, tree_io::specs::UntoldLaws::fault_counted))]
     fn counted<T>(&mut self, done: io::Result<T>) -> Result<T, Failed>
         ensures counted { Counted (exactly self.old.faults) (exactly self.new.faults) (is_err result) }
         ensures refusals { self.new.refusals ≡ self.old.refusals }
@@ -293,18 +293,18 @@ fn copy_front(bytes: &[u8], into: &mut [u8]) -> usize
 }
 
 impl<R: Files + AllocGlobal + Clone + Drop> Tree for CurrentFolder<'_, R> {
-    ghost use Rattle.uxn_io.specs.Untold.{untold_tree};
+    ghost use Rattle.tree_io.specs.Untold.{untold_tree};
 
     ghost state = { λ folder. untold_tree folder.faults folder.refusals };
 
-    #[tactic(auto, using(uxn_io::specs::UntoldLaws::looked))]
+    #[tactic(auto, using(tree_io::specs::UntoldLaws::looked))]
     fn kind(&mut self, path: &Path) -> Result<Kind, Failed> {
         self.let_others_go(path);
         let kind = self.kind_of(path);
         self.counted(kind)
     }
 
-    #[tactic(auto, using(uxn_io::specs::UntoldLaws::looked))]
+    #[tactic(auto, using(tree_io::specs::UntoldLaws::looked))]
     fn read(&mut self, path: &Path, from: u64, into: &mut [u8]) -> Result<usize, Failed> {
         let mut chunk = [0; CHUNK];
         let taken = self.read_chunk(path, from, &mut chunk);
@@ -312,7 +312,7 @@ impl<R: Files + AllocGlobal + Clone + Drop> Tree for CurrentFolder<'_, R> {
         Ok(copy_front(&chunk[..taken], into))
     }
 
-    #[tactic(auto, using(uxn_io::specs::UntoldLaws::ended))]
+    #[tactic(auto, using(tree_io::specs::UntoldLaws::ended))]
     fn create(&mut self, path: &Path) -> Result<bool, Failed> {
         self.let_go();
         let made = self.create_file(path);
@@ -323,20 +323,20 @@ impl<R: Files + AllocGlobal + Clone + Drop> Tree for CurrentFolder<'_, R> {
         Ok(made)
     }
 
-    #[tactic(auto, using(uxn_io::specs::UntoldLaws::ended))]
+    #[tactic(auto, using(tree_io::specs::UntoldLaws::ended))]
     fn append(&mut self, path: &Path, piece: &[u8]) -> Result<usize, Failed> {
         let taken = self.append_some(path, piece);
         self.counted(taken)
     }
 
-    #[tactic(auto, using(uxn_io::specs::UntoldLaws::ended))]
+    #[tactic(auto, using(tree_io::specs::UntoldLaws::ended))]
     fn remove(&mut self, path: &Path) -> Result<bool, Failed> {
         self.let_go();
         let gone = self.remove_file(path);
         self.counted(gone)
     }
 
-    #[tactic(auto, using(uxn_io::specs::UntoldLaws::looked))]
+    #[tactic(auto, using(tree_io::specs::UntoldLaws::looked))]
     fn names(&mut self, alloc: Global, folder: &Path) -> Result<Vec<Entry>, NamesStop> {
         self.let_go();
         match self.list(alloc, folder) {

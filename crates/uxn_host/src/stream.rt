@@ -1,6 +1,6 @@
 //! A standard stream as a sink.
 use std::io::Write;
-use uxn_io::{Failed, Sink};
+use tree_io::{Failed, Sink};
 
 /// Writes and flushes each piece. It tells nothing of what the stream has taken, promises nothing, and counts exactly the calls that failed.
 #[derive(Drop)]
@@ -17,11 +17,11 @@ impl<W: Write + Drop> Stream<W> {
 }
 
 impl<W: Write + Drop> Sink for Stream<W> {
-    ghost use Rattle.uxn_io.specs.Untold.{untold_sink};
+    ghost use Rattle.tree_io.specs.Untold.{untold_sink};
 
     ghost state = { λ stream. untold_sink stream.faults };
 
-    #[tactic(auto, using(uxn_io::specs::UntoldLaws::sink_took, uxn_io::specs::UntoldLaws::sink_failed))]
+    #[tactic(auto, using(tree_io::specs::UntoldLaws::sink_took, tree_io::specs::UntoldLaws::sink_failed))]
     fn put(&mut self, piece: &[u8]) -> Result<usize, Failed> {
         if piece.is_empty() {
             return Ok(0);

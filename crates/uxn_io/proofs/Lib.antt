@@ -1,5 +1,1 @@
-pub mod ComponentLemmas
-pub mod PathLemmas
-pub mod PutLemmas
-pub mod ReadLemmas
 pub mod InMemory

@@ -1,19 +1,11 @@
-//! What the program meets outside itself: sinks that take bytes, trees of files, and paths in them;
-//! sinks and trees in memory, which tell what they hold and fail on demand; and an outside that is not there.
+//! What the program meets outside itself, as `tree_io` has it, with sinks and trees in memory, which tell what they hold and
+//! fail on demand.
 #![tactic(auto)]
 
-mod bytes;
 mod memory;
-mod nothing;
-mod paths;
-mod sinks;
-mod texts;
-mod trees;
 
-pub use bytes::Bytes;
 pub use memory::{MemSink, MemTree, Node, TreeCall};
-pub use nothing::{NoSink, NoTree};
-pub use paths::{Path, PathFault};
-pub use sinks::{Failed, Sink, put_all};
-pub use texts::{decimal, hex_byte, hex_short};
-pub use trees::{Entry, FileBytes, Kind, NamesStop, ReadStop, Tree, append_all, read_file};
+pub use tree_io::{
+    Bytes, Entry, Failed, FileBytes, Kind, NamesStop, NoSink, NoTree, Path, PathFault, ReadStop,
+    Sink, Tree, append_all, decimal, hex_byte, hex_short, put_all, read_file,
+};

@@ -1,10 +1,10 @@
 -- A bus over nothing outside: what it stands for, and what an instruction over it leaves.
 use Rattle.std.proofs.Common.{◌≡◌, refl, ap, ◌∙◌, inl, inr, arith}
 use Rattle.std.specs.Prelude.{None, Ok, Err}
-use Rattle.uxn_io.specs.Faults.{Ledger}
-use Rattle.uxn_io.specs.Nothing.{state_of_no_sink, state_of_no_tree}
-use Rattle.uxn_io.specs.declared.nothing.NoSink.{NoSink}
-use Rattle.uxn_io.specs.declared.nothing.NoTree.{NoTree}
+use Rattle.tree_io.specs.Faults.{Ledger}
+use Rattle.tree_io.specs.Nothing.{state_of_no_sink, state_of_no_tree}
+use Rattle.tree_io.specs.declared.nothing.NoSink.{NoSink}
+use Rattle.tree_io.specs.declared.nothing.NoTree.{NoTree}
 use Rattle.uxn_opcodes.specs.declared.Core.{Core}
 use Rattle.uxn_opcodes.specs.declared.Stop.{Stop}
 use Rattle.uxn_opcodes.specs.declared.Stop.TheVariants.{TreeFault, SinkFault, NoMemory}

@@ -3,11 +3,11 @@ use Rattle.std.proofs.Common.{◌≡◌, ℕ, zero, suc, ◌+◌, ◌<◌, ◌�
 use Rattle.std.specs.Prelude.{Some, Result, Ok, Err, IfOk, OnErr, is_err, slice_get}
 use Rattle.std.proofs.lemmas.Bool.{true≢false}
 use Rattle.std.proofs.lemmas.List.{take-append-le}
-use Rattle.uxn_io.specs.Ended.{SinkEnded}
-use Rattle.uxn_io.specs.EndedLaws.{sink-as-it-was, sink-then}
-use Rattle.uxn_io.specs.State.{SinkState}
-use Rattle.uxn_io.specs.Told.{extended}
-use Rattle.uxn_io.specs.declared.sinks.Failed.{Failed}
+use Rattle.tree_io.specs.Ended.{SinkEnded}
+use Rattle.tree_io.specs.EndedLaws.{sink-as-it-was, sink-then}
+use Rattle.tree_io.specs.State.{SinkState}
+use Rattle.tree_io.specs.Told.{extended}
+use Rattle.tree_io.specs.declared.sinks.Failed.{Failed}
 use Rattle.uxn_line.specs.declared.line.Line.{Line}
 use Rattle.uxn_line.specs.declared.line.Moved.{Moved}
 use Rattle.uxn_line.specs.declared.line.Moved.TheVariants.{Ran, Gave, Waits, Held, Ended}

@@ -1,8 +1,8 @@
 -- Where no machine of a line moves, all their runs are over.
 use Rattle.std.proofs.Common.{◌≡◌, ℕ, zero, suc, ◌+◌, ◌-◌, ◌<◌, ◌⊎◌, inl, inr, false, List, [], ◌∷◌, ◌++◌, length, refl, sym, ap, subst, ◌∙◌, arith, append-nil}
 use Rattle.std.specs.Prelude.{Some, slice_get, slice_set}
-use Rattle.uxn_io.specs.Ended.{SinkEnded}
-use Rattle.uxn_io.specs.State.{SinkState}
+use Rattle.tree_io.specs.Ended.{SinkEnded}
+use Rattle.tree_io.specs.State.{SinkState}
 use Rattle.uxn_line.specs.declared.line.Line.{Line}
 use Rattle.uxn_line.specs.declared.member.Member.{Member}
 use Rattle.uxn_line.proofs.Running.{with_member}

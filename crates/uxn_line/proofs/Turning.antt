@@ -1,6 +1,6 @@
 -- The turns of a machine, taken one after the other, are its run.
 use Rattle.std.proofs.Common.{◌≡◌, ℕ, zero, suc, List, [], ◌∷◌, ◌++◌, refl, ap, sym, ◌∙◌, map, append_assoc}
-use Rattle.uxn_io.specs.Outside.{Change}
+use Rattle.tree_io.specs.Outside.{Change}
 use Rattle.play_script.specs.declared.script.Event.TheVariants.{Input, EndInput}
 use Rattle.vector_loop.specs.Trail.{Trail}
 use Rattle.vector_loop.specs.Places.{run_left}

@@ -1,6 +1,6 @@
 -- The turns of a machine of a line, which are the steps of its run, and what they write to port 18 (profile).
 use Rattle.std.specs.Prelude.{◌≡◌, ℕ, true, List, [], ◌∷◌, ◌++◌, None, is_some}
-use Rattle.uxn_io.specs.Outside.{Change, ToOut, ToErr, Creates, ToFile, Removes}
+use Rattle.tree_io.specs.Outside.{Change, ToOut, ToErr, Creates, ToFile, Removes}
 use Rattle.vector_loop.specs.declared.gift.Gift.{Gift}
 use Rattle.vector_loop.specs.declared.output.Outputs.{Outputs}
 use Rattle.vector_loop.specs.Gifts.{console_of}

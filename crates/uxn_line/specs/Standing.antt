@@ -3,7 +3,7 @@ use Rattle.std.specs.Prelude.{◌≡◌, ℕ, zero, suc, ◌==◌, ◌-◌, ◌�
 use Rattle.std.specs.Prelude.{◌++◌, length, take, slice_get, Some}
 use Rattle.play_script.specs.Held.{bytes_in}
 use Rattle.play_script.specs.Scripts.{ScriptView}
-use Rattle.uxn_io.specs.ByteList.{ByteList}
+use Rattle.tree_io.specs.ByteList.{ByteList}
 use Rattle.uxn_line.specs.declared.line.Line.{Line}
 use Rattle.uxn_line.specs.declared.member.Member.{Member}
 use Rattle.vector_loop.specs.Places.{Place, HasEnded}

@@ -1,14 +1,14 @@
 //! A line to its end.
 ghost use Rattle.std.specs.Prelude.{◌≡◌, ◌<◌, ℕ, false, IfOk, OnErr, is_err, length};
-ghost use Rattle.uxn_io.specs.Ended.{SinkEnded};
-ghost use Rattle.uxn_io.specs.State.{SinkState};
+ghost use Rattle.tree_io.specs.Ended.{SinkEnded};
+ghost use Rattle.tree_io.specs.State.{SinkState};
 ghost use Rattle.uxn_line.specs.Streams.{Job, exit_code_at, run_at, stream};
 ghost use Rattle.uxn_line.specs.Standing.{Turned, Stands, place_in};
 ghost use Rattle.uxn_line.specs.Work.{WorksOn};
 ghost use Rattle.uxn_line.specs.Moves.{Finishes, IsStill, IsUnderWay, Stops, Went, last_of};
 
 use crate::line::Line;
-use uxn_io::{Failed, Sink};
+use tree_io::{Failed, Sink};
 
 impl<'a> Line<'a> {
     /// Gives turns to the machines in order, again and again, until all have ended: the exit code of the last machine. Each

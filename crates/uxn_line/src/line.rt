@@ -1,7 +1,7 @@
 //! A line of machines, and its turns.
 ghost use Rattle.std.specs.Prelude.{◌≡◌, ◌↔◌, ◌-◌, ◌+◌, ◌<◌, ◌≤◌, ◌∷◌, [], ℕ, suc, true, false, Ok, IfOk, OnOk, OnErr, IsOk, is_err, length, slice_get, Some};
 ghost use Rattle.std.specs.List.{All};
-ghost use Rattle.uxn_io.specs.State.{SinkState};
+ghost use Rattle.tree_io.specs.State.{SinkState};
 ghost use Rattle.uxn_memory.specs.Bytes.{largest_rom};
 ghost use Rattle.vector_loop.specs.Places.{HasEnded};
 ghost use Rattle.vector_loop.specs.Gifts.{gifts_of};
@@ -15,7 +15,7 @@ use crate::output::next_byte;
 use console_port::{Output, console_write};
 use play_script::{Clock, Script};
 use std::alloc::{AllocError, Global};
-use uxn_io::{Bytes, Failed, NoSink, Sink};
+use tree_io::{Bytes, Failed, NoSink, Sink};
 use vector_loop::Giver;
 
 /// What a turn came to.

@@ -21,7 +21,7 @@ use console_port::{EventKind, KIND};
 use play_script::Clock as ScriptClock;
 use std::alloc::{AllocError, Global};
 use system_port::exit_code;
-use uxn_io::{Bytes, NoSink, NoTree};
+use tree_io::{Bytes, NoSink, NoTree};
 use uxn_opcodes::{Core, Turn, step};
 use varvara_bus::{Bus, Clock, Devices};
 use vector_loop::Gift;

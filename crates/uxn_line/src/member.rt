@@ -17,7 +17,7 @@ use crate::machine::Machine;
 use circular_buffer::HeapCircularBuffer;
 use play_script::{Clock, Event};
 use std::alloc::{AllocError, Global};
-use uxn_io::Bytes;
+use tree_io::Bytes;
 use vector_loop::Gift;
 
 /// How many bytes the ring before a machine has room for.

@@ -1,6 +1,6 @@
 -- What ports are to an instruction (Varvara device reference), and who is to blame for a stop (profile).
 use Rattle.std.specs.Prelude.{ℕ, Result, Ok, Err}
-use Rattle.uxn_io.specs.Faults.{Blame, Nobody, TheTree, ASink}
+use Rattle.tree_io.specs.Faults.{Blame, Nobody, TheTree, ASink}
 use Rattle.uxn_opcodes.specs.declared.Core.{Core}
 use Rattle.uxn_opcodes.specs.declared.Stop.{Stop}
 use Rattle.uxn_opcodes.specs.declared.Stop.TheVariants.{TreeFault, SinkFault, NoMemory}

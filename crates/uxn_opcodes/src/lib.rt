@@ -20,7 +20,7 @@ ghost use Rattle.uxn_opcodes.specs.Rule.{
   moved,
 };
 ghost use Rattle.uxn_opcodes.specs.Table.{op_of, mode_of};
-ghost use Rattle.uxn_io.specs.Faults.{Ledger};
+ghost use Rattle.tree_io.specs.Faults.{Ledger};
 ghost use Rattle.uxn_opcodes.specs.Ports.{blame_of};
 ghost use Rattle.uxn_opcodes.specs.Instruction.{
   ReadsWord,
@@ -80,7 +80,7 @@ pub enum Turn {
 /// The ports of the machine: what is read at them, and what writing them does.
 pub trait Ports {
     ghost use Rattle.std.specs.Prelude.{◌≡◌, ℕ, List, OnOk, IfErr};
-    ghost use Rattle.uxn_io.specs.Faults.{Counts, Ledger};
+    ghost use Rattle.tree_io.specs.Faults.{Counts, Ledger};
     ghost use Rattle.uxn_opcodes.specs.declared.Core.{Core};
     ghost use Rattle.uxn_opcodes.specs.declared.Stop.{Stop};
     ghost use Rattle.uxn_opcodes.specs.Ports.{Rules, blame_of};

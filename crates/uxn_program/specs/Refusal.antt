@@ -1,7 +1,7 @@
 -- What is said and answered where the words of the command line cannot be had (profile).
 use Rattle.std.specs.Prelude.{◌≡◌, ℕ, ◌∷◌, ◌++◌, [], Bool, true, false, List, codes, ◌⊎◌, if◌then◌else◌}
-use Rattle.uxn_io.specs.Ended.{SinkEnded}
-use Rattle.uxn_io.specs.State.{SinkState}
+use Rattle.tree_io.specs.Ended.{SinkEnded}
+use Rattle.tree_io.specs.State.{SinkState}
 use Rattle.uxn_program.specs.declared.words.WordsStop.{WordsStop}
 use Rattle.uxn_program.specs.declared.words.WordsStop.TheVariants.{NotText, NoMemory}
 

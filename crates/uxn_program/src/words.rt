@@ -4,7 +4,7 @@ ghost use Rattle.uxn_program.specs.Refusal.{Refuses};
 use std::io::ErrorKind;
 use std::rt::Env;
 use std::{env, io};
-use uxn_io::{Failed, Sink, put_all};
+use tree_io::{Failed, Sink, put_all};
 
 /// Why the words cannot be had.
 #[derive(Clone, Copy)]

@@ -1,7 +1,7 @@
 -- What a write to a port leaves of memory and of the rings.
 use Rattle.std.proofs.Common.{◌≡◌, ◌≢◌, ℕ, ◌+◌, ◌==◌, Bool, true, false, cond, List, [], ◌∷◌, Option, Some, None, refl, inl, inr}
 use Rattle.std.proofs.lemmas.Bool.{cases_Bool, eqb-true}
-use Rattle.uxn_io.specs.Outside.{Change, Removes}
+use Rattle.tree_io.specs.Outside.{Change, Removes}
 use Rattle.uxn_opcodes.specs.declared.Core.{Core}
 use Rattle.file_ports.specs.Device.{FileState, idle_at, is_writing}
 use Rattle.file_ports.specs.Actions.{Outcome, Seen, quiet, is_file, begun, deletes, writes, adds, seen_in, count_from}

@@ -6,8 +6,8 @@ use Rattle.std.proofs.lemmas.Bool.{cases_Bool, eqb-true}
 use Rattle.std.proofs.lemmas.Bool.Decides.{nat_tests}
 use Rattle.std.proofs.lemmas.List.{length-take, length-append, length-replicate}
 use Rattle.std.proofs.lemmas.List.FromFn.{get_or-map-range_with_len}
-use Rattle.uxn_io.specs.declared.trees.Kind.{Kind}
-use Rattle.uxn_io.specs.declared.trees.Kind.TheVariants.{Missing, File, Folder}
+use Rattle.tree_io.specs.declared.trees.Kind.{Kind}
+use Rattle.tree_io.specs.declared.trees.Kind.TheVariants.{Missing, File, Folder}
 use Rattle.uxn_memory.specs.Bytes.{filled, copied_up, copied_down}
 use Rattle.uxn_opcodes.specs.declared.Core.{Core}
 use Rattle.file_ports.specs.declared.mode.Mode.{Mode}

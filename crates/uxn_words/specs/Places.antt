@@ -3,7 +3,7 @@ use Rattle.std.specs.Prelude.{◌≡◌, ℕ, Bool, nat_lt, ◌||◌, List, [], 
 use Rattle.std.specs.Prelude.{find, Option, None, option_to_list}
 use Rattle.std.specs.List.{list_any}
 use Rattle.std.specs.Str.{bytes_eq}
-use Rattle.uxn_io.specs.PathText.{is_under}
+use Rattle.tree_io.specs.PathText.{is_under}
 use Rattle.uxn_words.specs.declared.words.Command.{Command}
 use Rattle.uxn_words.specs.declared.words.Command.TheVariants.{Play, Debug, Assemble, Disassemble, Generate, Line}
 use Rattle.uxn_words.specs.declared.role.Role.TheVariants.{Root}
@@ -16,7 +16,7 @@ use Rattle.uxn_words.specs.Tasks.{role_path}
 
 -- the paths of the files with which a command does this, in the order of its usage line
 abbrev pub path_where : Access → Task → FileOption → Option (List ℕ)
-path_where access task file = if same_access file.1 access then role_path task file.0 else None
+path_where access task file = if same_access file.access access then role_path task file.role else None
 
 abbrev pub paths_used : Access → Task → List FileOption → List (List ℕ)
 paths_used access task [] = []
@@ -32,23 +32,23 @@ own_input Generate task = []
 own_input Line task = task.file ∷ []
 
 -- the files that the words of a command name as inputs
-abbrev pub inputs_by : Command → Task → List (List ℕ)
-inputs_by command task = own_input command task ++ paths_used Read task (files_of command)
+abbrev pub command_inputs : Command → Task → List (List ℕ)
+command_inputs command task = own_input command task ++ paths_used Read task (files_of command)
 
 -- the files that a command writes, in the order of the usage line
-abbrev pub outputs_by : Command → Task → List (List ℕ)
-outputs_by command task = paths_used Write task (files_of command)
+abbrev pub command_outputs : Command → Task → List (List ℕ)
+command_outputs command task = paths_used Write task (files_of command)
 
 abbrev pub outputs_of : Task → List (List ℕ)
-outputs_of task = outputs_by task.command task
+outputs_of task = command_outputs task.command task
 
 -- the folder of a program's own files
-abbrev pub root_by : Command → Task → Option (List ℕ)
-root_by command task = if has_root command then role_path task Root else None
+abbrev pub command_root : Command → Task → Option (List ℕ)
+command_root command task = if has_root command then role_path task Root else None
 
 -- the root and the outputs, none of which may meet another
 abbrev pub places_of : Task → List (List ℕ)
-places_of task = option_to_list (root_by task.command task) ++ outputs_of task
+places_of task = option_to_list (command_root task.command task) ++ outputs_of task
 
 -- two files meet where they are the same or one lies under the other
 abbrev pub meets : List ℕ → List ℕ → Bool
@@ -60,7 +60,7 @@ clashes inputs places path = nat_lt 1 (count_by (meets path) places) || list_any
 
 -- the first output that clashes
 abbrev pub first_clash : Task → Option (List ℕ)
-first_clash task = find (clashes (inputs_by task.command task) (places_of task)) (outputs_of task)
+first_clash task = find (clashes (command_inputs task.command task) (places_of task)) (outputs_of task)
 
 abbrev pub HasApartOutputs : Task → Type 0
 HasApartOutputs task = first_clash task ≡ None

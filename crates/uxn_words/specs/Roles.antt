@@ -44,10 +44,10 @@ number_of role.Report = 9
 
 -- an option that may be given, and one that has to be
 abbrev pub may : Access → Role → FileOption
-may access role = record { 0 = role; 1 = access; 2 = false }
+may access role = record { role = role; access = access; is_required = false }
 
 abbrev pub must : Access → Role → FileOption
-must access role = record { 0 = role; 1 = access; 2 = true }
+must access role = record { role = role; access = access; is_required = true }
 
 -- the files of a run, and of each command
 abbrev pub run_files : List FileOption
@@ -76,11 +76,11 @@ settings_of Generate = []
 settings_of Line = []
 
 -- the options of each command
-abbrev pub choice_for : FileOption → Choice
-choice_for file = if file.2 then required (option_name file.0) else optional (option_name file.0)
+abbrev pub file_choice : FileOption → Choice
+file_choice file = if file.is_required then required (option_name file.role) else optional (option_name file.role)
 
 abbrev pub choices_of : Command → List Choice
-choices_of command = settings_of command ++ map choice_for (files_of command)
+choices_of command = settings_of command ++ map file_choice (files_of command)
 
 -- what a command does with a file
 abbrev pub same_access : Access → Access → Bool
@@ -91,4 +91,4 @@ same_access one other = false
 
 -- the command is a run, which has a folder of the program's own files
 abbrev pub has_root : Command → Bool
-has_root command = list_any (λ file. same_access file.1 access.Root) (files_of command)
+has_root command = list_any (λ file. same_access file.access access.Root) (files_of command)

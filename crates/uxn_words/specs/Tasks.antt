@@ -14,7 +14,7 @@ with_path task role path = record task { paths = slice_set task.paths (number_of
 
 -- each role gets a path
 abbrev pub with_paths : Task → (Role → Option (List ℕ)) → Task
-with_paths task path_in = record task { paths = map path_in roles }
+with_paths task asked_path = record task { paths = map asked_path roles }
 
 -- no role has a path yet
 abbrev pub no_paths : Command → List ℕ → ℕ → Bool → ℕ → Task

@@ -2,9 +2,9 @@
 use Rattle.std.specs.Prelude.{ℕ, List, [], ◌∷◌, codes, Option, Some, None, is_some, option_map, option_and_then}
 use Rattle.std.specs.Prelude.{if◌then◌else◌, Result, Ok, Err}
 use Rattle.std.specs.Str.{bytes_eq}
-use Rattle.uxn_io.specs.declared.paths.PathFault.{PathFault}
-use Rattle.uxn_io.specs.ByteList.{tight}
-use Rattle.uxn_io.specs.PathText.{path_of}
+use Rattle.tree_io.specs.declared.paths.PathFault.{PathFault}
+use Rattle.tree_io.specs.ByteList.{tight}
+use Rattle.tree_io.specs.PathText.{path_of}
 use Rattle.line_texts.specs.Numbers.{number_within}
 use Rattle.option_table.specs.Words.{operand, values_over}
 use Rattle.uxn_words.specs.declared.words.Command.{Command}
@@ -28,25 +28,25 @@ command_of name =
     else None
 
 -- the greatest number of instructions of a vector: 1 to 4,294,967,295, and without the option 4,000,000
-abbrev pub budget_in : Option (List ℕ) → Option ℕ
-budget_in None = Some 4000000
-budget_in (Some word) = number_within 1 4294967295 word
+abbrev pub asked_budget : Option (List ℕ) → Option ℕ
+asked_budget None = Some 4000000
+asked_budget (Some word) = number_within 1 4294967295 word
 
 -- the count of a workload, 1 to 8,000, that its command's own item says; 0 for other commands
-abbrev pub count_in : Command → List ℕ → Option ℕ
-count_in Play word = Some 0
-count_in Debug word = Some 0
-count_in Assemble word = Some 0
-count_in Disassemble word = Some 0
-count_in Generate word = number_within 1 8000 word
-count_in Line word = Some 0
+abbrev pub asked_count : Command → List ℕ → Option ℕ
+asked_count Play word = Some 0
+asked_count Debug word = Some 0
+asked_count Assemble word = Some 0
+asked_count Disassemble word = Some 0
+asked_count Generate word = number_within 1 8000 word
+asked_count Line word = Some 0
 
 -- the command's own item, and the count and the budget, where these are numbers
-abbrev pub values_in : Command → (List ℕ → Option (List ℕ)) → Option (List ℕ × ℕ × ℕ)
-values_in command value_at =
+abbrev pub asked_values : Command → (List ℕ → Option (List ℕ)) → Option (List ℕ × ℕ × ℕ)
+asked_values command value_at =
     option_and_then (λ file.
-    option_and_then (λ count. option_map (λ budget. (file, count, budget)) (budget_in (value_at (codes "budget"))))
-    (count_in command file)) (value_at operand)
+    option_and_then (λ count. option_map (λ budget. (file, count, budget)) (asked_budget (value_at (codes "budget"))))
+    (asked_count command file)) (value_at operand)
 
 -- a step after another: the first fault counts
 abbrev pub and_then : {A B : Type 0} → Result A WordFault → (A → Result B WordFault) → Result B WordFault
@@ -58,35 +58,35 @@ legal None = Err NotUnderstood
 legal (Some value) = Ok value
 
 -- each word that names a file is a path
-abbrev pub path_by : List ℕ → Result (List ℕ) PathFault → Result (List ℕ) WordFault
-path_by word (Err fault) = Err (NoPath (tight word))
-path_by word (Ok path) = Ok path
+abbrev pub judged_path : List ℕ → Result (List ℕ) PathFault → Result (List ℕ) WordFault
+judged_path word (Err fault) = Err (NoPath (tight word))
+judged_path word (Ok path) = Ok path
 
-abbrev pub path_in : List ℕ → Result (List ℕ) WordFault
-path_in word = path_by word (path_of word)
+abbrev pub asked_path : List ℕ → Result (List ℕ) WordFault
+asked_path word = judged_path word (path_of word)
 
-abbrev pub optional_path_in : Option (List ℕ) → Result (Option (List ℕ)) WordFault
-optional_path_in None = Ok None
-optional_path_in (Some word) = and_then (path_in word) (λ path. Ok (Some path))
+abbrev pub asked_optional_path : Option (List ℕ) → Result (Option (List ℕ)) WordFault
+asked_optional_path None = Ok None
+asked_optional_path (Some word) = and_then (asked_path word) (λ path. Ok (Some path))
 
 -- each role gets the path of its option; the first word that is none counts
-unfoldable pub paths_from : (List ℕ → Option (List ℕ)) → List Role → Task → Result Task WordFault
-paths_from value_at [] task = Ok task
-paths_from value_at (role ∷ rest) task =
-    and_then (optional_path_in (value_at (option_name role))) (λ path. paths_from value_at rest (with_path task role path))
+unfoldable pub asked_paths : (List ℕ → Option (List ℕ)) → List Role → Task → Result Task WordFault
+asked_paths value_at [] task = Ok task
+asked_paths value_at (role ∷ rest) task =
+    and_then (asked_optional_path (value_at (option_name role))) (λ path. asked_paths value_at rest (with_path task role path))
 
 -- what the values of a line ask for: they are legal, and then all that name a file are paths
-abbrev pub task_in : Command → (List ℕ → Option (List ℕ)) → Result Task WordFault
-task_in command value_at =
-    and_then (legal (values_in command value_at)) (λ values.
-    and_then (path_in values.0) (λ file.
-    paths_from value_at roles (no_paths command file values.1 (is_some (value_at (codes "rom"))) values.2)))
+abbrev pub asked_task : Command → (List ℕ → Option (List ℕ)) → Result Task WordFault
+asked_task command value_at =
+    and_then (legal (asked_values command value_at)) (λ values.
+    and_then (asked_path values.0) (λ file.
+    asked_paths value_at roles (no_paths command file values.1 (is_some (value_at (codes "rom"))) values.2)))
 
-abbrev pub task_with : List (List ℕ) → Option Command → Result Task WordFault
-task_with words None = Err NotUnderstood
-task_with words (Some command) = and_then (legal (values_over (choices_of command) words)) (task_in command)
+abbrev pub named_task : List (List ℕ) → Option Command → Result Task WordFault
+named_task words None = Err NotUnderstood
+named_task words (Some command) = and_then (legal (values_over (choices_of command) words)) (asked_task command)
 
 -- what the words ask for
 unfoldable pub task_of : List (List ℕ) → Result Task WordFault
 task_of [] = Err NotUnderstood
-task_of (name ∷ words) = task_with words (command_of name)
+task_of (name ∷ words) = named_task words (command_of name)

@@ -1,6 +1,6 @@
 //! The files that options name: what each is for, and what a command does with it.
 ghost use Rattle.std.specs.Prelude.{◌≡◌, ◌<◌};
-ghost use Rattle.uxn_words.specs.Roles.{number_of, option_name, same_access, choice_for};
+ghost use Rattle.uxn_words.specs.Roles.{number_of, option_name, same_access, file_choice};
 ghost use Rattle.option_table.specs.Words.{choice_in};
 
 use option_table::Choice;
@@ -99,20 +99,26 @@ impl Access {
     }
 }
 
-/// An option of a command that names a file: what the file is for, what the command does with it, and whether the option
-/// has to be given.
+/// An option of a command that names a file.
 #[derive(Clone, Copy)]
-pub struct FileOption(pub Role, pub Access, pub bool);
+pub struct FileOption {
+    /// What the file is for.
+    pub role: Role,
+    /// What the command does with it.
+    pub access: Access,
+    /// Whether the option has to be given.
+    pub is_required: bool,
+}
 
 impl FileOption {
     /// The row of a table of options.
     pub(crate) fn choice(&self) -> Choice
-        ensures { choice_in result ≡ choice_for self.now }
+        ensures { choice_in result ≡ file_choice self.now }
     {
-        if self.2 {
-            Choice::Required(self.0.option_name())
+        if self.is_required {
+            Choice::Required(self.role.option_name())
         } else {
-            Choice::Optional(self.0.option_name())
+            Choice::Optional(self.role.option_name())
         }
     }
 }

@@ -4,12 +4,12 @@ ghost use Rattle.std.specs.List.{list_any};
 ghost use Rattle.std.specs.Str.{bytes_eq};
 ghost use Rattle.uxn_words.specs.Roles.{files_of};
 ghost use Rattle.uxn_words.specs.Tasks.{role_path, with_path, no_paths};
-ghost use Rattle.uxn_words.specs.Places.{own_input, path_where, paths_used, inputs_by, outputs_of, root_by, places_of, meets, clashes, first_clash};
+ghost use Rattle.uxn_words.specs.Places.{own_input, path_where, paths_used, command_inputs, outputs_of, command_root, places_of, meets, clashes, first_clash};
 
 use super::role::{Access, FileOption, ROLE_COUNT, Role};
 use super::words::Command;
 use std::alloc::{AllocError, Global};
-use uxn_io::Path;
+use tree_io::Path;
 
 /// What is to be done.
 #[derive(Clone, Copy)]
@@ -65,8 +65,8 @@ impl Task {
     fn path_where(&self, access: Access, file: &FileOption) -> Option<Path>
         ensures { result ≡ path_where access self.now file.now }
     {
-        if file.1.is(access) {
-            self.path(file.0)
+        if file.access.is(access) {
+            self.path(file.role)
         } else {
             None
         }
@@ -108,7 +108,7 @@ impl Task {
 
     /// The files that it reads. Errors with want of memory.
     fn inputs(&self, alloc: Global) -> Result<Vec<Path>, AllocError>
-        ensures { IfOk result (λ paths. paths.items ≡ inputs_by self.now.command self.now) }
+        ensures { IfOk result (λ paths. paths.items ≡ command_inputs self.now.command self.now) }
     {
         let mut paths = Vec::new(alloc);
         push_some(&mut paths, self.own_input())?;
@@ -118,7 +118,7 @@ impl Task {
 
     /// The folder of the program's own files, in a run.
     fn run_root(&self) -> Option<Path>
-        ensures { result ≡ root_by self.now.command self.now }
+        ensures { result ≡ command_root self.now.command self.now }
     {
         if self.command.has_root() {
             self.path(Role::Root)

@@ -3,7 +3,7 @@ ghost use Rattle.std.specs.Prelude.{◌≡◌, ◌≤◌, ◌++◌, IfSome, IfOk
 ghost use Rattle.option_table.specs.Words.{choices_in};
 ghost use Rattle.option_table.specs.Parsing.{found_value};
 ghost use Rattle.uxn_words.specs.Roles.{roles, files_of, settings_of, choices_of, has_root};
-ghost use Rattle.uxn_words.specs.Words.{command_of, budget_in, count_in, values_in, path_in, optional_path_in, paths_from, task_in, task_with, task_of};
+ghost use Rattle.uxn_words.specs.Words.{command_of, asked_budget, asked_count, asked_values, asked_path, asked_optional_path, asked_paths, asked_task, named_task, task_of};
 ghost use Rattle.uxn_words.specs.Reads.{Reads};
 
 use super::role::{Access, FileOption, ROLES, Role};
@@ -11,7 +11,7 @@ use super::task::Task;
 use line_texts::number_within;
 use option_table::{Choice, Found};
 use std::alloc::{AllocError, Global};
-use uxn_io::{Bytes, Path};
+use tree_io::{Bytes, Path};
 
 /// What the program is asked to do.
 #[derive(Clone, Copy, PartialEq, Eq)]
@@ -66,25 +66,73 @@ const DEBUG_ONLY: usize = 3;
 
 /// The files of `debug`, and behind its own those of `play`.
 static DEBUG: [FileOption; 8] = [
-    FileOption(Role::Commands, Access::Read, true),
-    FileOption(Role::Log, Access::Write, true),
-    FileOption(Role::Symbols, Access::Read, false),
-    FileOption(Role::Script, Access::Read, false),
-    FileOption(Role::Root, Access::Root, false),
-    FileOption(Role::Frames, Access::Write, false),
-    FileOption(Role::Samples, Access::Write, false),
-    FileOption(Role::Report, Access::Write, false),
+    FileOption {
+        role: Role::Commands,
+        access: Access::Read,
+        is_required: true,
+    },
+    FileOption {
+        role: Role::Log,
+        access: Access::Write,
+        is_required: true,
+    },
+    FileOption {
+        role: Role::Symbols,
+        access: Access::Read,
+        is_required: false,
+    },
+    FileOption {
+        role: Role::Script,
+        access: Access::Read,
+        is_required: false,
+    },
+    FileOption {
+        role: Role::Root,
+        access: Access::Root,
+        is_required: false,
+    },
+    FileOption {
+        role: Role::Frames,
+        access: Access::Write,
+        is_required: false,
+    },
+    FileOption {
+        role: Role::Samples,
+        access: Access::Write,
+        is_required: false,
+    },
+    FileOption {
+        role: Role::Report,
+        access: Access::Write,
+        is_required: false,
+    },
 ];
 
 /// The files of `asm`.
 static ASSEMBLE: [FileOption; 3] = [
-    FileOption(Role::Out, Access::Write, true),
-    FileOption(Role::Symbols, Access::Write, false),
-    FileOption(Role::Listing, Access::Write, false),
+    FileOption {
+        role: Role::Out,
+        access: Access::Write,
+        is_required: true,
+    },
+    FileOption {
+        role: Role::Symbols,
+        access: Access::Write,
+        is_required: false,
+    },
+    FileOption {
+        role: Role::Listing,
+        access: Access::Write,
+        is_required: false,
+    },
 ];
 
 /// The files of `dis`.
-static DISASSEMBLE: [FileOption; 1] = [FileOption(Role::Symbols, Access::Read, false)];
+static DISASSEMBLE: [FileOption; 1] = [FileOption {
+    role: Role::Symbols,
+    access: Access::Read,
+    is_required: false,
+}];
 
 /// The options of a run that name no file.
 static RUN_SETTINGS: [Choice; 2] = [Choice::Switch("rom"), Choice::Optional("budget")];
@@ -111,8 +159,8 @@ fn command_named(name: &[u8]) -> Option<Command>
 }
 
 /// The budget that a word says; without a word it is 4,000,000.
-fn budget_in(word: Option<&[u8]>) -> Option<u32>
-    ensures number { result ≡ budget_in (option_map (λ text. text.now) word.entry) }
+fn asked_budget(word: Option<&[u8]>) -> Option<u32>
+    ensures number { result ≡ asked_budget (option_map (λ text. text.now) word.entry) }
     ensures some { IfSome result (λ budget. 1 ≤ budget) }
 {
     match word {
@@ -132,8 +180,8 @@ fn value_of<'a>(found: &Found<'a>, name: &str) -> Option<&'a [u8]>
 }
 
 /// The path that a word is.
-fn path_in(alloc: Global, word: &[u8]) -> Result<Path, WordStop>
-    ensures { Reads result (path_in word.now) }
+fn asked_path(alloc: Global, word: &[u8]) -> Result<Path, WordStop>
+    ensures { Reads result (asked_path word.now) }
 {
     match Path::read(word) {
         Ok(path) => Ok(path),
@@ -142,23 +190,23 @@ fn path_in(alloc: Global, word: &[u8]) -> Result<Path, WordStop>
 }
 
 /// The path that a word is, where there is a word.
-fn optional_path_in(alloc: Global, word: Option<&[u8]>) -> Result<Option<Path>, WordStop>
-    ensures { Reads result (optional_path_in (option_map (λ text. text.now) word.entry)) }
+fn asked_optional_path(alloc: Global, word: Option<&[u8]>) -> Result<Option<Path>, WordStop>
+    ensures { Reads result (asked_optional_path (option_map (λ text. text.now) word.entry)) }
 {
     match word {
-        Some(word) => Ok(Some(path_in(alloc, word)?)),
+        Some(word) => Ok(Some(asked_path(alloc, word)?)),
         None => Ok(None),
     }
 }
 
 /// A task with the path that the words give each role, unless a word is no path: then the first one is named.
 fn with_paths(alloc: Global, found: &Found<'_>, bare: Task) -> Result<Task, WordStop>
-    ensures paths { Reads result (paths_from (found_value found.now) roles bare) }
+    ensures paths { Reads result (asked_paths (found_value found.now) roles bare) }
     ensures budget { IfOk result (λ task. task.budget ≡ bare.budget) }
 {
     let mut task = bare;
     for role in &ROLES {
-        let path = optional_path_in(alloc, value_of(found, role.option_name()))?;
+        let path = asked_optional_path(alloc, value_of(found, role.option_name()))?;
         task.set(*role, path);
     }
     Ok(task)
@@ -205,12 +253,12 @@ impl Command {
     pub(crate) fn has_root(self) -> bool
         ensures { result ≡ has_root self }
     {
-        self.files().iter().any(|file| file.1.is(Access::Root))
+        self.files().iter().any(|file| file.access.is(Access::Root))
     }
 
     /// The count of a workload, 1 to 8,000, that its command's own item says; 0 for other commands.
-    fn count_in(self, word: &[u8]) -> Option<u16>
-        ensures { result ≡ count_in self word.now }
+    fn asked_count(self, word: &[u8]) -> Option<u16>
+        ensures { result ≡ asked_count self word.now }
     {
         match self {
             Command::Generate => {
@@ -227,31 +275,31 @@ impl Command {
 
     /// The command's own item, and the count and the budget, where these are numbers.
     fn values<'a>(self, found: &Found<'a>) -> Option<(&'a [u8], u16, u32)>
-        ensures values { option_map (λ values. (values.0.now, values.1, values.2)) result ≡ values_in self (found_value found.now) }
+        ensures values { option_map (λ values. (values.0.now, values.1, values.2)) result ≡ asked_values self (found_value found.now) }
         ensures budget { IfSome result (λ values. 1 ≤ values.2) }
     {
         let file = found.operand()?.as_bytes();
-        let count = self.count_in(file)?;
-        let budget = budget_in(value_of(found, "budget"))?;
+        let count = self.asked_count(file)?;
+        let budget = asked_budget(value_of(found, "budget"))?;
         Some((file, count, budget))
     }
 
     /// What a legal line asks for, where its budget and its count are numbers and what names a file is a path.
     fn task(self, alloc: Global, found: &Found<'_>) -> Result<Task, WordStop>
-        ensures asked { Reads result (task_in self (found_value found.now)) }
+        ensures asked { Reads result (asked_task self (found_value found.now)) }
         ensures budget { IfOk result (λ task. 1 ≤ task.budget) }
     {
         let Some((word, count, budget)) = self.values(found) else {
             return Err(WordStop::Refused(WordFault::NotUnderstood));
         };
-        let file = path_in(alloc, word)?;
+        let file = asked_path(alloc, word)?;
         let bare = Task::new(self, file, count, found.has("rom"), budget);
         with_paths(alloc, found, bare)
     }
 
     /// What the words after the command's name ask for.
     fn read(self, alloc: Global, words: &[String]) -> Result<Task, WordStop>
-        ensures asked { Reads result (task_with (map string_bytes words.now) (Some self)) }
+        ensures asked { Reads result (named_task (map string_bytes words.now) (Some self)) }
         ensures budget { IfOk result (λ task. 1 ≤ task.budget) }
     {
         let choices = self.choices(alloc)?;

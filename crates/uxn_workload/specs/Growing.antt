@@ -1,6 +1,6 @@
 -- A sink in memory that grows (profile).
 use Rattle.std.specs.Prelude.{ℕ, true, List, Some}
-use Rattle.uxn_io.specs.State.{SinkState}
+use Rattle.tree_io.specs.State.{SinkState}
 
 -- what it has taken, and the faults that it has counted
 pub record Growing : Type 0 where

@@ -1,7 +1,7 @@
 -- The source of a workload of so many routines (profile): a number is pushed, each routine adds its own to it, the sum is printed,
 -- and a frame is drawn over and over.
 use Rattle.std.specs.Prelude.{ℕ, zero, suc, ◌+◌, ◌*◌, ◌%◌, List, [], ◌++◌, codes, decimal}
-use Rattle.uxn_io.specs.NumberText.{hex_of_short}
+use Rattle.tree_io.specs.NumberText.{hex_of_short}
 
 -- the numbers: x(0) is the count of routines, and x(i + 1) = 25173 * x(i) + 13849 modulo 65536
 abbrev pub number : ℕ → ℕ → ℕ

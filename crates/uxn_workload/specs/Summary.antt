@@ -1,7 +1,7 @@
 -- The summary of a workload (profile): lengths, counts, the bytes that it printed, and its exit code.
 use Rattle.std.specs.Prelude.{ℕ, List, ◌++◌, codes, decimal}
 use Rattle.std.specs.List.{flat_map}
-use Rattle.uxn_io.specs.NumberText.{hex_of_byte}
+use Rattle.tree_io.specs.NumberText.{hex_of_byte}
 use Rattle.uxn_workload.specs.declared.summary.Ran.{Ran}
 
 -- a line: a word, a space and a value

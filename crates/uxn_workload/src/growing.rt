@@ -4,7 +4,7 @@ ghost use Rattle.uxn_workload.specs.Growing.{state_of};
 
 use std::alloc::Global;
 use std::marker::Model;
-use uxn_io::{Failed, Sink};
+use tree_io::{Failed, Sink};
 
 /// A sink in memory that grows: it keeps all that it takes. Its one fault is that memory is wanting,
 /// and it counts exactly the calls that fail so.

@@ -3,7 +3,7 @@ ghost use Rattle.std.specs.Prelude.{◌≡◌, ◌+◌, ◌*◌, ◌%◌, ◌++�
 ghost use Rattle.uxn_workload.specs.Source.{name_of, call, calls, routine, routines, source_of};
 
 use std::alloc::{AllocError, Global};
-use uxn_io::{decimal, hex_short};
+use tree_io::{decimal, hex_short};
 
 /// The number after this one.
 fn next_number(value: u16) -> u16

@@ -3,7 +3,7 @@ ghost use Rattle.std.specs.Prelude.{◌≡◌, ◌++◌, IfOk, OnOk, decimal};
 ghost use Rattle.uxn_workload.specs.Summary.{line, digits, summary_of, summary_text};
 
 use std::alloc::{AllocError, Global};
-use uxn_io::{decimal, hex_byte};
+use tree_io::{decimal, hex_byte};
 
 /// A workload that ran.
 #[derive(Clone, Copy)]

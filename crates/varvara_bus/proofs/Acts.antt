@@ -3,15 +3,15 @@ use Rattle.std.proofs.Common.{◌≡◌, Bool, true, false, ℕ, List, [], ◌�
 use Rattle.std.specs.Prelude.{◌==◌, if◌then◌else◌, Option, Result, Ok, Err, OnOk, OnErr, IfErr, is_err}
 use Rattle.std.specs.Borrow.{MutBor}
 use Rattle.std.proofs.lemmas.List.{append-nil}
-use Rattle.uxn_io.specs.declared.sinks.Failed.{Failed}
-use Rattle.uxn_io.specs.Files.{Nodes}
-use Rattle.uxn_io.specs.FaultLaws.{counted-same}
-use Rattle.uxn_io.specs.Faults.{Tally, Counted, Ledger, Nobody, TheTree, counts}
-use Rattle.uxn_io.specs.Outside.{Change, files_by}
-use Rattle.uxn_io.specs.State.{TreeState, SinkState, Outside, outside}
-use Rattle.uxn_io.specs.Ended.{TreeEnded, Ended, AreOfTree, blame_of_sink}
-use Rattle.uxn_io.specs.EndedLaws.{outside-of-tree}
-use Rattle.uxn_io.specs.TakingLaws.{remains-all}
+use Rattle.tree_io.specs.declared.sinks.Failed.{Failed}
+use Rattle.tree_io.specs.Files.{Nodes}
+use Rattle.tree_io.specs.FaultLaws.{counted-same}
+use Rattle.tree_io.specs.Faults.{Tally, Counted, Ledger, Nobody, TheTree, counts}
+use Rattle.tree_io.specs.Outside.{Change, files_by}
+use Rattle.tree_io.specs.State.{TreeState, SinkState, Outside, outside}
+use Rattle.tree_io.specs.Ended.{TreeEnded, Ended, AreOfTree, blame_of_sink}
+use Rattle.tree_io.specs.EndedLaws.{outside-of-tree}
+use Rattle.tree_io.specs.TakingLaws.{remains-all}
 use Rattle.file_ports.specs.declared.stop.FileStop.{FileStop}
 use Rattle.file_ports.specs.declared.stop.FileStop.TheVariants as causes
 use Rattle.file_ports.specs.Device.{Suits}

@@ -5,14 +5,14 @@ use Rattle.std.specs.Option.{option_map}
 use Rattle.std.specs.Ordering.{nat_cmp, eq_by_cmp}
 use Rattle.std.specs.Cmp.Lexicographic.{slice_cmp, nat_list_cmp_total}
 use Rattle.std.specs.FinMap as nodes_map
-use Rattle.uxn_io.specs.declared.sinks.Failed.{Failed}
-use Rattle.uxn_io.specs.Files.{Node, File, Nodes, bytes_of, bytes_at}
-use Rattle.uxn_io.specs.Changes.{with_appended}
+use Rattle.tree_io.specs.declared.sinks.Failed.{Failed}
+use Rattle.tree_io.specs.Files.{Node, File, Nodes, bytes_of, bytes_at}
+use Rattle.tree_io.specs.Changes.{with_appended}
 use Rattle.std.proofs.lemmas.List.{append-nil}
-use Rattle.uxn_io.specs.AppendingLaws.{told_by-file}
-use Rattle.uxn_io.specs.Outside.{Change, ToFile, files_by}
-use Rattle.uxn_io.specs.State.{TreeState, Outside}
-use Rattle.uxn_io.specs.Ended.{TreeEnded, Ended, told_by, appending, blame_of_tree}
+use Rattle.tree_io.specs.AppendingLaws.{told_by-file}
+use Rattle.tree_io.specs.Outside.{Change, ToFile, files_by}
+use Rattle.tree_io.specs.State.{TreeState, Outside}
+use Rattle.tree_io.specs.Ended.{TreeEnded, Ended, told_by, appending, blame_of_tree}
 use Rattle.uxn_opcodes.specs.declared.Stop.{Stop}
 use Rattle.uxn_opcodes.specs.declared.Stop.TheVariants.{TreeFault, SinkFault, NoMemory}
 use Rattle.file_ports.specs.Device.{suits}

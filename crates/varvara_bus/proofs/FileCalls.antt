@@ -2,11 +2,11 @@
 use Rattle.std.proofs.Common.{◌≡◌, ℕ, ◌+◌, Bool, true, false, List, [], refl, ap, sym, subst, ◌∙◌}
 use Rattle.std.specs.Prelude.{Option, Some, None, Result, Ok, Err, is_none, if◌then◌else◌}
 use Rattle.std.specs.Option.{option_map}
-use Rattle.uxn_io.specs.Files.{Nodes}
-use Rattle.uxn_io.specs.Outside.{Change, files_by}
-use Rattle.uxn_io.specs.State.{TreeState}
-use Rattle.uxn_io.specs.Ended.{told_by, StandsAfter, TreeEnded}
-use Rattle.uxn_io.specs.EndedLaws.{told_by-some, told_by-none}
+use Rattle.tree_io.specs.Files.{Nodes}
+use Rattle.tree_io.specs.Outside.{Change, files_by}
+use Rattle.tree_io.specs.State.{TreeState}
+use Rattle.tree_io.specs.Ended.{told_by, StandsAfter, TreeEnded}
+use Rattle.tree_io.specs.EndedLaws.{told_by-some, told_by-none}
 use Rattle.file_ports.specs.declared.stop.FileStop.{FileStop}
 use Rattle.file_ports.specs.Device.{FileState, idle_at, Suits}
 use Rattle.file_ports.specs.Names.{path_named}
@@ -15,7 +15,7 @@ use Rattle.file_ports.specs.Actions.{FileAction, Name, Read, Write, Stat, Delete
 use Rattle.file_ports.specs.Answers.{Answers, outcome_by, changes_untold, changes_by, ActedOrStopped}
 use Rattle.file_ports.specs.PartLaws.{below-files_by, outcome-same}
 use Rattle.file_ports.specs.ActLaws.{lie-front, lie-none, parent-kept, rootless, act-nowhere, changes-of, path-kept}
-use Rattle.uxn_io.specs.CallLaws.{ended-as}
+use Rattle.tree_io.specs.CallLaws.{ended-as}
 use Rattle.file_ports.specs.OutsideLaws.{still-there}
 use Rattle.input_ports.specs.Page.{short_stores}
 use Rattle.varvara_bus.specs.declared.devices.Devices.{Devices}

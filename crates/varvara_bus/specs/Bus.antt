@@ -1,13 +1,13 @@
 -- A bus: devices, a tree and two sinks that are lent to it, and its ports.
 use Rattle.std.specs.Prelude.{◌≡◌, ℕ, ◌==◌, Bool, true, false, List, [], ◌∷◌, Option, Some, None, Result, Ok, Err}
 use Rattle.std.specs.Prelude.{IfSome, IsSome, slice_index, if◌then◌else◌}
-use Rattle.uxn_io.specs.Files.{Nodes, file_at}
-use Rattle.uxn_io.specs.Faults.{Counts, Blame}
-use Rattle.uxn_io.specs.Outside.{Change, changed_by, IsCutOff}
-use Rattle.uxn_io.specs.State.{Outside, outside}
-use Rattle.uxn_io.specs.Taking.{Remains, WasNotSure}
-use Rattle.uxn_io.specs.declared.sinks.Sink as sinks
-use Rattle.uxn_io.specs.declared.trees.Tree as trees
+use Rattle.tree_io.specs.Files.{Nodes, file_at}
+use Rattle.tree_io.specs.Faults.{Counts, Blame}
+use Rattle.tree_io.specs.Outside.{Change, changed_by, IsCutOff}
+use Rattle.tree_io.specs.State.{Outside, outside}
+use Rattle.tree_io.specs.Taking.{Remains, WasNotSure}
+use Rattle.tree_io.specs.declared.sinks.Sink as sinks
+use Rattle.tree_io.specs.declared.trees.Tree as trees
 use Rattle.file_ports.specs.Device.{FileState, suits}
 use Rattle.file_ports.specs.Answers.{TakesNames}
 use Rattle.uxn_opcodes.specs.declared.Core.{Core}

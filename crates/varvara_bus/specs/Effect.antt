@@ -1,6 +1,6 @@
 -- What a write to a port does (Varvara device reference).
 use Rattle.std.specs.Prelude.{ℕ, ◌==◌, Bool, true, false, List, [], ◌∷◌, ◌++◌, map, if◌then◌else◌}
-use Rattle.uxn_io.specs.Outside.{Change, ToOut, ToErr}
+use Rattle.tree_io.specs.Outside.{Change, ToOut, ToErr}
 use Rattle.uxn_opcodes.specs.declared.Core.{Core}
 use Rattle.system_port.specs.Expansion.{expanded}
 use Rattle.system_port.specs.DebugText.{debug_text_of}

@@ -1,7 +1,7 @@
 -- What the file devices do by their ports (Varvara device reference: File).
 use Rattle.std.specs.Prelude.{ℕ, ◌+◌, ◌%◌, ◌==◌, Bool, List, map, Option, Some, if◌then◌else◌}
-use Rattle.uxn_io.specs.Files.{Nodes}
-use Rattle.uxn_io.specs.Outside.{ToFile, files_by}
+use Rattle.tree_io.specs.Files.{Nodes}
+use Rattle.tree_io.specs.Outside.{ToFile, files_by}
 use Rattle.file_ports.specs.Device.{FileState, suits}
 use Rattle.file_ports.specs.Answers.{device_left, MemoryLeft}
 use Rattle.file_ports.specs.Actions as file

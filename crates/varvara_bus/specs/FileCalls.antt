@@ -1,8 +1,8 @@
 -- What a call of a file device does to the devices of a machine, to memory and to the tree.
 use Rattle.std.specs.Prelude.{◌≡◌, ℕ, Bool, true, false, List, Option, Result, Ok, Err}
-use Rattle.uxn_io.specs.Files.{Nodes}
-use Rattle.uxn_io.specs.State.{TreeState}
-use Rattle.uxn_io.specs.Ended.{TreeEnded}
+use Rattle.tree_io.specs.Files.{Nodes}
+use Rattle.tree_io.specs.State.{TreeState}
+use Rattle.tree_io.specs.Ended.{TreeEnded}
 use Rattle.uxn_opcodes.specs.declared.Stop.{Stop}
 use Rattle.uxn_opcodes.specs.declared.Stop.TheVariants as stops
 use Rattle.file_ports.specs.declared.stop.FileStop.{FileStop}

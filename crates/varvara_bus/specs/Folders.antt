@@ -2,8 +2,8 @@
 use Rattle.std.specs.Prelude.{◌≡◌, ◌≢◌, ℕ, Bool, true, false, List, [], ◌∷◌, ◌++◌, Option, Some}
 use Rattle.std.specs.Prelude.{None, is_some, IsTrue, IfSome, Err, refl}
 use Rattle.std.proofs.Common.{ap, sym, ◌∙◌}
-use Rattle.uxn_io.specs.Files.{Nodes, kind_at}
-use Rattle.uxn_io.specs.declared.trees.Kind.TheVariants.{Folder}
+use Rattle.tree_io.specs.Files.{Nodes, kind_at}
+use Rattle.tree_io.specs.declared.trees.Kind.TheVariants.{Folder}
 use Rattle.file_ports.specs.Device.{FileState, suits, Suits}
 use Rattle.file_ports.specs.RootPart.{below}
 use Rattle.file_ports.specs.PartLaws.{seen-same}

@@ -4,12 +4,12 @@ use Rattle.std.specs.Prelude.{Err, refl}
 use Rattle.std.proofs.Common.{ap, sym, ◌∙◌, append_assoc, inl, inr, arith}
 use Rattle.std.proofs.lemmas.Bool.Decides.{nat_tests}
 use Rattle.std.proofs.lemmas.List.{append-nil}
-use Rattle.uxn_io.specs.Files.{Nodes}
+use Rattle.tree_io.specs.Files.{Nodes}
 use Rattle.std.specs.Option.{option_map}
-use Rattle.uxn_io.specs.Outside.{Change, World, changed_by, files_by}
-use Rattle.uxn_io.specs.ChangeLaws.{changed_by-append, cut-first, cut-later}
-use Rattle.uxn_io.specs.ChangeLaws.{files-told}
-use Rattle.uxn_io.specs.TakingLaws.{remains-all, remains-both, not-sure-first, not-sure-later}
+use Rattle.tree_io.specs.Outside.{Change, World, changed_by, files_by}
+use Rattle.tree_io.specs.ChangeLaws.{changed_by-append, cut-first, cut-later}
+use Rattle.tree_io.specs.ChangeLaws.{files-told}
+use Rattle.tree_io.specs.TakingLaws.{remains-all, remains-both, not-sure-first, not-sure-later}
 use Rattle.uxn_opcodes.specs.declared.Core.{Core}
 use Rattle.uxn_opcodes.specs.declared.Stop.{Stop}
 use Rattle.uxn_opcodes.specs.declared.Stop.TheVariants.{NoMemory}

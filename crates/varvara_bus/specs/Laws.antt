@@ -9,8 +9,8 @@ use Rattle.std.proofs.lemmas.List.{get_or_past, get_or-replicate, length-replica
 use Rattle.input_ports.specs.declared.Input.{Input}
 use Rattle.input_ports.specs.declared.Input.TheVariants.{Key, Down, Up, Mouse, Press, Release, Scroll, DownOf, UpOf}
 use Rattle.input_ports.specs.Page.{buttons_port, bits_set, bits_cleared, with_bits, without_bits, stores_of, stores_after, with_stores}
-use Rattle.uxn_io.specs.Files.{Nodes}
-use Rattle.uxn_io.specs.Outside.{ToFile, files_by}
+use Rattle.tree_io.specs.Files.{Nodes}
+use Rattle.tree_io.specs.Outside.{ToFile, files_by}
 use Rattle.varvara_bus.specs.Bus.{file_held}
 use Rattle.file_ports.specs.Device.{suits, Suits}
 use Rattle.varvara_bus.specs.declared.devices.Devices.{Devices}

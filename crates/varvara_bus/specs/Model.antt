@@ -1,6 +1,6 @@
 -- The ports of a machine as a model, and what an instruction does over them.
 use Rattle.std.specs.Prelude.{List, [], ◌++◌}
-use Rattle.uxn_io.specs.Outside.{Change}
+use Rattle.tree_io.specs.Outside.{Change}
 use Rattle.uxn_opcodes.specs.declared.Core.{Core}
 use Rattle.uxn_opcodes.specs.Model.{PortModel, Machine, after_instruction}
 use Rattle.varvara_bus.specs.State.{DeviceState}

@@ -1,7 +1,7 @@
 -- What the devices of a machine stand for.
 use Rattle.std.specs.Prelude.{◌≡◌, ℕ, Bool, false, List, [], ◌+◌, Option, Some, None, slice_index}
 use Rattle.std.specs.FinMap as nodes_map
-use Rattle.uxn_io.specs.Files.{Nodes}
+use Rattle.tree_io.specs.Files.{Nodes}
 use Rattle.file_ports.specs.Device.{FileState, idle_at, Suits}
 use Rattle.file_ports.specs.RootPart.{below, parent_is_folder}
 use Rattle.screen_layers.specs.Pictures.{Picture, new_picture}

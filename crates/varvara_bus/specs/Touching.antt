@@ -4,8 +4,8 @@ use Rattle.std.specs.Str.{bytes_eq}
 use Rattle.std.specs.FinMap as nodes_map
 use Rattle.std.proofs.Common.{cond, ap, sym, ◌∙◌, true≢false}
 use Rattle.std.proofs.lemmas.Slice.Eq.{bytes_eq-Decides}
-use Rattle.uxn_io.specs.Files.{Nodes, Node, File, bytes_at}
-use Rattle.uxn_io.specs.NodeLaws.{put_elsewhere, taken_elsewhere}
+use Rattle.tree_io.specs.Files.{Nodes, Node, File, bytes_at}
+use Rattle.tree_io.specs.NodeLaws.{put_elsewhere, taken_elsewhere}
 use Rattle.std.specs.Prelude.{◌==◌}
 use Rattle.uxn_opcodes.specs.declared.Core.{Core}
 use Rattle.uxn_opcodes.specs.declared.rows.Access.{Access}
@@ -30,7 +30,7 @@ use Rattle.varvara_bus.specs.State.{DeviceState, storing}
 use Rattle.varvara_bus.specs.FileActs.{file_base, file_in, file_action, file_outcome, file_acted}
 use Rattle.varvara_bus.specs.Effect.{act, debug_bytes, action_of, effect}
 use Rattle.varvara_bus.specs.Model.{Devised, varvara, instruction_effect}
-use Rattle.uxn_io.specs.Outside.{Change, ToOut, ToErr, Creates, ToFile, Removes, World, changed_files, changed, changed_by, IsCutOff}
+use Rattle.tree_io.specs.Outside.{Change, ToOut, ToErr, Creates, ToFile, Removes, World, changed_files, changed, changed_by, IsCutOff}
 
 -- a change leaves a path alone where it is none of what stands there
 abbrev pub Spares : List ℕ → Change → Type 0

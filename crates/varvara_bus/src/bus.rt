@@ -8,10 +8,10 @@ ghost use Rattle.audio_mixer.specs.Sounds.{frame_of, endings};
 ghost use Rattle.audio_mixer.specs.Voices.{all_play_on};
 ghost use Rattle.input_ports.specs.Page.{stores_of, stores_after};
 ghost use Rattle.varvara_bus.specs.History.{stored, stored_short, colour_bytes};
-ghost use Rattle.uxn_io.specs.Faults.{Ledger};
+ghost use Rattle.tree_io.specs.Faults.{Ledger};
 ghost use Rattle.uxn_opcodes.specs.Ports.{blame_of};
-ghost use Rattle.uxn_io.specs.Ended.{SinkEnded, Ended};
-ghost use Rattle.uxn_io.specs.Outside.{ToFile};
+ghost use Rattle.tree_io.specs.Ended.{SinkEnded, Ended};
+ghost use Rattle.tree_io.specs.Outside.{ToFile};
 ghost use Rattle.varvara_bus.specs.Effect.{debug_bytes};
 ghost use Rattle.varvara_bus.specs.FileActs.{piece_appended};
 ghost use Rattle.varvara_bus.specs.Bus.{
@@ -45,7 +45,7 @@ use input_ports::Input;
 use screen_frame::Palette;
 use screen_layers::Screen;
 use system_port::{debug_text, expansion};
-use uxn_io::{Failed, Path, Sink, Tree, append_all, put_all};
+use tree_io::{Failed, Path, Sink, Tree, append_all, put_all};
 use uxn_memory::Memory;
 use uxn_opcodes::{Core, Ports, Stop};
 
@@ -235,6 +235,7 @@ impl<'a, T: Tree, O: Sink, E: Sink> Bus<'a, T, O, E> {
         ensures ended { Ended (map (λ byte. ToFile path.now byte) piece.now) (blame_for result)
             (outside_on (meaning_of T.Tree O.Sink E.Sink) self.old) (outside_on (meaning_of T.Tree O.Sink E.Sink) self.new) }
         ensures err { OnErr result (result ≡ Err Stop.TreeFault) }
+        ensures some { OnErr result (0 < length piece.now) }
 
         // The devices stay as they are, and each file that was there is there still.
         ensures devices { self.new.devices.now ≡ self.old.devices.now }

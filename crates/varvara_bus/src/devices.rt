@@ -5,7 +5,7 @@ use crate::time::Time;
 use audio_mixer::Mixer;
 use file_ports::FileDevice;
 use screen_layers::Screen;
-use uxn_io::Path;
+use tree_io::Path;
 
 /// What the devices hold.
 #[derive(Drop)]

@@ -1,7 +1,7 @@
 //! The ports of the file devices.
 ghost use Rattle.std.specs.Prelude.{◌≡◌, ◌≤◌};
-ghost use Rattle.uxn_io.specs.Faults.{Counted};
-ghost use Rattle.uxn_io.specs.Ended.{TreeEnded};
+ghost use Rattle.tree_io.specs.Faults.{Counted};
+ghost use Rattle.tree_io.specs.Ended.{TreeEnded};
 ghost use Rattle.file_ports.specs.Device.{Suits};
 ghost use Rattle.file_ports.specs.Answers.{changes_by, has_failed};
 ghost use Rattle.varvara_bus.specs.State.{DeviceState, StandFor, clock_of};
@@ -20,7 +20,7 @@ use crate::devices::Devices;
 use crate::page::{store_short, stored, stored_short};
 use crate::ports::{FileAct, FileNumber};
 use file_ports::{FileDevice, FileStop};
-use uxn_io::{Path, Tree};
+use tree_io::{Path, Tree};
 use uxn_memory::Memory;
 use uxn_opcodes::Stop;
 

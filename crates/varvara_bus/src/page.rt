@@ -5,7 +5,7 @@ ghost use Rattle.input_ports.specs.Page.{with_stores, stores_of, stores_after};
 ghost use Rattle.input_ports.specs.Page.{short_stores};
 ghost use Rattle.varvara_bus.specs.History.{at_first, stored, stored_short};
 ghost use Rattle.varvara_bus.specs.Reads.{byte_of, shown_by};
-ghost use Rattle.uxn_io.specs.Files.{Nodes};
+ghost use Rattle.tree_io.specs.Files.{Nodes};
 ghost use Rattle.varvara_bus.specs.State.{DeviceState, StandFor, clock_of, new_state, storing};
 
 use crate::devices::Devices;
@@ -17,7 +17,7 @@ use file_ports::FileDevice;
 use input_ports::{Input, apply as apply_page, settle as settle_page};
 use screen_layers::Screen;
 use std::alloc::{AllocError, Global};
-use uxn_io::Path;
+use tree_io::Path;
 
 impl Devices {
     /// New devices: all ports hold 0 but 22 to 25, which hold the size of the screen; nothing is drawn or heard, no file is

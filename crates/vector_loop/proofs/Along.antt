@@ -1,14 +1,16 @@
-use Rattle.std.proofs.Common.{◌≡◌, ◌≢◌, List, [], ◌++◌, refl, ap, sym, ◌∙◌, arith}
+use Rattle.std.proofs.Common.{◌≡◌, ◌≢◌, List, [], ◌++◌, refl, ap, sym, ◌∙◌, arith, rules}
 use Rattle.std.proofs.lemmas.List.{append-nil}
 use Rattle.std.proofs.lemmas.List.FromFn.{get_or-map-range_with_len, length-map-range_with_len}
-use Rattle.std.specs.Prelude.{Option, Ok}
-use Rattle.uxn_io.specs.Files.{Nodes}
-use Rattle.uxn_io.specs.Outside.{Change}
-use Rattle.uxn_io.specs.ChangeLaws.{cut-here}
+use Rattle.std.specs.Prelude.{Option, Ok, Err}
+use Rattle.tree_io.specs.Files.{Nodes}
+use Rattle.tree_io.specs.Outside.{Change}
+use Rattle.tree_io.specs.ChangeLaws.{cut-here}
 use Rattle.uxn_opcodes.specs.declared.Core.{Core}
-use Rattle.uxn_opcodes.specs.declared.Stop.TheVariants.{NoMemory}
+use Rattle.uxn_opcodes.specs.declared.Stop.{Stop}
+use Rattle.uxn_opcodes.specs.declared.Stop.TheVariants.{NoMemory, TreeFault, SinkFault}
 use Rattle.uxn_opcodes.specs.declared.Turn.{Turn}
 use Rattle.uxn_opcodes.specs.declared.Turn.TheVariants.{Ran, Broke as Broken}
+use Rattle.uxn_opcodes.specs.Ports.{blame_of}
 use Rattle.uxn_opcodes.specs.Rule.{opcode_at}
 use Rattle.uxn_opcodes.specs.Instruction.{Instruction}
 use Rattle.varvara_bus.specs.declared.bus.Bus.{Bus}
@@ -17,13 +19,18 @@ use Rattle.varvara_bus.specs.State.{DeviceState}
 use Rattle.varvara_bus.specs.Reads.{read_of}
 use Rattle.varvara_bus.specs.Bus.{BusStandsFor, Reads, Meaning, Makes, StopsShort, outside_on, held_page, bus_rules, told_on}
 use Rattle.varvara_bus.specs.InstructionLaws.{makes-none, makes-both, instruction-done}
-use Rattle.vector_loop.specs.declared.watch.Moment.{Moment}
 use Rattle.vector_loop.specs.State.{State, counting_instruction}
 use Rattle.vector_loop.specs.Trail.{Trail, stays, followed_by}
 use Rattle.vector_loop.specs.Vector.{instruction}
 use Rattle.vector_loop.specs.Watch.{Page, IsPage, page_in, ports_read, ports_stored, shown_all}
-use Rattle.vector_loop.specs.Follows.{Running, running, state_of, Follows, FollowsFrom}
+use Rattle.vector_loop.specs.Follows.{Telling, Running, running, state_of, Follows, FollowsFrom}
 use Rattle.vector_loop.proofs.Trails.{shown_all-append, changes-append}
+
+-- who is to blame for a stop, whatever would have been answered
+pub blame-same : (X Y : Type 0) (stop : Stop) → blame_of {T = X} (Err stop) ≡ blame_of {T = Y} (Err stop)
+blame-same X Y NoMemory = refl
+blame-same X Y TreeFault = refl
+blame-same X Y SinkFault = refl
 
 -- what the ports of a bus read, and what was last stored in them
 pub is_page : {T O E : Type 0} (told_tree : T → Option Nodes) (bus : Bus T O E) (state : State) → BusStandsFor told_tree bus state.devices
@@ -49,62 +56,60 @@ module _ {T O E : Type 0} (meaning : Meaning T O E) where
     not_sure = tt;
   }
 
-module _ {T O E W H : Type 0} (meaning : Meaning T O E) (held : W → H) (shown : H → Core → Page → Moment → H) where
+module _ {T O E W H : Type 0} (telling : Telling T O E W H) where
   -- nothing is done yet
-  pub follows-nothing : (now : Running T O E W) (devices : DeviceState) → BusStandsFor (told_on meaning.tree) now.bus devices
-      → Follows meaning held shown now now (stays (state_of now devices))
-  follows-nothing now devices stands = record {
-    core = refl;
-    devices = stands;
-    tally = refl;
-    makes = makes-none meaning now.bus;
-    changes = tt;
-    watcher = refl;
-  }
+  pub follows-nothing : (now : Running T O E W) (devices : DeviceState) → BusStandsFor (told_on telling.meaning.tree) now.bus devices
+      → Follows telling now now (stays (state_of now devices))
+  follows-nothing now devices stands = search (rules, makes-none)
 
   -- the state that was reached is that of the machine
-  pub reached : (before middle : Running T O E W) (first : Trail) → Follows meaning held shown before middle first
+  pub reached : (before middle : Running T O E W) (first : Trail) → Follows telling before middle first
       → state_of middle first.last.devices ≡ first.last
   reached before middle first follows = ap (λ core. record { core = core; devices = first.last.devices; tally = middle.tally }) follows.core
       ∙ ap (λ tally. record { core = first.last.core; devices = first.last.devices; tally = tally }) follows.tally
 
   -- a part, and then another
-  pub follows-on : (before middle now : Running T O E W) (first second : Trail) → Follows meaning held shown before middle first
-      → Follows meaning held shown middle now second → Follows meaning held shown before now (followed_by first (λ s. second))
+  pub follows-on : (before middle now : Running T O E W) (first second : Trail) → Follows telling before middle first
+      → Follows telling middle now second → Follows telling before now (followed_by first (λ s. second))
   follows-on before middle now first second one then = record {
     core = then.core;
     devices = then.devices;
     tally = then.tally;
-    makes = makes-both meaning before.bus middle.bus now.bus first.changes second.changes one.makes then.makes;
+    makes = makes-both telling.meaning before.bus middle.bus now.bus first.changes second.changes one.makes then.makes;
     changes = changes-append first.moments second.moments first.changes second.changes one.changes then.changes;
-    watcher = then.watcher ∙ ap (λ h. shown_all shown h second.moments) one.watcher
-        ∙ sym (shown_all-append shown (held before.watcher) first.moments second.moments);
+    watcher = then.watcher ∙ ap (λ h. shown_all telling.shown h second.moments) one.watcher
+        ∙ sym (shown_all-append telling.shown (telling.held before.watcher) first.moments second.moments);
   }
 
   -- a part, and then what follows it
   pub follows-both : (before middle now : Running T O E W) (first : Trail) (rest : State → Trail)
-      → Follows meaning held shown before middle first → FollowsFrom meaning held shown middle now rest
-      → Follows meaning held shown before now (followed_by first rest)
+      → Follows telling before middle first → FollowsFrom telling middle now rest
+      → Follows telling before now (followed_by first rest)
   follows-both before middle now first rest one more =
       follows-on before middle now first (rest first.last) one
       (rw (reached before middle first one) at (more.from first.last.devices one.devices))
 
+  -- the watcher was shown the machine
+  abbrev pub Watched : Running T O E W → W → Type 0
+  Watched now watcher_new = (page : Page) → IsPage (Reads now.bus now.core) (held_page now.bus) page
+      → telling.held watcher_new
+      ≡ telling.shown (telling.held now.watcher) now.core page (record { instructions = now.tally.instructions; address = now.core.at })
+
   -- one instruction, before which the watcher was shown the machine
   pub follows-instruction : (now : Running T O E W) (core_new : Core) (bus_new : Bus T O E) (watcher_new : W) (turn : Turn)
-      → ((page : Page) → IsPage (Reads now.bus now.core) (held_page now.bus) page
-      → held watcher_new ≡ shown (held now.watcher) now.core page (record { instructions = now.tally.instructions; address = now.core.at }))
-      → Instruction (bus_rules meaning) now.core now.bus (Ok turn) core_new bus_new
-      → FollowsFrom meaning held shown now (running core_new bus_new (counting_instruction now.tally) watcher_new) instruction
+      → Watched now watcher_new
+      → Instruction (bus_rules telling.meaning) now.core now.bus (Ok turn) core_new bus_new
+      → FollowsFrom telling now (running core_new bus_new (counting_instruction now.tally) watcher_new) instruction
   follows-instruction now core_new bus_new watcher_new turn watched ran = record {
     from = λ devices stands.
-        let done = instruction-done meaning now.core core_new now.bus bus_new turn devices stands ran in
+        let done = instruction-done telling.meaning now.core core_new now.bus bus_new turn devices stands ran in
         record {
           core = done.core;
           devices = done.devices;
           tally = refl;
           makes = done.makes;
           changes = ([], ([], (sym (append-nil (instruction (state_of now devices)).changes), tt)));
-          watcher = watched (page_in (state_of now devices)) (is_page (told_on meaning.tree) now.bus (state_of now devices) stands);
+          watcher = watched (page_in (state_of now devices)) (is_page (told_on telling.meaning.tree) now.bus (state_of now devices) stands);
         };
   }
 

@@ -1,6 +1,5 @@
 -- What the events of a run answer.
-use Rattle.std.proofs.Common.{◌≡◌, ◌≢◌, ℕ, ◌<◌, ◌≤◌, lit<, true, false, cond, refl, ap, sym, ◌∙◌, arith}
-use Rattle.std.proofs.lemmas.Bool.Decides.{nat_tests}
+use Rattle.std.proofs.Common.{◌≡◌, ◌≢◌, ℕ, ◌<◌, ◌≤◌, lit<, cond, refl, ap, sym, ◌∙◌, arith, rules}
 use Rattle.std.specs.Prelude.{Result, Ok, ◌==◌}
 use Rattle.input_ports.specs.declared.Input.{Input}
 use Rattle.input_ports.specs.declared.Input.TheVariants.{Key, Down, Up, Mouse, Press, Release, Scroll, DownOf, UpOf}
@@ -15,16 +14,14 @@ use Rattle.vector_loop.specs.declared.runner.Runner.{Runner}
 use Rattle.vector_loop.specs.State.{State, with_stored, with_next_frame, with_counted, counting_event, counting_expect}
 use Rattle.vector_loop.specs.Trail.{Trail, stays, followed_by}
 use Rattle.vector_loop.specs.Vector.{vector}
+use Rattle.vector_loop.specs.Follows.{Telling}
 use Rattle.vector_loop.specs.Event.{vector_at, vector_in, unless_over, shown_and_heard, frame, expected, happens, give}
-use Rattle.vector_loop.specs.Answers.{Telling, Count, both, of_vectors, of_events, Answers}
+use Rattle.vector_loop.specs.Answers.{Count, both, of_vectors, of_events, Answers}
+use Rattle.vector_loop.proofs.Trails.{is_zero, is_not_zero}
 use Rattle.vector_loop.proofs.Counting.{grown-counted}
-use Rattle.vector_loop.proofs.Answering.{answers-change, answers-then, answers-as, answers-within}
-
-is_zero : (n : ℕ) → n ≡ 0 → (n == 0) ≡ true
-is_zero n h = grind (arith, nat_tests)
-
-is_not_zero : (n : ℕ) → n ≢ 0 → (n == 0) ≡ false
-is_not_zero n h = grind (arith, nat_tests)
+use Rattle.tree_io.specs.FaultLaws.{ledger-same}
+use Rattle.vector_loop.proofs.Makings.{makes-nothing}
+use Rattle.vector_loop.proofs.Answering.{same-itself, answers-then, answers-as, answers-within}
 
 -- the vector in two ports, by the address there
 pub no-vector : (budget port address : ℕ) (state : State) → address ≡ stored_short state.devices.history port → address ≡ 0 → vector_in budget port state ≡ stays state
@@ -83,10 +80,7 @@ expect-given budget outputs port byte state = refl
 module _ {T O E W H : Type 0} (telling : Telling T O E W H) where
   answers-counted : (a : Runner T O E W) (event : Event)
       → Answers telling a (record a { tally = counting_event event a.tally }) (λ s. stays (with_counted event s)) one_event (Ok (tt {0}))
-  answers-counted a event =
-      answers-change telling a (record a { tally = counting_event event a.tally }) (with_counted event) one_event (tt {0}) refl refl
-      (record { lent = record { devices = refl; tree = refl; out = refl; err = refl }; tree = refl; out = refl; err = refl; clock = refl; root = refl })
-      (omega arith) (grown-counted event a.tally a.budget) (λ devices stands. stands) (λ devices stands. refl)
+  answers-counted a event = search (arith, rules, grown-counted, same-itself, ledger-same, makes-nothing)
 
   -- an event is counted, and then happens
   pub answers-given : {X : Type 0} (a c : Runner T O E W) (budget : ℕ) (outputs : Outputs) (event : Event) (n : ℕ) (r : Result X Stop) → n ≤ 5

@@ -1,5 +1,5 @@
 -- What is shown and heard in a frame.
-use Rattle.std.proofs.Common.{◌≡◌, ℕ, ◌+◌, ◌*◌, ◌<◌, get_or, Bool, true, false, cond, List, [], ◌∷◌, slice_index_or, Option, Some, None, is_some, map, refl, ap, sym, ◌∙◌, arith}
+use Rattle.std.proofs.Common.{◌≡◌, ℕ, ◌+◌, ◌*◌, ◌<◌, get_or, Bool, true, false, cond, List, [], ◌∷◌, Option, Some, None, is_some, map, refl, ap, sym, ◌∙◌, arith}
 use Rattle.std.specs.Prelude.{ℤ}
 use Rattle.std.proofs.lemmas.List.FromFn.{get_or-range_with_len}
 use Rattle.audio_mixer.specs.Sounds.{frame_of, endings}
@@ -8,7 +8,7 @@ use Rattle.vector_loop.specs.declared.output.Outputs.{Outputs}
 use Rattle.vector_loop.specs.State.{State, with_rendered, is_over}
 use Rattle.vector_loop.specs.Trail.{Trail, stays, makes, followed_by}
 use Rattle.vector_loop.specs.Outputs.{appended_to, samples_bytes, picture_bytes}
-use Rattle.vector_loop.specs.Event.{vector_in, unless_over, give_each, samples_kept, vector_where, ended_vectors, heard, shot}
+use Rattle.vector_loop.specs.Event.{vector_in, unless_over, samples_kept, vector_where, ended_vectors, heard, shot}
 
 -- a vector that is not run, since its note has not ended
 pub not-ended : (budget voice : ℕ) (ended : Bool) (state : State) → ended ≡ false → unless_over (vector_where budget ended voice) state ≡ stays state
@@ -51,31 +51,3 @@ shot-is outputs state = refl
 pub none-is : (path : Option (List ℕ)) → is_some path ≡ false → path ≡ None
 none-is None e = refl
 none-is (Some path) e = cc e
-
-one-none : (given : ℕ → State → Trail) (voice : ℕ) (voices : List ℕ) (state : State) → unless_over (given voice) state ≡ stays state
-    → give_each given (voice ∷ voices) state ≡ give_each given voices state
-unfolding give_each
-one-none given voice voices state none = ap (λ t. followed_by t (give_each given voices)) none
-
-none-given : (given : ℕ → State → Trail) (state : State) → give_each given [] state ≡ stays state
-unfolding give_each
-none-given given state = refl
-
--- no vector is run where no note has ended
-none-ended : (budget : ℕ) (state : State) → ended_vectors budget (false ∷ false ∷ false ∷ false ∷ []) state ≡ stays state
-none-ended budget state =
-    let given = λ (voice : ℕ). vector_where budget (slice_index_or (false ∷ false ∷ false ∷ false ∷ []) voice false) voice in
-    one-none given 0 (1 ∷ 2 ∷ 3 ∷ []) state (not-ended budget 0 false state refl)
-    ∙ one-none given 1 (2 ∷ 3 ∷ []) state (not-ended budget 1 false state refl)
-    ∙ one-none given 2 (3 ∷ []) state (not-ended budget 2 false state refl)
-    ∙ one-none given 3 [] state (not-ended budget 3 false state refl)
-    ∙ none-given given state
-
--- what is heard of a frame of which no samples are asked for and in which no note ends
-pub passed-as : (budget : ℕ) (outputs : Outputs) (state : State) → outputs.samples ≡ None → endings 735 state.devices.sounds ≡ false ∷ false ∷ false ∷ false ∷ []
-    → heard budget outputs state ≡ stays (with_rendered state)
-passed-as budget outputs state none ends =
-    heard-is budget outputs state
-    ∙ ap (λ e. followed_by (samples_kept outputs state) (ended_vectors budget e)) ends
-    ∙ ap (λ o. followed_by (makes (appended_to o (samples_bytes (frame_of state.core.memory state.devices.sounds))) (with_rendered state)) (ended_vectors budget (false ∷ false ∷ false ∷ false ∷ []))) none
-    ∙ none-ended budget (with_rendered state)

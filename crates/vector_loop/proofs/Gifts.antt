@@ -43,23 +43,13 @@ pub record Within (some all : Count) : Type 0 where
   pub events : some.events ≤ all.events
 
 pub counted-within : (begun left all : Count) → both begun left ≡ all → Within begun all
-counted-within begun left all counted =
-    let vectors = ap (λ (c : Count). c.vectors) counted in
-    let events = ap (λ (c : Count). c.events) counted in
-    record { vectors = omega (arith, vectors); events = omega (arith, events) }
+counted-within begun left all counted = search (arith, counted)
 
 pub both-none : (all : Count) → both none all ≡ all
-both-none all =
-    let vectors : 0 + all.vectors ≡ all.vectors = omega arith in
-    let events : 0 + all.events ≡ all.events = omega arith in
-    ap (λ n. record { vectors = n; events = 0 + all.events }) vectors ∙ ap (λ n. record { vectors = all.vectors; events = n }) events
+both-none all = search arith
 
 both-again : (a b c : Count) → both (both a b) c ≡ both a (both b c)
-both-again a b c =
-    let vectors : a.vectors + b.vectors + c.vectors ≡ a.vectors + (b.vectors + c.vectors) = omega arith in
-    let events : a.events + b.events + c.events ≡ a.events + (b.events + c.events) = omega arith in
-    ap (λ n. record { vectors = n; events = a.events + b.events + c.events }) vectors
-    ∙ ap (λ n. record { vectors = a.vectors + (b.vectors + c.vectors); events = n }) events
+both-again a b c = search arith
 
 pub counted-on : (begun : Count) (gifts : List Gift) (gift : Gift) (all : Count) → Some gift ≡ slice_get gifts 0 → both begun (counts_of gifts) ≡ all
     → both (both begun (count_of gift)) (counts_of (drop 1 gifts)) ≡ all

@@ -1,19 +1,16 @@
 -- What a run makes outside by itself: pictures and samples, piece by piece.
-use Rattle.std.proofs.Common.{◌≡◌, ℕ, suc, ◌+◌, ◌-◌, ◌*◌, ◌/◌, ◌%◌, ◌<◌, ◌≤◌, List, [], ◌∷◌, ◌++◌, length, map, take, drop, slice_set, refl, ap, sym, ◌∙◌, arith, append_assoc, length-append, length-drop}
+use Rattle.std.proofs.Common.{◌≡◌, ◌≢◌, ℕ, suc, ◌+◌, ◌-◌, ◌<◌, ◌≤◌, List, [], ◌∷◌, ◌++◌, length, map, take, drop, refl, ap, sym, ◌∙◌, arith, rules, append_assoc, length-append, length-drop}
 use Rattle.std.proofs.Math.Seq.{take-append_seam}
-use Rattle.std.proofs.lemmas.List.{append-nil, map-append, length-set, take_more, take_more_set}
-use Rattle.std.proofs.lemmas.List.Concat.{flat_map-append, flat_map-cons}
-use Rattle.std.proofs.lemmas.Grind.{common_steps}
-use Rattle.std.specs.Prelude.{Option, Result, Ok, Err, OnOk, OnErr, ℤ, slice_index_or, pos}
+use Rattle.std.proofs.lemmas.List.{map-append}
+use Rattle.std.proofs.lemmas.List.Concat.{flat_map-cons}
+use Rattle.std.specs.Prelude.{Option, Result, Ok, Err, OnOk, OnErr}
 use Rattle.std.specs.List.{flat_map, range_with_len}
-use Rattle.std.specs.Int.{w16, cast_unsigned}
-use Rattle.audio_mixer.specs.Laws.{short_of}
-use Rattle.uxn_io.specs.Ended.{Ended, Done}
-use Rattle.uxn_io.specs.EndedLaws.{done-nothing, ended-then, ended-first}
-use Rattle.uxn_io.specs.State.{Outside}
-use Rattle.uxn_io.specs.Faults.{Ledger}
-use Rattle.uxn_io.specs.Outside.{Change, ToFile}
-use Rattle.uxn_io.specs.Files.{Nodes}
+use Rattle.tree_io.specs.Ended.{Ended, Done}
+use Rattle.tree_io.specs.EndedLaws.{done-nothing, ended-then, ended-first}
+use Rattle.tree_io.specs.State.{Outside}
+use Rattle.tree_io.specs.Faults.{Ledger}
+use Rattle.tree_io.specs.Outside.{Change, ToFile}
+use Rattle.tree_io.specs.Files.{Nodes}
 use Rattle.uxn_opcodes.specs.declared.Stop.{Stop}
 use Rattle.uxn_opcodes.specs.declared.Stop.TheVariants.{NoMemory, TreeFault}
 use Rattle.uxn_opcodes.specs.Ports.{blame_of}
@@ -21,16 +18,15 @@ use Rattle.screen_frame.specs.Colours.{colours_of}
 use Rattle.screen_frame.specs.Ppm.{head_bytes}
 use Rattle.screen_layers.specs.Pictures.{picture_row_of}
 use Rattle.varvara_bus.specs.declared.bus.Bus.{Bus}
-use Rattle.varvara_bus.specs.declared.devices.Devices.{Devices}
 use Rattle.varvara_bus.specs.History.{colour_bytes}
 use Rattle.varvara_bus.specs.State.{DeviceState}
 use Rattle.varvara_bus.specs.Bus.{ChangesDevices, FilesStay, IsOutside, BusStandsFor, Meaning, Makes, bus_faults, blame_for, SameBus, frames_begun, screen_of, outside_on, told_on}
 use Rattle.varvara_bus.specs.FileActs.{piece_appended}
 use Rattle.varvara_bus.specs.Laws.{appended-outside}
-use Rattle.uxn_io.specs.FaultLaws.{ledger-same, ledger-then}
+use Rattle.tree_io.specs.FaultLaws.{ledger-same, ledger-then}
 use Rattle.varvara_bus.specs.InstructionLaws.{same-itself, same-again}
 use Rattle.vector_loop.specs.Making.{MadeOrCut}
-use Rattle.vector_loop.specs.Outputs.{picture_bytes, sample_bytes, samples_bytes}
+use Rattle.vector_loop.specs.Outputs.{picture_bytes}
 
 -- a fault of the tree is no want of memory
 pub no-memory : (stop : Stop) → stop ≡ TreeFault → stop ≡ NoMemory → ⊥
@@ -70,26 +66,6 @@ rows-end row y height past =
     let none : height - y ≡ 0 = omega (arith, past) in
     ap (λ n. flat_map row (range_with_len y n)) none
 
-two_set : (xs : List ℕ) (n a b : ℕ) → n + 1 < length xs → take (n + 2) (slice_set (slice_set xs n a) (n + 1) b) ≡ take n xs ++ (a ∷ b ∷ [])
-two_set xs n a b within =
-    let first = take_more_set xs n a (omega (arith, within)) in
-    let second = take_more_set (slice_set xs n a) (n + 1) b (omega (arith, within, length-set xs n a)) in
-    grind (arith, common_steps)
-
--- one more sample in a buffer
-pub sample_more : (samples : List ℤ) (into : List ℕ) (i short : ℕ) → i < length samples → length into ≡ 2 * length samples
-    → short ≡ cast_unsigned w16 (short_of (slice_index_or samples i (pos 0))) → take (2 * i) into ≡ samples_bytes (map short_of (take i samples))
-    → take (2 * (i + 1)) (slice_set (slice_set into (2 * i) (short % 256)) (2 * i + 1) (short / 256)) ≡ samples_bytes (map short_of (take (i + 1) samples))
-sample_more samples into i short within size is before =
-    let sample = short_of (slice_index_or samples i (pos 0)) in
-    let taken = two_set into (2 * i) (short % 256) (short / 256) (omega (arith, within, size)) in
-    let bytes : (short % 256 ∷ short / 256 ∷ []) ≡ sample_bytes sample = ap (λ n. n % 256 ∷ n / 256 ∷ []) is in
-    let joined : samples_bytes (map short_of (take (i + 1) samples)) ≡ samples_bytes (map short_of (take i samples)) ++ sample_bytes sample =
-    rw (take_more samples i (pos 0) within, map-append short_of (take i samples) (slice_index_or samples i (pos 0) ∷ []), flat_map-append sample_bytes (map short_of (take i samples)) (sample ∷ []))
-    (ap (λ last. samples_bytes (map short_of (take i samples)) ++ last) (flat_map-cons sample_bytes sample [] ∙ append-nil (sample_bytes sample))) in
-    let more : 2 * (i + 1) ≡ 2 * i + 2 = omega arith in
-    rw more (taken ∙ ap (λ front. front ++ (short % 256 ∷ short / 256 ∷ [])) before ∙ ap (λ last. samples_bytes (map short_of (take i samples)) ++ last) bytes ∙ sym joined)
-
 -- where the tree is as it was each file is there still
 pub files-kept : {T O E : Type 0} (told_tree : T → Option Nodes) (before now : Bus T O E) → ChangesDevices before now
     → FilesStay before.devices.now.root (told_tree before.tree.now) (told_tree now.tree.now)
@@ -107,6 +83,16 @@ appended-still told_tree a b path piece (Ok x) outside stands = λ s stood.
     rw (appended-outside path piece s (rw stood.devices.root at outside)) at (stands s stood)
 appended-still told_tree a b path piece (Err stop) outside stands = tt
 
+-- nothing is made of two parts only where nothing is of each
+none-of : {A : Type 0} (first more : List A) → first ++ more ≡ [] → (first ≡ []) × (more ≡ [])
+none-of [] more none = (refl, none)
+none-of (x ∷ first) more none = cc
+
+-- a byte makes a change
+some-put : (path bytes : List ℕ) → 0 < length bytes → to_file path bytes ≢ []
+some-put path [] some none = omega (arith, some)
+some-put path (byte ∷ bytes) some none = cc
+
 module _ {T O E : Type 0} (meaning : Meaning T O E) where
   -- where nothing but what the devices stand for changes nothing is made
   done-still : (before now : Bus T O E) → ChangesDevices before now → Done [] (outside_on meaning before) (outside_on meaning now)
@@ -121,77 +107,32 @@ module _ {T O E : Type 0} (meaning : Meaning T O E) where
   ended-ledger changes (Ok x) before now done = done.ledger
   ended-ledger changes (Err stop) before now short = short.ledger
 
-  pub appended : (a b : Bus T O E) (changes : List Change) (r : Result (Unit {0}) Stop)
-      → Ended changes (blame_for r) (outside_on meaning a) (outside_on meaning b)
+  pub appended : (a b : Bus T O E) (path bytes : List ℕ) (r : Result (Unit {0}) Stop)
+      → Ended (to_file path bytes) (blame_for r) (outside_on meaning a) (outside_on meaning b)
       → OnOk r ((s : DeviceState) → BusStandsFor (told_on meaning.tree) a s → BusStandsFor (told_on meaning.tree) b s) → OnErr r (r ≡ Err TreeFault)
-      → b.devices.now ≡ a.devices.now → SameBus (told_on meaning.tree) a b → MadeOrCut meaning a b (λ s. changes) r
-  appended a b changes r ended kept fault devices same = record {
-    made = λ s stands. ended;
-    stands = kept;
-    devices = λ s stands. rw devices stands.devices;
-    height = ap (λ (d : Devices). d.screen.height) devices;
-    fault = fault;
-    ledger = ended-ledger changes r _ _ ended;
-    same = same;
-  }
-
-  pub made-nothing : (bus : Bus T O E) → MadeOrCut meaning bus bus (λ s. []) (Ok (tt {0}))
-  made-nothing bus = record {
-    made = λ s stands. done-nothing (outside_on meaning bus);
-    stands = λ s stands. stands;
-    devices = λ s stands. stands.devices;
-    height = refl;
-    fault = tt;
-    ledger = ledger-same (bus_faults meaning bus);
-    same = same-itself (told_on meaning.tree) bus;
-  }
+      → OnErr r (0 < length bytes) → b.devices.now ≡ a.devices.now → SameBus (told_on meaning.tree) a b
+      → MadeOrCut meaning a b (λ s. to_file path bytes) r
+  appended a b path bytes r ended kept fault some devices same = search (rules, some-put, ended-ledger)
 
   -- the devices stand for the same still, and nothing else changed
   pub made-kept : (a b : Bus T O E) → ChangesDevices a b → ((s : DeviceState) → BusStandsFor (told_on meaning.tree) a s → BusStandsFor (told_on meaning.tree) b s)
       → frames_begun b ≡ frames_begun a → (screen_of b).height ≡ (screen_of a).height → MadeOrCut meaning a b (λ s. []) (Ok (tt {0}))
-  made-kept a b others kept frames height = record {
-    made = λ s stands. done-still a b others;
-    stands = kept;
-    devices = λ s stands. (kept s stands).devices;
-    height = height;
-    fault = tt;
-    ledger = (done-still a b others).ledger;
-    same = record { lent = others.lent; files = files-kept (told_on meaning.tree) a b others; frames = frames; clock = others.clock; root = others.root };
-  }
+  made-kept a b others kept frames height = search (rules, done-still a b others, files-kept)
+
+  pub made-nothing : (bus : Bus T O E) → MadeOrCut meaning bus bus (λ s. []) (Ok (tt {0}))
+  made-nothing bus = search (rules, done-nothing, ledger-same, same-itself)
 
   -- the same changes, in the states that the bus stood for
   pub made-where : (a b : Bus T O E) (changes other : DeviceState → List Change) (r : Result (Unit {0}) Stop)
       → ((s : DeviceState) → BusStandsFor (told_on meaning.tree) a s → other s ≡ changes s)
       → MadeOrCut meaning a b changes r → MadeOrCut meaning a b other r
-  made-where a b changes other r same p = record {
-    made = λ s stands. rw (same s stands) (p.made s stands);
-    stands = p.stands;
-    devices = p.devices;
-    height = p.height;
-    fault = p.fault;
-    ledger = p.ledger;
-    same = p.same;
-  }
+  made-where a b changes other r same p = search (rules, same)
 
   -- changes, and then others, whatever these answer
   pub made-then : (a b c : Bus T O E) (first more : DeviceState → List Change) (r : Result (Unit {0}) Stop)
       → MadeOrCut meaning a b first (Ok (tt {0})) → MadeOrCut meaning b c more r
       → MadeOrCut meaning a c (λ s. first s ++ more s) r
-  made-then a b c first more r p q = record {
-    made = λ s stands. ended-then (first s) (more s) (blame_for r) _ _ _ (p.made s stands) (q.made s (p.stands s stands));
-    stands = stands r q.stands;
-    devices = λ s stands. q.devices s (p.stands s stands);
-    height = q.height ∙ p.height;
-    fault = q.fault;
-    ledger = ledger-then (bus_faults meaning a) (bus_faults meaning b) (bus_faults meaning c) (blame_of r) p.ledger q.ledger;
-    same = same-again (told_on meaning.tree) a b c p.same q.same;
-  }
-    where
-      stands : (answer : Result (Unit {0}) Stop)
-          → OnOk answer ((s : DeviceState) → BusStandsFor (told_on meaning.tree) b s → BusStandsFor (told_on meaning.tree) c s)
-          → OnOk answer ((s : DeviceState) → BusStandsFor (told_on meaning.tree) a s → BusStandsFor (told_on meaning.tree) c s)
-      stands (Ok x) later = λ s stood. later s (p.stands s stood)
-      stands (Err stop) later = tt
+  made-then a b c first more r p q = search (rules, ended-then, ledger-then, same-again, none-of)
 
   -- not all of them, whatever would follow
   pub made-first : (a b : Bus T O E) (first more : DeviceState → List Change) (stop : Stop) → MadeOrCut meaning a b first (Err stop)
@@ -202,6 +143,7 @@ module _ {T O E : Type 0} (meaning : Meaning T O E) where
     devices = p.devices;
     height = p.height;
     fault = p.fault;
+    some = λ s stands none. p.some s stands (none-of (first s) (more s) none).0;
     ledger = p.ledger;
     same = p.same;
   }
@@ -242,8 +184,7 @@ module _ {T O E : Type 0} (meaning : Meaning T O E) where
   pub putting-end : (a b : Bus T O E) (path : List ℕ) (whole rest : DeviceState → List ℕ)
       → ((s : DeviceState) → BusStandsFor (told_on meaning.tree) a s → rest s ≡ []) → Putting a b path whole rest
       → MadeOrCut meaning a b (λ s. to_file path (whole s)) (Ok (tt {0}))
-  putting-end a b path whole rest none putting =
-      putting-answers a b b path whole rest (λ s. []) (Ok (tt {0})) (λ s stands. ap (to_file path) (none s stands)) putting (made-nothing b)
+  putting-end a b path whole rest none putting = search (rules, putting-answers, made-nothing)
 
   pub putting-cut : (a b c : Bus T O E) (path : List ℕ) (whole rest piece later : DeviceState → List ℕ) (stop : Stop)
       → ((s : DeviceState) → BusStandsFor (told_on meaning.tree) a s → rest s ≡ piece s ++ later s)

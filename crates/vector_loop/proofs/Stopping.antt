@@ -8,22 +8,21 @@ use Rattle.uxn_opcodes.specs.declared.Stop.TheVariants.{NoMemory}
 use Rattle.uxn_opcodes.specs.Instruction.{Instruction}
 use Rattle.varvara_bus.specs.declared.bus.Bus.{Bus}
 use Rattle.varvara_bus.specs.State.{DeviceState}
-use Rattle.varvara_bus.specs.Bus.{BusStandsFor, IsOutside, Reads, Meaning, StopsShort, held_page, bus_rules, told_on}
+use Rattle.varvara_bus.specs.Bus.{BusStandsFor, IsOutside, StopsShort, bus_rules, told_on}
 use Rattle.varvara_bus.specs.InstructionLaws.{makes-none, stops-first, stops-later, instruction-cut}
 use Rattle.varvara_bus.specs.Folders.{instruction-names}
 use Rattle.vector_loop.specs.declared.tally.Tally.{Tally}
-use Rattle.vector_loop.specs.declared.watch.Moment.{Moment}
 use Rattle.vector_loop.specs.State.{State}
 use Rattle.vector_loop.specs.Trail.{Trail, stays, makes, followed_by}
 use Rattle.vector_loop.specs.TrailLaws.{followed_by-again, followed_by-at, stays-after}
 use Rattle.vector_loop.specs.Folders.{TakesNames, takes-first, takes-later}
 use Rattle.vector_loop.specs.Vector.{instruction}
-use Rattle.vector_loop.specs.Watch.{Page, IsPage, page_in}
-use Rattle.vector_loop.specs.Follows.{Running, running, state_of, Follows, FallsShort, FallsShortFrom}
+use Rattle.vector_loop.specs.Watch.{MayRefuse, page_in}
+use Rattle.vector_loop.specs.Follows.{Telling, Running, running, state_of, Follows, FallsShort, FallsShortFrom}
 use Rattle.vector_loop.specs.Making.{MadeOrCut}
 use Rattle.vector_loop.specs.Outputs.{appended_to}
 use Rattle.vector_loop.specs.Stops.{WatcherRefused, InstructionStopped, StepStopped, StopsIn, StopsInFrom, RunStops}
-use Rattle.vector_loop.proofs.Along.{is_page, stops-here, reached, follows-nothing, follows-on}
+use Rattle.vector_loop.proofs.Along.{Watched, is_page, stops-here, reached, follows-nothing, follows-on}
 use Rattle.vector_loop.proofs.Makings.{no-memory, the-stop}
 
 -- the one, or what the other gives
@@ -31,10 +30,10 @@ or-else : {A B C : Type 0} → (B → C) → A ⊎ B → A ⊎ C
 or-else f (inl a) = inl a
 or-else f (inr b) = inr (f b)
 
-module _ {T O E W H : Type 0} (meaning : Meaning T O E) (held : W → H) (shown : H → Core → Page → Moment → H) (refuses : Type 0) where
+module _ {T O E W H : Type 0} (telling : Telling T O E W H) where
   -- the step that stopped was within the part, whatever would follow it
   pub stopped-first : (before now : Running T O E W) (stop : Stop) (first : Trail) (rest : State → Trail)
-      → StopsIn meaning held shown refuses before now stop first → StopsIn meaning held shown refuses before now stop (followed_by first rest)
+      → StopsIn telling before now stop first → StopsIn telling before now stop (followed_by first rest)
   stopped-first before now stop first rest within = record {
     done = within.done;
     here = within.here;
@@ -49,14 +48,14 @@ module _ {T O E W H : Type 0} (meaning : Meaning T O E) (held : W → H) (shown 
 
   -- a part was done, and the step was within what follows it
   stopped-on : (before middle now : Running T O E W) (stop : Stop) (first : Trail) (rest : State → Trail)
-      → Follows meaning held shown before middle first → StopsIn meaning held shown refuses middle now stop (rest first.last)
-      → StopsIn meaning held shown refuses before now stop (followed_by first rest)
+      → Follows telling before middle first → StopsIn telling middle now stop (rest first.last)
+      → StopsIn telling before now stop (followed_by first rest)
   stopped-on before middle now stop first rest one within =
       let left : State → Trail = λ s. followed_by within.step within.later in
       record {
         done = followed_by first (λ s. within.done);
         here = within.here;
-        follows = follows-on meaning held shown before middle within.here first within.done one within.follows;
+        follows = follows-on telling before middle within.here first within.done one within.follows;
         step = within.step;
         later = within.later;
         parts = followed_by-at first rest (λ s. followed_by within.done left) within.parts ∙ sym (followed_by-again first (λ s. within.done) left);
@@ -64,20 +63,20 @@ module _ {T O E W H : Type 0} (meaning : Meaning T O E) (held : W → H) (shown 
       }
 
   pub stopped-later : (before middle now : Running T O E W) (stop : Stop) (first : Trail) (rest : State → Trail)
-      → Follows meaning held shown before middle first → StopsInFrom meaning held shown refuses middle now stop rest
-      → StopsIn meaning held shown refuses before now stop (followed_by first rest)
+      → Follows telling before middle first → StopsInFrom telling middle now stop rest
+      → StopsIn telling before now stop (followed_by first rest)
   stopped-later before middle now stop first rest one more =
       stopped-on before middle now stop first rest one
-      (rw (reached meaning held shown before middle first one) at (more.from first.last.devices one.devices))
+      (rw (reached telling before middle first one) at (more.from first.last.devices one.devices))
 
   -- the first step of a part stopped
   stopped-here : (now after : Running T O E W) (stop : Stop) (devices : DeviceState) (step : Trail) (later : State → Trail)
-      → BusStandsFor (told_on meaning.tree) now.bus devices → StepStopped meaning held shown refuses now after stop (state_of now devices) step
-      → StopsIn meaning held shown refuses now after stop (followed_by step later)
+      → BusStandsFor (told_on telling.meaning.tree) now.bus devices → StepStopped telling now after stop (state_of now devices) step
+      → StopsIn telling now after stop (followed_by step later)
   stopped-here now after stop devices step later stands stopped = record {
     done = stays (state_of now devices);
     here = now;
-    follows = follows-nothing meaning held shown now devices stands;
+    follows = follows-nothing telling now devices stands;
     step = step;
     later = later;
     parts = refl;
@@ -86,10 +85,9 @@ module _ {T O E W H : Type 0} (meaning : Meaning T O E) (held : W → H) (shown 
 
   -- an instruction stopped, before which the watcher was shown the machine
   pub stopped-instruction : (now : Running T O E W) (core_new : Core) (bus_new : Bus T O E) (watcher_new : W) (stop : Stop) (later : State → Trail)
-      → ((page : Page) → IsPage (Reads now.bus now.core) (held_page now.bus) page
-      → held watcher_new ≡ shown (held now.watcher) now.core page (record { instructions = now.tally.instructions; address = now.core.at }))
-      → Instruction (bus_rules meaning) now.core now.bus (Err stop) core_new bus_new
-      → StopsInFrom meaning held shown refuses now (running core_new bus_new now.tally watcher_new) stop (λ s. followed_by (instruction s) later)
+      → Watched telling now watcher_new
+      → Instruction (bus_rules telling.meaning) now.core now.bus (Err stop) core_new bus_new
+      → StopsInFrom telling now (running core_new bus_new now.tally watcher_new) stop (λ s. followed_by (instruction s) later)
   stopped-instruction now core_new bus_new watcher_new stop later watched stopped = record {
     from = λ devices stands.
         let state = state_of now devices in
@@ -99,27 +97,28 @@ module _ {T O E W H : Type 0} (meaning : Meaning T O E) (held : W → H) (shown 
           inr (record {
             stops = stopped;
             tally = refl;
-            watcher = watched (page_in state) (is_page (told_on meaning.tree) now.bus state stands);
-            made = instruction-cut meaning now.core core_new now.bus bus_new stop devices stands stopped;
-            names = λ wanted. instruction-names meaning now.core core_new now.bus bus_new devices stands (rw wanted at stopped);
+            watcher = watched (page_in state) (is_page (told_on telling.meaning.tree) now.bus state stands);
+            made = instruction-cut telling.meaning now.core core_new now.bus bus_new stop devices stands stopped;
+            names = λ wanted. instruction-names telling.meaning now.core core_new now.bus bus_new devices stands (rw wanted at stopped);
           }),
         ));
   }
 
   -- the watcher refused to be shown the machine before an instruction
-  pub refused-instruction : (now : Running T O E W) (watcher_new : W) (later : State → Trail) → refuses
-      → StopsInFrom meaning held shown refuses now (running now.core now.bus now.tally watcher_new) NoMemory (λ s. followed_by (instruction s) later)
+  pub refused-instruction : (now : Running T O E W) (watcher_new : W) (later : State → Trail)
+      → telling.may_refuse (telling.held now.watcher) (telling.held watcher_new)
+      → StopsInFrom telling now (running now.core now.bus now.tally watcher_new) NoMemory (λ s. followed_by (instruction s) later)
   refused-instruction now watcher_new later may = record {
     from = λ devices stands.
         stopped-here now (running now.core now.bus now.tally watcher_new) NoMemory devices (instruction (state_of now devices)) later stands
-        (inl (refl, inl (record { may = may; memory = refl; core = refl; bus = refl; tally = refl })));
+        (inl (refl, inl (record { left = may; memory = refl; core = refl; bus = refl; tally = refl })));
   }
 
   -- a picture or samples were not appended whole
   pub stopped-append : (now after : Running T O E W) (stop : Stop) (output : Option (List ℕ)) (bytes : DeviceState → List ℕ)
       → IfSome output (IsOutside now.bus.devices.now.root) → after.core ≡ now.core → after.tally ≡ now.tally → after.watcher ≡ now.watcher
-      → MadeOrCut meaning now.bus after.bus (λ s. appended_to output (bytes s)) (Err stop)
-      → StopsInFrom meaning held shown refuses now after stop (λ s. makes (appended_to output (bytes s.devices)) s)
+      → MadeOrCut telling.meaning now.bus after.bus (λ s. appended_to output (bytes s)) (Err stop)
+      → StopsInFrom telling now after stop (λ s. makes (appended_to output (bytes s.devices)) s)
   stopped-append now after stop output bytes outside core tally watcher cut = record {
     from = λ devices stands.
         let state = state_of now devices in
@@ -130,6 +129,7 @@ module _ {T O E W H : Type 0} (meaning : Meaning T O E) (held : W → H) (shown 
           output = output;
           bytes = bytes devices;
           appends = refl;
+          some = cut.some devices stands;
           outside = outside;
           fault = the-stop (Err stop) stop refl cut.fault;
           made = let short = cut.made devices stands in record { cut = short.cut; not_sure = short.not_sure };
@@ -142,50 +142,52 @@ module _ {T O E W H : Type 0} (meaning : Meaning T O E) (held : W → H) (shown 
 
   -- so not all of the trail was done
   FallsAt : Running T O E W → Running T O E W → Stop → Trail → Type 0
-  FallsAt here now stop step = StopsShort meaning here.bus now.bus stop step.changes × (stop ≡ NoMemory → refuses ⊎ TakesNames step)
+  FallsAt here now stop step = StopsShort telling.meaning here.bus now.bus stop step.changes
+      × (stop ≡ NoMemory → MayRefuse telling.may_refuse ⊎ TakesNames step)
 
   falls-instruction : (here now : Running T O E W) (stop : Stop) (state : State) (step : Trail) → step ≡ instruction state
-      → WatcherRefused meaning held shown refuses here now stop ⊎ InstructionStopped meaning held shown refuses here now stop state
+      → WatcherRefused telling here now stop ⊎ InstructionStopped telling here now stop state
       → FallsAt here now stop step
   unfolding FallsAt
   falls-instruction here now stop state step is (inl refused) = (
-    rw (is, refused.memory, refused.bus) (stops-here meaning here.bus here.bus [] (instruction state).changes (makes-none meaning here.bus)),
-    λ wanted. inl refused.may,
+    rw (is, refused.memory, refused.bus)
+        (stops-here telling.meaning here.bus here.bus [] (instruction state).changes (makes-none telling.meaning here.bus)),
+    λ wanted. inl (record { before = _; now = _; is = refused.left }),
   )
   falls-instruction here now stop state step is (inr stopped) = (
     rw is stopped.made,
     λ wanted. inr (rw is (record { before = []; moment = state; after = []; in_order = refl; takes = stopped.names wanted })),
   )
 
-  falls-at : (here now : Running T O E W) (stop : Stop) (state : State) (step : Trail) → StepStopped meaning held shown refuses here now stop state step
+  falls-at : (here now : Running T O E W) (stop : Stop) (state : State) (step : Trail) → StepStopped telling here now stop state step
       → FallsAt here now stop step
   unfolding FallsAt
   falls-at here now stop state step (inl one) = falls-instruction here now stop state step one.0 one.1
   falls-at here now stop state step (inr cut) = (cut.made, λ wanted. absurd (no-memory stop cut.fault wanted))
 
-  pub falls-short : (before now : Running T O E W) (stop : Stop) (trail : Trail) → StopsIn meaning held shown refuses before now stop trail
-      → FallsShort meaning refuses before now stop trail
+  pub falls-short : (before now : Running T O E W) (stop : Stop) (trail : Trail) → StopsIn telling before now stop trail
+      → FallsShort telling before now stop trail
   unfolding FallsAt
   falls-short before now stop trail within =
       let falls = falls-at within.here now stop within.done.last within.step within.stopped in
       let rest : State → Trail = λ s. followed_by within.step within.later in
       rw within.parts (record {
-        made = stops-later meaning before.bus within.here.bus now.bus stop within.done.changes (rest within.done.last).changes
+        made = stops-later telling.meaning before.bus within.here.bus now.bus stop within.done.changes (rest within.done.last).changes
             within.follows.makes
-            (stops-first meaning within.here.bus now.bus stop within.step.changes (within.later within.step.last).changes falls.0);
+            (stops-first telling.meaning within.here.bus now.bus stop within.step.changes (within.later within.step.last).changes falls.0);
         names = λ wanted. or-else (λ takes. takes-later within.done rest (takes-first within.step within.later takes)) (falls.1 wanted);
       })
 
   pub falls-short-from : (before now : Running T O E W) (stop : Stop) (part : State → Trail)
-      → StopsInFrom meaning held shown refuses before now stop part → FallsShortFrom meaning refuses before now stop part
+      → StopsInFrom telling before now stop part → FallsShortFrom telling before now stop part
   falls-short-from before now stop part stops = record {
     from = λ devices stands. falls-short before now stop (part (state_of before devices)) (stops.from devices stands);
   }
 
   -- nor was all of a run done, whatever was counted
   pub run-short : (before : Running T O E W) (core : Core) (bus : Bus T O E) (tally : Tally) (watcher : W) (part : State → Trail) (stop : Stop)
-      → RunStops meaning held shown refuses before core bus watcher stop part
-      → FallsShortFrom meaning refuses before (running core bus tally watcher) stop part
+      → RunStops telling before core bus watcher stop part
+      → FallsShortFrom telling before (running core bus tally watcher) stop part
   run-short before core bus tally watcher part stop stops = elim stops.stops [
     | inl within ↦ record {
       from = λ devices stands.
@@ -198,8 +200,9 @@ module _ {T O E W H : Type 0} (meaning : Meaning T O E) (held : W → H) (shown 
           let changes = (part (state_of before devices)).changes in
           let makes = (end.follows.from devices stands).makes in
           record {
-            made = rw (end.refused.memory, end.refused.bus, ← append-nil changes) (stops-here meaning before.bus end.here.bus changes [] makes);
-            names = λ wanted. inl end.refused.may;
+            made = rw (end.refused.memory, end.refused.bus, ← append-nil changes)
+                (stops-here telling.meaning before.bus end.here.bus changes [] makes);
+            names = λ wanted. inl (record { before = _; now = _; is = end.refused.left });
           };
     }
   ]

@@ -1,5 +1,6 @@
 -- What is left of a script once the next thing was taken.
-use Rattle.std.proofs.Common.{◌≡◌, ◌≢◌, ℕ, zero, suc, ◌+◌, ◌==◌, ◌<◌, ◌≤◌, ◌↔◌, ◌⊎◌, inl, inr, Bool, true, false, List, [], ◌∷◌, ◌++◌, ◌-◌, take, drop, get_or, length, map, refl, sym, ap, subst, ◌∙◌, arith, add-one}
+use Rattle.std.proofs.Common.{◌≡◌, ◌≢◌, ℕ, zero, suc, ◌+◌, ◌==◌, ◌<◌, ◌≤◌, ◌↔◌, ◌⊎◌, inl, inr, Bool, true, List, [], ◌∷◌, ◌++◌, ◌-◌, take, drop, get_or, length, map, refl, sym, ap, subst, ◌∙◌, arith, add-one}
+use Rattle.std.proofs.lemmas.Bool.{cases_Bool}
 use Rattle.std.specs.Prelude.{nat_lt}
 use Rattle.std.proofs.Math.Seq.{take-length}
 use Rattle.std.proofs.lemmas.List.{length-map}
@@ -8,14 +9,10 @@ use Rattle.console_port.specs.declared.EventKind.TheVariants as event_kind
 use Rattle.play_script.specs.declared.script.Event.{Event}
 use Rattle.vector_loop.specs.Run.{ConsoleByte, argument_bytes, arguments_given, kind_before}
 use Rattle.play_script.specs.Held.{bytes_in}
-use Rattle.uxn_io.specs.ByteList.{ByteList}
+use Rattle.tree_io.specs.ByteList.{ByteList}
 use Rattle.vector_loop.specs.declared.gift.Gift.{Gift}
 use Rattle.vector_loop.specs.declared.gift.Gift.TheVariants.{OfArgument, OfEvent}
 use Rattle.vector_loop.specs.Gifts.{of_argument, gifts_left, IsWithinFirst}
-
-pub bool_cases : (b : Bool) → (b ≡ true) ⊎ (b ≡ false)
-bool_cases true = inl refl
-bool_cases false = inr refl
 
 -- the bytes of an argument, with what stands behind them
 with_rest : List ℕ → List ConsoleByte → List ConsoleByte → List ConsoleByte
@@ -61,7 +58,7 @@ unfolding arguments_given
 left-none at none = rw none refl
 
 at-or-below : (at size : ℕ) → at ≤ size → (at < size) ⊎ (at ≡ size)
-at-or-below at size within = elim (bool_cases (nat_lt at size)) [
+at-or-below at size within = elim (cases_Bool (nat_lt at size)) [
   | inl below ↦ inl (grind (arith, nat_tests, below))
   | inr not ↦ inr (grind (arith, nat_tests, not, within))
 ]
@@ -131,7 +128,7 @@ pub empty-or-not : (all : List ByteList) (at : ℕ) (events : List Event) (test 
 empty-or-not all at events test left none within is left_is =
     let few : length all < 1 = grind (arith, nat_tests, none) in (
       λ yes. (let no_event : length events < 1 = grind (arith, nat_tests, is, yes) in sym left_is ∙ takes-none all at events few within no_event),
-      λ empty. elim (bool_cases (length events == 0)) [
+      λ empty. elim (cases_Bool (length events == 0)) [
         | inl without ↦ is ∙ without
         | inr some ↦
             let events_there : 1 ≤ length events = grind (arith, nat_tests, some) in

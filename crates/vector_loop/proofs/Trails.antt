@@ -1,6 +1,8 @@
 -- What a watcher holds after more was shown to it, and the changes at moments after others.
-use Rattle.std.proofs.Common.{◌≡◌, List, [], ◌∷◌, ◌++◌, refl, ap, sym, ◌∙◌, append_assoc}
-use Rattle.uxn_io.specs.Outside.{Change}
+use Rattle.std.proofs.Common.{◌≡◌, ◌≢◌, ℕ, true, false, arith, List, [], ◌∷◌, ◌++◌, refl, ap, sym, ◌∙◌, append_assoc}
+use Rattle.std.specs.Prelude.{◌==◌}
+use Rattle.std.proofs.lemmas.Bool.Decides.{nat_tests}
+use Rattle.tree_io.specs.Outside.{Change}
 use Rattle.uxn_opcodes.specs.declared.Core.{Core}
 use Rattle.vector_loop.specs.declared.watch.Moment.{Moment}
 use Rattle.vector_loop.specs.State.{State}
@@ -24,3 +26,10 @@ changes-append (state ∷ states) more first later at then =
     let here = (instruction state).changes in
     let parts = ap (λ c. c ++ later) at.1.1.0 ∙ append_assoc at.0 (here ++ at.1.0) later ∙ ap (λ c. at.0 ++ c) (append_assoc here at.1.0 later) in
     (at.0, (at.1.0 ++ later, (parts, changes-append states more at.1.0 later at.1.1.1 then)))
+
+-- what a test for 0 tells
+pub is_zero : (n : ℕ) → n ≡ 0 → (n == 0) ≡ true
+is_zero n h = grind (arith, nat_tests)
+
+pub is_not_zero : (n : ℕ) → n ≢ 0 → (n == 0) ≡ false
+is_not_zero n h = grind (arith, nat_tests)

@@ -1,33 +1,27 @@
 -- What a part of a run answers: it was done, or it stopped.
-use Rattle.std.specs.Prelude.{◌≡◌, ℕ, ◌+◌, ◌*◌, ◌^◌, ◌<◌, ◌≤◌, ◌⊎◌, Option, Result, Ok, Err}
-use Rattle.uxn_io.specs.Files.{Nodes}
-use Rattle.uxn_io.specs.Faults.{Ledger}
+use Rattle.std.specs.Prelude.{◌≡◌, ℕ, ◌+◌, ◌-◌, ◌*◌, ◌^◌, ◌<◌, ◌≤◌, ◌⊎◌, Option, Result, Ok, Err, IfOk}
+use Rattle.tree_io.specs.Files.{Nodes}
+use Rattle.tree_io.specs.Faults.{Ledger}
 use Rattle.uxn_opcodes.specs.declared.Core.{Core}
 use Rattle.uxn_opcodes.specs.declared.Stop.{Stop}
 use Rattle.uxn_opcodes.specs.declared.Stop.TheVariants.{NoMemory}
 use Rattle.uxn_opcodes.specs.Ports.{blame_of}
-use Rattle.varvara_bus.specs.Bus.{SameLent, FilesStay, HasRoot, Meaning, frames_begun, bus_faults, told_on}
+use Rattle.varvara_bus.specs.declared.bus.Bus.{Bus}
+use Rattle.varvara_bus.specs.State.{DeviceState}
+use Rattle.varvara_bus.specs.Bus.{SameLent, SameBus, BusStandsFor, FilesStay, HasRoot, frames_begun, bus_faults, bus_rules, told_on}
 use Rattle.vector_loop.specs.declared.output.Outputs.{Outputs}
 use Rattle.vector_loop.specs.declared.runner.Runner.{Runner}
 use Rattle.vector_loop.specs.declared.tally.Tally.{Tally}
+use Rattle.vector_loop.specs.declared.tally.VectorEnd.{VectorEnd}
 use Rattle.vector_loop.specs.declared.watch.Moment.{Moment}
 use Rattle.vector_loop.specs.State.{State}
-use Rattle.vector_loop.specs.Watch.{Page}
+use Rattle.vector_loop.specs.Watch.{MayRefuse}
 use Rattle.vector_loop.specs.Trail.{Trail}
+use Rattle.vector_loop.specs.Vector.{instructions, ends_by}
+use Rattle.vector_loop.specs.Budget.{RanWhole, with_break, counting_run}
 use Rattle.vector_loop.specs.Outputs.{OutputsThere}
-use Rattle.vector_loop.specs.Follows.{Running, running, FollowsFrom, HasGrown}
+use Rattle.vector_loop.specs.Follows.{Telling, Running, running, state_of, FollowsFrom, HasGrown}
 use Rattle.vector_loop.specs.Stops.{StopsInFrom}
-
--- what trees, sinks and a watcher tell
-pub record Telling (T O E W H : Type 0) : Type 1 where
-  pub meaning : Meaning T O E
-  pub held : W → H
-  pub shown : H → Core → Page → Moment → H
-  pub may_refuse : Type 0
-
-abbrev pub telling_of : {T O E W H : Type 0} → Meaning T O E → (W → H) → (H → Core → Page → Moment → H) → Type 0
-    → Telling T O E W H
-telling_of meaning held shown may_refuse = record { meaning = meaning; held = held; shown = shown; may_refuse = may_refuse }
 
 -- how much a part counts at most
 pub record Count : Type 0 where
@@ -85,12 +79,12 @@ pub record SameRunner {T O E W : Type 0} (told_tree : T → Option Nodes) (befor
 module _ {T O E W H : Type 0} (telling : Telling T O E W H) where
   -- a part stopped within; memory was wanting only to the watcher, or where there is a root
   pub record Stopped (before now : Running T O E W) (part : State → Trail) (stop : Stop) : Type 0 where
-    pub within : StopsInFrom telling.meaning telling.held telling.shown telling.may_refuse before now stop part
-    pub memory : stop ≡ NoMemory → telling.may_refuse ⊎ HasRoot before.bus.devices.now
+    pub within : StopsInFrom telling before now stop part
+    pub memory : stop ≡ NoMemory → MayRefuse telling.may_refuse ⊎ HasRoot before.bus.devices.now
 
   -- all of a part was done, or it stopped, by the answer
   abbrev pub Reaches : {X : Type 0} → Running T O E W → Running T O E W → (State → Trail) → Result X Stop → Type 0
-  Reaches before now part (Ok _) = FollowsFrom telling.meaning telling.held telling.shown before now part
+  Reaches before now part (Ok _) = FollowsFrom telling before now part
   Reaches before now part (Err stop) = Stopped before now part stop
 
   -- what a runner answers that was to do a part: who is to blame counted a fault, and no more was counted than this
@@ -101,3 +95,17 @@ module _ {T O E W H : Type 0} (telling : Telling T O E W H) where
     pub grown : HasGrown before.tally now.tally most.vectors most.events before.budget
     pub frames : frames_begun now.bus.now ≤ frames_begun before.bus.now + most.events
     pub same : SameRunner (told_on telling.meaning.tree) before now
+
+  -- what the instructions of a vector came to, of whose budget so much was left before the last one: all of it was done and it ended as it
+  -- does, or it stopped; and so many are counted as ran whole
+  pub record RanTo (before : Running T O E W) (core : Core) (bus : Bus T O E) (watcher : W) (budget left : ℕ) (end : Result VectorEnd Stop)
+      : Type 0 where
+    pub within : left ≤ budget
+    pub whole : RanWhole (bus_rules telling.meaning) (MayRefuse telling.may_refuse) budget before.core before.bus end core bus
+        (with_break end (budget - left))
+    pub reaches : Reaches before (running core bus (counting_run end (with_break end (budget - left)) before.tally) watcher)
+        (instructions budget) end
+    pub ends : IfOk end (λ how. (devices : DeviceState) → BusStandsFor (told_on telling.meaning.tree) before.bus devices
+        → how ≡ ends_by budget (state_of before devices))
+    pub ledger : Ledger (bus_faults telling.meaning before.bus) (bus_faults telling.meaning bus) (blame_of end)
+    pub same : SameBus (told_on telling.meaning.tree) before.bus bus

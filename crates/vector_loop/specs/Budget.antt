@@ -9,6 +9,7 @@ use Rattle.uxn_opcodes.specs.Instruction.{Instruction}
 use Rattle.vector_loop.specs.declared.tally.Tally.{Tally}
 use Rattle.vector_loop.specs.declared.tally.VectorEnd.{VectorEnd}
 use Rattle.vector_loop.specs.declared.tally.VectorEnd.TheVariants.{Broke, Cut}
+use Rattle.vector_loop.specs.State.{counting_vector}
 
 -- BRK is an instruction that ran, and one at which a vector stops has not
 abbrev pub with_break : Result VectorEnd Stop → ℕ → ℕ
@@ -16,14 +17,14 @@ with_break (Ok Broke) number = number + 1
 with_break (Ok Cut) number = number
 with_break (Err stop) number = number
 
--- a vector is counted as it begins, each instruction that ran, and a cut
+-- each instruction that ran is counted, and a cut; and before them a vector, as it begins
+abbrev pub counting_run : Result VectorEnd Stop → ℕ → Tally → Tally
+counting_run (Ok Cut) number tally = record tally { instructions = tally.instructions + number; cuts = tally.cuts + 1 }
+counting_run (Ok Broke) number tally = record tally { instructions = tally.instructions + number }
+counting_run (Err stop) number tally = record tally { instructions = tally.instructions + number }
+
 abbrev pub counting_ran : Result VectorEnd Stop → ℕ → Tally → Tally
-counting_ran (Ok Cut) number tally = record tally {
-  instructions = tally.instructions + number;
-  vectors = tally.vectors + 1;
-  cuts = tally.cuts + 1;
-}
-counting_ran _ number tally = record tally { instructions = tally.instructions + number; vectors = tally.vectors + 1 }
+counting_ran end number tally = counting_run end number (counting_vector tally)
 
 module _ {S : Type 0} (rules : Rules S) where
   -- so many instructions ran, one after the other, and none of them was BRK

@@ -16,6 +16,7 @@ pub mod Gifts
 pub mod Places
 pub mod StepLaws
 pub mod Touching
+pub mod RunLaws
 pub mod AppendingLaws
 pub mod StopLaws
 pub mod SilenceLaws

@@ -2,8 +2,8 @@
 use Rattle.std.specs.Prelude.{ℕ, ◌/◌, ◌%◌, List, [], ◌∷◌, ◌++◌, map, ℤ, Option, Some, None, IfSome}
 use Rattle.std.specs.List.{flat_map, range_with_len}
 use Rattle.std.specs.Int.{w16, cast_unsigned}
-use Rattle.uxn_io.specs.Files.{Nodes}
-use Rattle.uxn_io.specs.Outside.{Change, ToFile}
+use Rattle.tree_io.specs.Files.{Nodes}
+use Rattle.tree_io.specs.Outside.{Change, ToFile}
 use Rattle.screen_frame.specs.Colours.{colours_of}
 use Rattle.screen_frame.specs.Ppm.{head_bytes}
 use Rattle.screen_layers.specs.Pictures.{picture_row_of}

@@ -1,5 +1,6 @@
 -- The steps of a run, taken one after the other, are the run.
-use Rattle.std.specs.Prelude.{◌≡◌, ℕ, zero, suc, ◌==◌, ◌≤◌, ◌⊎◌, Bool, true, false, List, []}
+use Rattle.std.specs.Prelude.{◌≡◌, ℕ, zero, suc, ◌==◌, ◌≤◌, ◌⊎◌, true, false, List, []}
+use Rattle.std.proofs.lemmas.Bool.{cases_Bool}
 use Rattle.std.specs.Prelude.{◌∷◌, ◌++◌, map, Option, Some, None}
 use Rattle.std.proofs.Common.{inl, inr, cond, refl, ap, sym, subst, ◌∙◌, arith}
 use Rattle.std.proofs.lemmas.List.{append-nil}
@@ -19,10 +20,6 @@ use Rattle.vector_loop.specs.Gifts.{of_argument, gifts_of, given, console_of, co
 use Rattle.vector_loop.specs.Places.{Place, place, HasEnded, cut_at, one_instruction, instruction_step, come_to, holding, vector_begins}
 use Rattle.vector_loop.specs.Places.{giving_by, idle_step, step_of, step, after_steps, run_begun, vector_left, run_left, whole_run, StepsAre}
 use Rattle.vector_loop.specs.TrailLaws.{followed_by-again, followed_by-at, stays-after}
-
-bool_cases : (b : Bool) → (b ≡ true) ⊎ (b ≡ false)
-bool_cases true = inl refl
-bool_cases false = inr refl
 
 -- an instruction, and then what is left of the vector and the rest
 goes_on : (less : ℕ) (done : Trail) (rest : State → Trail)
@@ -117,7 +114,7 @@ idle-by budget outputs gift done gifts some (inr goes) =
 step-of-keeps : (budget : ℕ) (outputs : Outputs) (left : ℕ) (done : Trail) (gifts : List Gift) → 1 ≤ budget
     → whole_run budget outputs (place done left gifts) ≡ whole_run budget outputs (step_of budget outputs left done gifts)
 step-of-keeps budget outputs zero done [] some = refl
-step-of-keeps budget outputs zero done (gift ∷ gifts) some = idle-by budget outputs gift done gifts some (bool_cases (is_over done.last))
+step-of-keeps budget outputs zero done (gift ∷ gifts) some = idle-by budget outputs gift done gifts some (cases_Bool (is_over done.last))
 step-of-keeps budget outputs (suc less) done gifts some = instruction-keeps budget outputs less done gifts
 
 steps-keep : (budget : ℕ) (outputs : Outputs) (begun : Place) (count : ℕ) → 1 ≤ budget
@@ -244,7 +241,7 @@ idle-ends budget outputs [] done = (0, (refl, inr refl))
 idle-ends budget outputs (gift ∷ gifts) done =
     let here = place done 0 (gift ∷ gifts) in
     let next = giving_by budget outputs gift (console_of gift) done gifts in
-    elim (bool_cases (is_over done.last)) [
+    elim (cases_Bool (is_over done.last)) [
       | inl over ↦ (0, (refl, inl over))
       | inr goes ↦
           let P : Place → Type 0 = λ p. Ends budget outputs p in

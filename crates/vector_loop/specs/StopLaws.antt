@@ -1,39 +1,36 @@
 -- What a watcher was shown until a run stopped, whatever stopped it.
-use Rattle.std.specs.Prelude.{◌≡◌, ℕ, List, [], ◌∷◌, ◌++◌, ◌⊎◌}
+use Rattle.std.specs.Prelude.{◌≡◌, List, [], ◌∷◌, ◌++◌, ◌⊎◌}
 use Rattle.std.proofs.Common.{refl, ap, sym, ◌∙◌, inl, inr, append_assoc, append-nil}
 use Rattle.uxn_opcodes.specs.declared.Core.{Core}
 use Rattle.uxn_opcodes.specs.declared.Stop.{Stop}
 use Rattle.varvara_bus.specs.declared.bus.Bus.{Bus}
-use Rattle.varvara_bus.specs.State.{DeviceState}
-use Rattle.varvara_bus.specs.Bus.{BusStandsFor, Meaning}
-use Rattle.vector_loop.specs.declared.watch.Moment.{Moment}
 use Rattle.vector_loop.specs.State.{State}
 use Rattle.vector_loop.specs.Trail.{Trail, followed_by}
 use Rattle.vector_loop.specs.Vector.{instruction}
-use Rattle.vector_loop.specs.Watch.{Page, page_in, moment_of, shown_all}
-use Rattle.vector_loop.specs.Follows.{Running, running, state_of}
+use Rattle.vector_loop.specs.Watch.{page_in, moment_of, shown_all}
+use Rattle.vector_loop.specs.Follows.{Telling, Running, running, state_of}
 use Rattle.vector_loop.specs.Stops.{WatcherRefused, InstructionStopped, StepStopped, StopsIn, StopsInFrom, RunStops, ShownUntil, ShownUntilFrom}
 
-module _ {T O E W H : Type 0} (meaning : Meaning T O E) (held : W → H) (shown : H → Core → Page → Moment → H) (refuses : Type 0) where
+module _ {T O E W H : Type 0} (telling : Telling T O E W H) where
   -- moments that are shown, and one more
   shown-one : (h : H) (seen : List State) (state : State)
-      → shown_all shown h (seen ++ state ∷ []) ≡ shown (shown_all shown h seen) state.core (page_in state) (moment_of state)
+      → shown_all telling.shown h (seen ++ state ∷ []) ≡ telling.shown (shown_all telling.shown h seen) state.core (page_in state) (moment_of state)
   shown-one h [] state = refl
-  shown-one h (first ∷ seen) state = shown-one (shown h first.core (page_in first) (moment_of first)) seen state
+  shown-one h (first ∷ seen) state = shown-one (telling.shown h first.core (page_in first) (moment_of first)) seen state
 
   -- the step that stopped was an instruction: the watcher refused to be shown it, or it was shown it
-  at-instruction : (before now : Running T O E W) (stop : Stop) (trail : Trail) (within : StopsIn meaning held shown refuses before now stop trail)
+  at-instruction : (before now : Running T O E W) (stop : Stop) (trail : Trail) (within : StopsIn telling before now stop trail)
       → within.step ≡ instruction within.done.last
-      → WatcherRefused meaning held shown refuses within.here now stop
-      ⊎ InstructionStopped meaning held shown refuses within.here now stop within.done.last
-      → ShownUntil meaning held shown refuses before now stop trail
+      → WatcherRefused telling within.here now stop
+      ⊎ InstructionStopped telling within.here now stop within.done.last
+      → ShownUntil telling before now stop trail
   at-instruction before now stop trail within is (inl refused) = record {
     seen = within.done.moments;
     unseen = (followed_by within.step within.later).moments;
     front = ap (λ (t : Trail). t.moments) within.parts;
     watcher = within.here.watcher;
     holds = within.follows.watcher;
-    left = inr (refused.may, refused.memory);
+    left = inr (refused.left, refused.memory);
   }
   at-instruction before now stop trail within is (inr stopped) = record {
     seen = within.done.moments ++ within.done.last ∷ [];
@@ -43,15 +40,15 @@ module _ {T O E W H : Type 0} (meaning : Meaning T O E) (held : W → H) (shown 
         ∙ sym (append_assoc within.done.moments (within.done.last ∷ []) (within.later within.step.last).moments);
     watcher = now.watcher;
     holds = stopped.watcher
-        ∙ ap (λ h. shown h within.done.last.core (page_in within.done.last) (moment_of within.done.last)) within.follows.watcher
-        ∙ sym (shown-one (held before.watcher) within.done.moments within.done.last);
+        ∙ ap (λ h. telling.shown h within.done.last.core (page_in within.done.last) (moment_of within.done.last)) within.follows.watcher
+        ∙ sym (shown-one (telling.held before.watcher) within.done.moments within.done.last);
     left = inl refl;
   }
 
   -- a picture or samples were not appended: it was shown all before
-  at-step : (before now : Running T O E W) (stop : Stop) (trail : Trail) (within : StopsIn meaning held shown refuses before now stop trail)
-      → StepStopped meaning held shown refuses within.here now stop within.done.last within.step
-      → ShownUntil meaning held shown refuses before now stop trail
+  at-step : (before now : Running T O E W) (stop : Stop) (trail : Trail) (within : StopsIn telling before now stop trail)
+      → StepStopped telling within.here now stop within.done.last within.step
+      → ShownUntil telling before now stop trail
   at-step before now stop trail within (inl one) = at-instruction before now stop trail within one.0 one.1
   at-step before now stop trail within (inr cut) = record {
     seen = within.done.moments;
@@ -64,8 +61,8 @@ module _ {T O E W H : Type 0} (meaning : Meaning T O E) (held : W → H) (shown 
 
   -- so it is wherever a part of a run stopped
   pub shown-until : (before now : Running T O E W) (stop : Stop) (part : State → Trail)
-      → StopsInFrom meaning held shown refuses before now stop part
-      → ShownUntilFrom meaning held shown refuses before now stop part
+      → StopsInFrom telling before now stop part
+      → ShownUntilFrom telling before now stop part
   shown-until before now stop part stops = record {
     from = λ devices stands.
         let within = stops.from devices stands in
@@ -74,8 +71,8 @@ module _ {T O E W H : Type 0} (meaning : Meaning T O E) (held : W → H) (shown 
 
   -- and a whole run, which may have stopped at its end
   pub run-shown : (before : Running T O E W) (core : Core) (bus : Bus T O E) (watcher : W) (stop : Stop) (part : State → Trail)
-      (stops : RunStops meaning held shown refuses before core bus watcher stop part)
-      → ShownUntilFrom meaning held shown refuses before (running core bus stops.tally watcher) stop part
+      (stops : RunStops telling before core bus watcher stop part)
+      → ShownUntilFrom telling before (running core bus stops.tally watcher) stop part
   run-shown before core bus watcher stop part stops = elim stops.stops [
     | inl within ↦ shown-until before (running core bus stops.tally watcher) stop part within
     | inr end ↦ record {
@@ -87,7 +84,7 @@ module _ {T O E W H : Type 0} (meaning : Meaning T O E) (held : W → H) (shown 
             front = sym (append-nil trail.moments);
             watcher = end.here.watcher;
             holds = (end.follows.from devices stands).watcher;
-            left = inr (end.refused.may, end.refused.memory);
+            left = inr (end.refused.left, end.refused.memory);
           };
     }
   ]

@@ -1,6 +1,6 @@
 -- What a part of a run does: one record for an instruction, a vector, an event and a whole run.
 use Rattle.std.specs.Prelude.{List, [], ◌∷◌, ◌++◌}
-use Rattle.uxn_io.specs.Outside.{Change}
+use Rattle.tree_io.specs.Outside.{Change}
 use Rattle.vector_loop.specs.State.{State}
 
 -- the states before each instruction, those at which the run itself appends to an output, the changes made outside, each in order,

@@ -1,7 +1,7 @@
 -- How trails that follow one another are joined.
-use Rattle.std.specs.Prelude.{◌≡◌, List, [], ◌++◌}
-use Rattle.std.proofs.Common.{ap, ◌∙◌, append_assoc, append-nil}
-use Rattle.uxn_io.specs.Outside.{Change}
+use Rattle.std.specs.Prelude.{◌≡◌, List, ◌++◌}
+use Rattle.std.proofs.Common.{ap, append_assoc, append-nil}
+use Rattle.tree_io.specs.Outside.{Change}
 use Rattle.vector_loop.specs.State.{State}
 use Rattle.vector_loop.specs.Trail.{Trail, stays, followed_by}
 

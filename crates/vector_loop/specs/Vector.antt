@@ -1,6 +1,6 @@
 -- The run of a vector (Varvara device reference; profile: the budget).
 use Rattle.std.specs.Prelude.{◌≡◌, List, ◌++◌, ℕ, zero, suc, ◌==◌, ◌||◌, Bool, false, [], ◌∷◌, if◌then◌else◌}
-use Rattle.uxn_io.specs.Outside.{Change}
+use Rattle.tree_io.specs.Outside.{Change}
 use Rattle.uxn_opcodes.specs.Rule.{opcode_at}
 use Rattle.varvara_bus.specs.Effect.{Effect}
 use Rattle.varvara_bus.specs.Model.{instruction_effect}
@@ -41,6 +41,10 @@ unfoldable pub breaks : ℕ → State → Bool
 breaks zero state = false
 breaks (suc left) state = at_break state || breaks left (instruction state).last
 
+-- how they end
+abbrev pub ends_by : ℕ → State → VectorEnd
+ends_by left state = if breaks left state then Broke else Cut
+
 -- a vector begins at its address
 abbrev pub begun_at : ℕ → State → State
 begun_at address state = record state { core = record state.core { at = address }; tally = counting_vector state.tally }
@@ -50,4 +54,4 @@ unfoldable pub vector : ℕ → ℕ → State → Trail
 vector budget address state = instructions budget (begun_at address state)
 
 unfoldable pub vector_end : ℕ → ℕ → State → VectorEnd
-vector_end budget address state = if breaks budget (begun_at address state) then Broke else Cut
+vector_end budget address state = ends_by budget (begun_at address state)

@@ -34,6 +34,12 @@ page_in state = record { read = ports_read 256 state; stored = ports_stored 256 
 abbrev pub moment_of : State → Moment
 moment_of state = record { instructions = state.tally.instructions; address = state.core.at }
 
+-- memory may be wanting to a watcher: there is something that it may hold then, by what it held before
+pub record MayRefuse {H : Type 0} (refuses : H → H → Type 0) : Type 0 where
+  pub before : H
+  pub now : H
+  pub is : refuses before now
+
 -- what is held once all these states were shown, in order
 abbrev pub shown_all : {H : Type 0} → (H → Core → Page → Moment → H) → H → List State → H
 shown_all shown held [] = held

@@ -1,7 +1,7 @@
 //! Events.
 ghost use Rattle.std.specs.Prelude.{◌≡◌, ◌==◌, ◌+◌, ◌*◌, ◌^◌, ◌-◌, ◌<◌, ◌≤◌, ◌⊎◌, OnOk, IfErr};
 ghost use Rattle.play_script.specs.declared.script.Event.TheVariants as events;
-ghost use Rattle.uxn_io.specs.Faults.{Ledger};
+ghost use Rattle.tree_io.specs.Faults.{Ledger};
 ghost use Rattle.uxn_opcodes.specs.Ports.{blame_of};
 ghost use Rattle.varvara_bus.specs.Bus.{BusStandsFor, SameLent, FilesStay, HasRoot, meaning_of, frames_begun, bus_faults, told_on};
 ghost use Rattle.varvara_bus.specs.Reads.{read_of};
@@ -9,9 +9,10 @@ ghost use Rattle.varvara_bus.specs.State.{DeviceState};
 ghost use Rattle.vector_loop.specs.State.{counting_expect, is_over};
 ghost use Rattle.vector_loop.specs.Event.{vector_in, console, device, happens, give};
 ghost use Rattle.vector_loop.specs.Outputs.{OutputsThere};
-ghost use Rattle.vector_loop.specs.Follows.{running, state_of, FollowsFrom, FallsShortFrom, HasGrown, IsCompared};
+ghost use Rattle.vector_loop.specs.Follows.{running, telling_of, state_of, FollowsFrom, FallsShortFrom, HasGrown, IsCompared};
 ghost use Rattle.vector_loop.specs.Stops.{StopsInFrom, ShotLeaves};
-ghost use Rattle.vector_loop.specs.Answers.{telling_of, of_vectors, of_events, HasRoom, HasOutputs, running_of, Answers};
+ghost use Rattle.vector_loop.specs.Watch.{MayRefuse};
+ghost use Rattle.vector_loop.specs.Answers.{of_vectors, of_events, HasRoom, HasOutputs, running_of, Answers};
 
 use crate::output::{Outputs, keep_picture};
 use crate::runner::Runner;
@@ -20,7 +21,7 @@ use crate::watch::Watcher;
 use console_port::EventKind;
 use input_ports::{Input, vector_port};
 use play_script::Event;
-use uxn_io::{Sink, Tree};
+use tree_io::{Sink, Tree};
 use uxn_opcodes::{Core, Ports, Stop};
 use varvara_bus::Bus;
 
@@ -43,7 +44,7 @@ impl<'r, 'a, T: Tree, O: Sink, E: Sink, W: Watcher> Runner<'r, 'a, T, O, E, W> {
     pub(crate) fn run_vector_in(&mut self, port: u8) -> Result<(), Stop>
         requires port { port < 255 }
         requires room { HasRoom self.old.tally self.old.budget (of_vectors 1) }
-        ensures { Answers (telling_of (meaning_of T.Tree O.Sink E.Sink) W.held W.shown W.may_refuse) self.old self.new
+        ensures { Answers (telling_of T.Tree O.Sink E.Sink W.Watcher) self.old self.new
             (vector_in self.old.budget port) (of_vectors 1) result }
     {
         let at = self.bus.stored_short(port);
@@ -57,7 +58,7 @@ impl<'r, 'a, T: Tree, O: Sink, E: Sink, W: Watcher> Runner<'r, 'a, T, O, E, W> {
     /// Gives the console a byte of a kind.
     pub(crate) fn give_console(&mut self, byte: u8, kind: EventKind) -> Result<(), Stop>
         requires { HasRoom self.old.tally self.old.budget (of_vectors 1) }
-        ensures { Answers (telling_of (meaning_of T.Tree O.Sink E.Sink) W.held W.shown W.may_refuse) self.old self.new
+        ensures { Answers (telling_of T.Tree O.Sink E.Sink W.Watcher) self.old self.new
             (console self.old.budget byte kind) (of_vectors 1) result }
     {
         self.bus.give(byte, kind);
@@ -67,7 +68,7 @@ impl<'r, 'a, T: Tree, O: Sink, E: Sink, W: Watcher> Runner<'r, 'a, T, O, E, W> {
     /// Gives the controller or the mouse an input, which is settled after its vector.
     fn give_device(&mut self, input: &Input) -> Result<(), Stop>
         requires { HasRoom self.old.tally self.old.budget (of_vectors 1) }
-        ensures { Answers (telling_of (meaning_of T.Tree O.Sink E.Sink) W.held W.shown W.may_refuse) self.old self.new
+        ensures { Answers (telling_of T.Tree O.Sink E.Sink W.Watcher) self.old self.new
             (device self.old.budget input.now) (of_vectors 1) result }
     {
         self.bus.apply(input);
@@ -85,7 +86,7 @@ impl<'r, 'a, T: Tree, O: Sink, E: Sink, W: Watcher> Runner<'r, 'a, T, O, E, W> {
         requires outputs { HasOutputs (told_on T.Tree) outputs.now self.old }
         requires frames { event.now ≡ events.Frame → frames_begun self.old.bus.now < 1000000 }
         requires room { HasRoom self.old.tally self.old.budget (of_events 1) }
-        ensures answers { Answers (telling_of (meaning_of T.Tree O.Sink E.Sink) W.held W.shown W.may_refuse) self.old self.new
+        ensures answers { Answers (telling_of T.Tree O.Sink E.Sink W.Watcher) self.old self.new
             (give self.old.budget outputs.now event.now) (of_events 1) result }
         ensures shot { event.now ≡ events.Shot → ShotLeaves (told_on T.Tree) (running_of self.old) (running_of self.new) }
     {
@@ -156,14 +157,14 @@ pub fn run_event<'a, T: Tree, O: Sink, E: Sink, W: Watcher>(
     requires miss_count { tally.old.misses ≤ 2 ^ 61 }
 
     // From each state that the bus stood for, all of the event was done, or a front of what it does.
-    ensures ok { OnOk result (FollowsFrom (meaning_of T.Tree O.Sink E.Sink) W.held W.shown
+    ensures ok { OnOk result (FollowsFrom (telling_of T.Tree O.Sink E.Sink W.Watcher)
         (running core.old bus.old tally.old watcher.old) (running core.new bus.new tally.new watcher.new) (give budget outputs.now event.now)) }
-    ensures err { IfErr result (λ stop. FallsShortFrom (meaning_of T.Tree O.Sink E.Sink) W.may_refuse
+    ensures err { IfErr result (λ stop. FallsShortFrom (telling_of T.Tree O.Sink E.Sink W.Watcher)
         (running core.old bus.old tally.old watcher.old) (running core.new bus.new tally.new watcher.new) stop (give budget outputs.now event.now)) }
     ensures grown { HasGrown tally.old tally.new 5 1 budget }
 
     // Where it stopped, all was done up to one instruction, or up to the picture or the samples that were appended.
-    ensures stopped { IfErr result (λ stop. StopsInFrom (meaning_of T.Tree O.Sink E.Sink) W.held W.shown W.may_refuse
+    ensures stopped { IfErr result (λ stop. StopsInFrom (telling_of T.Tree O.Sink E.Sink W.Watcher)
         (running core.old bus.old tally.old watcher.old) (running core.new bus.new tally.new watcher.new) stop (give budget outputs.now event.now)) }
 
     // A shot is counted and changes nothing else of the machine, whatever is answered.
@@ -174,7 +175,7 @@ pub fn run_event<'a, T: Tree, O: Sink, E: Sink, W: Watcher>(
     // the names of a folder.
     ensures ledger { Ledger (bus_faults (meaning_of T.Tree O.Sink E.Sink) bus.old)
         (bus_faults (meaning_of T.Tree O.Sink E.Sink) bus.new) (blame_of result) }
-    ensures memory { IfErr result (λ stop. stop ≡ Stop.NoMemory → W.may_refuse ⊎ HasRoot bus.old.devices.now) }
+    ensures memory { IfErr result (λ stop. stop ≡ Stop.NoMemory → MayRefuse W.may_refuse ⊎ HasRoot bus.old.devices.now) }
     ensures lent { SameLent bus.old bus.new }
     ensures root { bus.new.devices.now.root ≡ bus.old.devices.now.root }
     ensures files { FilesStay bus.old.devices.now.root (T.state bus.old.tree.now).told (T.state bus.new.tree.now).told }

@@ -1,13 +1,14 @@
 //! Frames: the screen's vector, the samples, and the vectors of the voices whose notes end.
 ghost use Rattle.std.specs.Prelude.{◌≡◌, ◌<◌};
-ghost use Rattle.varvara_bus.specs.Bus.{meaning_of, told_on};
+ghost use Rattle.varvara_bus.specs.Bus.{told_on};
 ghost use Rattle.vector_loop.specs.Event.{unless_over, vector_where, ended_vectors, heard, shown_and_heard};
-ghost use Rattle.vector_loop.specs.Answers.{telling_of, of_vectors, HasRoom, HasOutputs, Answers};
+ghost use Rattle.vector_loop.specs.Follows.{telling_of};
+ghost use Rattle.vector_loop.specs.Answers.{of_vectors, HasRoom, HasOutputs, Answers};
 
 use crate::output::{Outputs, keep_samples};
 use crate::runner::Runner;
 use crate::watch::Watcher;
-use uxn_io::{Sink, Tree};
+use tree_io::{Sink, Tree};
 use uxn_opcodes::Stop;
 
 /// The port of the screen's vector.
@@ -24,7 +25,7 @@ impl<'r, 'a, T: Tree, O: Sink, E: Sink, W: Watcher> Runner<'r, 'a, T, O, E, W> {
     fn run_ended(&mut self, ended: bool, voice: u8) -> Result<(), Stop>
         requires voice { voice < 4 }
         requires room { HasRoom self.old.tally self.old.budget (of_vectors 1) }
-        ensures { Answers (telling_of (meaning_of T.Tree O.Sink E.Sink) W.held W.shown W.may_refuse) self.old self.new
+        ensures { Answers (telling_of T.Tree O.Sink E.Sink W.Watcher) self.old self.new
             (unless_over (vector_where self.old.budget ended voice)) (of_vectors 1) result }
     {
         if self.is_over() {
@@ -39,7 +40,7 @@ impl<'r, 'a, T: Tree, O: Sink, E: Sink, W: Watcher> Runner<'r, 'a, T, O, E, W> {
     /// Runs the vectors of the voices whose notes have ended, in order, each unless the run is over.
     fn run_all_ended(&mut self, ended: &[bool; 4]) -> Result<(), Stop>
         requires { HasRoom self.old.tally self.old.budget (of_vectors 4) }
-        ensures { Answers (telling_of (meaning_of T.Tree O.Sink E.Sink) W.held W.shown W.may_refuse) self.old self.new
+        ensures { Answers (telling_of T.Tree O.Sink E.Sink W.Watcher) self.old self.new
             (ended_vectors self.old.budget ended.now) (of_vectors 4) result }
     {
         for voice in 0..4u8 {
@@ -52,7 +53,7 @@ impl<'r, 'a, T: Tree, O: Sink, E: Sink, W: Watcher> Runner<'r, 'a, T, O, E, W> {
     fn give_sound(&mut self, outputs: &Outputs) -> Result<(), Stop>
         requires outputs { HasOutputs (told_on T.Tree) outputs.now self.old }
         requires room { HasRoom self.old.tally self.old.budget (of_vectors 4) }
-        ensures { Answers (telling_of (meaning_of T.Tree O.Sink E.Sink) W.held W.shown W.may_refuse) self.old self.new
+        ensures { Answers (telling_of T.Tree O.Sink E.Sink W.Watcher) self.old self.new
             (heard self.old.budget outputs.now) (of_vectors 4) result }
     {
         if outputs.samples.is_none() && self.bus.is_endless() {
@@ -68,7 +69,7 @@ impl<'r, 'a, T: Tree, O: Sink, E: Sink, W: Watcher> Runner<'r, 'a, T, O, E, W> {
     fn give_samples(&mut self, outputs: &Outputs) -> Result<(), Stop>
         requires outputs { HasOutputs (told_on T.Tree) outputs.now self.old }
         requires room { HasRoom self.old.tally self.old.budget (of_vectors 4) }
-        ensures { Answers (telling_of (meaning_of T.Tree O.Sink E.Sink) W.held W.shown W.may_refuse) self.old self.new
+        ensures { Answers (telling_of T.Tree O.Sink E.Sink W.Watcher) self.old self.new
             (heard self.old.budget outputs.now) (of_vectors 4) result }
     {
         let mut samples = [0; 1470];
@@ -81,7 +82,7 @@ impl<'r, 'a, T: Tree, O: Sink, E: Sink, W: Watcher> Runner<'r, 'a, T, O, E, W> {
     pub(crate) fn show_and_sound(&mut self, outputs: &Outputs) -> Result<(), Stop>
         requires outputs { HasOutputs (told_on T.Tree) outputs.now self.old }
         requires room { HasRoom self.old.tally self.old.budget (of_vectors 5) }
-        ensures { Answers (telling_of (meaning_of T.Tree O.Sink E.Sink) W.held W.shown W.may_refuse) self.old self.new
+        ensures { Answers (telling_of T.Tree O.Sink E.Sink W.Watcher) self.old self.new
             (shown_and_heard self.old.budget outputs.now) (of_vectors 5) result }
     {
         self.run_vector_in(SCREEN_VECTOR)?;

@@ -7,7 +7,7 @@ use crate::gift::Gift;
 use console_port::EventKind;
 use play_script::{Event, Script};
 use std::marker::Model;
-use uxn_io::Bytes;
+use tree_io::Bytes;
 
 /// What is still to be given of a script: the bytes of its arguments, with a newline behind each, and then its events.
 #[derive(Drop)]

@@ -2,13 +2,13 @@
 ghost use Rattle.std.specs.Prelude.{◌≡◌, ◌*◌, ◌<◌, IfSome, length, map};
 ghost use Rattle.screen_layers.specs.Pictures.{picture_row_of};
 ghost use Rattle.audio_mixer.specs.Laws.{short_of};
-ghost use Rattle.uxn_io.specs.Outside.{ToFile};
+ghost use Rattle.tree_io.specs.Outside.{ToFile};
 ghost use Rattle.varvara_bus.specs.Bus.{meaning_of, screen_of};
 ghost use Rattle.vector_loop.specs.Making.{MadeOrCut};
 ghost use Rattle.vector_loop.specs.Outputs.{IsOutput, appended_to, picture_bytes, samples_bytes};
 
 use screen_frame::{Palette, ppm_head};
-use uxn_io::{Path, Sink, Tree};
+use tree_io::{Path, Sink, Tree};
 use uxn_opcodes::Stop;
 use varvara_bus::Bus;
 

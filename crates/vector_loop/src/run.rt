@@ -1,6 +1,6 @@
 //! Whole runs.
-ghost use Rattle.std.specs.Prelude.{◌≡◌, ◌+◌, ◌≤◌, ◌⊎◌, length, OnOk, IfOk, IfErr};
-ghost use Rattle.uxn_io.specs.Faults.{Ledger};
+ghost use Rattle.std.specs.Prelude.{◌≡◌, ◌+◌, ◌≤◌, ◌⊎◌, length, OnOk, OnErr, IfOk, IfErr};
+ghost use Rattle.tree_io.specs.Faults.{Ledger};
 ghost use Rattle.uxn_opcodes.specs.Ports.{blame_of};
 ghost use Rattle.play_script.specs.Held.{bytes_in};
 ghost use Rattle.varvara_bus.specs.State.{DeviceState, storing};
@@ -19,13 +19,13 @@ ghost use Rattle.varvara_bus.specs.Bus.{
 };
 ghost use Rattle.vector_loop.specs.State.{new_tally};
 ghost use Rattle.vector_loop.specs.Outputs.{OutputsThere};
-ghost use Rattle.vector_loop.specs.Watch.{Page, IsPage};
+ghost use Rattle.vector_loop.specs.Watch.{Page, IsPage, MayRefuse};
 ghost use Rattle.vector_loop.specs.Event.{unless_over, give_each};
 ghost use Rattle.vector_loop.specs.Run.{made_ready, most_of, run};
 ghost use Rattle.vector_loop.specs.Gifts.{given, count_of, counts_of};
-ghost use Rattle.vector_loop.specs.Follows.{running, FallsShortFrom, EndsFrom};
+ghost use Rattle.vector_loop.specs.Follows.{running, telling_of, FallsShortFrom, EndsFrom};
 ghost use Rattle.vector_loop.specs.Stops.{RunStops};
-ghost use Rattle.vector_loop.specs.Answers.{telling_of, HasRoom, HasOutputs, moment_in, Answers};
+ghost use Rattle.vector_loop.specs.Answers.{HasRoom, HasOutputs, moment_in, Answers};
 
 use crate::gift::Gift;
 use crate::giver::Giver;
@@ -35,7 +35,7 @@ use crate::tally::Tally;
 use crate::watch::{Moment, Watcher};
 use console_port::{EventKind, KIND};
 use play_script::Script;
-use uxn_io::{Bytes, Sink, Tree};
+use tree_io::{Bytes, Sink, Tree};
 use uxn_opcodes::{Core, Stop};
 use varvara_bus::Bus;
 
@@ -48,7 +48,7 @@ impl<'r, 'a, T: Tree, O: Sink, E: Sink, W: Watcher> Runner<'r, 'a, T, O, E, W> {
         requires outputs { HasOutputs (told_on T.Tree) outputs.now self.old }
         requires frames { frames_begun self.old.bus.now + (count_of gift).events ≤ 1000000 }
         requires room { HasRoom self.old.tally self.old.budget (count_of gift) }
-        ensures { Answers (telling_of (meaning_of T.Tree O.Sink E.Sink) W.held W.shown W.may_refuse) self.old self.new
+        ensures { Answers (telling_of T.Tree O.Sink E.Sink W.Watcher) self.old self.new
             (unless_over (given self.old.budget outputs.now gift)) (count_of gift) result }
     {
         if self.is_over() {
@@ -65,7 +65,7 @@ impl<'r, 'a, T: Tree, O: Sink, E: Sink, W: Watcher> Runner<'r, 'a, T, O, E, W> {
         requires outputs { HasOutputs (told_on T.Tree) outputs.now self.old }
         requires frames { frames_begun self.old.bus.now + (counts_of giver).events ≤ 1000000 }
         requires room { HasRoom self.old.tally self.old.budget (counts_of giver) }
-        ensures { Answers (telling_of (meaning_of T.Tree O.Sink E.Sink) W.held W.shown W.may_refuse) self.old self.new
+        ensures { Answers (telling_of T.Tree O.Sink E.Sink W.Watcher) self.old self.new
             (give_each (given self.old.budget outputs.now) giver.entry) (counts_of giver.entry) result }
     {
         while let Some(gift) = giver.take() {
@@ -79,7 +79,7 @@ impl<'r, 'a, T: Tree, O: Sink, E: Sink, W: Watcher> Runner<'r, 'a, T, O, E, W> {
         requires outputs { HasOutputs (told_on T.Tree) outputs.now self.old }
         requires frames { frames_begun self.old.bus.now + length script.now.events ≤ 1000000 }
         requires room { HasRoom self.old.tally self.old.budget (most_of script.now) }
-        ensures { Answers (telling_of (meaning_of T.Tree O.Sink E.Sink) W.held W.shown W.may_refuse) self.old self.new
+        ensures { Answers (telling_of T.Tree O.Sink E.Sink W.Watcher) self.old self.new
             (run self.old.budget outputs.now script.now) (most_of script.now) result }
     {
         make_ready(self.bus, script.args());
@@ -92,7 +92,7 @@ impl<'r, 'a, T: Tree, O: Sink, E: Sink, W: Watcher> Runner<'r, 'a, T, O, E, W> {
         ensures ok { OnOk result ((page : Page) → IsPage (Reads self.old.bus.now self.old.core.now) (held_page self.old.bus.now) page
             → W.held self.new.watcher.now ≡ W.ended (W.held self.old.watcher.now) self.old.core.now page (moment_in self.old)) }
         ensures err { IfErr result (λ stop. stop ≡ Stop.NoMemory) }
-        ensures refused { IfErr result (λ stop. W.may_refuse) }
+        ensures refused { OnErr result (W.may_refuse (W.held self.old.watcher.now) (W.held self.new.watcher.now)) }
         ensures others { record self.old { watcher = self.new.watcher } ≡ self.new }
         ensures watcher { self.new.watcher.ghost_name ≡ self.old.watcher.ghost_name }
     {
@@ -133,20 +133,20 @@ pub fn run_script<'a, T: Tree, O: Sink, E: Sink, W: Watcher>(
     requires budget { 1 ≤ budget }
 
     // From each state that the bus stood for, all of the run was done, or a front of what it does.
-    ensures ok { IfOk result (λ tally. EndsFrom (meaning_of T.Tree O.Sink E.Sink) W.held W.shown W.ended
+    ensures ok { IfOk result (λ tally. EndsFrom (telling_of T.Tree O.Sink E.Sink W.Watcher)
         (running core.old bus.old new_tally watcher.old) (running core.new bus.new tally watcher.new) (run budget outputs.now script.now)) }
-    ensures err { IfErr result (λ stop. FallsShortFrom (meaning_of T.Tree O.Sink E.Sink) W.may_refuse
+    ensures err { IfErr result (λ stop. FallsShortFrom (telling_of T.Tree O.Sink E.Sink W.Watcher)
         (running core.old bus.old new_tally watcher.old) (running core.new bus.new new_tally watcher.new) stop (run budget outputs.now script.now)) }
 
     // Where it stopped, all was done up to one instruction, or to the picture or the samples that were appended, or to the end.
-    ensures stopped { IfErr result (λ stop. RunStops (meaning_of T.Tree O.Sink E.Sink) W.held W.shown W.may_refuse
+    ensures stopped { IfErr result (λ stop. RunStops (telling_of T.Tree O.Sink E.Sink W.Watcher)
         (running core.old bus.old new_tally watcher.old) core.new bus.new watcher.new stop (run budget outputs.now script.now)) }
 
     // A fault comes only where its count rose; memory is wanting only to the watcher, or beneath a root where the run takes
     // the names of a folder.
     ensures ledger { Ledger (bus_faults (meaning_of T.Tree O.Sink E.Sink) bus.old)
         (bus_faults (meaning_of T.Tree O.Sink E.Sink) bus.new) (blame_of result) }
-    ensures memory { IfErr result (λ stop. stop ≡ Stop.NoMemory → W.may_refuse ⊎ HasRoot bus.old.devices.now) }
+    ensures memory { IfErr result (λ stop. stop ≡ Stop.NoMemory → MayRefuse W.may_refuse ⊎ HasRoot bus.old.devices.now) }
     ensures lent { SameLent bus.old bus.new }
     ensures files { OnOk result (FilesStay bus.old.devices.now.root (T.state bus.old.tree.now).told (T.state bus.new.tree.now).told) }
 {

@@ -2,7 +2,7 @@
 
 use crate::tally::Tally;
 use crate::watch::Watcher;
-use uxn_io::{Sink, Tree};
+use tree_io::{Sink, Tree};
 use uxn_opcodes::Core;
 use varvara_bus::Bus;
 

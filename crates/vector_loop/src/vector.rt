@@ -1,19 +1,20 @@
 //! The run of a vector.
 ghost use Rattle.std.specs.Prelude.{◌≡◌, ◌≢◌, ◌+◌, ◌*◌, ◌^◌, ◌<◌, ◌≤◌, ◌-◌, ◌⊎◌, true, false, Ok, IfOk, OnOk, IfErr};
-ghost use Rattle.uxn_io.specs.Faults.{Ledger};
+ghost use Rattle.tree_io.specs.Faults.{Ledger};
 ghost use Rattle.uxn_opcodes.specs.Ports.{blame_of};
 ghost use Rattle.varvara_bus.specs.State.{DeviceState};
 ghost use Rattle.varvara_bus.specs.Bus.{BusStandsFor, SameBus, HasRoot, meaning_of, bus_faults, bus_rules, told_on};
-ghost use Rattle.vector_loop.specs.Vector.{instructions, breaks, vector, vector_end};
-ghost use Rattle.vector_loop.specs.Follows.{running, state_of, FollowsFrom, FallsShortFrom};
+ghost use Rattle.vector_loop.specs.Vector.{vector, vector_end};
+ghost use Rattle.vector_loop.specs.Follows.{running, telling_of, state_of, FollowsFrom, FallsShortFrom};
 ghost use Rattle.vector_loop.specs.Stops.{StopsInFrom};
-ghost use Rattle.vector_loop.specs.Budget.{with_break, RanWhole, CountsWhole};
-ghost use Rattle.vector_loop.specs.Answers.{telling_of, of_vectors, HasRoom, running_of, Answers};
+ghost use Rattle.vector_loop.specs.Watch.{MayRefuse};
+ghost use Rattle.vector_loop.specs.Budget.{with_break, counting_run, CountsWhole};
+ghost use Rattle.vector_loop.specs.Answers.{of_vectors, HasRoom, running_of, Answers, RanTo};
 
 use crate::runner::Runner;
 use crate::tally::{Tally, VectorEnd};
 use crate::watch::{Moment, Watcher};
-use uxn_io::{Sink, Tree};
+use tree_io::{Sink, Tree};
 use uxn_opcodes::{Core, Stop, Turn, step};
 use varvara_bus::Bus;
 
@@ -24,43 +25,22 @@ struct Ran {
     left: u64,
 }
 
-/// Runs instructions from `core.at` on, up to and with the first BRK, or exactly `budget` of them. `start` instructions were run
-/// before. The loop counts nothing else, since it is here that a run spends its time.
+/// Runs instructions from `core.at` on, up to and with the first BRK, or exactly `budget` of them. So much was counted before. The
+/// loop counts nothing else, since it is here that a run spends its time.
 #[inline(never)]
 fn run_instructions<'a, T: Tree, O: Sink, E: Sink, W: Watcher>(
     core: &mut Core,
     bus: &mut Bus<'a, T, O, E>,
-    start: u64,
+    tally: &Tally,
     budget: u64,
     watcher: &mut W,
 ) -> Ran
     requires budget { 1 ≤ budget }
-    requires room { start + budget < 2 ^ 64 }
-    ensures left { result.left ≤ budget }
-    ensures whole { RanWhole (bus_rules (meaning_of T.Tree O.Sink E.Sink)) W.may_refuse budget core.old bus.old
-        result.end core.new bus.new (with_break result.end (budget - result.left)) }
-    ensures broke { result.end ≡ Ok VectorEnd.Broke → (before : Tally) → before.instructions ≡ start
-        → FollowsFrom (meaning_of T.Tree O.Sink E.Sink) W.held W.shown (running core.old bus.old before watcher.old)
-        (running core.new bus.new (record before { instructions = start + (budget - result.left) + 1 }) watcher.new) (instructions budget) }
-    ensures broke_end { result.end ≡ Ok VectorEnd.Broke → (before : Tally) → before.instructions ≡ start
-        → (devices : DeviceState) → BusStandsFor (told_on T.Tree) bus.old devices
-        → breaks budget (state_of (running core.old bus.old before watcher.old) devices) ≡ true }
-    ensures cut { result.end ≡ Ok VectorEnd.Cut → (before : Tally) → before.instructions ≡ start
-        → FollowsFrom (meaning_of T.Tree O.Sink E.Sink) W.held W.shown (running core.old bus.old before watcher.old)
-        (running core.new bus.new (record before { instructions = start + (budget - result.left); cuts = before.cuts + 1 }) watcher.new)
-        (instructions budget) }
-    ensures cut_end { result.end ≡ Ok VectorEnd.Cut → (before : Tally) → before.instructions ≡ start
-        → (devices : DeviceState) → BusStandsFor (told_on T.Tree) bus.old devices
-        → breaks budget (state_of (running core.old bus.old before watcher.old) devices) ≡ false }
-    ensures err { IfErr result.end (λ stop. (before : Tally) → before.instructions ≡ start
-        → StopsInFrom (meaning_of T.Tree O.Sink E.Sink) W.held W.shown W.may_refuse
-        (running core.old bus.old before watcher.old)
-        (running core.new bus.new (record before { instructions = start + (budget - result.left) }) watcher.new) stop (instructions budget)) }
-    ensures ledger { Ledger (bus_faults (meaning_of T.Tree O.Sink E.Sink) bus.old)
-        (bus_faults (meaning_of T.Tree O.Sink E.Sink) bus.new) (blame_of result.end) }
-    ensures memory { IfErr result.end (λ stop. stop ≡ Stop.NoMemory → W.may_refuse ⊎ HasRoot bus.old.devices.now) }
-    ensures same { SameBus (told_on T.Tree) bus.old bus.new }
+    requires room { tally.now.instructions + budget < 2 ^ 64 }
+    ensures { RanTo (telling_of T.Tree O.Sink E.Sink W.Watcher) (running core.old bus.old tally.now watcher.old)
+        core.new bus.new watcher.new budget result.left result.end }
 {
+    let start = tally.instructions;
     let mut left = budget;
     loop {
         let moment = Moment {
@@ -99,39 +79,41 @@ fn run_instructions<'a, T: Tree, O: Sink, E: Sink, W: Watcher>(
     }
 }
 
+/// Counts the instructions of a vector, so many of which ran before its end.
+fn count_run(tally: &mut Tally, end: Result<VectorEnd, Stop>, before: u64)
+    requires instructions { tally.old.instructions + with_break end before < 2 ^ 64 }
+    requires cuts { tally.old.cuts + 1 < 2 ^ 64 }
+    ensures { tally.new ≡ counting_run end (with_break end before) tally.old }
+{
+    match end {
+        Ok(VectorEnd::Broke) => tally.instructions += before + 1,
+        Ok(VectorEnd::Cut) => {
+            tally.instructions += before;
+            tally.cuts += 1;
+        }
+        Err(_) => tally.instructions += before,
+    }
+}
+
 impl<'r, 'a, T: Tree, O: Sink, E: Sink, W: Watcher> Runner<'r, 'a, T, O, E, W> {
     /// Runs instructions from an address on, up to and with the first BRK, or as many as the budget allows.
     pub(crate) fn run_vector(&mut self, at: u16) -> Result<VectorEnd, Stop>
         requires { HasRoom self.old.tally self.old.budget (of_vectors 1) }
-        ensures answers { Answers (telling_of (meaning_of T.Tree O.Sink E.Sink) W.held W.shown W.may_refuse) self.old self.new
+        ensures answers { Answers (telling_of T.Tree O.Sink E.Sink W.Watcher) self.old self.new
             (vector self.old.budget at) (of_vectors 1) result }
         ensures end { IfOk result (λ end. (devices : DeviceState) → BusStandsFor (told_on T.Tree) self.old.bus.now devices
             → end ≡ vector_end self.old.budget at (state_of (running_of self.old) devices)) }
-        ensures counted { CountsWhole (bus_rules (meaning_of T.Tree O.Sink E.Sink)) W.may_refuse self.old.budget
+        ensures counted { CountsWhole (bus_rules (meaning_of T.Tree O.Sink E.Sink)) (MayRefuse W.may_refuse) self.old.budget
             (record self.old.core.now { at = at }) self.old.bus.now result self.new.core.now self.new.bus.now self.old.tally self.new.tally }
         ensures same { SameBus (told_on T.Tree) self.old.bus.now self.new.bus.now }
     {
         self.core.at = at;
         self.tally.vectors += 1;
         let budget = u64::from(self.budget);
-        let start = self.tally.instructions;
-        let ran = run_instructions(self.core, self.bus, start, budget, self.watcher);
+        let ran = run_instructions(self.core, self.bus, &self.tally, budget, self.watcher);
         let before = budget - ran.left;
-        match ran.end {
-            Ok(VectorEnd::Broke) => {
-                self.tally.instructions += before + 1;
-                Ok(VectorEnd::Broke)
-            }
-            Ok(VectorEnd::Cut) => {
-                self.tally.instructions += before;
-                self.tally.cuts += 1;
-                Ok(VectorEnd::Cut)
-            }
-            Err(stop) => {
-                self.tally.instructions += before;
-                Err(stop)
-            }
-        }
+        count_run(&mut self.tally, ran.end, before);
+        ran.end
     }
 }
 
@@ -150,25 +132,25 @@ pub fn run_vector<'a, T: Tree, O: Sink, E: Sink, W: Watcher>(
     requires cuts { tally.old.cuts ≤ 2 ^ 62 }
 
     // From each state that the bus stood for, all of the vector was done, or a front of what it does.
-    ensures ok { OnOk result (FollowsFrom (meaning_of T.Tree O.Sink E.Sink) W.held W.shown
+    ensures ok { OnOk result (FollowsFrom (telling_of T.Tree O.Sink E.Sink W.Watcher)
         (running core.old bus.old tally.old watcher.old) (running core.new bus.new tally.new watcher.new) (vector budget at)) }
     ensures end { IfOk result (λ end. (devices : DeviceState) → BusStandsFor (told_on T.Tree) bus.old devices
         → end ≡ vector_end budget at (state_of (running core.old bus.old tally.old watcher.old) devices)) }
-    ensures err { IfErr result (λ stop. FallsShortFrom (meaning_of T.Tree O.Sink E.Sink) W.may_refuse
+    ensures err { IfErr result (λ stop. FallsShortFrom (telling_of T.Tree O.Sink E.Sink W.Watcher)
         (running core.old bus.old tally.old watcher.old) (running core.new bus.new tally.new watcher.new) stop (vector budget at)) }
 
     // Where it stopped, all was done up to one instruction, before which the watcher refused, or which stopped at a write.
-    ensures stopped { IfErr result (λ stop. StopsInFrom (meaning_of T.Tree O.Sink E.Sink) W.held W.shown W.may_refuse
+    ensures stopped { IfErr result (λ stop. StopsInFrom (telling_of T.Tree O.Sink E.Sink W.Watcher)
         (running core.old bus.old tally.old watcher.old) (running core.new bus.new tally.new watcher.new) stop (vector budget at)) }
 
     // Whatever the ports are and whatever is answered, at most `budget` instructions ran whole, and exactly so many are counted.
-    ensures counted { CountsWhole (bus_rules (meaning_of T.Tree O.Sink E.Sink)) W.may_refuse budget
+    ensures counted { CountsWhole (bus_rules (meaning_of T.Tree O.Sink E.Sink)) (MayRefuse W.may_refuse) budget
         (record core.old { at = at }) bus.old result core.new bus.new tally.old tally.new }
 
     // Memory is wanting only to the watcher or where there is a root, and a fault comes only where its count rose.
     ensures ledger { Ledger (bus_faults (meaning_of T.Tree O.Sink E.Sink) bus.old)
         (bus_faults (meaning_of T.Tree O.Sink E.Sink) bus.new) (blame_of result) }
-    ensures memory { IfErr result (λ stop. stop ≡ Stop.NoMemory → W.may_refuse ⊎ HasRoot bus.old.devices.now) }
+    ensures memory { IfErr result (λ stop. stop ≡ Stop.NoMemory → MayRefuse W.may_refuse ⊎ HasRoot bus.old.devices.now) }
     ensures same { SameBus (told_on T.Tree) bus.old bus.new }
 {
     let mut runner = Runner {

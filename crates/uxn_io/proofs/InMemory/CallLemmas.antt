@@ -1,14 +1,14 @@
 -- A tree in memory does what it is sure of.
 use Rattle.std.proofs.Common.{◌≡◌, ℕ, ◌+◌, ◌<◌, ◌≤◌, Bool, true, false, List, Option, Some, length, take, ap, sym, ◌∙◌, arith}
 use Rattle.std.proofs.lemmas.Bool.Decides.{nat_tests}
-use Rattle.uxn_io.specs.CallLaws.{takes-some, created-takes, appended-takes, appended-left, removed-left}
-use Rattle.uxn_io.specs.Changes.{makes_file, new_files}
-use Rattle.uxn_io.specs.Ended.{creating, removing, appending}
-use Rattle.uxn_io.specs.Files.{Nodes}
+use Rattle.tree_io.specs.CallLaws.{takes-some, created-takes, appended-takes, appended-left, removed-left}
+use Rattle.tree_io.specs.Changes.{makes_file, new_files}
+use Rattle.tree_io.specs.Ended.{creating, removing, appending}
+use Rattle.tree_io.specs.Files.{Nodes}
 use Rattle.uxn_io.specs.InMemory.Places.{Places}
 use Rattle.uxn_io.specs.InMemory.Trees.{TreeInMemory, is_listed_later, sure_of, lacks_place, lacks_room, removed}
-use Rattle.uxn_io.specs.Outside.{Change}
-use Rattle.uxn_io.specs.Taking.{TreeTakes, TreeLeft}
+use Rattle.tree_io.specs.Outside.{Change}
+use Rattle.tree_io.specs.Taking.{TreeTakes, TreeLeft}
 
 -- where it is sure of any call none is listed later
 none-listed : (tree : TreeInMemory) → 0 < (sure_of tree).files → is_listed_later tree ≡ false

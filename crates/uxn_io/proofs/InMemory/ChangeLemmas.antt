@@ -8,10 +8,10 @@ use Rattle.std.proofs.lemmas.Bool.{and_parts, not-true}
 use Rattle.std.proofs.lemmas.List.{length-take-le}
 use Rattle.std.proofs.lemmas.List.Elements.{All-get_or}
 use Rattle.uxn_io.specs.declared.memory.trees.Node.{Node as HeldNode}
-use Rattle.uxn_io.specs.ByteList.{HasRoom, ByteList}
-use Rattle.uxn_io.specs.Files.{Node, File, Folder, Nodes, IsTree, is_folder, has_parent, bytes_of, file_at, bytes_at}
-use Rattle.uxn_io.specs.Changes.{can_create, with_created, makes_file, new_files, with_appended, with_removed}
-use Rattle.uxn_io.specs.PathText.{path_of}
+use Rattle.tree_io.specs.ByteList.{HasRoom, ByteList}
+use Rattle.tree_io.specs.Files.{Node, File, Folder, Nodes, IsTree, is_folder, has_parent, bytes_of, file_at, bytes_at}
+use Rattle.tree_io.specs.Changes.{can_create, with_created, makes_file, new_files, with_appended, with_removed}
+use Rattle.tree_io.specs.PathText.{path_of}
 use Rattle.uxn_io.specs.InMemory.Places.{Places, node_of, nodes_of, place_of, AreOrdered, IsPlace, IsFree, ArePlaces, emptied, grown}
 use Rattle.uxn_io.specs.InMemory.Trees.{created, lacks_place, appended, fitting, removed}
 use Rattle.uxn_io.proofs.InMemory.PlaceLemmas.{find_there, find_new, within_there, get_held, remove_nodes}

@@ -2,10 +2,10 @@
 use Rattle.std.proofs.Common.{◌≡◌, ℕ, ◌+◌, ◌<◌, List, [], ◌∷◌, ◌++◌, drop, length, get_or, map as list_map, Option, Some, None, Result, Ok, Err, IfOk, refl, ap, sym, ◌∙◌, append_assoc}
 use Rattle.std.specs.Option.{option_to_list}
 use Rattle.std.proofs.lemmas.List.{drop_more, append-nil}
-use Rattle.uxn_io.specs.declared.trees.Entry.{Entry}
+use Rattle.tree_io.specs.declared.trees.Entry.{Entry}
 use Rattle.std.specs.List.{filter_map, cons_option}
 use Rattle.uxn_io.specs.declared.memory.trees.Node.{Node as HeldNode}
-use Rattle.uxn_io.specs.Children.{children, entry_in}
+use Rattle.tree_io.specs.Children.{children, entry_in}
 use Rattle.uxn_io.specs.InMemory.Places.{entry_of, nodes_of, AreOrdered}
 use Rattle.uxn_io.proofs.InMemory.PlaceLemmas.{entries-nodes_of}
 

@@ -6,9 +6,9 @@ use Rattle.std.proofs.Math.ListN.{length-set}
 use Rattle.std.proofs.lemmas.List.Elements.{All-set, All-get_or, All-append, All-take, All-drop, All-cons}
 use Rattle.std.proofs.lemmas.List.Edits.{length-insert, length-remove}
 use Rattle.uxn_io.specs.declared.memory.trees.Node.{Node as HeldNode}
-use Rattle.uxn_io.specs.ByteList.{HasRoom, ByteList}
-use Rattle.uxn_io.specs.Files.{Node, File, Nodes, IsTree, is_folder, has_parent}
-use Rattle.uxn_io.specs.PathText.{path_of}
+use Rattle.tree_io.specs.ByteList.{HasRoom, ByteList}
+use Rattle.tree_io.specs.Files.{Node, File, Nodes, IsTree, is_folder, has_parent}
+use Rattle.tree_io.specs.PathText.{path_of}
 use Rattle.uxn_io.specs.InMemory.Places.{node_of, nodes_of, place_of, AreOrdered, IsPlace, IsFree, ArePlaces}
 use Rattle.uxn_io.proofs.InMemory.PlaceLemmas.{put_there, put_new, put_as, ordered_as, nodes_as, within_there, within_new, remove_nodes, remove_ordered}
 use Rattle.uxn_io.proofs.InMemory.TreeLemmas.{tree_put, tree_remove}

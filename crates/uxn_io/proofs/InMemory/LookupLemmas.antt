@@ -7,7 +7,7 @@ use Rattle.std.specs.Cmp.{unsigned_ties}
 use Rattle.std.specs.FinMap as map
 use Rattle.std.proofs.lemmas.List.{drop_more}
 use Rattle.uxn_io.specs.declared.memory.trees.Node.{Node as HeldNode}
-use Rattle.uxn_io.specs.Files.{Node}
+use Rattle.tree_io.specs.Files.{Node}
 use Rattle.uxn_io.specs.InMemory.Places.{node_of, entry_of, nodes_of}
 
 -- what the first entry with this path stands for

@@ -9,7 +9,7 @@ use Rattle.std.specs.Cmp.Lexicographic.{slice_cmp, nat_list_cmp_total}
 use Rattle.std.specs.FinMap as map
 use Rattle.std.specs.FinMap.Entries.{put, find, where_key, is_sorted, below_all, by_order, find-where_key, is_sorted-where_key}
 use Rattle.uxn_io.specs.declared.memory.trees.Node.{Node as HeldNode}
-use Rattle.uxn_io.specs.Files.{Node, Nodes}
+use Rattle.tree_io.specs.Files.{Node, Nodes}
 use Rattle.uxn_io.specs.InMemory.Places.{node_of, entry_of, nodes_of, AreOrdered, place_of, next}
 
 -- what the held nodes stand for, one by one

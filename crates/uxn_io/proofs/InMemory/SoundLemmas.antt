@@ -9,13 +9,13 @@ use Rattle.uxn_io.specs.declared.memory.trees.Node.{Node as HeldNode}
 use Rattle.std.specs.Prelude.{if◌then◌else◌}
 use Rattle.std.proofs.lemmas.Bool.{and_parts}
 use Rattle.std.proofs.lemmas.List.{drop_more}
-use Rattle.uxn_io.specs.ByteList.{ByteList}
-use Rattle.uxn_io.specs.Files.{Node, File, Folder, Nodes, IsTree, has_parent}
-use Rattle.uxn_io.specs.PathText.{path_of}
+use Rattle.tree_io.specs.ByteList.{ByteList}
+use Rattle.tree_io.specs.Files.{Node, File, Folder, Nodes, IsTree, has_parent}
+use Rattle.tree_io.specs.PathText.{path_of}
 use Rattle.uxn_io.specs.InMemory.Places.{node_of, nodes_of, place_of, AreOrdered, IsPlace}
 use Rattle.uxn_io.specs.InMemory.Trees.{is_sound, can_hold}
 use Rattle.uxn_io.proofs.InMemory.PlaceLemmas.{entries_of, text_cmp, get_held, find_new, within_there, path_there}
-use Rattle.uxn_io.specs.NodeLaws.{same_or_other}
+use Rattle.tree_io.specs.NodeLaws.{same_or_other}
 
 -- the parent of a path that is found among sound nodes
 sound_parent : (all held : List (List ℕ × HeldNode)) (room : ℕ) (path : List ℕ) → list_all (is_sound all room) held ≡ true → IsSome (find text_cmp path (entries_of held)) → has_parent (nodes_of all) path ≡ true

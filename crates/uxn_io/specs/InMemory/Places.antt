@@ -9,9 +9,9 @@ use Rattle.std.specs.FinMap as map
 use Rattle.std.specs.Coded.{Coded, code_by, coded×, coded_ℕ, coded_list, coded_option}
 use Rattle.std.specs.FinMap.Entries.{is_sorted, by_order}
 use Rattle.uxn_io.specs.declared.memory.trees.Node.{Node as HeldNode}
-use Rattle.uxn_io.specs.ByteList.{ByteList, HasRoom}
-use Rattle.uxn_io.specs.PathText.{path_of}
-use Rattle.uxn_io.specs.Files.{Node, File, Folder, Nodes, IsTree}
+use Rattle.tree_io.specs.ByteList.{ByteList, HasRoom}
+use Rattle.tree_io.specs.PathText.{path_of}
+use Rattle.tree_io.specs.Files.{Node, File, Folder, Nodes, IsTree}
 
 -- what a node that is held stands for
 abbrev pub node_of : HeldNode → Node

@@ -3,9 +3,9 @@ use Rattle.std.specs.Prelude.{ℕ, ◌+◌, ◌-◌, ◌==◌, ◌&&◌, ◌||�
 use Rattle.std.specs.Prelude.{◌++◌, Some}
 use Rattle.std.specs.Prelude.{length, take, Result, Ok, Err, if◌then◌else◌}
 use Rattle.std.specs.List.{list_any}
-use Rattle.uxn_io.specs.declared.sinks.Failed.{Failed}
-use Rattle.uxn_io.specs.Faults.{one_more}
-use Rattle.uxn_io.specs.State.{SinkState}
+use Rattle.tree_io.specs.declared.sinks.Failed.{Failed}
+use Rattle.tree_io.specs.Faults.{one_more}
+use Rattle.tree_io.specs.State.{SinkState}
 
 -- the bytes taken, the room for bytes in all, the numbers of the calls that fail, how many calls there
 -- were and how many of them failed

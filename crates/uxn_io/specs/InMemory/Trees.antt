@@ -6,16 +6,16 @@ use Rattle.std.specs.Prelude.{is_some, refl, if◌then◌else◌}
 use Rattle.std.specs.List.{list_any, list_all}
 use Rattle.std.specs.Str.{bytes_eq}
 use Rattle.std.specs.Coded.{Coded, code_by, coded×, coded_ℕ, coded_list}
-use Rattle.uxn_io.specs.declared.sinks.Failed.{Failed}
+use Rattle.tree_io.specs.declared.sinks.Failed.{Failed}
 use Rattle.uxn_io.specs.declared.memory.trees.Node.{Node as HeldNode}
 use Rattle.uxn_io.specs.declared.memory.trees.TreeCall.{TreeCall}
 use Rattle.uxn_io.specs.declared.memory.trees.TreeCall.TheVariants.{Kind, Read, Create, Append, Remove, Names}
-use Rattle.uxn_io.specs.Files.{Nodes, file_at, bytes_at, bytes_from, has_parent}
-use Rattle.uxn_io.specs.Changes.{can_create, makes_file, with_created, new_files, with_appended, with_removed}
+use Rattle.tree_io.specs.Files.{Nodes, file_at, bytes_at, bytes_from, has_parent}
+use Rattle.tree_io.specs.Changes.{can_create, makes_file, with_created, new_files, with_appended, with_removed}
 use Rattle.uxn_io.specs.InMemory.Places.{Places, nodes_of, places_code}
-use Rattle.uxn_io.specs.Faults.{one_more}
-use Rattle.uxn_io.specs.Room.{Room}
-use Rattle.uxn_io.specs.State.{TreeState}
+use Rattle.tree_io.specs.Faults.{one_more}
+use Rattle.tree_io.specs.Room.{Room}
+use Rattle.tree_io.specs.State.{TreeState}
 
 -- how many calls of each variant there were
 pub record Calls : Type 0 where

@@ -3,19 +3,19 @@ ghost use Rattle.std.specs.Prelude.{◌≡◌, ◌≢◌, ℕ, ◌+◌, ◌-◌,
 ghost use Rattle.std.specs.List.{All, filter_map, insert};
 ghost use Rattle.std.specs.Option.{option_copied};
 ghost use Rattle.std.specs.FinMap as map;
-ghost use Rattle.uxn_io.specs.Files.{IsTree, kind_at, kind_of, file_at, bytes_at, is_folder, is_folder_at, has_parent};
-ghost use Rattle.uxn_io.specs.PathText.{path_of};
-ghost use Rattle.uxn_io.specs.Changes.{can_create};
-ghost use Rattle.uxn_io.specs.Children.{children, entry_in, IsEntry};
-ghost use Rattle.uxn_io.specs.ByteList.{HasRoom};
+ghost use Rattle.tree_io.specs.Files.{IsTree, kind_at, kind_of, file_at, bytes_at, is_folder, is_folder_at, has_parent};
+ghost use Rattle.tree_io.specs.PathText.{path_of};
+ghost use Rattle.tree_io.specs.Changes.{can_create};
+ghost use Rattle.tree_io.specs.Children.{children, entry_in, IsEntry};
+ghost use Rattle.tree_io.specs.ByteList.{HasRoom};
 ghost use Rattle.uxn_io.specs.InMemory.Places.{node_of, entry_of, nodes_of, place_of, emptied, grown, IsPlace, IsFree, AreOrdered};
 ghost use Rattle.uxn_io.specs.InMemory.Trees.{can_hold, created, lacks_place, appended, fitting, lacks_room, removed};
 
 use super::trees::Node;
-use crate::{Bytes, Entry, Kind, Path};
 use std::alloc::{AllocError, Global};
 use std::cmp::Ordering;
 use std::marker::Model;
+use tree_io::{Bytes, Entry, Kind, Path};
 
 /// The nodes in the order of their paths, and free places for files. Each place has room for the same
 /// number of bytes, so that no change takes memory.

@@ -1,12 +1,12 @@
 //! A sink in memory, which fails on demand.
 ghost use Rattle.std.specs.Prelude.{◌≡◌, ◌<◌, ◌≤◌, ◌==◌, false, [], length, take, IfOk, OnErr};
 ghost use Rattle.std.specs.List.{list_any};
-ghost use Rattle.uxn_io.specs.Ended.{SinkEnded, SinkFailed};
+ghost use Rattle.tree_io.specs.Ended.{SinkEnded, SinkFailed};
 ghost use Rattle.uxn_io.specs.InMemory.Sinks.{state_of, fails_at, put_answer, after_put};
 
-use crate::{Failed, Sink};
 use std::alloc::{AllocError, Global};
 use std::marker::Model;
+use tree_io::{Failed, Sink};
 
 /// A sink that keeps what it takes, up to a room in bytes.
 #[derive(Drop)]

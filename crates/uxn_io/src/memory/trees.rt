@@ -4,11 +4,11 @@ ghost use Rattle.std.specs.List.{All, list_any};
 ghost use Rattle.std.specs.Str.{bytes_eq};
 ghost use Rattle.std.specs.Option.{option_copied};
 ghost use Rattle.std.specs.FinMap as map;
-ghost use Rattle.uxn_io.specs.Faults.{Counted, one_more};
-ghost use Rattle.uxn_io.specs.Files.{IsTree, kind_at, file_at, bytes_at, bytes_from, is_folder, Reads};
-ghost use Rattle.uxn_io.specs.Changes.{can_create};
-ghost use Rattle.uxn_io.specs.Children.{children, IsEntry, has_failed as names_failed};
-ghost use Rattle.uxn_io.specs.Ended.{TreeLooked, TreeEnded, Refused, creating, removing, appending, portion, has_refused};
+ghost use Rattle.tree_io.specs.Faults.{Counted, one_more};
+ghost use Rattle.tree_io.specs.Files.{IsTree, kind_at, file_at, bytes_at, bytes_from, is_folder, Reads};
+ghost use Rattle.tree_io.specs.Changes.{can_create};
+ghost use Rattle.tree_io.specs.Children.{children, IsEntry, has_failed as names_failed};
+ghost use Rattle.tree_io.specs.Ended.{TreeLooked, TreeEnded, Refused, creating, removing, appending, portion, has_refused};
 ghost use Rattle.uxn_io.specs.InMemory.Places.{node_of, nodes_of};
 ghost use Rattle.uxn_io.specs.declared.memory.trees.TreeCall.{TreeCall};
 ghost use Rattle.uxn_io.specs.InMemory.Trees.{
@@ -35,9 +35,9 @@ ghost use Rattle.uxn_io.specs.InMemory.Trees.{
 };
 
 use super::places::{Places, has_parent};
-use crate::{Bytes, Entry, Failed, Kind, NamesStop, Path, Tree};
 use std::alloc::{AllocError, Global};
 use std::marker::Model;
+use tree_io::{Bytes, Entry, Failed, Kind, NamesStop, Path, Tree};
 
 /// The calls of a tree.
 #[derive(Clone, Copy, PartialEq, Eq)]

@@ -1,5 +1,5 @@
 use Rattle.std.proofs.Common.{◌≡◌, Err, rules, false}
-use Rattle.uxn_io.specs.EndedLaws.{looked-then}
+use Rattle.tree_io.specs.EndedLaws.{looked-then}
 use Rattle.file_ports.specs.Answers.{has_failed}
 use Rattle.file_ports.proofs.reading.look.Goals as goal
 

@@ -1,6 +1,6 @@
 use Rattle.std.proofs.Common.{◌≡◌, ◌+◌, [], true, false, Err, rules, ◌++◌, ℕ, ap, take, drop, refl, sym, arith}
 use Rattle.std.proofs.lemmas.List.{length-take, length-append, take-append-le}
-use Rattle.uxn_io.specs.EndedLaws.{looked-nothing, looked-then}
+use Rattle.tree_io.specs.EndedLaws.{looked-nothing, looked-then}
 use Rattle.file_ports.proofs.MemoryLemmas.{with_nothing}
 use Rattle.file_ports.proofs.ReadLemmas.{gives_nothing, told_more, told_end, put_more, front_put}
 use Rattle.file_ports.proofs.reading.put_file.Goals as goal

@@ -1,7 +1,7 @@
 -- So many bytes of the file are in memory, and the tree was only looked at.
 use Rattle.std.proofs.Common.{◌≤◌, ◌-◌, IfSome, take, false}
-use Rattle.uxn_io.specs.Files.{bytes_from}
-use Rattle.uxn_io.specs.Ended.{TreeLooked}
+use Rattle.tree_io.specs.Files.{bytes_from}
+use Rattle.tree_io.specs.Ended.{TreeLooked}
 use Rattle.file_ports.specs.Answers.{GivesPiece}
 use Rattle.file_ports.proofs.ReadLemmas.{HasPut}
 use Rattle.file_ports.proofs.reading.put_file.Given as goal

@@ -1,5 +1,6 @@
 use Rattle.std.proofs.Common.{◌≡◌, Err, rules, true, false}
-use Rattle.uxn_io.specs.Ended.{appending}
+use Rattle.tree_io.specs.Ended.{appending}
+use Rattle.tree_io.specs.EndedLaws.{refused-on}
 use Rattle.file_ports.proofs.ChangeLemmas.{added-first, added-none, added-all}
 use Rattle.file_ports.proofs.writing.add.Goals as goal
 
@@ -23,3 +24,13 @@ pub returns-clause-tree : goal.returns-clause-tree
 returns-clause-tree g c =
     added-all c.args.path.now c.args.is_writing c.args.keep _ _ _ c.args.piece.now c.in_ok-begin.field-0 false
     c.in_ok-begin.ensures.begun c.if-not-branch.false c.in_ok-begin.ensures.tree c.in_ok-append_all.ensures.ended
+
+pub returns-in_err-append_all-clause-refused : goal.returns-in_err-append_all-clause-refused
+returns-in_err-append_all-clause-refused g c =
+    refused-on _ _ _ _ _ _ c.in_ok-begin.ensures.tree c.in_err-append_all.ensures.ended c.in_ok-begin.ensures.refused
+    c.in_err-append_all.ensures.refused
+
+pub returns-clause-refused : goal.returns-clause-refused
+returns-clause-refused g c =
+    refused-on _ _ _ _ _ _ c.in_ok-begin.ensures.tree c.in_ok-append_all.ensures.ended c.in_ok-begin.ensures.refused
+    c.in_ok-append_all.ensures.refused

@@ -1,5 +1,6 @@
-use Rattle.std.proofs.Common.{◌≡◌, [], true, Err, rules, inl, inr}
-use Rattle.uxn_io.specs.EndedLaws.{looked-ended, tree-first}
+use Rattle.std.proofs.Common.{◌≡◌, [], true, false, Err, rules, inl, inr}
+use Rattle.tree_io.specs.Ended.{has_refused}
+use Rattle.tree_io.specs.EndedLaws.{looked-ended, tree-first, refused-looked}
 use Rattle.file_ports.proofs.ChangeLemmas.{file_made, begin-quiet, begin-new}
 use Rattle.file_ports.proofs.writing.begin.Goals as goal
 
@@ -24,3 +25,18 @@ returns-clause-tree g c =
     begin-new c.args.path.now c.args.is_writing c.args.keep _ _ _ c.in_ok-goes_on.field-0 _ c.in_ok-goes_on.ensures.answer c.if-branch.false c.if-is_writing.false
     c.in_ok-goes_on.ensures.tree
     c.create.ensures.ended
+
+pub returns-in_err-goes_on-clause-refused : goal.returns-in_err-goes_on-clause-refused
+returns-in_err-goes_on-clause-refused g c = (false, c.in_err-goes_on.ensures.tree.refusals)
+
+pub returns-then-branch-clause-refused : goal.returns-then-branch-clause-refused
+returns-then-branch-clause-refused g c = (false, c.in_ok-goes_on.ensures.tree.refusals)
+
+pub returns-then-is_writing-clause-refused : goal.returns-then-is_writing-clause-refused
+returns-then-is_writing-clause-refused g c = (false, c.in_ok-goes_on.ensures.tree.refusals)
+
+pub returns-clause-refused : goal.returns-clause-refused
+returns-clause-refused g c = (
+  has_refused c.create.result,
+  refused-looked _ _ _ _ _ _ c.in_ok-goes_on.ensures.tree c.create.ensures.ended c.create.ensures.refused,
+)

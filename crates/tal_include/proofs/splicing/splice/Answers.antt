@@ -2,7 +2,7 @@ use Rattle.std.proofs.Common.{Ok, Err, ap, ◌∙◌}
 use Rattle.std.proofs.lemmas.Result.{err_from_is_err_and}
 use Rattle.std.specs.List.{list_any}
 use Rattle.tal_words.specs.Source.{word_text}
-use Rattle.uxn_io.specs.EndedLaws.{looked-nothing}
+use Rattle.tree_io.specs.EndedLaws.{looked-nothing}
 use Rattle.tal_include.specs.Flat.{Flat}
 use Rattle.tal_include.specs.Includes.{is_include}
 use Rattle.tal_include.proofs.SpliceLemmas.{main_faulty, main_whole, told_holds, some_reading}

@@ -1,19 +1,16 @@
-use Rattle.std.proofs.Common.{◌≡◌, refl, rules}
-use Rattle.std.specs.Prelude.{Err}
-use Rattle.uxn_opcodes.specs.declared.Stop.TheVariants.{NoMemory}
-use Rattle.task_files.specs.declared.refusal.Halt.TheVariants.{Stopped}
-use Rattle.task_files.proofs.CommandLemmas.{asm-unread, asm-made}
+use Rattle.task_files.proofs.Common.{Err, refl, rules, ◌≡◌, source_files, held_files}
+use Rattle.task_files.proofs.CommandLemmas.{source-fits, source-met}
+use Rattle.task_files.proofs.ReadingLemmas.{front-inputs, front-denied, front-said, with_file}
 use Rattle.task_files.proofs.assembling.assemble.Goals as goal
 
 pub returns-in_err-source : goal.returns-in_err-source
 returns-in_err-source g c =
+    let task = c.args.task.now in
     let result : c.from_residual.result ≡ Err c.in_err-source.field-0.0 = search rules in
-    rw result (asm-unread c.args.task.now c.requires _ _ _ _ c.in_err-source.ensures.source)
-
-pub returns-in_err-outputs : goal.returns-in_err-outputs
-returns-in_err-outputs g c =
-    let result : c.from_residual-in_err-outputs.result ≡ Err (Stopped NoMemory) = search rules in
-    rw result (asm-made c.args.task.now c.requires _ _ _ _ _ c.in_ok-source.ensures.source refl)
+    rw result (front-denied _ _ _ with_file _ _ _ (front-inputs task _) (source-fits task c.requires) _ _ (source_files task) held_files _ c.in_err-source.ensures.source (λ file refusal e. rw e refl))
 
 pub returns : goal.returns
-returns g c = asm-made c.args.task.now c.requires _ _ _ _ _ c.in_ok-source.ensures.source (rw c.in_ok-outputs.ensures refl)
+returns g c =
+    let task = c.args.task.now in
+    let p = c.in_ok-source.ensures.source in
+    front-said _ (source_files task) held_files _ _ _ _ (source-met task c.requires _ _ _ p) (rw (p.accepts.said_so, c.in_ok-outputs.ensures) refl)

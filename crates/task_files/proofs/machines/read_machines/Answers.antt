@@ -1,13 +1,11 @@
-use Rattle.std.proofs.Common.{◌≡◌, rules}
-use Rattle.std.specs.Prelude.{Err}
-use Rattle.task_files.specs.Held.{machines_by}
+use Rattle.task_files.proofs.Common.{Err, rules, ◌≡◌, held_machines}
 use Rattle.task_files.proofs.CommandLemmas.{line-unset, line-joined}
 use Rattle.task_files.proofs.machines.read_machines.Goals as goal
 
 pub returns-in_err-setup-clause-reads : goal.returns-in_err-setup-clause-reads
 returns-in_err-setup-clause-reads g c =
     let result : c.from_residual.result ≡ Err c.in_err-setup.field-0.0 = search rules in
-    rw result (line-unset c.args.task.now c.requires machines_by _ _ _ c.in_err-setup.ensures)
+    rw result (line-unset c.args.task.now c.requires held_machines _ _ _ c.in_err-setup.ensures)
 
 pub returns-clause-reads : goal.returns-clause-reads
-returns-clause-reads g c = line-joined c.args.task.now c.requires machines_by _ _ _ c.in_ok-setup.ensures _ _ c.read_named.ensures.reads
+returns-clause-reads g c = line-joined c.args.task.now c.requires held_machines _ _ _ c.in_ok-setup.ensures _ _ c.accept_machines.ensures.reads

@@ -1,5 +1,4 @@
-use Rattle.std.proofs.Common.{◌≡◌, take}
-use Rattle.task_files.specs.Outputs.{paths_of}
+use Rattle.task_files.proofs.Common.{take, ◌≡◌, paths_of}
 use Rattle.task_files.proofs.making.empty_outputs.Given as goal
 
 abbrev pub invariant-loop-path : goal.invariant-loop-path

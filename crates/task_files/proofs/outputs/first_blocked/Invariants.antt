@@ -1,8 +1,4 @@
-use Rattle.std.proofs.Common.{◌≡◌, false, not, drop}
-use Rattle.std.specs.Prelude.{IfSome, find}
-use Rattle.uxn_io.specs.Changes.{can_create}
-use Rattle.uxn_io.specs.Ended.{TreeLooked}
-use Rattle.task_files.specs.Outputs.{paths_of}
+use Rattle.task_files.proofs.Common.{IfSome, drop, false, find, not, ◌≡◌, can_create, TreeLooked, paths_of}
 use Rattle.task_files.proofs.outputs.first_blocked.Given as goal
 
 abbrev pub invariant-loop-output : goal.invariant-loop-output

@@ -1,48 +1,29 @@
-use Rattle.std.proofs.Common.{◌≡◌, ◌∙◌, refl, true, false, suc, subst, drop, rules}
-use Rattle.std.specs.Prelude.{Err}
-use Rattle.std.proofs.lemmas.List.{take_all}
-use Rattle.uxn_io.specs.CallLaws.{told_by-creating}
-use Rattle.uxn_io.specs.Ended.{TreeEnded}
-use Rattle.uxn_io.specs.EndedLaws.{looked-ended, looked-nothing}
-use Rattle.task_files.proofs.DidLemmas.{did-next, did-stop, did-rest, created, creates, creates-both, refused-then, still-untold, untold-before, untold-done}
+use Rattle.task_files.proofs.Common.{Err, false, rules, true, ◌≡◌, drop_all, drop_more}
+use Rattle.task_files.proofs.DidLemmas.{did-nothing, make-failed, make-then, can-then, is-untold, make-refused, untold-before}
 use Rattle.task_files.proofs.FreeLemmas.{output_among}
-use Rattle.task_files.proofs.OutputLemmas.{can_next, can_rest, untold}
 use Rattle.task_files.proofs.outputs.make_all.Goals as goal
 
 pub loop-output-init : goal.loop-output-init
-loop-output-init g c = record { did = looked-ended false _ _ (looked-nothing (g.T.Tree.state c.args.tree.now)); refusals = λ exact. refl; can = c.requires }
+loop-output-init g c = record { rest = λ failed refused now did. did; can = c.requires; untold = λ none. none }
 
-pub returns-in_err-create : goal.returns-in_err-create
-returns-in_err-create g c =
+pub returns-in_err-create-clause-did : goal.returns-in_err-create-clause-did
+returns-in_err-create-clause-did g c =
     let made = c.in_err-create.ensures in
-    let here = g.T.Tree.state c.loop-output.tree in
-    let now = g.T.Tree.state c.create.new.self in
-    let invariant = c.loop-output.invariant in
-    let can = can_next c.args.outputs.now c.loop-output.output-index c.output-item.result c.loop-output-test.true c.output-item.is _ invariant.can in
+    let left = drop_more c.args.outputs.now c.loop-output.output-index c.output-item.result c.loop-output-test.true in
+    let can = rw (left, ← c.output-item.is) at c.loop-output.invariant.can in
     let result : c.from_residual.result ≡ Err c.in_err-create.field-0.0 = search rules in
-    rw result (record {
-      did = did-stop c.args.outputs.now c.loop-output.output-index c.output-item.result c.loop-output-test.true c.output-item.is creates creates-both _ here now
-          invariant.did (created c.output-item.result.path true here now can made.ended);
-      refusals = refused-then false (g.T.Tree.state c.args.tree.now) here now invariant.refusals invariant.did.counted.promise made.refused;
-      unmade = tt;
-    })
+    rw result (c.loop-output.invariant.rest true false _ (rw (left, ← c.output-item.is) (make-failed c.output-item.result _ _ _ can made.ended made.refused)))
 
 pub returns-then-not-branch : goal.returns-then-not-branch
 returns-then-not-branch g c =
     let made = c.in_ok-create.ensures in
-    let here = g.T.Tree.state c.loop-output.tree in
-    let now = g.T.Tree.state c.create.new.self in
-    let invariant = c.loop-output.invariant in
-    let can = can_next c.args.outputs.now c.loop-output.output-index c.output-item.result c.loop-output-test.true c.output-item.is _ invariant.can in
-    let none = untold c.args.outputs.now c.loop-output.output-index c.output-item.result c.loop-output-test.true c.output-item.is _ c.in_ok-create.field-0
-    invariant.can made.answer c.if-not-branch.true in
-    let one = created c.output-item.result.path false here now can made.ended in
+    let left = drop_more c.args.outputs.now c.loop-output.output-index c.output-item.result c.loop-output-test.true in
+    let can = rw (left, ← c.output-item.is) at c.loop-output.invariant.can in
+    let none = is-untold c.output-item.result _ (g.T.Tree.state c.loop-output.tree) (g.T.Tree.state c.create.new.self) can (rw c.if-not-branch.true at made.answer) in
     record {
-      did = did-rest c.args.outputs.now c.loop-output.output-index c.output-item.result c.loop-output-test.true c.output-item.is creates creates-both _ here now
-          invariant.did one (untold-done (creates (drop (suc c.loop-output.output-index) c.args.outputs.now)) now (still-untold _ here now one none));
-      refusals = refused-then true (g.T.Tree.state c.args.tree.now) here now invariant.refusals invariant.did.counted.promise (rw c.if-not-branch.true at made.refused);
+      did = c.loop-output.invariant.rest false true _ (rw (left, ← c.output-item.is) (make-refused c.output-item.result _ _ _ can made.ended (rw c.if-not-branch.true at made.refused) none));
       unmade = record {
-        untold = untold-before _ _ here invariant.did none;
+        untold = c.loop-output.invariant.untold none;
         among = output_among c.args.outputs.now c.loop-output.output-index c.output-item.result c.loop-output-test.true c.output-item.is;
       };
     }
@@ -50,20 +31,16 @@ returns-then-not-branch g c =
 pub loop-output-preserved : goal.loop-output-preserved
 loop-output-preserved g c =
     let made = c.in_ok-create.ensures in
-    let here = g.T.Tree.state c.loop-output.tree in
-    let now = g.T.Tree.state c.create.new.self in
-    let invariant = c.loop-output.invariant in
-    let can = can_next c.args.outputs.now c.loop-output.output-index c.output-item.result c.loop-output-test.true c.output-item.is _ invariant.can in
-    let yes_made : c.in_ok-create.field-0 ≡ true = search rules in
+    let left = drop_more c.args.outputs.now c.loop-output.output-index c.output-item.result c.loop-output-test.true in
+    let can = rw (left, ← c.output-item.is) at c.loop-output.invariant.can in
+    let is_made : c.in_ok-create.field-0 ≡ true = search rules in
     record {
-      did = did-next c.args.outputs.now c.loop-output.output-index c.output-item.result c.loop-output-test.true c.output-item.is creates creates-both _ here now
-          invariant.did (created c.output-item.result.path false here now can made.ended);
-      refusals = refused-then false (g.T.Tree.state c.args.tree.now) here now invariant.refusals invariant.did.counted.promise (rw yes_made at made.refused);
-      can = can_rest c.args.outputs.now c.loop-output.output-index c.output-item.result c.loop-output-test.true c.output-item.is _ _
-          (made.ended.stands ∙ told_by-creating c.output-item.result.path here.told) invariant.can;
+      rest = λ failed refused now did. c.loop-output.invariant.rest failed refused now (rw (left, ← c.output-item.is) (make-then c.output-item.result _ _ _ can made.ended
+          (rw is_made at made.refused) failed refused now did));
+      can = can-then c.output-item.result _ _ _ can made.ended;
+      untold = λ none. c.loop-output.invariant.untold (untold-before _ _ _ made.ended none);
     }
 
 pub returns-clause-did : goal.returns-clause-did
 returns-clause-did g c =
-    subst (λ os. TreeEnded (creates os) false (g.T.Tree.state c.args.tree.now) (g.T.Tree.state c.loop-output.tree))
-    (take_all c.loop-output.output-index c.args.outputs.now c.loop-output-test.false) c.loop-output.invariant.did
+    c.loop-output.invariant.rest false false _ (rw (drop_all c.loop-output.output-index c.args.outputs.now c.loop-output-test.false) (did-nothing (g.T.Tree.state c.loop-output.tree)))

@@ -1,27 +1,28 @@
-use Rattle.uxn_cli.specs.Call.{call}
-use Rattle.uxn_cli.proofs.ClauseLemmas.{has_statuses, ends_early, where_told}
+use Rattle.uxn_cli.proofs.Common.{rules, subst, request, map, PassesNoneOver}
+use Rattle.std.proofs.Common.{string_bytes}
+use Rattle.uxn_cli.proofs.ClauseLemmas.{has_statuses, ends_early}
 use Rattle.uxn_cli.proofs.FrontLemmas.{is_cut_short}
-use Rattle.uxn_cli.proofs.IsolationLemmas.{gives-as-on}
-use Rattle.uxn_cli.proofs.ObservationLemmas.{call-shows}
+use Rattle.uxn_cli.proofs.IsolationLemmas.{gives_the_same}
 use Rattle.uxn_cli.proofs.OthersLemmas.{leaves_the_rest}
 use Rattle.uxn_cli.proofs.entry.uxn.Goals as goal
 
 pub returns-clause-rest : goal.returns-clause-rest
-returns-clause-rest g c = leaves_the_rest _ c.status_of.ensures.comes.outcome
+returns-clause-rest g c = let fact = leaves_the_rest _ c.status_of.ensures.comes in search (rules, fact)
 
 pub returns-clause-statuses : goal.returns-clause-statuses
-returns-clause-statuses g c = has_statuses _ c.status_of.ensures.comes.outcome
+returns-clause-statuses g c = let fact = has_statuses _ c.status_of.ensures.comes in search (rules, fact)
 
 pub returns-clause-early : goal.returns-clause-early
-returns-clause-early g c = ends_early _ c.status_of.ensures.comes.outcome c.status_of.ensures.comes.ledger
+returns-clause-early g c = let fact = ends_early _ c.status_of.ensures.comes in search (rules, fact)
 
 pub returns-clause-cut_off : goal.returns-clause-cut_off
-returns-clause-cut_off g c =
-    is_cut_short (call g.T.Tree g.O.Sink g.E.Sink c.args.words.now c.args.tree.now c.args.out.now c.args.err.now c.status_of.new.tree c.status_of.new.out c.status_of.new.err c.status_of.result)
-    c.status_of.ensures.comes.outcome
+returns-clause-cut_off g c = let fact = is_cut_short _ c.status_of.ensures.comes in search (rules, fact)
 
 pub returns-clause-same : goal.returns-clause-same
-returns-clause-same g c = record {
-  watched = where_told _ _ (λ nodes told. call-shows _ _ _ _ nodes told c.status_of.ensures.comes.outcome);
-  isolated = where_told _ _ (λ nodes told. gives-as-on c.a_source_looks_at_its_files_alone.ensures _ _ _ _ nodes told c.status_of.ensures.comes.outcome);
-}
+returns-clause-same g c = let fact = gives_the_same c.a_source_looks_at_its_files_alone.ensures _ c.status_of.ensures.comes in search (rules, fact)
+
+-- no call of `create` that was refused is passed over
+pub returns-clause-refusals : goal.returns-clause-refusals
+returns-clause-refusals g c =
+    subst (λ tree. PassesNoneOver (request (map string_bytes c.args.words.now)) (g.T.Tree.state c.args.tree.now) (g.T.Tree.state tree) c.status_of.result)
+    (search rules) c.status_of.ensures.refusals

@@ -1,8 +1,6 @@
-use Rattle.std.proofs.Common.{◌≡◌, ◌∙◌, ap, refl, subst}
+use Rattle.uxn_cli.proofs.Common.{◌≡◌, ◌∙◌, ap, refl, subst, Trail, HasRunAlone, lone_trail, workload_trail, workload_text, run_summary, trail_summary}
 use Rattle.std.proofs.lemmas.Result.{IfOk-weaker}
-use Rattle.vector_loop.specs.Trail.{Trail}
 use Rattle.uxn_workload.specs.Summary.{summary_text}
-use Rattle.uxn_cli.specs.Workload.{HasRunAlone, lone_trail, workload_trail, workload_text, told_by, told_of}
 use Rattle.uxn_cli.proofs.generating.run_workload.Goals as goal
 
 pub run_alone-requires-clause-devices : goal.run_alone-requires-clause-devices
@@ -15,6 +13,6 @@ returns c =
     rw (c.in_ok-machine.ensures.script, c.in_ok-machine.ensures.core) refl in
     let Ran : Trail → Type 0 = λ t. HasRunAlone t c.in_ok-end.end c.run_alone.new.out.taken in
     let ran = subst Ran trail c.in_ok-end.ensures in
-    let told : told_by c.args.source.now c.args.rom.now c.in_ok-end.end c.run_alone.new.out.taken ≡ told_of c.args.source.now c.args.rom.now (workload_trail c.args.rom.now c.args.script) =
+    let told : run_summary c.args.source.now c.args.rom.now c.in_ok-end.end c.run_alone.new.out.taken ≡ trail_summary c.args.source.now c.args.rom.now (workload_trail c.args.rom.now c.args.script) =
     rw (ran.ends, ran.bytes) refl in
     IfOk-weaker c.sum_up.result _ _ (λ text is. is ∙ ap summary_text told) c.sum_up.ensures

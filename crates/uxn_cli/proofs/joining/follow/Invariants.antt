@@ -1,5 +1,4 @@
-use Rattle.std.proofs.Common.{◌≡◌, false, length}
-use Rattle.uxn_cli.specs.Joined.{GoesOn}
+use Rattle.uxn_cli.proofs.Common.{◌≡◌, false, length, GoesOn}
 use Rattle.uxn_cli.proofs.joining.follow.Given as goal
 
 abbrev pub invariant-loop-turns : goal.invariant-loop-turns

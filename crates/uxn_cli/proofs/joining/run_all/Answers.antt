@@ -1,5 +1,4 @@
-use Rattle.std.proofs.Common.{◌≡◌, rules}
-use Rattle.std.specs.Prelude.{Err}
+use Rattle.uxn_cli.proofs.Common.{◌≡◌, rules, Err}
 use Rattle.uxn_cli.proofs.JoiningLemmas.{done-after}
 use Rattle.uxn_cli.proofs.joining.run_all.Goals as goal
 

@@ -1,11 +1,6 @@
-use Rattle.std.proofs.Common.{◌≡◌, ◌∙◌, ap, sym, refl, subst, length}
-use Rattle.std.specs.List.{All}
-use Rattle.std.proofs.lemmas.List.{length-map}
-use Rattle.uxn_io.specs.ByteList.{ByteList}
+use Rattle.uxn_cli.proofs.Common.{◌≡◌, ◌∙◌, ap, sym, subst, length, All, length-map, job_of_joined}
+use Rattle.tree_io.specs.ByteList.{ByteList}
 use Rattle.setup_lines.specs.Limits.{AreTurns}
-use Rattle.uxn_line.specs.Moves.{IsUnderWay}
-use Rattle.uxn_line.specs.Standing.{job_of}
-use Rattle.uxn_cli.specs.Joined.{job_of_joined}
 use Rattle.uxn_cli.proofs.joining.run_line.Goals as goal
 
 pub run_all-requires : goal.run_all-requires
@@ -16,16 +11,10 @@ run_all-requires g c =
 
 pub returns-in-Ok : goal.returns-in-Ok
 returns-in-Ok g c =
-    let joined = c.args.joined.now in
-    let begun = g.O.Sink.state c.args.out.now in
-    let same : job_of c.deref.result.now joined.script c.budget.result ≡ job_of_joined joined = rw (c.deref.ensures.value, c.budget.ensures.budget) refl in
-    let done = c.in-Ok.ensures.done (job_of_joined joined) begun (subst (λ job. IsUnderWay job begun c.in_ok-line.line begun) same (c.in_ok-line.ensures.under_way begun)) in
-    (done.0, done.1)
+    let under = rw (c.deref.ensures.value, c.budget.ensures.budget) at (c.in_ok-line.ensures.under_way (g.O.Sink.state c.args.out.now)) in
+    c.in-Ok.ensures.done (job_of_joined c.args.joined.now) _ under
 
 pub returns : goal.returns
 returns g c =
-    let joined = c.args.joined.now in
-    let begun = g.O.Sink.state c.args.out.now in
-    let same : job_of c.deref.result.now joined.script c.budget.result ≡ job_of_joined joined = rw (c.deref.ensures.value, c.budget.ensures.budget) refl in
-    let done = c.in-Err.ensures.done (job_of_joined joined) begun (subst (λ job. IsUnderWay job begun c.in_ok-line.line begun) same (c.in_ok-line.ensures.under_way begun)) in
-    done.0
+    let under = rw (c.deref.ensures.value, c.budget.ensures.budget) at (c.in_ok-line.ensures.under_way (g.O.Sink.state c.args.out.now)) in
+    (c.in-Err.ensures.done (job_of_joined c.args.joined.now) _ under).0

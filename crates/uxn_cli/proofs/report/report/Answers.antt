@@ -1,8 +1,6 @@
-use Rattle.std.proofs.Common.{◌≡◌, ◌≢◌, ◌++◌, ℕ, append-nil, refl, sym, ap, ◌∙◌, arith}
+use Rattle.uxn_cli.proofs.Common.{◌≡◌, ◌≢◌, ◌++◌, ℕ, append-nil, refl, sym, ap, ◌∙◌, arith, version_number, common_lines, further_lines, report_text}
 use Rattle.play_script.specs.declared.script.Version.{Version}
 use Rattle.play_script.specs.declared.script.Version.TheVariants.{First, Second}
-use Rattle.play_script.specs.Scripts.{version_number}
-use Rattle.uxn_cli.specs.Job.{common_lines, further_lines, report_text}
 use Rattle.uxn_cli.proofs.report.report.Goals as goal
 
 is_second : (number : Version) (version : ℕ) → version ≡ version_number number → version ≡ 2 → number ≡ Second

@@ -1,6 +1,6 @@
 use Rattle.std.proofs.Common.{refl, []}
-use Rattle.uxn_io.specs.CallLaws.{ended-as}
-use Rattle.uxn_io.specs.EndedLaws.{looked-ended}
+use Rattle.tree_io.specs.CallLaws.{ended-as}
+use Rattle.tree_io.specs.EndedLaws.{looked-ended}
 use Rattle.file_ports.specs.Actions.{Read, Write, Stat, Delete}
 use Rattle.varvara_bus.proofs.FileCalls.{performs, goes-on, stat-changes, read-changes}
 use Rattle.varvara_bus.proofs.files.perform.Goals as goal

@@ -25,16 +25,6 @@ loop-y-init g c = record {
       (putting-start _ _ c.args.path.now picture_bytes) c.in_ok-append_to.ensures;
 }
 
-pub append_row-requires-clause-there : goal.append_row-requires-clause-there
-append_row-requires-clause-there g c = record {
-  file = c.loop-y.invariant.putting.made.same.files.stays c.args.path.now c.requires.there.outside c.requires.there.file;
-  outside = rw c.loop-y.invariant.putting.made.same.root c.requires.there.outside;
-}
-
-pub append_row-requires-clause-row : goal.append_row-requires-clause-row
-append_row-requires-clause-row g c =
-    rw (c.loop-y.invariant.putting.made.height, ← c.screen-2.ensures.held, ← c.height-height.ensures) c.loop-y-test.true
-
 pub loop-y-preserved : goal.loop-y-preserved
 loop-y-preserved g c = record {
   putting =

@@ -1,8 +1,4 @@
-use Rattle.vector_loop.proofs.Makings.{made-nothing}
 use Rattle.vector_loop.proofs.output.keep_samples.Goals as goal
-
-pub returns-in-None : goal.returns-in-None
-returns-in-None g c = rw c.in-None.is (made-nothing _ _)
 
 pub returns-in-Some : goal.returns-in-Some
 returns-in-Some g c = rw c.in-Some.is (rw c.put_samples.ensures at c.append_to.ensures)

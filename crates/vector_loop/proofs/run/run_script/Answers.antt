@@ -5,9 +5,6 @@ use Rattle.vector_loop.proofs.Giving.{all-given}
 use Rattle.vector_loop.proofs.Runs.{ends-handed, run-stopped, run-fell, end-refused}
 use Rattle.vector_loop.proofs.run.run_script.Goals as goal
 
-pub run-requires-clause-frames : goal.run-requires-clause-frames
-run-requires-clause-frames g c = omega (arith, c.requires.frames, c.known.ensures.events_few)
-
 pub run-requires-clause-room : goal.run-requires-clause-room
 run-requires-clause-room g c =
     room-new (most_of c.args.script.now) c.args.budget c.requires.budget
@@ -15,7 +12,7 @@ run-requires-clause-room g c =
 
 pub returns-clause-ok : goal.returns-clause-ok
 returns-clause-ok g c =
-    ends-handed _ g.W.Watcher.ended _ _ _ _ _ _ _ _ (most_of c.args.script.now) _ c.in_ok-run.ensures c.in_ok-finish.ensures.ok c.in_ok-finish.ensures.others
+    ends-handed _ _ _ _ _ _ _ _ _ (most_of c.args.script.now) _ c.in_ok-run.ensures c.in_ok-finish.ensures.ok c.in_ok-finish.ensures.others
     (search rules) (search rules) refl (search rules)
 
 pub returns-in_err-run-clause-stopped : goal.returns-in_err-run-clause-stopped
@@ -32,4 +29,4 @@ pub returns-in_err-finish-clause-stopped : goal.returns-in_err-finish-clause-sto
 returns-in_err-finish-clause-stopped g c =
     let result : c.from_residual-in_err-finish.result ≡ Err c.in_err-finish.field-0.0 = search rules in
     rw result (end-refused _ _ _ _ _ _ _ (run c.args.budget c.args.outputs.now c.args.script.now) (most_of c.args.script.now) _ c.in_err-finish.field-0.0 c.in_ok-run.ensures c.in_err-finish.ensures.refused
-    c.in_err-finish.ensures.err c.in_err-finish.ensures.others (search rules) (search rules))
+    c.in_err-finish.ensures.err c.in_err-finish.ensures.others (search rules) (search rules) (search rules))

@@ -1,5 +1,5 @@
 use Rattle.std.proofs.Common.{◌≡◌, Some, rules, true, false, ap, sym, ◌∙◌}
-use Rattle.uxn_io.specs.CallLaws.{ended-as}
+use Rattle.tree_io.specs.CallLaws.{ended-as}
 use Rattle.file_ports.specs.Device.{FileState}
 use Rattle.file_ports.specs.Answers.{has_failed}
 use Rattle.file_ports.proofs.ChangeLemmas.{delete-changes}

@@ -1,6 +1,6 @@
 use Rattle.std.proofs.Common.{false, refl}
-use Rattle.uxn_io.specs.CallLaws.{untold-ended}
-use Rattle.uxn_io.specs.FaultLaws.{counted-same}
+use Rattle.tree_io.specs.CallLaws.{untold-ended}
+use Rattle.tree_io.specs.FaultLaws.{counted-same}
 use Rattle.layer_tests.proofs.outside_tests.EndlessTree.append.Goals as goal
 
 pub returns-clause-ended : goal.returns-clause-ended

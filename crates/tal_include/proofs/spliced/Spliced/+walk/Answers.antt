@@ -1,7 +1,7 @@
 use Rattle.std.proofs.Common.{[], length, refl, ap, arith}
 use Rattle.std.proofs.lemmas.List.{drop_more}
 use Rattle.std.proofs.lemmas.Result.{err_from_is_err_and}
-use Rattle.uxn_io.specs.EndedLaws.{looked-nothing, looked-then}
+use Rattle.tree_io.specs.EndedLaws.{looked-nothing, looked-then}
 use Rattle.tal_include.proofs.ReadLemmas.{no_read}
 use Rattle.tal_include.proofs.StepLemmas.{file_faulty, file_whole, step_included, step_stopped, step_plain}
 use Rattle.tal_include.proofs.spliced.Spliced.+walk.Goals as goal

@@ -1,5 +1,5 @@
 use Rattle.std.proofs.Common.{◌≡◌, ◌+◌, ◌*◌, false, length, drop}
-use Rattle.uxn_io.specs.Ended.{TreeLooked}
+use Rattle.tree_io.specs.Ended.{TreeLooked}
 use Rattle.tal_include.specs.Splice.{through, at_word, through_words}
 use Rattle.tal_include.specs.Parts.{Along, inner_walk}
 use Rattle.tal_include.proofs.spliced.Spliced.+walk.Given as goal

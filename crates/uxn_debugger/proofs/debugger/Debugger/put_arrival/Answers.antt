@@ -17,8 +17,8 @@ on_ok : {A E P Q : Type 0} (result : Result A E) → (P → Q) → OnOk result P
 on_ok (Ok x) f p = f p
 on_ok (Err e) f p = tt
 
-pub returns-in_default : goal.returns-in_default
-returns-in_default c =
+pub returns-in_default-clause-ok : goal.returns-in_default-clause-ok
+returns-in_default-clause-ok c =
     on_ok c.put_place.result
     (λ put page.
     let seen = view c.args.core.now page c.args.place in

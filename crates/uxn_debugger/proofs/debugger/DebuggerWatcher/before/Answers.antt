@@ -6,4 +6,4 @@ pub returns-clause-ok : goal.returns-clause-ok
 unfolding shown
 returns-clause-ok g c page is_page =
     c.keep.ensures page c.args.moment is_page
-    ∙ ap (with_kept (shown_of c.args.core.now page c.args.moment)) (c.in_ok-follow.ensures page is_page)
+    ∙ ap (with_kept (shown_of c.args.core.now page c.args.moment)) (c.in_ok-follow.ensures.ok page is_page)

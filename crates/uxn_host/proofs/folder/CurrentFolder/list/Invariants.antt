@@ -1,6 +1,6 @@
 -- What was listed are entries.
 use Rattle.std.specs.List.{All}
-use Rattle.uxn_io.specs.Children.{IsEntry}
+use Rattle.tree_io.specs.Children.{IsEntry}
 use Rattle.uxn_host.proofs.folder.CurrentFolder.list.Given as goal
 
 abbrev pub invariant-loop-found : goal.invariant-loop-found

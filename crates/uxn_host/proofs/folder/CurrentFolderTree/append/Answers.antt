@@ -1,4 +1,4 @@
-use Rattle.uxn_io.specs.UntoldLaws.{ended}
+use Rattle.tree_io.specs.UntoldLaws.{ended}
 use Rattle.uxn_host.proofs.folder.CurrentFolderTree.append.Goals as goal
 
 pub returns-clause-ended : goal.returns-clause-ended

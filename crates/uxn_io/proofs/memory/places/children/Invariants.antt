@@ -1,7 +1,7 @@
 -- What was listed, and what is listed of the nodes that are left.
 use Rattle.std.proofs.Common.{◌≡◌, ◌++◌, drop}
 use Rattle.std.specs.List.{All, filter_map}
-use Rattle.uxn_io.specs.Children.{entry_in, IsEntry}
+use Rattle.tree_io.specs.Children.{entry_in, IsEntry}
 use Rattle.uxn_io.specs.InMemory.Places.{entry_of}
 use Rattle.uxn_io.proofs.memory.places.children.Given as goal
 

@@ -1,8 +1,8 @@
 use Rattle.std.proofs.Common.{◌+◌, [], ◌∷◌, length, refl, sym, ap, ◌∙◌, arith, length-append}
 use Rattle.std.specs.Prelude.{slice_get}
 use Rattle.std.proofs.lemmas.List.{length-map}
-use Rattle.uxn_io.specs.ByteList.{ByteList}
-use Rattle.uxn_io.specs.EndedLaws.{sink-as-it-was}
+use Rattle.tree_io.specs.ByteList.{ByteList}
+use Rattle.tree_io.specs.EndedLaws.{sink-as-it-was}
 use Rattle.uxn_line.specs.declared.line.Line.{Line}
 use Rattle.uxn_line.specs.Standing.{none_turned, Stands, job_of}
 use Rattle.uxn_line.proofs.NewLines.{rom-there, member-more}

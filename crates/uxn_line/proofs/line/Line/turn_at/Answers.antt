@@ -1,7 +1,7 @@
 use Rattle.std.proofs.Common.{[], length, refl, sym, ap, ◌∙◌, arith}
 use Rattle.std.specs.Prelude.{option_to_list}
 use Rattle.std.proofs.lemmas.Option.{slice_get_read}
-use Rattle.uxn_io.specs.EndedLaws.{sink-as-it-was}
+use Rattle.tree_io.specs.EndedLaws.{sink-as-it-was}
 use Rattle.uxn_line.specs.Standing.{place_in}
 use Rattle.uxn_line.proofs.Standings.{ended-is}
 use Rattle.uxn_line.proofs.Running.{leads-nowhere}

@@ -1,5 +1,5 @@
 use Rattle.std.proofs.Common.{[], ◌∷◌, refl}
-use Rattle.uxn_io.specs.EndedLaws.{outside-of-out, outside-of-err}
+use Rattle.tree_io.specs.EndedLaws.{outside-of-out, outside-of-err}
 use Rattle.varvara_bus.specs.declared.ports.Action.TheVariants.{PutsDebugText, PutsOut, PutsErr}
 use Rattle.varvara_bus.specs.Effect.{debug_bytes, width_asked, height_asked, pixel_drawn, sprite_drawn, note_started}
 use Rattle.varvara_bus.proofs.Acts.{sink-ends, sink-ledger, devices_done, file-ends, file-ledger}

@@ -1,6 +1,6 @@
 use Rattle.std.proofs.Common.{◌≡◌, Err, OnErr, is_err, rules, refl}
-use Rattle.uxn_io.specs.AppendingLaws.{appending-of-tree}
-use Rattle.uxn_io.specs.EndedLaws.{outside-of-tree}
+use Rattle.tree_io.specs.AppendingLaws.{appending-of-tree}
+use Rattle.tree_io.specs.EndedLaws.{outside-of-tree}
 use Rattle.uxn_opcodes.specs.declared.Stop.TheVariants.{TreeFault}
 use Rattle.varvara_bus.specs.Bus.{told_on}
 use Rattle.varvara_bus.proofs.Appends.{append-ended, append-stands, append-stays}

@@ -12,49 +12,30 @@ value-of all gift left is = ap (λ (g : List Gift). slice_get g 0) (sym is)
 rest-of : (all : List Gift) (gift : Gift) (left : List Gift) → all ≡ gift ∷ left → left ≡ drop 1 all
 rest-of all gift left is = ap (λ (g : List Gift). drop 1 g) (sym is)
 
-pub returns-then-self-bytes-clause-value : goal.returns-then-self-bytes-clause-value
-returns-then-self-bytes-clause-value c =
+pub returns-then-self-bytes : goal.returns-then-self-bytes
+returns-then-self-bytes c =
     let at = c.self.inside in
-    value-of _ _ _ (sym c.self.view_is ∙ takes-byte at.arguments.now c.text-item.result c.as_slice-bytes.result.now at.at at.events.now
-    c.in-len1-up.len_at_least c.text-item.is c.as_slice-bytes.ensures c.if-self-bytes.true)
+    let is = sym c.self.view_is ∙ takes-byte at.arguments.now c.text-item.result c.as_slice-bytes.result.now at.at at.events.now
+    c.in-len1-up.len_at_least c.text-item.is c.as_slice-bytes.ensures c.if-self-bytes.true in
+    record { value = value-of _ _ _ is; rest = rest-of _ _ _ is }
 
-pub returns-then-self-bytes-clause-rest : goal.returns-then-self-bytes-clause-rest
-returns-then-self-bytes-clause-rest c =
+pub returns-in-len1-up : goal.returns-in-len1-up
+returns-in-len1-up c =
     let at = c.self.inside in
-    rest-of _ _ _ (sym c.self.view_is ∙ takes-byte at.arguments.now c.text-item.result c.as_slice-bytes.result.now at.at at.events.now
-    c.in-len1-up.len_at_least c.text-item.is c.as_slice-bytes.ensures c.if-self-bytes.true)
+    let is = sym c.self.view_is ∙ takes-newline at.arguments.now c.text-item.result c.as_slice-bytes.result.now at.at at.events.now
+    c.in-len1-up.len_at_least c.text-item.is c.as_slice-bytes.ensures c.if-self-bytes.false c.self.invariant in
+    record { value = ap (λ kind. Some (OfArgument 10 kind)) c.kind_before.ensures ∙ value-of _ _ _ is; rest = rest-of _ _ _ is }
 
-pub returns-in-len1-up-clause-value : goal.returns-in-len1-up-clause-value
-returns-in-len1-up-clause-value c =
+pub returns-in_default-events : goal.returns-in_default-events
+returns-in_default-events c =
     let at = c.self.inside in
-    ap (λ kind. Some (OfArgument 10 kind)) c.kind_before.ensures
-    ∙ value-of _ _ _ (sym c.self.view_is ∙ takes-newline at.arguments.now c.text-item.result c.as_slice-bytes.result.now at.at at.events.now
-    c.in-len1-up.len_at_least c.text-item.is c.as_slice-bytes.ensures c.if-self-bytes.false c.self.invariant)
+    let none = sym c.self.view_is ∙ takes-none at.arguments.now at.at at.events.now c.in_default.len_below c.self.invariant
+    c.in_default-events.len_below in
+    record { value = ap (λ (g : List Gift). slice_get g 0) (sym none); rest = none ∙ ap (λ (g : List Gift). drop 1 g) (sym none) }
 
-pub returns-in-len1-up-clause-rest : goal.returns-in-len1-up-clause-rest
-returns-in-len1-up-clause-rest c =
+pub returns : goal.returns
+returns c =
     let at = c.self.inside in
-    rest-of _ _ _ (sym c.self.view_is ∙ takes-newline at.arguments.now c.text-item.result c.as_slice-bytes.result.now at.at at.events.now
-    c.in-len1-up.len_at_least c.text-item.is c.as_slice-bytes.ensures c.if-self-bytes.false c.self.invariant)
-
-pub returns-in_default-events-clause-value : goal.returns-in_default-events-clause-value
-returns-in_default-events-clause-value c =
-    let at = c.self.inside in
-    let none = sym c.self.view_is ∙ takes-none at.arguments.now at.at at.events.now c.in_default.len_below c.self.invariant c.in_default-events.len_below in
-    ap (λ (g : List Gift). slice_get g 0) (sym none)
-
-pub returns-in_default-events-clause-rest : goal.returns-in_default-events-clause-rest
-returns-in_default-events-clause-rest c =
-    let at = c.self.inside in
-    let none = sym c.self.view_is ∙ takes-none at.arguments.now at.at at.events.now c.in_default.len_below c.self.invariant c.in_default-events.len_below in
-    none ∙ ap (λ (g : List Gift). drop 1 g) (sym none)
-
-pub returns-clause-value : goal.returns-clause-value
-returns-clause-value c =
-    let at = c.self.inside in
-    value-of _ _ _ (sym c.self.view_is ∙ takes-event at.arguments.now at.at at.events.now (Input 0) c.in_default.len_below c.self.invariant c.in-len1-up-events.len_at_least)
-
-pub returns-clause-rest : goal.returns-clause-rest
-returns-clause-rest c =
-    let at = c.self.inside in
-    rest-of _ _ _ (sym c.self.view_is ∙ takes-event at.arguments.now at.at at.events.now (Input 0) c.in_default.len_below c.self.invariant c.in-len1-up-events.len_at_least)
+    let is = sym c.self.view_is ∙ takes-event at.arguments.now at.at at.events.now (Input 0) c.in_default.len_below c.self.invariant
+    c.in-len1-up-events.len_at_least in
+    record { value = value-of _ _ _ is; rest = rest-of _ _ _ is }

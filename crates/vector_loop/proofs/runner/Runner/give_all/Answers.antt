@@ -1,22 +1,14 @@
-use Rattle.std.proofs.Common.{◌≡◌, drop, Ok, Err, sym, ◌∙◌, rules, arith}
+use Rattle.std.proofs.Common.{◌≡◌, drop, Ok, Err, sym, ◌∙◌, rules}
 use Rattle.vector_loop.specs.Event.{unless_over, give_each}
 use Rattle.vector_loop.specs.Gifts.{given, count_of, counts_of}
 use Rattle.vector_loop.specs.Answers.{none, both}
 use Rattle.vector_loop.proofs.Gifts.{both-none, counted-fits, counted-on, counted-within, fewer}
 use Rattle.vector_loop.proofs.Giving.{each-taken, each-none}
-use Rattle.vector_loop.proofs.Answering.{answers-by, answers-within, going-start, going-on, going-stopped, going-end, room-after, outputs-still}
+use Rattle.vector_loop.proofs.Answering.{answers-by, answers-within, going-start, going-on, going-stopped, going-end, room-after}
 use Rattle.vector_loop.proofs.runner.Runner.give_all.Goals as goal
 
 pub loop-gift-init : goal.loop-gift-init
 loop-gift-init g c = record { begun = none; going = going-start _ _ _; counted = both-none (counts_of c.args.giver) }
-
-pub give_gift-requires-clause-outputs : goal.give_gift-requires-clause-outputs
-give_gift-requires-clause-outputs g c = outputs-still _ _ _ _ c.loop-gift.invariant.going.done.same c.requires.outputs
-
-pub give_gift-requires-clause-frames : goal.give_gift-requires-clause-frames
-give_gift-requires-clause-frames g c =
-    let fits = counted-fits c.loop-gift.invariant.begun c.loop-gift.giver c.in-Some.gift _ (sym c.in-Some.is ∙ c.take.ensures.value) c.loop-gift.invariant.counted in
-    omega (arith, c.loop-gift.invariant.going.done.frames, c.requires.frames, fits.events)
 
 pub give_gift-requires-clause-room : goal.give_gift-requires-clause-room
 give_gift-requires-clause-room g c =

@@ -51,11 +51,3 @@ returns-in-Shot-clause-answers g c = rw c.in-Shot.is
     (answers-given _ c.args.self.now _ c.args.self.now.budget c.args.outputs.now Shot 0 _ (lit≤ tt)
     (answers-as _ _ _ (λ s. makes (appended_to c.args.outputs.now.frames (picture_bytes s.devices)) s) (shot c.args.outputs.now) none _ (shot-is c.args.outputs.now)
     (answers-made _ _ _ c.args.outputs.now.frames picture_bytes _ c.requires.outputs.frames refl refl c.keep_picture.ensures)))
-
-pub returns-in-Shot-clause-shot : goal.returns-in-Shot-clause-shot
-returns-in-Shot-clause-shot g c is = record {
-  core = refl;
-  devices = c.keep_picture.ensures.devices;
-  tally = refl;
-  watcher = refl;
-}

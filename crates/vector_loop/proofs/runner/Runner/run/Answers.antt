@@ -7,14 +7,10 @@ use Rattle.vector_loop.specs.Event.{give_each}
 use Rattle.vector_loop.specs.Run.{made_ready, most_of}
 use Rattle.vector_loop.specs.Gifts.{gifts_of, given, counts_of}
 use Rattle.vector_loop.specs.Answers.{none, both, of_vectors}
-use Rattle.vector_loop.proofs.Counting.{room-within}
 use Rattle.vector_loop.proofs.Gifts.{script-counts}
 use Rattle.vector_loop.specs.StepLaws.{run-gifts}
-use Rattle.vector_loop.proofs.Answering.{answers-as, answers-by, answers-then, answers-first, answers-stored, answers-within, room-after, outputs-still}
+use Rattle.vector_loop.proofs.Answering.{answers-as, answers-by, answers-then, answers-first, answers-stored, answers-within, room-after}
 use Rattle.vector_loop.proofs.runner.Runner.run.Goals as goal
-
-pub run_vector-requires : goal.run_vector-requires
-run_vector-requires g c = room-within _ (of_vectors 1) (most_of c.args.script.now) _ (omega arith) (omega arith) c.requires.room
 
 pub returns-in_err-run_vector : goal.returns-in_err-run_vector
 returns-in_err-run_vector g c =
@@ -27,13 +23,6 @@ returns-in_err-run_vector g c =
     (answers-then _ c.args.self.now (record c.args.self.now { bus = record c.args.self.now.bus { now = c.make_ready.new.bus } }) _ (λ s. stays (with_stored (made_ready c.args.script.now.arguments) s)) (vector c.args.self.now.budget 0x0100) none (of_vectors 1) (tt {0}) (Err c.in_err-run_vector.field-0.0)
     (answers-stored _ _ _ (storing (made_ready c.args.script.now.arguments)) (tt {0}) refl refl refl c.make_ready.ensures.others c.make_ready.ensures.frames
     (rw c.args-2.ensures at c.make_ready.ensures.devices)) c.in_err-run_vector.ensures.answers))))
-
-pub give_all-requires-clause-outputs : goal.give_all-requires-clause-outputs
-give_all-requires-clause-outputs g c =
-    let done = answers-then _ c.args.self.now (record c.args.self.now { bus = record c.args.self.now.bus { now = c.make_ready.new.bus } }) _ (λ s. stays (with_stored (made_ready c.args.script.now.arguments) s)) (vector c.args.self.now.budget 0x0100) none (of_vectors 1) (tt {0}) (Ok c.in_ok-run_vector.field-0)
-    (answers-stored _ _ _ (storing (made_ready c.args.script.now.arguments)) (tt {0}) refl refl refl c.make_ready.ensures.others c.make_ready.ensures.frames
-    (rw c.args-2.ensures at c.make_ready.ensures.devices)) c.in_ok-run_vector.ensures.answers in
-    outputs-still _ _ _ _ done.same c.requires.outputs
 
 pub give_all-requires-clause-frames : goal.give_all-requires-clause-frames
 give_all-requires-clause-frames g c =

@@ -4,16 +4,12 @@ use Rattle.vector_loop.specs.Trail.{Trail}
 use Rattle.vector_loop.specs.Event.{unless_over, give_each, vector_where}
 use Rattle.vector_loop.specs.Answers.{of_vectors}
 use Rattle.vector_loop.proofs.Giving.{each-next, each-end}
-use Rattle.vector_loop.proofs.Answering.{answers-by, answers-within, going-start, going-on, going-stopped, going-end, room-after}
+use Rattle.vector_loop.proofs.Answering.{answers-by, answers-within, going-start, going-on, going-stopped, going-end}
 use Rattle.vector_loop.proofs.Frames.{voice-at}
 use Rattle.vector_loop.proofs.runner.Runner.run_all_ended.Goals as goal
 
 pub loop-voice-init : goal.loop-voice-init
 loop-voice-init g c = going-start _ _ _
-
-pub run_ended-requires-clause-room : goal.run_ended-requires-clause-room
-run_ended-requires-clause-room g c =
-    room-after _ _ _ _ (of_vectors c.loop-voice.voice) (of_vectors 1) (of_vectors 4) _ (omega (arith, c.loop-voice-test.true)) (omega arith) c.requires c.loop-voice.invariant.done
 
 pub loop-voice-preserved : goal.loop-voice-preserved
 loop-voice-preserved g c =

@@ -1,7 +1,7 @@
 use Rattle.std.proofs.Common.{◌≡◌, Ok, Err, rules, arith}
 use Rattle.vector_loop.specs.Event.{vector_in, unless_over, heard, shown_and_heard}
 use Rattle.vector_loop.specs.Answers.{of_vectors}
-use Rattle.vector_loop.proofs.Answering.{answers-by, answers-then, answers-first, answers-within, answers-over, answers-not_over, room-after, outputs-still}
+use Rattle.vector_loop.proofs.Answering.{answers-by, answers-then, answers-first, answers-within, answers-over, answers-not_over}
 use Rattle.vector_loop.proofs.runner.Runner.show_and_sound.Goals as goal
 
 pub returns-in_err-run_vector_in : goal.returns-in_err-run_vector_in
@@ -17,12 +17,6 @@ returns-then-is_over g c =
     answers-then _ _ _ _ (vector_in c.args.self.now.budget 0x20) (unless_over (heard c.args.self.now.budget c.args.outputs.now)) (of_vectors 1) (of_vectors 4) (tt {0}) (Ok (tt {0}))
     c.in_ok-run_vector_in.ensures
     (answers-over _ _ (heard c.args.self.now.budget c.args.outputs.now) (of_vectors 4) (tt {0}) c.is_over.result c.is_over.ensures c.if-is_over.true)
-
-pub give_sound-requires-clause-outputs : goal.give_sound-requires-clause-outputs
-give_sound-requires-clause-outputs g c = outputs-still _ _ _ _ c.in_ok-run_vector_in.ensures.same c.requires.outputs
-
-pub give_sound-requires-clause-room : goal.give_sound-requires-clause-room
-give_sound-requires-clause-room g c = room-after _ _ _ _ (of_vectors 1) (of_vectors 4) (of_vectors 5) _ (omega arith) (omega arith) c.requires.room c.in_ok-run_vector_in.ensures
 
 pub returns : goal.returns
 unfolding shown_and_heard

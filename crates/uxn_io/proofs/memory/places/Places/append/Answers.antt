@@ -1,7 +1,7 @@
 use Rattle.std.proofs.Common.{◌≡◌, ℕ, ◌-◌, ◌≤◌, take, List, [], Ok, IsSome, is_some, false, length, vec_len, vec_capacity, ap, sym, ◌∙◌, arith}
 use Rattle.std.proofs.lemmas.List.{length-take-le}
 use Rattle.uxn_io.specs.declared.memory.trees.Node.{Node as HeldNode}
-use Rattle.uxn_io.specs.Files.{file_at, bytes_at}
+use Rattle.tree_io.specs.Files.{file_at, bytes_at}
 use Rattle.uxn_io.specs.InMemory.Places.{Places, place_of, nodes_of}
 use Rattle.uxn_io.specs.InMemory.Trees.{appended, fitting}
 use Rattle.uxn_io.proofs.InMemory.PlaceLemmas.{within_there}

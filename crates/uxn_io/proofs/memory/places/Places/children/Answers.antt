@@ -1,6 +1,6 @@
 use Rattle.std.proofs.Common.{◌≡◌, ap, ◌∙◌}
 use Rattle.std.specs.List.{filter_map}
-use Rattle.uxn_io.specs.Children.{children, entry_in}
+use Rattle.tree_io.specs.Children.{children, entry_in}
 use Rattle.uxn_io.specs.InMemory.Places.{Places, entry_of}
 use Rattle.uxn_io.proofs.InMemory.ChildLemmas.{children_held, if_ok}
 use Rattle.uxn_io.proofs.memory.places.Places.children.Goals as goal

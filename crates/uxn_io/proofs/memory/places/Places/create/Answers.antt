@@ -2,7 +2,7 @@ use Rattle.std.proofs.Common.{◌≡◌, ℕ, ◌+◌, false, true, List, [], �
 use Rattle.std.specs.List.{All}
 use Rattle.std.proofs.lemmas.List.Elements.{All-pop}
 use Rattle.uxn_io.specs.declared.memory.trees.Node.{Node as HeldNode}
-use Rattle.uxn_io.specs.Changes.{can_create}
+use Rattle.tree_io.specs.Changes.{can_create}
 use Rattle.uxn_io.specs.InMemory.Places.{Places, place_of, nodes_of, IsFree}
 use Rattle.uxn_io.specs.InMemory.Trees.{created, lacks_place}
 use Rattle.uxn_io.proofs.InMemory.PlaceLemmas.{within_there, within_new}

@@ -1,8 +1,8 @@
 use Rattle.std.proofs.Common.{◌≡◌, ℕ, true, List, [], ◌∷◌, ◌++◌, Ok, is_some, length, vec_len, refl, ap, sym, subst, ◌∙◌, arith, length-append}
 use Rattle.std.proofs.lemmas.List.Elements.{All-push, All-get_or}
 use Rattle.uxn_io.specs.declared.memory.trees.Node.{Node as HeldNode}
-use Rattle.uxn_io.specs.ByteList.{ByteList}
-use Rattle.uxn_io.specs.Files.{file_at}
+use Rattle.tree_io.specs.ByteList.{ByteList}
+use Rattle.tree_io.specs.Files.{file_at}
 use Rattle.uxn_io.specs.InMemory.Places.{Places, place_of, nodes_of, IsPlace, IsFree}
 use Rattle.uxn_io.specs.InMemory.Trees.{removed}
 use Rattle.uxn_io.proofs.InMemory.PlaceLemmas.{within_there}

@@ -1,7 +1,7 @@
 use Rattle.std.proofs.Common.{◌≡◌, ℕ, ◌++◌, true, false, Some, List, take, length, sym, ap, refl, arith, ◌∙◌, length-take-le}
 use Rattle.std.proofs.lemmas.Bool.{false≢true}
 use Rattle.std.proofs.lemmas.Grind.{common_steps}
-use Rattle.uxn_io.specs.FaultLaws.{counted-same, counted-one}
+use Rattle.tree_io.specs.FaultLaws.{counted-same, counted-one}
 use Rattle.uxn_io.specs.InMemory.Sinks.{SinkInMemory}
 use Rattle.uxn_io.proofs.InMemory.SureLemmas.{sink_is_sure, sink_stays_sure}
 use Rattle.uxn_io.proofs.memory.sinks.MemSinkSink.put.Goals as goal

@@ -1,7 +1,7 @@
 use Rattle.std.proofs.Common.{◌≡◌, Some, ap, sym, ◌∙◌, take}
-use Rattle.uxn_io.specs.AppendingLaws.{told_by-file}
-use Rattle.uxn_io.specs.CallLaws.{nothing-made, all-made}
-use Rattle.uxn_io.specs.Changes.{with_appended}
+use Rattle.tree_io.specs.AppendingLaws.{told_by-file}
+use Rattle.tree_io.specs.CallLaws.{nothing-made, all-made}
+use Rattle.tree_io.specs.Changes.{with_appended}
 use Rattle.uxn_io.specs.InMemory.Places.{Places}
 use Rattle.uxn_io.specs.InMemory.Trees.{TreeInMemory, appended, fitting, lacks_room}
 use Rattle.uxn_io.proofs.InMemory.CallLemmas.{takes-unlisted, has-room, append-left}

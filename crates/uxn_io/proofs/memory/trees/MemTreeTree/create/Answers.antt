@@ -1,5 +1,5 @@
 use Rattle.std.proofs.Common.{◌≡◌, Some, ap, sym, ◌∙◌}
-use Rattle.uxn_io.specs.CallLaws.{nothing-made}
+use Rattle.tree_io.specs.CallLaws.{nothing-made}
 use Rattle.uxn_io.specs.InMemory.Places.{Places}
 use Rattle.uxn_io.specs.InMemory.Trees.{TreeInMemory, lacks_place}
 use Rattle.uxn_io.proofs.InMemory.CallLemmas.{takes-unlisted, has-place}

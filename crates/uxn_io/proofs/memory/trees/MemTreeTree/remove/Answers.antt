@@ -1,6 +1,6 @@
 use Rattle.std.proofs.Common.{◌≡◌, Some, ap, sym, ◌∙◌}
 use Rattle.std.proofs.lemmas.Bool.{true≢false}
-use Rattle.uxn_io.specs.CallLaws.{nothing-made, all-made, told_by-removing}
+use Rattle.tree_io.specs.CallLaws.{nothing-made, all-made, told_by-removing}
 use Rattle.uxn_io.specs.InMemory.Places.{Places}
 use Rattle.uxn_io.specs.InMemory.Trees.{TreeInMemory, removed}
 use Rattle.uxn_io.proofs.InMemory.CallLemmas.{takes-unlisted, remove-left}

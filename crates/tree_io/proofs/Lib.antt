@@ -1,0 +1,4 @@
+pub mod ComponentLemmas
+pub mod PathLemmas
+pub mod PutLemmas
+pub mod ReadLemmas
