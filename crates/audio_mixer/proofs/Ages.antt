@@ -7,7 +7,7 @@ use Rattle.std.proofs.lemmas.Bool.Decides.{nat_tests}
 use Rattle.std.proofs.Math.Nat.{div-add-mod, mul-add-div, mul-add-mod_self_left, mod-add-mod, mod-eq_of_lt, zero-mul, zero-div, zero-mod}
 use Rattle.audio_mixer.specs.declared.notes.Start.{Start}
 use Rattle.audio_mixer.specs.declared.voices.Playing.{Playing}
-use Rattle.audio_mixer.specs.Notes.{advance_of, period_of, length_of, is_repeating, steps_of, wrapped, place_at}
+use Rattle.audio_mixer.specs.Notes.{advance_of, period_of, length_of, is_repeating, steps_of, wrapped, sample_place}
 use Rattle.audio_mixer.specs.Notes.{is_played, loudness, envelope_at}
 use Rattle.audio_mixer.specs.Voices.{Plays, IsAhead}
 use Rattle.audio_mixer.specs.Laws.{loudness-kept}
@@ -57,7 +57,7 @@ place-none note = rw (zero-mul (advance_of note), zero-div (period_of note)) (el
 
 -- the place once the steps of one more advance are made
 pub place-ahead : (p : Playing) (age steps : ℕ) → Plays p p.start age → steps ≡ (p.phase + p.advance) / p.period →
-    wrapped p.start (p.place + steps) ≡ place_at p.start age
+    wrapped p.start (p.place + steps) ≡ sample_place p.start age
 place-ahead p age steps plays h =
     let from : steps ≡ (age * advance_of p.start % period_of p.start + advance_of p.start) / period_of p.start = rw (← plays.rest, ← p.advance_of_start, ← p.period_of_start) h in
     let some : 0 < period_of p.start = rw (← p.period_of_start) p.some_period in
@@ -68,8 +68,8 @@ pub ahead-some : (p : Playing) (age steps phase place : ℕ) → Plays p p.start
     place ≡ wrapped p.start (p.place + steps) → place < p.len → IsAhead p.start age phase place
 unfolding is_played
 ahead-some p age steps phase place plays s r w h =
-    let at : place ≡ place_at p.start age = w ∙ place-ahead p age steps plays s in
-    let below : place_at p.start age < length_of p.start = rw (← at, ← p.len_of_start) h in
+    let at : place ≡ sample_place p.start age = w ∙ place-ahead p age steps plays s in
+    let below : sample_place p.start age < length_of p.start = rw (← at, ← p.len_of_start) h in
     record {
       rest = r ∙ rw (plays.rest, p.advance_of_start, p.period_of_start) (sym (rest-one_more age (advance_of p.start) (period_of p.start)));
       heard_at = at;
@@ -80,8 +80,8 @@ pub ahead-none : (p : Playing) (age steps : ℕ) → Plays p p.start age →
     steps ≡ (p.phase + p.advance) / p.period → is_repeating p.start ≡ false → p.len ≤ p.place + steps → is_played p.start age ≡ true
 unfolding is_played
 ahead-none p age steps plays s once over =
-    let at : p.place + steps ≡ place_at p.start age = sym (wrapped-once p.start (p.place + steps) once) ∙ place-ahead p age steps plays s in
-    let past : length_of p.start ≤ place_at p.start age = rw (← at, ← p.len_of_start) over in
+    let at : p.place + steps ≡ sample_place p.start age = sym (wrapped-once p.start (p.place + steps) once) ∙ place-ahead p age steps plays s in
+    let past : length_of p.start ≤ sample_place p.start age = rw (← at, ← p.len_of_start) over in
     rw once (grind (arith, nat_tests))
 
 -- an envelope that is over stays so, for what is kept

@@ -14,15 +14,15 @@ use Rattle.audio_mixer.specs.declared.mixer.Mixer.{Mixer}
 use Rattle.audio_mixer.specs.declared.voices.Pair.{Pair}
 use Rattle.audio_mixer.specs.declared.voices.Voice.{Voice}
 use Rattle.audio_mixer.specs.Notes.{left_of, right_of}
-use Rattle.audio_mixer.specs.Sounds.{Sound, Silence, Note, later, is_over, ends_within, sample_in, mixed, pairs, sum_of, frame_of, endings}
-use Rattle.audio_mixer.specs.Voices.{StandsFor, Sounds, GivesNext}
+use Rattle.audio_mixer.specs.Sounds.{Sound, Silence, Note, later, note_is_over, ends_within, sample_in, mixed, pairs, sum_of, frame_of, endings}
+use Rattle.audio_mixer.specs.Voices.{RepresentsSounds, Sounds, GivesNext}
 use Rattle.audio_mixer.specs.Laws.{kept_sum}
 use Rattle.audio_mixer.proofs.Overs.{over-next, over-ended}
 
 -- a frame is rendered up to a pair
 pub record Rendered (mixer : Mixer) (memory : List ℕ) (into : List ℤ) (first second third fourth : Bool) (count : ℕ) (sounds : ℕ → Sound) : Type 0 where
   pub room : length into ≡ 1470
-  pub stands : StandsFor mixer (λ voice. later count (sounds voice))
+  pub stands : RepresentsSounds mixer (λ voice. later count (sounds voice))
   pub heard : take (2 * count) into ≡ pairs count memory sounds
   pub ends_first : first ≡ ends_within count (sounds 0)
   pub ends_second : second ≡ ends_within count (sounds 1)
@@ -35,13 +35,13 @@ later-more count Silence = refl
 later-more count (Note note age) = ap (λ n. Note note n) (omega arith)
 
 -- what is over stays over
-over-later : (note : Start) (age : ℕ) → is_over note age ≡ true → is_over note (age + 1) ≡ true
+over-later : (note : Start) (age : ℕ) → note_is_over note age ≡ true → note_is_over note (age + 1) ≡ true
 over-later note age h = over-next note age ∙ over-ended note age h
 
-pub over-far : (note : Start) (age count : ℕ) → is_over note age ≡ true → is_over note (age + count) ≡ true
+pub over-far : (note : Start) (age count : ℕ) → note_is_over note age ≡ true → note_is_over note (age + count) ≡ true
 over-far note age zero h = rw add-zero h
 over-far note age (suc count) h =
-    subst (λ n. is_over note n ≡ true) (omega arith) (over-later note (age + count) (over-far note age count h))
+    subst (λ n. note_is_over note n ≡ true) (omega arith) (over-later note (age + count) (over-far note age count h))
 
 -- the end among one more pair
 ends_by : (before between after : Bool) → (before ≡ true → between ≡ true) → (between ≡ true → after ≡ true) →
@@ -55,8 +55,8 @@ ends_by false false after p q = refl
 pub ends-more : (count : ℕ) (sound : Sound) → (ends_within count sound || ends_within 1 (later count sound)) ≡ ends_within (count + 1) sound
 ends-more count Silence = refl
 ends-more count (Note note age) =
-    ends_by (is_over note age) (is_over note (age + count)) (is_over note (age + count + 1)) (over-far note age count) (over-later note (age + count))
-    ∙ ap (λ n. not (is_over note age) && is_over note n) (omega arith)
+    ends_by (note_is_over note age) (note_is_over note (age + count)) (note_is_over note (age + count + 1)) (over-far note age count) (over-later note (age + count))
+    ∙ ap (λ n. not (note_is_over note age) && note_is_over note n) (omega arith)
 
 pub or-ends : (was ends : Bool) (count : ℕ) (sound : Sound) → was ≡ ends_within count sound → ends ≡ ends_within 1 (later count sound) →
     (was || ends) ≡ ends_within (count + 1) sound
@@ -68,12 +68,12 @@ pub sample-ahead : (memory : List ℕ) (volume : Start → ℕ) (count : ℕ) (s
 sample-ahead memory volume count Silence = refl
 sample-ahead memory volume count (Note note age) = rw add-zero refl
 
--- two more samples behind a front
-pub front-more : (into : List ℤ) (count : ℕ) (x y : ℤ) → 2 * count + 1 < length into →
+-- two more samples behind a prefix
+pub prefix-more : (into : List ℤ) (count : ℕ) (x y : ℤ) → 2 * count + 1 < length into →
     take (2 * (count + 1)) (set (set into (2 * count) x) (2 * count + 1) y) ≡ take (2 * count) into ++ x ∷ y ∷ []
-front-more into count x y h =
+prefix-more into count x y h =
     take-set_at (set into (2 * count) x) (2 * count + 1) (2 * (count + 1)) y (omega arith) (omega (arith, length-set into (2 * count) x))
-    ∙ ap (λ front. front ++ y ∷ []) (take-set_at into (2 * count) (2 * count + 1) x (omega arith) (omega arith))
+    ∙ ap (λ prefix. prefix ++ y ∷ []) (take-set_at into (2 * count) (2 * count + 1) x (omega arith) (omega arith))
     ∙ append_assoc (take (2 * count) into) (x ∷ []) (y ∷ [])
 
 pub pairs-more : (count : ℕ) (memory : List ℕ) (sounds : ℕ → Sound) →
@@ -94,9 +94,9 @@ later-none (Note note age) = ap (λ n. Note note n) (add-zero age)
 
 ends-none : (sound : Sound) → false ≡ ends_within 0 sound
 ends-none Silence = refl
-ends-none (Note note age) = rw add-zero (elim (is_over note age) as (λ b. false ≡ (not b && b)) [ true ↦ refl | false ↦ refl ])
+ends-none (Note note age) = rw add-zero (elim (note_is_over note age) as (λ b. false ≡ (not b && b)) [ true ↦ refl | false ↦ refl ])
 
-pub rendered-none : (mixer : Mixer) (memory : List ℕ) (into : List ℤ) (sounds : ℕ → Sound) → length into ≡ 1470 → StandsFor mixer sounds →
+pub rendered-none : (mixer : Mixer) (memory : List ℕ) (into : List ℤ) (sounds : ℕ → Sound) → length into ≡ 1470 → RepresentsSounds mixer sounds →
     Rendered mixer memory into false false false false 0 sounds
 unfolding pairs
 rendered-none mixer memory into sounds room stands = record {
@@ -150,7 +150,7 @@ rendered-more mixer memory into first second third fourth count sounds va vb vc 
         third = subst (λ s. Sounds vc s) (later-more count (sounds 2)) nc.sounds;
         fourth = subst (λ s. Sounds vd s) (later-more count (sounds 3)) nd.sounds;
       };
-      heard = front-more into count _ _ room
+      heard = prefix-more into count _ _ room
           ∙ rw (done.heard, heard_left, heard_right) (sym (pairs-more count memory sounds));
       ends_first = or-ends first ea count (sounds 0) done.ends_first na.ends_now;
       ends_second = or-ends second eb count (sounds 1) done.ends_second nb.ends_now;

@@ -11,9 +11,9 @@ use Rattle.audio_mixer.specs.declared.notes.Start.{Start}
 use Rattle.audio_mixer.specs.declared.voices.Playing.{Playing}
 use Rattle.audio_mixer.specs.declared.voices.Voice.{Voice}
 use Rattle.audio_mixer.specs.declared.voices.Pair.{Pair}
-use Rattle.audio_mixer.specs.Notes.{advance_of, period_of, steps_of, wrapped, place_at}
-use Rattle.audio_mixer.specs.Notes.{is_played, is_released, has_ended, envelope_at, heard, left_of, right_of}
-use Rattle.audio_mixer.specs.Sounds.{Sound, Silence, Note, is_over, later}
+use Rattle.audio_mixer.specs.Notes.{advance_of, period_of, steps_of, wrapped, sample_place}
+use Rattle.audio_mixer.specs.Notes.{is_played, is_released, note_has_ended, envelope_at, heard, left_of, right_of}
+use Rattle.audio_mixer.specs.Sounds.{Sound, Silence, Note, note_is_over, later}
 use Rattle.audio_mixer.specs.Voices.{Plays, IsAhead, GivesPair, GivesNext, SoundsAs, Sounds}
 
 -- a note that has ended has ended at every later age
@@ -35,29 +35,29 @@ played-later : (note : Start) (age : ℕ) → is_played note age ≡ true → is
 unfolding is_played wrapped
 played-later note age h = let grows = steps-grow note (age + 1) in grind (arith, nat_tests)
 
-pub ended-later : (note : Start) (age : ℕ) → has_ended note age ≡ true → has_ended note (age + 1) ≡ true
+pub ended-later : (note : Start) (age : ℕ) → note_has_ended note age ≡ true → note_has_ended note (age + 1) ≡ true
 ended-later note age h = grind (arith, nat_tests, released-later note age, played-later note age)
 
-pub over-next : (note : Start) (age : ℕ) → is_over note (age + 1) ≡ has_ended note age
+pub over-next : (note : Start) (age : ℕ) → note_is_over note (age + 1) ≡ note_has_ended note age
 over-next note age = rw add-one refl
 
-pub over-ended : (note : Start) (age : ℕ) → is_over note age ≡ true → has_ended note age ≡ true
+pub over-ended : (note : Start) (age : ℕ) → note_is_over note age ≡ true → note_has_ended note age ≡ true
 over-ended note zero h = cc
-over-ended note (suc age) h = subst (λ n. has_ended note n ≡ true) (add-one age) (ended-later note age h)
+over-ended note (suc age) h = subst (λ n. note_has_ended note n ≡ true) (add-one age) (ended-later note age h)
 
 -- what a voice gives that is stopped
 pub stopped-gives : (memory : List ℕ) (voice : Voice) (sound : Sound) → voice.playing ≡ None → Sounds voice sound →
     GivesNext memory sound (record { left = pos 0; right = pos 0 })
 stopped-gives memory voice Silence none sounds = record { left = refl; right = refl }
 stopped-gives memory voice (Note note age) none sounds =
-    let over : is_over note age ≡ true = subst (λ p. SoundsAs p (Note note age)) none sounds in
-    let ended : has_ended note (age + 0) ≡ true = rw add-zero (over-ended note age over) in
+    let over : note_is_over note age ≡ true = subst (λ p. SoundsAs p (Note note age)) none sounds in
+    let ended : note_has_ended note (age + 0) ≡ true = rw add-zero (over-ended note age over) in
     record { left = rw ended refl; right = rw ended refl }
 
 pub stopped-sounds : (voice : Voice) (sound : Sound) → voice.playing ≡ None → Sounds voice sound → Sounds voice (later 1 sound)
 stopped-sounds voice Silence none sounds = sounds
 stopped-sounds voice (Note note age) none sounds =
-    let over : is_over note age ≡ true = subst (λ p. SoundsAs p (Note note age)) none sounds in
+    let over : note_is_over note age ≡ true = subst (λ p. SoundsAs p (Note note age)) none sounds in
     subst (λ p. SoundsAs p (Note note (age + 1))) (sym none) (over-next note age ∙ over-ended note age over)
 
 -- what a voice gives that plays
@@ -75,7 +75,7 @@ playing-gives memory voice p pair (Note note age) some gives sounds =
     gives-next memory p pair note age gives (subst (λ q. SoundsAs q (Note note age)) some sounds)
 
 -- the pair at an age at which the note has not ended
-pub not-ended : (note : Start) (age phase place : ℕ) → is_released note age ≡ false → IsAhead note age phase place → has_ended note age ≡ false
+pub not-ended : (note : Start) (age phase place : ℕ) → is_released note age ≡ false → IsAhead note age phase place → note_has_ended note age ≡ false
 not-ended note age phase place released ahead = rw (released, ahead.goes_on) refl
 
 pub gives-pair : (memory : List ℕ) (note : Start) (age phase place byte : ℕ) (pair : Pair) →
@@ -84,7 +84,7 @@ pub gives-pair : (memory : List ℕ) (note : Start) (age phase place byte : ℕ)
     GivesPair memory note age pair
 gives-pair memory note age phase place byte pair released ahead got left right =
     let on = not-ended note age phase place released ahead in
-    let at : byte ≡ slice_index memory (note.addr + place_at note age) = got ∙ ap (λ x. slice_index memory (note.addr + x)) ahead.heard_at in
+    let at : byte ≡ slice_index memory (note.addr + sample_place note age) = got ∙ ap (λ x. slice_index memory (note.addr + x)) ahead.heard_at in
     record {
       left = left ∙ rw (on, at) refl;
       right = right ∙ rw (on, at) refl;

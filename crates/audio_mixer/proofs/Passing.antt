@@ -1,4 +1,4 @@
--- A frame of which no samples are asked for.
+-- A frame of which no samples are requested.
 use Rattle.std.specs.Prelude.{◌≡◌, ℕ, zero, suc, ◌+◌, ◌*◌, ◌/◌, ◌%◌, ◌<◌, ◌==◌, true, false, ◌&&◌, min, is_none, refl, List, [], ◌∷◌, ℤ, pos, Option, Some, None, replicate}
 use Rattle.std.proofs.Common.{sym, ◌∙◌, ap, subst, arith}
 use Rattle.std.proofs.lemmas.Bool.Decides.{nat_tests}
@@ -9,22 +9,22 @@ use Rattle.audio_mixer.specs.declared.notes.Start.{Start}
 use Rattle.audio_mixer.specs.declared.mixer.Mixer.{Mixer}
 use Rattle.audio_mixer.specs.declared.voices.Playing.{Playing}
 use Rattle.audio_mixer.specs.declared.voices.Voice.{Voice}
-use Rattle.audio_mixer.specs.Notes.{advance_of, period_of, length_of, release_of, is_repeating, is_released, is_played, has_ended, steps_of, wrapped, left_of, right_of}
-use Rattle.audio_mixer.specs.Sounds.{Sound, Silence, Note, is_over, is_endless, later, ends_within, sample_in, mixed, pairs, frame_of, endings}
-use Rattle.audio_mixer.specs.Voices.{Plays, SoundsAs, Sounds, StandsFor}
+use Rattle.audio_mixer.specs.Notes.{advance_of, period_of, length_of, release_of, is_repeating, is_released, is_played, note_has_ended, steps_of, wrapped, left_of, right_of}
+use Rattle.audio_mixer.specs.Sounds.{Sound, Silence, Note, note_is_over, is_endless, later, ends_within, sample_in, mixed, pairs, frame_of, endings}
+use Rattle.audio_mixer.specs.Voices.{Plays, SoundsAs, Sounds, RepresentsSounds}
 use Rattle.audio_mixer.proofs.Ages.{wrapped-step}
 use Rattle.audio_mixer.proofs.Frames.{over-far}
 use Rattle.audio_mixer.proofs.Overs.{over-ended}
 
 -- a note without end is never over
-never-ended : (note : Start) (age : ℕ) → is_endless note ≡ true → has_ended note age ≡ false
+never-ended : (note : Start) (age : ℕ) → is_endless note ≡ true → note_has_ended note age ≡ false
 unfolding is_released is_played
 never-ended note age e =
     let repeats = (and_parts (is_repeating note) (release_of note == 0) e).0 in
     let flat = (and_parts (is_repeating note) (release_of note == 0) e).1 in
     grind (arith, nat_tests)
 
-never-over : (note : Start) (age : ℕ) → is_endless note ≡ true → is_over note age ≡ false
+never-over : (note : Start) (age : ℕ) → is_endless note ≡ true → note_is_over note age ≡ false
 never-over note zero e = refl
 never-over note (suc age) e = never-ended note age e
 
@@ -70,28 +70,28 @@ age-passed p age more plays e =
     let kept = plays.kept_age in
     grind (arith, nat_tests)
 
-pub on-passed : (p : Playing) (age more : ℕ) → is_endless p.start ≡ true → is_over p.start (age + more) ≡ false
+pub on-passed : (p : Playing) (age more : ℕ) → is_endless p.start ≡ true → note_is_over p.start (age + more) ≡ false
 on-passed p age more e = never-over p.start (age + more) e
 
 -- a voice that is stopped stays so
 pub stopped-later : (voice : Voice) (sound : Sound) (count : ℕ) → voice.playing ≡ None → Sounds voice sound → Sounds voice (later count sound)
 stopped-later voice Silence count none sounds = sounds
 stopped-later voice (Note note age) count none sounds =
-    let over : is_over note age ≡ true = subst (λ p. SoundsAs p (Note note age)) none sounds in
+    let over : note_is_over note age ≡ true = subst (λ p. SoundsAs p (Note note age)) none sounds in
     subst (λ p. SoundsAs p (Note note (age + count))) (sym none) (over-far note age count over)
 
 stopped-sample : (memory : List ℕ) (volume : Start → ℕ) (voice : Voice) (sound : Sound) (ahead : ℕ) → voice.playing ≡ None → Sounds voice sound
     → sample_in memory volume sound ahead ≡ pos 0
 stopped-sample memory volume voice Silence ahead none sounds = refl
 stopped-sample memory volume voice (Note note age) ahead none sounds =
-    let over : is_over note age ≡ true = subst (λ p. SoundsAs p (Note note age)) none sounds in
-    let ended : has_ended note (age + ahead) ≡ true = over-ended note (age + ahead) (over-far note age ahead over) in
+    let over : note_is_over note age ≡ true = subst (λ p. SoundsAs p (Note note age)) none sounds in
+    let ended : note_has_ended note (age + ahead) ≡ true = over-ended note (age + ahead) (over-far note age ahead over) in
     rw ended refl
 
 stopped-ends : (voice : Voice) (sound : Sound) (count : ℕ) → voice.playing ≡ None → Sounds voice sound → false ≡ ends_within count sound
 stopped-ends voice Silence count none sounds = refl
 stopped-ends voice (Note note age) count none sounds =
-    let over : is_over note age ≡ true = subst (λ p. SoundsAs p (Note note age)) none sounds in
+    let over : note_is_over note age ≡ true = subst (λ p. SoundsAs p (Note note age)) none sounds in
     rw over refl
 
 -- four voices that are stopped
@@ -101,7 +101,7 @@ pub record AreStopped (mixer : Mixer) : Type 0 where
   pub third : mixer.third.playing ≡ None
   pub fourth : mixer.fourth.playing ≡ None
 
-stopped-mixed : (mixer : Mixer) (memory : List ℕ) (volume : Start → ℕ) (sounds : ℕ → Sound) (ahead : ℕ) → AreStopped mixer → StandsFor mixer sounds
+stopped-mixed : (mixer : Mixer) (memory : List ℕ) (volume : Start → ℕ) (sounds : ℕ → Sound) (ahead : ℕ) → AreStopped mixer → RepresentsSounds mixer sounds
     → mixed memory volume sounds ahead ≡ pos 0
 stopped-mixed mixer memory volume sounds ahead none stands =
     let a = stopped-sample memory volume mixer.first (sounds 0) ahead none.first stands.first in
@@ -110,7 +110,7 @@ stopped-mixed mixer memory volume sounds ahead none stands =
     let d = stopped-sample memory volume mixer.fourth (sounds 3) ahead none.fourth stands.fourth in
     rw (a, b, c, d) refl
 
-stopped-pairs : (mixer : Mixer) (memory : List ℕ) (sounds : ℕ → Sound) (count : ℕ) → AreStopped mixer → StandsFor mixer sounds
+stopped-pairs : (mixer : Mixer) (memory : List ℕ) (sounds : ℕ → Sound) (count : ℕ) → AreStopped mixer → RepresentsSounds mixer sounds
     → pairs count memory sounds ≡ replicate (2 * count) (pos 0)
 unfolding pairs
 stopped-pairs mixer memory sounds zero none stands = refl
@@ -119,11 +119,11 @@ stopped-pairs mixer memory sounds (suc count) none stands =
     rw (stopped-mixed mixer memory left_of sounds count none stands, stopped-mixed mixer memory right_of sounds count none stands, stopped-pairs mixer memory sounds count none stands)
     (replicate-append-replicate (2 * count) 2 (pos 0) ∙ ap (λ n. replicate n (pos 0)) more)
 
-pub stopped-frame : (mixer : Mixer) (memory : List ℕ) (into : List ℤ) (sounds : ℕ → Sound) → AreStopped mixer → StandsFor mixer sounds
+pub stopped-frame : (mixer : Mixer) (memory : List ℕ) (into : List ℤ) (sounds : ℕ → Sound) → AreStopped mixer → RepresentsSounds mixer sounds
     → into ≡ replicate 1470 (pos 0) → into ≡ frame_of memory sounds
 stopped-frame mixer memory into sounds none stands filled = filled ∙ sym (stopped-pairs mixer memory sounds 735 none stands)
 
-pub stopped-endings : (mixer : Mixer) (sounds : ℕ → Sound) → AreStopped mixer → StandsFor mixer sounds → (false ∷ false ∷ false ∷ false ∷ []) ≡ endings 735 sounds
+pub stopped-endings : (mixer : Mixer) (sounds : ℕ → Sound) → AreStopped mixer → RepresentsSounds mixer sounds → (false ∷ false ∷ false ∷ false ∷ []) ≡ endings 735 sounds
 stopped-endings mixer sounds none stands =
     rw (
       ← stopped-ends mixer.first (sounds 0) 735 none.first stands.first,
@@ -132,7 +132,7 @@ stopped-endings mixer sounds none stands =
       ← stopped-ends mixer.fourth (sounds 3) 735 none.fourth stands.fourth,
     ) refl
 
-pub stopped-stands : (mixer : Mixer) (sounds : ℕ → Sound) → AreStopped mixer → StandsFor mixer sounds → StandsFor mixer (λ voice. later 735 (sounds voice))
+pub stopped-stands : (mixer : Mixer) (sounds : ℕ → Sound) → AreStopped mixer → RepresentsSounds mixer sounds → RepresentsSounds mixer (λ voice. later 735 (sounds voice))
 stopped-stands mixer sounds none stands = record {
   first = stopped-later mixer.first (sounds 0) 735 none.first stands.first;
   second = stopped-later mixer.second (sounds 1) 735 none.second stands.second;

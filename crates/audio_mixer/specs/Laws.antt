@@ -19,29 +19,29 @@ unfolding loudness
 loudness-kept attack decay sustain release age d s r = grind (arith, nat_tests)
 
 -- a sample as the signed short that its bits are
-abbrev pub short_of : ℤ → ℤ
-short_of sample = cast_signed w16 (cast_unsigned w16 sample)
+abbrev pub sample_short : ℤ → ℤ
+sample_short sample = cast_signed w16 (cast_unsigned w16 sample)
 
-pub kept_sum : (a b c d : ℤ) → short_of (sum_of a b c d) ≡ sum_of a b c d
+pub kept_sum : (a b c d : ℤ) → sample_short (sum_of a b c d) ≡ sum_of a b c d
 kept_sum a b c d = ap (λ n. cast_signed w16 n) (of_z-to_z w16 _ (mod_below _ 65536 (omega arith)))
 
 kept_mixed : (memory : List ℕ) (volume : Start → ℕ) (sounds : ℕ → Sound) (ahead : ℕ)
-    → short_of (mixed memory volume sounds ahead) ≡ mixed memory volume sounds ahead
+    → sample_short (mixed memory volume sounds ahead) ≡ mixed memory volume sounds ahead
 kept_mixed memory volume sounds ahead = kept_sum
     (sample_in memory volume (sounds 0) ahead) (sample_in memory volume (sounds 1) ahead)
     (sample_in memory volume (sounds 2) ahead) (sample_in memory volume (sounds 3) ahead)
 
-kept_pairs : (count : ℕ) (memory : List ℕ) (sounds : ℕ → Sound) → map short_of (pairs count memory sounds) ≡ pairs count memory sounds
+kept_pairs : (count : ℕ) (memory : List ℕ) (sounds : ℕ → Sound) → map sample_short (pairs count memory sounds) ≡ pairs count memory sounds
 unfolding pairs
 kept_pairs zero memory sounds = refl
 kept_pairs (suc count) memory sounds =
-    map-append short_of (pairs count memory sounds) (mixed memory left_of sounds count ∷ mixed memory right_of sounds count ∷ [])
-    ∙ ap (λ front. front ++ short_of (mixed memory left_of sounds count) ∷ short_of (mixed memory right_of sounds count) ∷ [])
+    map-append sample_short (pairs count memory sounds) (mixed memory left_of sounds count ∷ mixed memory right_of sounds count ∷ [])
+    ∙ ap (λ prefix. prefix ++ sample_short (mixed memory left_of sounds count) ∷ sample_short (mixed memory right_of sounds count) ∷ [])
     (kept_pairs count memory sounds)
-    ∙ ap (λ left. pairs count memory sounds ++ left ∷ short_of (mixed memory right_of sounds count) ∷ [])
+    ∙ ap (λ left. pairs count memory sounds ++ left ∷ sample_short (mixed memory right_of sounds count) ∷ [])
     (kept_mixed memory left_of sounds count)
     ∙ ap (λ right. pairs count memory sounds ++ mixed memory left_of sounds count ∷ right ∷ []) (kept_mixed memory right_of sounds count)
 
 -- the samples of a frame are signed shorts
-pub kept_frame : (memory : List ℕ) (sounds : ℕ → Sound) → map short_of (frame_of memory sounds) ≡ frame_of memory sounds
+pub kept_frame : (memory : List ℕ) (sounds : ℕ → Sound) → map sample_short (frame_of memory sounds) ≡ frame_of memory sounds
 kept_frame memory sounds = kept_pairs 735 memory sounds

@@ -43,8 +43,8 @@ unfoldable pub wrapped : Start → ℕ → ℕ
 wrapped note steps = if is_repeating note then steps % length_of note else steps
 
 -- the place in the sample that is heard at an age
-abbrev pub place_at : Start → ℕ → ℕ
-place_at note age = wrapped note (steps_of note (age + 1))
+abbrev pub sample_place : Start → ℕ → ℕ
+sample_place note age = wrapped note (steps_of note (age + 1))
 
 -- the ages at which the attack, the decay, the sustain and the release are over: a digit is 2940 samples, four frames
 abbrev pub attack_of : Start → ℕ
@@ -78,11 +78,11 @@ is_released note age = nat_lt 0 (release_of note) && nat_le (release_of note) ag
 
 -- the sample is over, and does not repeat
 unfoldable pub is_played : Start → ℕ → Bool
-is_played note age = not (is_repeating note) && nat_le (length_of note) (place_at note age)
+is_played note age = not (is_repeating note) && nat_le (length_of note) (sample_place note age)
 
 -- at this age the note has ended
-abbrev pub has_ended : Start → ℕ → Bool
-has_ended note age = is_released note age || is_played note age
+abbrev pub note_has_ended : Start → ℕ → Bool
+note_has_ended note age = is_released note age || is_played note age
 
 -- the left and the right digit of the volume
 abbrev pub left_of : Start → ℕ
@@ -100,8 +100,8 @@ heard byte envelope volume =
 -- the sample of one side at an age, which is 0 once the note has ended
 abbrev pub sample_at : List ℕ → Start → ℕ → ℕ → ℤ
 sample_at memory note volume age =
-    if has_ended note age then pos 0
-    else heard (slice_index memory (note.addr + place_at note age)) (envelope_at note age) volume
+    if note_has_ended note age then pos 0
+    else heard (slice_index memory (note.addr + sample_place note age)) (envelope_at note age) volume
 
 -- how loud a side is shown: 0 for a volume of 0, else 1 to 15
 abbrev pub level : ℕ → ℕ → ℕ

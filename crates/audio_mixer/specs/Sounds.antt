@@ -3,7 +3,7 @@ use Rattle.std.specs.Prelude.{ℕ, zero, suc, ◌+◌, ◌*◌, ◌++◌, ◌==�
 use Rattle.std.specs.Prelude.{if◌then◌else◌, List, [], ◌∷◌, ℤ, pos}
 use Rattle.std.specs.Int.{w16, int_wrapping_add}
 use Rattle.audio_mixer.specs.declared.notes.Start.{Start}
-use Rattle.audio_mixer.specs.Notes.{is_repeating, release_of, is_silent, has_ended, sample_at, steps_of, wrapped}
+use Rattle.audio_mixer.specs.Notes.{is_repeating, release_of, is_silent, note_has_ended, sample_at, steps_of, wrapped}
 use Rattle.audio_mixer.specs.Notes.{envelope_at, level, left_of, right_of}
 
 -- a voice sounds nothing, or a note of which so many samples were rendered
@@ -21,9 +21,9 @@ later samples Silence = Silence
 later samples (Note note age) = Note note (age + samples)
 
 -- the voice is stopped: the last sample that was rendered is one at which the note had ended
-abbrev pub is_over : Start → ℕ → Bool
-is_over note zero = false
-is_over note (suc age) = has_ended note age
+abbrev pub note_is_over : Start → ℕ → Bool
+note_is_over note zero = false
+note_is_over note (suc age) = note_has_ended note age
 
 -- a note that repeats its sample and has no envelope goes on without end
 abbrev pub is_endless : Start → Bool
@@ -32,12 +32,12 @@ is_endless note = is_repeating note && (release_of note == 0)
 -- the voice plays a note that will end
 abbrev pub can_end : Sound → Bool
 can_end Silence = false
-can_end (Note note age) = not (is_over note age) && not (is_endless note)
+can_end (Note note age) = not (note_is_over note age) && not (is_endless note)
 
 -- the note ends among the next so many samples
 abbrev pub ends_within : ℕ → Sound → Bool
 ends_within samples Silence = false
-ends_within samples (Note note age) = not (is_over note age) && is_over note (age + samples)
+ends_within samples (Note note age) = not (note_is_over note age) && note_is_over note (age + samples)
 
 -- the sample of one side, so many samples from now
 abbrev pub sample_in : List ℕ → (Start → ℕ) → Sound → ℕ → ℤ
@@ -80,10 +80,10 @@ started_on voice note sounds other = if other == voice then begun note else soun
 -- the place in the sample
 abbrev pub position_of : Sound → ℕ
 position_of Silence = 0
-position_of (Note note age) = if is_over note age then 0 else wrapped note (steps_of note age)
+position_of (Note note age) = if note_is_over note age then 0 else wrapped note (steps_of note age)
 
 -- how loud the voice is: left in the high digit, right in the low one
 abbrev pub output_of : Sound → ℕ
 output_of Silence = 0
 output_of (Note note age) =
-    if is_over note age then 0 else level (envelope_at note age) (left_of note) * 16 + level (envelope_at note age) (right_of note)
+    if note_is_over note age then 0 else level (envelope_at note age) (left_of note) * 16 + level (envelope_at note age) (right_of note)

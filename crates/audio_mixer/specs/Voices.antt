@@ -1,17 +1,17 @@
--- What the voices that are kept stand for.
+-- What the voices that are kept represent.
 use Rattle.std.specs.Prelude.{◌≡◌, ℕ, ◌+◌, ◌*◌, ◌%◌, ◌&&◌, min, Bool, true, false, List, Option, Some, None}
 use Rattle.audio_mixer.specs.declared.notes.Start.{Start}
 use Rattle.audio_mixer.specs.declared.voices.Playing.{Playing}
 use Rattle.audio_mixer.specs.declared.voices.Voice.{Voice}
 use Rattle.audio_mixer.specs.declared.voices.Pair.{Pair}
 use Rattle.audio_mixer.specs.declared.mixer.Mixer.{Mixer}
-use Rattle.audio_mixer.specs.Notes.{advance_of, period_of, release_of, steps_of, wrapped, left_of, right_of, sample_at, place_at, is_played}
-use Rattle.audio_mixer.specs.Sounds.{Sound, Silence, Note, is_over, is_endless, sample_in}
+use Rattle.audio_mixer.specs.Notes.{advance_of, period_of, release_of, steps_of, wrapped, left_of, right_of, sample_at, sample_place, is_played}
+use Rattle.audio_mixer.specs.Sounds.{Sound, Silence, Note, note_is_over, is_endless, sample_in}
 
 -- a note that goes on is kept as its start, and the age, the phase and the place that it has come to
 pub record Plays (playing : Playing) (note : Start) (age : ℕ) : Type 0 where
   pub of_start : playing.start ≡ note
-  pub goes_on : is_over note age ≡ false
+  pub goes_on : note_is_over note age ≡ false
   pub kept_age : playing.age ≡ min age (release_of note)
   pub rest : playing.phase ≡ age * advance_of note % period_of note
   pub kept_place : playing.place ≡ wrapped note (steps_of note age)
@@ -19,7 +19,7 @@ pub record Plays (playing : Playing) (note : Start) (age : ℕ) : Type 0 where
 -- the phase and the place of the sample at an age, where the note's own sample is not over
 pub record IsAhead (note : Start) (age phase place : ℕ) : Type 0 where
   pub rest : phase ≡ (age + 1) * advance_of note % period_of note
-  pub heard_at : place ≡ place_at note age
+  pub heard_at : place ≡ sample_place note age
   pub goes_on : is_played note age ≡ false
 
 -- a pair has the samples of both sides at an age
@@ -35,7 +35,7 @@ pub record GivesNext (memory : List ℕ) (sound : Sound) (pair : Pair) : Type 0 
 -- a voice that is stopped sounds nothing, and every note that is over
 abbrev pub SoundsAs : Option Playing → Sound → Type 0
 SoundsAs None Silence = Unit {0}
-SoundsAs None (Note note age) = is_over note age ≡ true
+SoundsAs None (Note note age) = note_is_over note age ≡ true
 SoundsAs (Some playing) Silence = ⊥
 SoundsAs (Some playing) (Note note age) = Plays playing note age
 
@@ -48,7 +48,7 @@ abbrev pub Sounds : Voice → Sound → Type 0
 Sounds voice sound = SoundsAs voice.playing sound
 
 -- the four voices sound so, by their numbers
-pub record StandsFor (mixer : Mixer) (sounds : ℕ → Sound) : Type 0 where
+pub record RepresentsSounds (mixer : Mixer) (sounds : ℕ → Sound) : Type 0 where
   pub first : Sounds mixer.first (sounds 0)
   pub second : Sounds mixer.second (sounds 1)
   pub third : Sounds mixer.third (sounds 2)

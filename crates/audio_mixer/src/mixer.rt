@@ -34,11 +34,11 @@ pub struct Mixer {
 impl Mixer {
     ghost use Rattle.std.specs.Prelude.{◌≡◌, ◌≢◌, ℕ, ◌<◌, true, false, not, ◌&&◌, is_none, [], ◌∷◌};
     ghost use Rattle.audio_mixer.specs.Sounds.{Sound, Silence, begun, later, can_end, started_on, position_of, output_of, endings, frame_of};
-    ghost use Rattle.audio_mixer.specs.Voices.{Sounds, StandsFor, all_play_on};
+    ghost use Rattle.audio_mixer.specs.Voices.{Sounds, RepresentsSounds, all_play_on};
 
     /// Four voices that are stopped.
     pub fn new() -> Mixer
-        ensures { StandsFor result (λ voice. Silence) }
+        ensures { RepresentsSounds result (λ voice. Silence) }
     {
         Mixer {
             first: Voice::stopped(),
@@ -52,7 +52,7 @@ impl Mixer {
     /// sample, stops the voice.
     pub fn start(&mut self, voice: u8, note: &Start)
         requires { voice < 4 }
-        ensures { (sounds : ℕ → Sound) → StandsFor self.old sounds → StandsFor self.new (started_on voice note.now sounds) }
+        ensures { (sounds : ℕ → Sound) → RepresentsSounds self.old sounds → RepresentsSounds self.new (started_on voice note.now sounds) }
     {
         match voice {
             0 => self.first.start(note),
@@ -64,9 +64,9 @@ impl Mixer {
 
     /// Renders a frame: 735 pairs of samples, left then right, and true for each voice whose note ended in it.
     pub fn render(&mut self, memory: &Memory, into: &mut [i16; 1470]) -> [bool; 4]
-        ensures frame { (sounds : ℕ → Sound) → StandsFor self.old sounds → into.new ≡ frame_of memory.now sounds }
-        ensures ends { (sounds : ℕ → Sound) → StandsFor self.old sounds → result ≡ endings 735 sounds }
-        ensures sounds { (sounds : ℕ → Sound) → StandsFor self.old sounds → StandsFor self.new (λ voice. later 735 (sounds voice)) }
+        ensures frame { (sounds : ℕ → Sound) → RepresentsSounds self.old sounds → into.new ≡ frame_of memory.now sounds }
+        ensures ends { (sounds : ℕ → Sound) → RepresentsSounds self.old sounds → result ≡ endings 735 sounds }
+        ensures sounds { (sounds : ℕ → Sound) → RepresentsSounds self.old sounds → RepresentsSounds self.new (λ voice. later 735 (sounds voice)) }
     {
         if self.is_stopped() {
             into.fill(0);
@@ -91,7 +91,7 @@ impl Mixer {
 
     /// Whether no voice plays a note that will end.
     pub fn is_endless(&self) -> bool
-        ensures sounds { (sounds : ℕ → Sound) → StandsFor self.now sounds → result
+        ensures sounds { (sounds : ℕ → Sound) → RepresentsSounds self.now sounds → result
             ≡ (not (can_end (sounds 0)) && not (can_end (sounds 1)) && not (can_end (sounds 2)) && not (can_end (sounds 3))) }
         ensures held { result ≡ all_play_on self.now }
     {
@@ -101,11 +101,11 @@ impl Mixer {
             && self.fourth.is_endless()
     }
 
-    /// Lets a frame pass of which no samples are asked for and in which no note can end.
+    /// Lets a frame pass of which no samples are requested and in which no note can end.
     pub fn pass(&mut self)
         requires { all_play_on self.old ≡ true }
-        ensures sounds { (sounds : ℕ → Sound) → StandsFor self.old sounds → StandsFor self.new (λ voice. later 735 (sounds voice)) }
-        ensures ends { (sounds : ℕ → Sound) → StandsFor self.old sounds → endings 735 sounds ≡ false ∷ false ∷ false ∷ false ∷ [] }
+        ensures sounds { (sounds : ℕ → Sound) → RepresentsSounds self.old sounds → RepresentsSounds self.new (λ voice. later 735 (sounds voice)) }
+        ensures ends { (sounds : ℕ → Sound) → RepresentsSounds self.old sounds → endings 735 sounds ≡ false ∷ false ∷ false ∷ false ∷ [] }
     {
         self.first.pass();
         self.second.pass();
@@ -127,7 +127,7 @@ impl Mixer {
     /// A voice by its number.
     fn voice(&self, voice: u8) -> &Voice
         requires { voice < 4 }
-        ensures { (sounds : ℕ → Sound) → StandsFor self.now sounds → Sounds result.now (sounds voice) }
+        ensures { (sounds : ℕ → Sound) → RepresentsSounds self.now sounds → Sounds result.now (sounds voice) }
     {
         match voice {
             0 => &self.first,
@@ -140,7 +140,7 @@ impl Mixer {
     /// The place in the sample of a voice, 0 to 3; 0 where it is stopped.
     pub fn position(&self, voice: u8) -> u16
         requires { voice < 4 }
-        ensures { (sounds : ℕ → Sound) → StandsFor self.now sounds → result ≡ position_of (sounds voice) }
+        ensures { (sounds : ℕ → Sound) → RepresentsSounds self.now sounds → result ≡ position_of (sounds voice) }
     {
         self.voice(voice).position()
     }
@@ -148,7 +148,7 @@ impl Mixer {
     /// How loud a voice, 0 to 3, is: left in the high digit, right in the low one, 0 where it is stopped.
     pub fn output(&self, voice: u8) -> u8
         requires { voice < 4 }
-        ensures { (sounds : ℕ → Sound) → StandsFor self.now sounds → result ≡ output_of (sounds voice) }
+        ensures { (sounds : ℕ → Sound) → RepresentsSounds self.now sounds → result ≡ output_of (sounds voice) }
     {
         self.voice(voice).output()
     }

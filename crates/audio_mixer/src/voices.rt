@@ -105,7 +105,7 @@ fn level(envelope: u32, volume: u8) -> u8
 
 impl Playing {
     ghost use Rattle.std.specs.Prelude.{◌≡◌, ℕ, ◌+◌, ◌<◌, ◌≤◌, min, true, false, IfSome, IfNone};
-    ghost use Rattle.audio_mixer.specs.Notes.{is_silent, is_repeating, is_released, is_played, has_ended, wrapped, envelope_at, heard, left_of, right_of};
+    ghost use Rattle.audio_mixer.specs.Notes.{is_silent, is_repeating, is_released, is_played, note_has_ended, wrapped, envelope_at, heard, left_of, right_of};
     ghost use Rattle.audio_mixer.specs.Sounds.{output_of, Note, is_endless};
     ghost use Rattle.audio_mixer.specs.Voices.{Plays, IsAhead, GivesPair};
 
@@ -182,7 +182,7 @@ impl Playing {
     fn next(&mut self, memory: &Memory) -> Option<Pair>
         ensures some { IfSome result (λ pair. (age : ℕ) → Plays self.old self.old.start age
             → GivesPair memory.now self.old.start age pair × Plays self.new self.old.start (age + 1)) }
-        ensures none { IfNone result ((age : ℕ) → Plays self.old self.old.start age → has_ended self.old.start age ≡ true) }
+        ensures none { IfNone result ((age : ℕ) → Plays self.old self.old.start age → note_has_ended self.old.start age ≡ true) }
     {
         if self.is_released() {
             return None;

@@ -2,11 +2,11 @@
 #![tactic(auto)]
 
 ghost use Rattle.std.specs.Prelude.{◌≡◌, [], ◌∷◌, is_err};
-ghost use Rattle.tree_io.specs.Ended.{SinkEnded};
+ghost use Rattle.uxn_io_traits.specs.Ended.{SinkEnded};
 ghost use Rattle.console_port.specs.declared.Output.TheVariants.{Standard, Error};
 ghost use Rattle.console_port.specs.Console.{event_byte, given};
 
-use tree_io::{Failed, Sink};
+use uxn_io_traits::{Failed, Sink};
 
 /// The port that holds the byte of the last event.
 const READ: usize = 0x12;
@@ -37,7 +37,7 @@ pub enum EventKind {
 }
 
 impl EventKind {
-    /// The byte that stands for it in a program.
+    /// The byte that represents it in a program.
     pub fn byte(self) -> u8
         ensures { result ≡ event_byte self }
     {

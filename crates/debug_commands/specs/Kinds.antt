@@ -4,11 +4,11 @@ use Rattle.debug_commands.specs.declared.command.CommandKind.{CommandKind}
 use Rattle.debug_commands.specs.declared.command.CommandKind.TheVariants.{Unknown, BadValue, NoSuchLabel, Missing, Extra}
 use Rattle.debug_commands.specs.declared.command.CommandKind.TheVariants.{ManyCommands, LongCommands}
 
-abbrev pub kind_name : CommandKind → List ℕ
-kind_name Unknown = codes "Unknown"
-kind_name BadValue = codes "BadValue"
-kind_name NoSuchLabel = codes "NoSuchLabel"
-kind_name Missing = codes "Missing"
-kind_name Extra = codes "Extra"
-kind_name ManyCommands = codes "ManyCommands"
-kind_name LongCommands = codes "LongCommands"
+abbrev pub command_kind_name : CommandKind → List ℕ
+command_kind_name Unknown = codes "Unknown"
+command_kind_name BadValue = codes "BadValue"
+command_kind_name NoSuchLabel = codes "NoSuchLabel"
+command_kind_name Missing = codes "Missing"
+command_kind_name Extra = codes "Extra"
+command_kind_name ManyCommands = codes "ManyCommands"
+command_kind_name LongCommands = codes "LongCommands"

@@ -2,14 +2,14 @@
 use Rattle.std.specs.Prelude.{ℕ, ◌&&◌, nat_lt, if◌then◌else◌, List, [], ◌∷◌, codes, drop, length}
 use Rattle.std.specs.Prelude.{Option, Some, None, option_map, Result, Ok, Err}
 use Rattle.std.specs.Option.{ok_or}
-use Rattle.line_texts.specs.declared.row.Counts.TheVariants.{Exactly}
-use Rattle.line_texts.specs.declared.row.LineFault.{LineFault}
-use Rattle.line_texts.specs.declared.row.LineFault.TheVariants as line
-use Rattle.line_texts.specs.Numbers.{begins_with, number_within}
-use Rattle.line_texts.specs.Reading.{Line}
-use Rattle.line_texts.specs.Rows.{Rows, row_of, counted}
+use Rattle.text_lines.specs.declared.row.Counts.TheVariants.{Exactly}
+use Rattle.text_lines.specs.declared.row.LineFault.{LineFault}
+use Rattle.text_lines.specs.declared.row.LineFault.TheVariants as line
+use Rattle.text_lines.specs.Numbers.{begins_with, number_within}
+use Rattle.text_lines.specs.Reading.{Line}
+use Rattle.text_lines.specs.Rows.{Rows, keyword_row, counted}
 use Rattle.tal_words.specs.declared.name.Label.{Label}
-use Rattle.tal_words.specs.Digits.{is_short_number, number_of}
+use Rattle.tal_words.specs.Digits.{is_short_number, number_of_digits}
 use Rattle.tal_words.specs.Labels.{address_named}
 use Rattle.debug_commands.specs.declared.command.DebugCommand.{DebugCommand}
 use Rattle.debug_commands.specs.declared.command.DebugCommand.TheVariants.{Break, Delete, Run, Step, Back, Stacks, Mem, PortPage, Here}
@@ -19,24 +19,24 @@ use Rattle.debug_commands.specs.declared.keyword.Keyword.{Keyword}
 use Rattle.debug_commands.specs.declared.keyword.Keyword.TheVariants as word
 
 -- a value, or what is wrong with it
-abbrev pub Judged : Type 0 → Type 0
-Judged A = Result A CommandKind
+abbrev pub CommandVerdict : Type 0 → Type 0
+CommandVerdict A = Result A CommandKind
 
-abbrev pub made : {A B : Type 0} → (A → B) → Judged A → Judged B
+abbrev pub made : {A B : Type 0} → (A → B) → CommandVerdict A → CommandVerdict B
 made make (Ok value) = Ok (make value)
 made make (Err kind) = Err kind
 
 -- an address: four lowercase digits, or `@` and the name of a label
-unfoldable pub address_in : List Label → List ℕ → Judged ℕ
+unfoldable pub address_in : List Label → List ℕ → CommandVerdict ℕ
 address_in labels word =
-    if is_short_number word then Ok (number_of word)
+    if is_short_number word then Ok (number_of_digits word)
     else if begins_with 64 word && nat_lt 1 (length word) then ok_or (address_named labels (drop 1 word)) NoSuchLabel
     else Err BadValue
 
 -- how many bytes of memory from an address on; a label is looked up where both values are of their form and range
-abbrev pub bytes_from : Judged ℕ → Option ℕ → Judged DebugCommand
-bytes_from address None = Err BadValue
-bytes_from address (Some count) = made (λ at. Mem at count) address
+abbrev pub memory_command : CommandVerdict ℕ → Option ℕ → CommandVerdict DebugCommand
+memory_command address None = Err BadValue
+memory_command address (Some count) = made (λ at. Mem at count) address
 
 -- the first words, with how many values each takes
 unfoldable pub rows : Rows Keyword
@@ -53,30 +53,30 @@ rows =
     ∷ []
 
 -- the command that the values behind a first word make, as many as it takes
-unfoldable pub made_of : List Label → Keyword → List (List ℕ) → Judged DebugCommand
-made_of labels word.Break (a ∷ more) = made Break (address_in labels a)
-made_of labels word.Delete (a ∷ more) = made Delete (address_in labels a)
-made_of labels word.Run values = Ok Run
-made_of labels word.Step (n ∷ more) = ok_or (option_map Step (number_within 1 4294967295 n)) BadValue
-made_of labels word.Back (n ∷ more) = ok_or (option_map Back (number_within 1 65536 n)) BadValue
-made_of labels word.Where values = Ok Here
-made_of labels word.Stacks values = Ok Stacks
-made_of labels word.Mem (a ∷ n ∷ more) = bytes_from (address_in labels a) (number_within 1 256 n)
-made_of labels word.Ports values = Ok PortPage
-made_of labels _ values = Err BadValue
+unfoldable pub command_of : List Label → Keyword → List (List ℕ) → CommandVerdict DebugCommand
+command_of labels word.Break (a ∷ more) = made Break (address_in labels a)
+command_of labels word.Delete (a ∷ more) = made Delete (address_in labels a)
+command_of labels word.Run values = Ok Run
+command_of labels word.Step (n ∷ more) = ok_or (option_map Step (number_within 1 4294967295 n)) BadValue
+command_of labels word.Back (n ∷ more) = ok_or (option_map Back (number_within 1 65536 n)) BadValue
+command_of labels word.Where values = Ok Here
+command_of labels word.Stacks values = Ok Stacks
+command_of labels word.Mem (a ∷ n ∷ more) = memory_command (address_in labels a) (number_within 1 256 n)
+command_of labels word.Ports values = Ok PortPage
+command_of labels _ values = Err BadValue
 
-abbrev pub kind_of : LineFault → CommandKind
-kind_of line.Unknown = Unknown
-kind_of line.Missing = Missing
-kind_of line.Extra = Extra
+abbrev pub command_kind_of : LineFault → CommandKind
+command_kind_of line.Unknown = Unknown
+command_kind_of line.Missing = Missing
+command_kind_of line.Extra = Extra
 
-abbrev pub made_by : List Label → Result Keyword LineFault → List (List ℕ) → Judged DebugCommand
-made_by labels (Ok keyword) values = made_of labels keyword values
-made_by labels (Err fault) values = Err (kind_of fault)
+abbrev pub command_by : List Label → Result Keyword LineFault → List (List ℕ) → CommandVerdict DebugCommand
+command_by labels (Ok keyword) values = command_of labels keyword values
+command_by labels (Err fault) values = Err (command_kind_of fault)
 
 -- the command that the words of a line give, or what is wrong with them; a line without words or with `#` before its
 -- first gives none
-unfoldable pub line_of : List Label → List (List ℕ) → Line DebugCommand CommandKind
-line_of labels [] = Ok None
-line_of labels (name ∷ values) =
-    if begins_with 35 name then Ok None else made Some (made_by labels (counted (row_of rows name) (length values)) values)
+unfoldable pub command_line_of : List Label → List (List ℕ) → Line DebugCommand CommandKind
+command_line_of labels [] = Ok None
+command_line_of labels (name ∷ values) =
+    if begins_with 35 name then Ok None else made Some (command_by labels (counted (keyword_row rows name) (length values)) values)

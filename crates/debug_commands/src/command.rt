@@ -2,8 +2,8 @@
 
 ghost use Rattle.std.specs.Prelude.{◌≡◌};
 
-use line_texts::LineFault;
 use std::alloc::{AllocError, AllocFailed};
+use text_lines::LineFault;
 use thiserror::Error;
 
 /// A command of the debugger.
@@ -19,7 +19,7 @@ pub enum DebugCommand {
     Step(u32),
     /// Goes so many moments back, where they are held, or stays.
     Back(u32),
-    /// Prints the bytes below the pointers of the two rings.
+    /// Prints the bytes below the pointers of the two stacks.
     Stacks,
     /// Prints so many bytes of memory from an address on.
     Mem(u16, u16),
@@ -49,11 +49,11 @@ pub enum CommandKind {
 }
 
 impl CommandKind {
-    ghost use Rattle.debug_commands.specs.Kinds.{kind_name};
+    ghost use Rattle.debug_commands.specs.Kinds.{command_kind_name};
 
     /// The name of the kind, as it is printed.
     pub fn name(self) -> &'static str
-        ensures { result.now ≡ kind_name self }
+        ensures { result.now ≡ command_kind_name self }
     {
         match self {
             CommandKind::Unknown => "Unknown",
@@ -68,9 +68,9 @@ impl CommandKind {
 }
 
 impl From<LineFault> for CommandKind {
-    ghost use Rattle.debug_commands.specs.Lines.{kind_of};
+    ghost use Rattle.debug_commands.specs.Lines.{command_kind_of};
 
-    ghost from_gives = { λ fault kind. kind ≡ kind_of fault };
+    ghost from_gives = { λ fault kind. kind ≡ command_kind_of fault };
 
     fn from(fault: LineFault) -> CommandKind {
         match fault {

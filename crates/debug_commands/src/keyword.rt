@@ -1,10 +1,10 @@
 //! The first words of lines, and how many values stand behind them.
 
 ghost use Rattle.std.specs.Prelude.{◌≡◌};
-ghost use Rattle.line_texts.specs.Rows.{rows_in};
+ghost use Rattle.text_lines.specs.Rows.{rows_in};
 ghost use Rattle.debug_commands.specs.Lines.{rows};
 
-use line_texts::{Counts, Row};
+use text_lines::{Counts, Row};
 
 /// The first word of a line that gives a command.
 #[derive(Clone, Copy, PartialEq, Eq)]

@@ -1,14 +1,14 @@
 //! What a line of commands means.
 
 ghost use Rattle.std.specs.Prelude.{◌≡◌, ◌<◌, if◌then◌else◌, IfSome, Some, None};
-ghost use Rattle.line_texts.specs.Lines.{words_of};
-ghost use Rattle.tal_words.specs.Digits.{is_digit, digit_value, is_short_number, number_of};
-ghost use Rattle.debug_commands.specs.Lines.{address_in, line_of, made_of};
+ghost use Rattle.text_lines.specs.Lines.{words_of};
+ghost use Rattle.tal_words.specs.Digits.{is_digit, digit_value, is_short_number, number_of_digits};
+ghost use Rattle.debug_commands.specs.Lines.{address_in, command_line_of, command_of};
 
 use crate::command::{CommandKind, DebugCommand};
 use crate::keyword::{Keyword, rows};
-use line_texts::{begins_with, first_word, keyword_line, number_within};
 use tal_symbols::{Label, address_of};
+use text_lines::{begins_with, first_word, keyword_line, number_within};
 
 /// The most moments that one command goes on.
 const MOST_STEPS: u64 = 4_294_967_295;
@@ -20,9 +20,12 @@ const MOST_BACK: u64 = 65_536;
 const MOST_BYTES: u64 = 256;
 
 // The command that a line gives, if it gives one, or what is wrong with it by itself.
-#[tactic(auto, unfolding(crate::specs::Lines::line_of))]
-pub(crate) fn line_of(labels: &[Label], line: &[u8]) -> Result<Option<DebugCommand>, CommandKind>
-    ensures { result ≡ line_of labels.now (words_of line.now) }
+#[tactic(auto, unfolding(crate::specs::Lines::command_line_of))]
+pub(crate) fn command_line_of(
+    labels: &[Label],
+    line: &[u8],
+) -> Result<Option<DebugCommand>, CommandKind>
+    ensures { result ≡ command_line_of labels.now (words_of line.now) }
 {
     let Some((name, values)) = first_word(line) else {
         return Ok(None);
@@ -31,7 +34,7 @@ pub(crate) fn line_of(labels: &[Label], line: &[u8]) -> Result<Option<DebugComma
         return Ok(None);
     }
     match keyword_line(rows(), name, values) {
-        Ok(keyword) => match made_of(labels, keyword, values) {
+        Ok(keyword) => match command_of(labels, keyword, values) {
             Ok(command) => Ok(Some(command)),
             Err(kind) => Err(kind),
         },
@@ -40,9 +43,13 @@ pub(crate) fn line_of(labels: &[Label], line: &[u8]) -> Result<Option<DebugComma
 }
 
 // The command that the values behind a keyword make, as many as it takes.
-#[tactic(auto, unfolding(crate::specs::Lines::made_of))]
-fn made_of(labels: &[Label], keyword: Keyword, values: &[u8]) -> Result<DebugCommand, CommandKind>
-    ensures { result ≡ made_of labels.now keyword (words_of values.now) }
+#[tactic(auto, unfolding(crate::specs::Lines::command_of))]
+fn command_of(
+    labels: &[Label],
+    keyword: Keyword,
+    values: &[u8],
+) -> Result<DebugCommand, CommandKind>
+    ensures { result ≡ command_of labels.now keyword (words_of values.now) }
 {
     match keyword {
         Keyword::Run => return Ok(DebugCommand::Run),
@@ -71,7 +78,7 @@ fn made_of(labels: &[Label], keyword: Keyword, values: &[u8]) -> Result<DebugCom
     }
 }
 
-// The address that a word stands for: four lowercase digits, or `@` and the name of a label.
+// The address that a word represents: four lowercase digits, or `@` and the name of a label.
 #[tactic(auto, unfolding(crate::specs::Lines::address_in))]
 fn address_in(labels: &[Label], word: &[u8]) -> Result<u16, CommandKind>
     ensures { result ≡ address_in labels.now word.now }
@@ -90,7 +97,7 @@ fn address_in(labels: &[Label], word: &[u8]) -> Result<u16, CommandKind>
 
 // The number that four lowercase digits spell.
 fn short_of(word: &[u8]) -> Option<u16>
-    ensures { result ≡ (if is_short_number word.now then Some (number_of word.now) else None) }
+    ensures { result ≡ (if is_short_number word.now then Some (number_of_digits word.now) else None) }
 {
     match word {
         [a, b, c, d] => {

@@ -1,12 +1,12 @@
 //! Reading commands.
 
-ghost use Rattle.debug_commands.specs.Reading.{commands_of_text, Reads};
+ghost use Rattle.debug_commands.specs.Reading.{commands_of_text, ReadsCommands};
 
 use crate::command::{CommandKind, CommandStop, DebugCommand};
-use crate::line::line_of;
-use line_texts::Lines;
+use crate::line::command_line_of;
 use std::alloc::Global;
 use tal_symbols::Label;
+use text_lines::Lines;
 
 /// The greatest length of a text of commands, in bytes.
 const LONGEST: usize = 4_194_304;
@@ -22,7 +22,7 @@ pub fn read_commands(
     text: &[u8],
     labels: &[Label],
 ) -> Result<Vec<DebugCommand>, CommandStop>
-    ensures { Reads result (commands_of_text labels.now text.now) }
+    ensures { ReadsCommands result (commands_of_text labels.now text.now) }
 {
     if text.len() > LONGEST {
         return Err(CommandStop::Refused {
@@ -33,7 +33,7 @@ pub fn read_commands(
     let mut commands = Vec::new(alloc);
     let mut lines = Lines::new(text);
     while let Some(line) = lines.next_line() {
-        match line_of(labels, line) {
+        match command_line_of(labels, line) {
             Ok(Some(_)) if commands.len() == MOST_COMMANDS => {
                 return Err(CommandStop::Refused {
                     line: lines.number(),

@@ -7,7 +7,7 @@ use Rattle.std.proofs.lemmas.Grind.{pow_more}
 use Rattle.std.specs.Prelude.{slice_set}
 use Rattle.uxn_memory.specs.Bytes.{with_bytes}
 use Rattle.file_ports.proofs.MemoryLemmas.{with_last}
-use Rattle.tree_io.specs.NumberText.{hex_digit, hex_of_short}
+use Rattle.uxn_io_traits.specs.NumberText.{hex_digit, hex_of_short}
 use Rattle.file_ports.specs.Signs.{hex_digits}
 
 pub length-hex_digits : (count value : ℕ) → length (hex_digits count value) ≡ count
@@ -41,7 +41,7 @@ below_one n h = omega arith
 above : (n : ℕ) → suc n ≡ 0 → ⊥
 above n e = omega arith
 
--- where nothing is left of a number, or no digit, it is seen whether it fits
+-- where nothing is left of a number, or no digit, it is observed whether it fits
 pub fits-end : (rest left : ℕ) → (0 < rest → 0 < left → ⊥) → (rest == 0) ≡ nat_lt rest (16 ^ left)
 fits-end zero left stop = sym ((Decides-ltb 0 (16 ^ left)).1 (one-le-pow left 16 (omega arith)))
 fits-end (suc rest) zero stop = same_from_decides (suc rest == 0) (nat_lt (suc rest) 1) (Decides-eqb (suc rest) 0)

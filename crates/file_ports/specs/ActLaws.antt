@@ -4,23 +4,23 @@ use Rattle.std.specs.Prelude.{Option, Some, None, Result, Ok, Err, IsTrue, if◌
 use Rattle.std.specs.Option.{option_map}
 use Rattle.std.specs.FinMap as map
 use Rattle.std.proofs.Common.{refl, ap, sym, subst, ◌∙◌}
-use Rattle.tree_io.specs.PathText.{parent_of}
-use Rattle.tree_io.specs.Files.{Nodes, is_folder, is_folder_at}
-use Rattle.tree_io.specs.Outside.{Change, ToOut, ToErr, Creates, ToFile, Removes, changed_files, files_by}
+use Rattle.uxn_io_traits.specs.PathText.{parent_of}
+use Rattle.uxn_io_traits.specs.Files.{Nodes, is_folder, is_folder_at}
+use Rattle.uxn_io_traits.specs.Outside.{Change, ToOut, ToErr, Creates, ToFile, Removes, changed_files, files_by}
 use Rattle.uxn_memory.specs.Bytes.{bank0}
 use Rattle.file_ports.specs.RootPart.{is_in, LiesIn, below, parent_is_folder, path_changed, is_in_part, IsIn, LieIn}
 use Rattle.file_ports.specs.Device.{FileState, idle_at, suits, Suits, is_writing}
-use Rattle.file_ports.specs.Actions.{FileAction, Outcome, Name, Read, Write, Stat, Delete, is_file, begun, adds, quiet, acts}
-use Rattle.file_ports.specs.Actions.{act, seen_in, seen_of, count_from}
-use Rattle.file_ports.specs.Answers.{outcome_of, changes_untold, changes_by, device_left, ActedOrStopped}
+use Rattle.file_ports.specs.Actions.{FileAction, FileOutcome, Name, Read, Write, Stat, Delete, is_file, begun, adds, quiet, acts}
+use Rattle.file_ports.specs.Actions.{act, observed_in, observed_file, count_from}
+use Rattle.file_ports.specs.AnswersAction.{file_outcome_of, changes_unknown, changes_by, device_left, ActedOrStopped}
 use Rattle.file_ports.specs.declared.stop.FileStop.{FileStop}
-use Rattle.tree_io.specs.Ended.{IsOfTree, AreOfTree}
+use Rattle.uxn_io_traits.specs.Ended.{IsOfTree, AreOfTree}
 use Rattle.file_ports.specs.BeneathLaws.{is_in-Decides, parent_outside}
 use Rattle.file_ports.specs.PartLaws.{changed_elsewhere, named-suits, outcome-same}
 
-pub lie-front : (root : Option (List ℕ)) (first more : List Change) → LieIn root (first ++ more) → LieIn root first
-lie-front root [] more lie = tt
-lie-front root (change ∷ first) more lie = (lie.0, lie-front root first more lie.1)
+pub lie-prefix : (root : Option (List ℕ)) (first more : List Change) → LieIn root (first ++ more) → LieIn root first
+lie-prefix root [] more lie = tt
+lie-prefix root (change ∷ first) more lie = (lie.0, lie-prefix root first more lie.1)
 
 in_part : (root : Option (List ℕ)) (path : List ℕ) → IsTrue (suits root (Some path)) → IsTrue (is_in_part root (Some path))
 in_part None path lies = lies
@@ -39,7 +39,7 @@ added_lie root false false true path memory piece lies = (in_part root path lies
 added_lie root false false false path memory piece lies = tt
 
 -- what a delete does, where a file is there or none
-abbrev removes : Bool → List ℕ → List ℕ → Outcome
+abbrev removes : Bool → List ℕ → List ℕ → FileOutcome
 removes there path memory =
     if there then record { success = 1; device = idle_at (Some path); memory = memory; changes = Removes path ∷ [] }
     else quiet 0 (idle_at (Some path)) memory
@@ -62,20 +62,20 @@ removed_at root false path memory lies = lies
 -- an action changes nothing but files in the root part
 at_path : (action : FileAction) (root : Option (List ℕ)) (part : Nodes) (parent : Bool) (device : FileState) (memory : List ℕ)
     (path : Option (List ℕ)) → IsTrue (suits root path)
-    → LieIn root (acts action root device memory (option_map (seen_in root part parent) path)).changes
+    → LieIn root (acts action root device memory (option_map (observed_in root part parent) path)).changes
 at_path (Name at) root part parent device memory path lies = tt
 at_path (Read at length) root part parent device memory None lies = tt
 at_path (Read at length) root part parent device memory (Some path) lies = tt
 at_path (Write at length keep) root part parent device memory None lies = tt
 at_path (Write at length keep) root part parent device memory (Some path) lies =
-    let seen = seen_in root part parent path in
-    added_lie root ((is_writing device.mode || keep) && is_file seen.kind) (is_writing device.mode) seen.can_make path memory
+    let observed = observed_in root part parent path in
+    added_lie root ((is_writing device.mode || keep) && is_file observed.kind) (is_writing device.mode) observed.can_make path memory
     (take (count_from at length) (drop at (bank0 memory))) lies
 at_path (Stat at length) root part parent device memory None lies = tt
 at_path (Stat at length) root part parent device memory (Some path) lies = tt
 at_path Delete root part parent device memory None lies = tt
 at_path Delete root part parent device memory (Some path) lies =
-    removed_lie root (is_file (seen_in root part parent path).kind) path memory lies
+    removed_lie root (is_file (observed_in root part parent path).kind) path memory lies
 
 pub act-lies : (action : FileAction) (root : Option (List ℕ)) (part : Nodes) (parent : Bool) (device : FileState) (memory : List ℕ)
     → Suits root device → LieIn root (act action root part parent device memory).changes
@@ -84,19 +84,19 @@ act-lies action root part parent device memory suits = at_path action root part 
 -- after an action a device suits its root
 kept_at : (action : FileAction) (root : Option (List ℕ)) (part : Nodes) (parent : Bool) (device : FileState) (memory : List ℕ)
     (path : Option (List ℕ)) → device.path ≡ path → IsTrue (suits root path)
-    → Suits root (acts action root device memory (option_map (seen_in root part parent) path)).device
+    → Suits root (acts action root device memory (option_map (observed_in root part parent) path)).device
 kept_at (Name at) root part parent device memory path e lies = named-suits root memory at
 kept_at (Read at length) root part parent device memory None e lies = ap (suits root) e ∙ lies
 kept_at (Read at length) root part parent device memory (Some path) e lies = lies
 kept_at (Write at length keep) root part parent device memory None e lies = ap (suits root) e ∙ lies
 kept_at (Write at length keep) root part parent device memory (Some path) e lies =
-    added_at root (begun (is_writing device.mode) keep (seen_in root part parent path)) path memory
+    added_at root (begun (is_writing device.mode) keep (observed_in root part parent path)) path memory
     (take (count_from at length) (drop at (bank0 memory))) lies
 kept_at (Stat at length) root part parent device memory None e lies = ap (suits root) e ∙ lies
 kept_at (Stat at length) root part parent device memory (Some path) e lies = ap (suits root) e ∙ lies
 kept_at Delete root part parent device memory None e lies = ap (suits root) e ∙ lies
 kept_at Delete root part parent device memory (Some path) e lies =
-    removed_at root (is_file (seen_in root part parent path).kind) path memory lies
+    removed_at root (is_file (observed_in root part parent path).kind) path memory lies
 
 pub act-suits : (action : FileAction) (root : Option (List ℕ)) (part : Nodes) (parent : Bool) (device : FileState) (memory : List ℕ)
     → Suits root device → Suits root (act action root part parent device memory).device
@@ -114,7 +114,7 @@ pub act-nowhere : (action : FileAction) (root : Option (List ℕ)) (part : Nodes
     → device.path ≡ None
     → act action root part parent device memory ≡ acts action root device memory None
 act-nowhere action root part parent device memory e =
-    ap (λ (p : Option (List ℕ)). acts action root device memory (option_map (seen_in root part parent) p)) e
+    ap (λ (p : Option (List ℕ)). acts action root device memory (option_map (observed_in root part parent) p)) e
 
 -- every path outside the root part keeps its node
 stranger_to : (root : Option (List ℕ)) (change : Change) (q : List ℕ) → IsIn root change → suits root (Some q) ≡ false
@@ -163,8 +163,8 @@ of-tree root (change ∷ changes) lie = (one-of-tree root change lie.0, of-tree 
 
 -- so do those of a call
 changes-at : (action : FileAction) (root : Option (List ℕ)) (nodes : Nodes) (device : FileState) (memory : List ℕ)
-    → (acts action None device memory (option_map (seen_of nodes) device.path)).changes
-    ≡ (acts action root device memory (option_map (seen_of nodes) device.path)).changes
+    → (acts action None device memory (option_map (observed_file nodes) device.path)).changes
+    ≡ (acts action root device memory (option_map (observed_file nodes) device.path)).changes
 changes-at (Name at) root nodes device memory = refl
 changes-at (Read at length) root nodes device memory = refl
 changes-at (Write at length keep) root nodes device memory = refl
@@ -172,23 +172,23 @@ changes-at (Stat at length) root nodes device memory = refl
 changes-at Delete root nodes device memory = refl
 
 pub changes-of : (action : FileAction) (root : Option (List ℕ)) (nodes : Nodes) (device : FileState) (memory : List ℕ) → Suits root device
-    → changes_by action (Some nodes) device memory ≡ (outcome_of action root nodes device memory).changes
+    → changes_by action (Some nodes) device memory ≡ (file_outcome_of action root nodes device memory).changes
 changes-of action root nodes device memory suits =
     changes-at action root nodes device memory
-    ∙ ap (λ (outcome : Outcome). outcome.changes) (sym (outcome-same action root nodes device memory suits))
+    ∙ ap (λ (outcome : FileOutcome). outcome.changes) (sym (outcome-same action root nodes device memory suits))
 
-untold-lies : (action : FileAction) (root path : Option (List ℕ)) → IsTrue (suits root path) → LieIn root (changes_untold action path)
-untold-lies (Name at) root path lies = tt
-untold-lies (Read at length) root path lies = tt
-untold-lies (Write at length keep) root None lies = tt
-untold-lies (Write at length keep) root (Some path) lies = (in_part root path lies, tt)
-untold-lies (Stat at length) root path lies = tt
-untold-lies Delete root path lies = tt
+unknown-lies : (action : FileAction) (root path : Option (List ℕ)) → IsTrue (suits root path) → LieIn root (changes_unknown action path)
+unknown-lies (Name at) root path lies = tt
+unknown-lies (Read at length) root path lies = tt
+unknown-lies (Write at length keep) root None lies = tt
+unknown-lies (Write at length keep) root (Some path) lies = (in_part root path lies, tt)
+unknown-lies (Stat at length) root path lies = tt
+unknown-lies Delete root path lies = tt
 
-pub changes-lie : (action : FileAction) (root : Option (List ℕ)) (told : Option Nodes) (device : FileState) (memory : List ℕ)
+pub changes-lie : (action : FileAction) (root : Option (List ℕ)) (contents : Option Nodes) (device : FileState) (memory : List ℕ)
     → Suits root device
-    → LieIn root (changes_by action told device memory)
-changes-lie action root None device memory suits = untold-lies action root device.path suits
+    → LieIn root (changes_by action contents device memory)
+changes-lie action root None device memory suits = unknown-lies action root device.path suits
 changes-lie action root (Some nodes) device memory suits =
     subst (LieIn root) (sym (changes-of action root nodes device memory suits))
     (act-lies action root (below root nodes) (parent_is_folder root nodes) device memory suits)
@@ -210,9 +210,9 @@ left-at (Write at length keep) device = refl
 left-at (Stat at length) device = refl
 left-at Delete device = refl
 
-pub path-kept : (action : FileAction) (device : FileState) (memory : List ℕ) (told : Option Nodes) (result : Result ℕ FileStop)
-    (device_now : FileState) (memory_now : List ℕ) → ActedOrStopped action device memory told result device_now memory_now
+pub path-kept : (action : FileAction) (device : FileState) (memory : List ℕ) (contents : Option Nodes) (result : Result ℕ FileStop)
+    (device_now : FileState) (memory_now : List ℕ) → ActedOrStopped action device memory contents result device_now memory_now
     → device_now.path ≡ device.path
-path-kept action device memory told (Ok success) device_now memory_now acted = acted.path
-path-kept action device memory told (Err stop) device_now memory_now stopped =
+path-kept action device memory contents (Ok success) device_now memory_now acted = acted.path
+path-kept action device memory contents (Err stop) device_now memory_now stopped =
     ap (λ (d : FileState). d.path) stopped.device ∙ left-at action device

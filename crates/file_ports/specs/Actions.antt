@@ -5,13 +5,13 @@ use Rattle.std.specs.Prelude.{Option, Some, None, if◌then◌else◌}
 use Rattle.std.specs.Option.{option_eq, option_map}
 use Rattle.std.specs.Str.{bytes_eq}
 use Rattle.std.specs.FinMap as map
-use Rattle.tree_io.specs.declared.trees.Kind.{Kind}
-use Rattle.tree_io.specs.declared.trees.Kind.TheVariants.{Missing, File, Folder}
-use Rattle.tree_io.specs.declared.trees.Entry.{Entry}
-use Rattle.tree_io.specs.Files.{Nodes, kind_at, bytes_at, is_folder, has_parent}
-use Rattle.tree_io.specs.Children.{children}
-use Rattle.tree_io.specs.Changes.{can_create}
-use Rattle.tree_io.specs.Outside.{Change, Creates, ToFile, Removes}
+use Rattle.uxn_io_traits.specs.declared.trees.Kind.{Kind}
+use Rattle.uxn_io_traits.specs.declared.trees.Kind.TheVariants.{Missing, File, Folder}
+use Rattle.uxn_io_traits.specs.declared.trees.Entry.{Entry}
+use Rattle.uxn_io_traits.specs.Files.{Nodes, kind_at, file_bytes_at, is_folder, has_parent}
+use Rattle.uxn_io_traits.specs.Children.{children}
+use Rattle.uxn_io_traits.specs.Changes.{can_create}
+use Rattle.uxn_io_traits.specs.Outside.{Change, Creates, ToFile, Removes}
 use Rattle.uxn_memory.specs.Bytes.{bank0, with_bytes}
 use Rattle.file_ports.specs.declared.mode.Mode.{Mode}
 use Rattle.file_ports.specs.declared.mode.Mode.TheVariants.{Idle, ReadingFile, ReadingListing, Writing}
@@ -19,7 +19,7 @@ use Rattle.file_ports.specs.Device.{FileState, idle_at, is_writing}
 use Rattle.file_ports.specs.Names.{path_named}
 use Rattle.file_ports.specs.Place.{bytes_on}
 use Rattle.file_ports.specs.Signs.{signs}
-use Rattle.file_ports.specs.Listing.{listing_of}
+use Rattle.file_ports.specs.Listing.{folder_listing}
 
 -- the actions, each with the address, the length and the append bit as far as it has them
 pub data FileAction : Type 0 where
@@ -30,14 +30,14 @@ pub data FileAction : Type 0 where
   Delete : FileAction
 
 -- what an action does: the value of the success port, the device and memory after it, and its changes to the tree
-pub record Outcome : Type 0 where
+pub record FileOutcome : Type 0 where
   pub success : ℕ
   pub device : FileState
   pub memory : List ℕ
   pub changes : List Change
 
 -- what a device sees: its path, what is there, the bytes of a file, what lies in a folder, and whether a file can be made
-pub record Seen : Type 0 where
+pub record Observed : Type 0 where
   pub path : List ℕ
   pub kind : Kind
   pub bytes : List ℕ
@@ -50,52 +50,52 @@ abbrev pub can_make_in : Option (List ℕ) → Nodes → Bool → List ℕ → B
 can_make_in root part parent path =
     (if option_eq bytes_eq root (Some path) then parent else has_parent part path) && not (is_folder (map.get part path))
 
-abbrev pub seen_in : Option (List ℕ) → Nodes → Bool → List ℕ → Seen
-seen_in root part parent path = record {
+abbrev pub observed_in : Option (List ℕ) → Nodes → Bool → List ℕ → Observed
+observed_in root part parent path = record {
   path = path;
   kind = kind_at part path;
-  bytes = bytes_at part path;
+  bytes = file_bytes_at part path;
   entries = children part path;
   can_make = can_make_in root part parent path;
 }
 
 -- what a device sees of a whole tree
-abbrev pub seen_of : Nodes → List ℕ → Seen
-seen_of nodes path = record {
+abbrev pub observed_file : Nodes → List ℕ → Observed
+observed_file nodes path = record {
   path = path;
   kind = kind_at nodes path;
-  bytes = bytes_at nodes path;
+  bytes = file_bytes_at nodes path;
   entries = children nodes path;
   can_make = can_create nodes path;
 }
 
 -- a value of the success port, and no change
-abbrev pub quiet : ℕ → FileState → List ℕ → Outcome
+abbrev pub quiet : ℕ → FileState → List ℕ → FileOutcome
 quiet success device memory = record { success = success; device = device; memory = memory; changes = [] }
 
 -- a device that is not reading first looks at its path
 abbrev pub looked : Kind → List Entry → Mode
 looked Missing entries = Idle
 looked (File size) entries = ReadingFile 0
-looked Folder entries = ReadingListing 0 (listing_of entries)
+looked Folder entries = ReadingListing 0 (folder_listing entries)
 
-abbrev pub reading : Mode → Seen → Mode
-reading Idle seen = looked seen.kind seen.entries
-reading (ReadingFile place) seen = ReadingFile place
-reading (ReadingListing place listing) seen = ReadingListing place listing
-reading Writing seen = looked seen.kind seen.entries
+abbrev pub reading : Mode → Observed → Mode
+reading Idle observed = looked observed.kind observed.entries
+reading (ReadingFile place) observed = ReadingFile place
+reading (ReadingListing place listing) observed = ReadingListing place listing
+reading Writing observed = looked observed.kind observed.entries
 
 -- what a reading device gives; of a path that is no file any more nothing is left
-abbrev pub given : Mode → Seen → ℕ → List ℕ
-given Idle seen count = []
-given (ReadingFile place) seen count = bytes_on seen.bytes place count
-given (ReadingListing place listing) seen count = bytes_on listing place count
-given Writing seen count = []
+abbrev pub given : Mode → Observed → ℕ → List ℕ
+given Idle observed count = []
+given (ReadingFile place) observed count = bytes_on observed.bytes place count
+given (ReadingListing place listing) observed count = bytes_on listing place count
+given Writing observed count = []
 
 -- what a read gives, so many bytes at most
-abbrev pub piece_read : ℕ → FileState → Option Seen → List ℕ
+abbrev pub piece_read : ℕ → FileState → Option Observed → List ℕ
 piece_read count device None = []
-piece_read count device (Some seen) = given (reading device.mode seen) seen count
+piece_read count device (Some observed) = given (reading device.mode observed) observed count
 
 -- the place moves by their number
 abbrev pub moved : Mode → ℕ → Mode
@@ -105,7 +105,7 @@ moved (ReadingListing place listing) count = ReadingListing (place + count) list
 moved Writing count = Writing
 
 -- a read puts the bytes in memory, and tells how many
-abbrev pub puts : List ℕ → ℕ → List ℕ → Mode → List ℕ → Outcome
+abbrev pub puts : List ℕ → ℕ → List ℕ → Mode → List ℕ → FileOutcome
 puts path at memory mode piece = record {
   success = length piece;
   device = record { path = Some path; mode = moved mode (length piece) };
@@ -113,10 +113,10 @@ puts path at memory mode piece = record {
   changes = [];
 }
 
-abbrev pub reads : ℕ → ℕ → FileState → List ℕ → Option Seen → Outcome
+abbrev pub reads : ℕ → ℕ → FileState → List ℕ → Option Observed → FileOutcome
 reads at count device memory None = quiet 0 device memory
-reads at count device memory (Some seen) =
-    let mode = reading device.mode seen in puts seen.path at memory mode (given mode seen count)
+reads at count device memory (Some observed) =
+    let mode = reading device.mode observed in puts observed.path at memory mode (given mode observed count)
 
 -- a file is there
 abbrev pub is_file : Kind → Bool
@@ -126,14 +126,14 @@ is_file Folder = false
 
 -- a writing device goes on with its file, and one that keeps its file with the one that is there; else the file is made empty
 -- first. What is done to begin, if it can begin
-abbrev pub begun : Bool → Bool → Seen → Option (List Change)
-begun goes_on keep seen =
-    if (goes_on || keep) && is_file seen.kind then Some []
-    else if not goes_on && seen.can_make then Some (Creates seen.path ∷ [])
+abbrev pub begun : Bool → Bool → Observed → Option (List Change)
+begun goes_on keep observed =
+    if (goes_on || keep) && is_file observed.kind then Some []
+    else if not goes_on && observed.can_make then Some (Creates observed.path ∷ [])
     else None
 
 -- bytes of memory are added to the file, where a write can begin
-abbrev pub adds : List ℕ → List ℕ → List ℕ → Option (List Change) → Outcome
+abbrev pub adds : List ℕ → List ℕ → List ℕ → Option (List Change) → FileOutcome
 adds path memory piece None = quiet 0 (idle_at (Some path)) memory
 adds path memory piece (Some first) = record {
   success = length piece;
@@ -142,10 +142,10 @@ adds path memory piece (Some first) = record {
   changes = first ++ list_map (λ byte. ToFile path byte) piece;
 }
 
-abbrev pub writes : ℕ → ℕ → Bool → FileState → List ℕ → Option Seen → Outcome
+abbrev pub writes : ℕ → ℕ → Bool → FileState → List ℕ → Option Observed → FileOutcome
 writes at count keep device memory None = quiet 0 device memory
-writes at count keep device memory (Some seen) =
-    adds seen.path memory (take count (drop at (bank0 memory))) (begun (is_writing device.mode) keep seen)
+writes at count keep device memory (Some observed) =
+    adds observed.path memory (take count (drop at (bank0 memory))) (begun (is_writing device.mode) keep observed)
 
 -- a stat puts signs in memory, and tells their number where something is there (profile); the device goes on as before
 abbrev pub stat_success : Kind → ℕ → ℕ
@@ -153,34 +153,34 @@ stat_success Missing count = 0
 stat_success (File size) count = count
 stat_success Folder count = count
 
-abbrev pub stats : ℕ → ℕ → FileState → List ℕ → Option Seen → Outcome
+abbrev pub stats : ℕ → ℕ → FileState → List ℕ → Option Observed → FileOutcome
 stats at count device memory None = quiet 0 device (with_bytes memory at (signs count Missing))
-stats at count device memory (Some seen) =
-    quiet (stat_success seen.kind count) device (with_bytes memory at (signs count seen.kind))
+stats at count device memory (Some observed) =
+    quiet (stat_success observed.kind count) device (with_bytes memory at (signs count observed.kind))
 
 -- a delete takes a file away, and tells 1 where one was there (profile)
-abbrev pub deletes : FileState → List ℕ → Option Seen → Outcome
+abbrev pub deletes : FileState → List ℕ → Option Observed → FileOutcome
 deletes device memory None = quiet 0 device memory
-deletes device memory (Some seen) =
-    if is_file seen.kind then record {
+deletes device memory (Some observed) =
+    if is_file observed.kind then record {
       success = 1;
-      device = idle_at (Some seen.path);
+      device = idle_at (Some observed.path);
       memory = memory;
-      changes = Removes seen.path ∷ [];
-    } else quiet 0 (idle_at (Some seen.path)) memory
+      changes = Removes observed.path ∷ [];
+    } else quiet 0 (idle_at (Some observed.path)) memory
 
 -- so many bytes are meant: none past ffff
 abbrev pub count_from : ℕ → ℕ → ℕ
 count_from at length = min length (65536 - at)
 
 -- what an action does by what the device sees, if it sees anything
-abbrev pub acts : FileAction → Option (List ℕ) → FileState → List ℕ → Option Seen → Outcome
-acts (Name at) root device memory seen = quiet 0 (idle_at (path_named root memory at)) memory
-acts (Read at length) root device memory seen = reads at (count_from at length) device memory seen
-acts (Write at length keep) root device memory seen = writes at (count_from at length) keep device memory seen
-acts (Stat at length) root device memory seen = stats at (count_from at length) device memory seen
-acts Delete root device memory seen = deletes device memory seen
+abbrev pub acts : FileAction → Option (List ℕ) → FileState → List ℕ → Option Observed → FileOutcome
+acts (Name at) root device memory observed = quiet 0 (idle_at (path_named root memory at)) memory
+acts (Read at length) root device memory observed = reads at (count_from at length) device memory observed
+acts (Write at length keep) root device memory observed = writes at (count_from at length) keep device memory observed
+acts (Stat at length) root device memory observed = stats at (count_from at length) device memory observed
+acts Delete root device memory observed = deletes device memory observed
 
 -- what an action does, by the root part of a tree and by whether the root's parent is a folder
-abbrev pub act : FileAction → Option (List ℕ) → Nodes → Bool → FileState → List ℕ → Outcome
-act action root part parent device memory = acts action root device memory (option_map (seen_in root part parent) device.path)
+abbrev pub act : FileAction → Option (List ℕ) → Nodes → Bool → FileState → List ℕ → FileOutcome
+act action root part parent device memory = acts action root device memory (option_map (observed_in root part parent) device.path)

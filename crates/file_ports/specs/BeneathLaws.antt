@@ -11,8 +11,8 @@ use Rattle.std.proofs.lemmas.List.{length-append, append-nil}
 use Rattle.std.proofs.lemmas.List.Splits.{join_with_byte-slice_split}
 use Rattle.std.proofs.lemmas.Slice.Eq.{bytes_eq-Decides}
 use Rattle.std.proofs.Math.Seq.{take-append-add}
-use Rattle.tree_io.specs.PathText.{components, is_under, joined, parent_from, parent_of, ContinuesAfter}
-use Rattle.tree_io.specs.PathLaws.{length-components, components-append, join-append, is_under-Decides, joined_after, parent_before}
+use Rattle.uxn_io_traits.specs.PathText.{components, is_under, joined, parent_from, parent_of, ContinuesAfter}
+use Rattle.uxn_io_traits.specs.PathLaws.{length-components, components-append, join-append, is_under-Decides, joined_after, parent_before}
 use Rattle.file_ports.specs.RootPart.{is_in, LiesIn}
 
 pub is_in-Decides : (root path : List ℕ) → Decides (is_in root path) (LiesIn root path)
@@ -33,14 +33,14 @@ in_deeper root folder path (inr deep) more =
     inr (deep.0 ++ 47 ∷ more.0, more.1 ∙ ap (λ (z : List ℕ). z ++ 47 ∷ more.0) deep.1 ∙ append_assoc root (47 ∷ deep.0) (47 ∷ more.0))
 
 -- the parent of a path beneath the root lies in it
-front_in : (xs ys : List (List ℕ)) → 0 < length xs → 0 < length ys
+prefix_in : (xs ys : List (List ℕ)) → 0 < length xs → 0 < length ys
     → LiesIn (join_with_byte 47 xs) (join_with_byte 47 (xs ++ take (length ys - 1) ys))
-front_in xs [] some more = absurd (omega (arith, more))
-front_in xs (y ∷ []) some more = inl (ap (join_with_byte 47) (append-nil xs))
-front_in xs (y ∷ z ∷ ys) some more =
+prefix_in xs [] some more = absurd (omega (arith, more))
+prefix_in xs (y ∷ []) some more = inl (ap (join_with_byte 47) (append-nil xs))
+prefix_in xs (y ∷ z ∷ ys) some more =
     let k : suc (suc (length ys)) - 1 ≡ suc (length ys) = omega arith in
-    let front : List (List ℕ) = y ∷ take (length ys) (z ∷ ys) in
-    inr (join_with_byte 47 front, ap (λ (n : ℕ). join_with_byte 47 (xs ++ take n (y ∷ z ∷ ys))) k ∙ join-append xs front some (omega arith))
+    let prefix : List (List ℕ) = y ∷ take (length ys) (z ∷ ys) in
+    inr (join_with_byte 47 prefix, ap (λ (n : ℕ). join_with_byte 47 (xs ++ take n (y ∷ z ∷ ys))) k ∙ join-append xs prefix some (omega arith))
 
 names_in : (xs ys : List (List ℕ)) → 0 < length xs → 0 < length ys
     → parent_from (xs ++ ys) ≡ Some (join_with_byte 47 (xs ++ take (length ys - 1) ys))
@@ -61,7 +61,7 @@ parent_in root path more =
     let P : List ℕ → Type 0 = λ r. LiesIn r (join_with_byte 47 (xs ++ take (length ys - 1) ys)) in (
       join_with_byte 47 (xs ++ take (length ys - 1) ys),
       ap parent_from names ∙ names_in xs ys (length-components root) (length-components more.0),
-      subst P (join_with_byte-slice_split 47 root) (front_in xs ys (length-components root) (length-components more.0)),
+      subst P (join_with_byte-slice_split 47 root) (prefix_in xs ys (length-components root) (length-components more.0)),
     )
 
 -- the root's own parent does not

@@ -5,7 +5,7 @@ pub mod Signs
 pub mod Listing
 pub mod Place
 pub mod Actions
-pub mod Answers
+pub mod AnswersAction
 pub mod BeneathLaws
 pub mod PartLaws
 pub mod ActLaws

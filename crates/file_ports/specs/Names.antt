@@ -3,7 +3,7 @@ use Rattle.std.specs.Prelude.{ℕ, ◌==◌, List, ◌++◌, take, drop, codes, 
 use Rattle.std.specs.Option.{option_map, option_and_then}
 use Rattle.std.specs.Result.{result_ok}
 use Rattle.std.specs.Str.{bytes_eq}
-use Rattle.tree_io.specs.PathText.{path_of, joined}
+use Rattle.uxn_io_traits.specs.PathText.{path_of, joined}
 use Rattle.uxn_memory.specs.Bytes.{bank0}
 
 -- the 256 bytes of bank 0 from an address on; addresses wrap

@@ -4,11 +4,11 @@ use Rattle.std.specs.Str.{bytes_eq}
 use Rattle.std.specs.FinMap as map
 use Rattle.std.proofs.Common.{refl, ap, sym, ◌∙◌}
 use Rattle.std.proofs.lemmas.Slice.Eq.{bytes_eq-Decides}
-use Rattle.tree_io.specs.PathText.{parent_of}
-use Rattle.tree_io.specs.Files.{Node, File, Folder, Nodes, bytes_of, bytes_at, file_at, is_folder, is_folder_at}
-use Rattle.tree_io.specs.Changes.{with_appended}
-use Rattle.tree_io.specs.NodeLaws.{get_put, put_elsewhere}
-use Rattle.tree_io.specs.Outside.{Change, files_by}
+use Rattle.uxn_io_traits.specs.PathText.{parent_of}
+use Rattle.uxn_io_traits.specs.Files.{Node, File, Folder, Nodes, bytes_of, file_bytes_at, file_at, is_folder, is_folder_at}
+use Rattle.uxn_io_traits.specs.Changes.{with_appended}
+use Rattle.uxn_io_traits.specs.NodeLaws.{get_put, put_elsewhere}
+use Rattle.uxn_io_traits.specs.Outside.{Change, files_by}
 use Rattle.file_ports.specs.RootPart.{is_in, below, parent_is_folder, path_changed, is_in_part, LieIn, IsElsewhere, AreElsewhere}
 use Rattle.file_ports.specs.Device.{suits}
 use Rattle.file_ports.specs.PartLaws.{below-same}
@@ -46,7 +46,7 @@ still-there root path changes nodes lie out there = ap is_some (file-kept root p
 appended_elsewhere : (nodes : Nodes) (path text q : List ℕ) → (q ≡ path → ⊥)
     → map.get (with_appended path text nodes) q ≡ map.get nodes q
 appended_elsewhere nodes path [] q other = refl
-appended_elsewhere nodes path (byte ∷ text) q other = put_elsewhere nodes path q (File (bytes_at nodes path ++ byte ∷ text)) other
+appended_elsewhere nodes path (byte ∷ text) q other = put_elsewhere nodes path q (File (file_bytes_at nodes path ++ byte ∷ text)) other
 
 -- so outside the root part they leave it as it was
 pub below-appended : (root : Option (List ℕ)) (path text : List ℕ) (nodes : Nodes) → suits root (Some path) ≡ false
@@ -68,7 +68,7 @@ folder_appended same path [] q nodes e file = refl
 folder_appended true path (byte ∷ text) q nodes e file =
     let at = (bytes_eq-Decides q path).0 e in
     ap (λ (p : List ℕ). is_folder (map.get (with_appended path (byte ∷ text) nodes) p)) at
-    ∙ ap is_folder (get_put nodes path (File (bytes_at nodes path ++ byte ∷ text)))
+    ∙ ap is_folder (get_put nodes path (File (file_bytes_at nodes path ++ byte ∷ text)))
     ∙ sym (no_folder (map.get nodes path) file)
     ∙ ap (λ (p : List ℕ). is_folder (map.get nodes p)) (sym at)
 folder_appended false path (byte ∷ text) q nodes e file =

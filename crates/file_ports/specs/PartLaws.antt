@@ -1,4 +1,4 @@
--- Laws of the root part: what is seen in it is what is seen in the whole tree, and changes in it are changes of it.
+-- Laws of the root part: what is observed in it is what is observed in the whole tree, and changes in it are changes of it.
 use Rattle.std.specs.Prelude.{◌≡◌, ℕ, Bool, true, false, not, ◌&&◌, List, [], ◌∷◌, ◌++◌, Option, Some, None, IsTrue, codes}
 use Rattle.std.specs.Prelude.{map as list_map, if◌then◌else◌}
 use Rattle.std.specs.List.{filter_map, cons_option}
@@ -11,20 +11,20 @@ use Rattle.std.specs.FinMap as map
 use Rattle.std.specs.FinMap.Entries.{where_key, is_sorted-where_key, find-where_key}
 use Rattle.std.proofs.Common.{cond, refl, ap, sym, ◌∙◌, inl, inr}
 use Rattle.std.proofs.lemmas.Slice.Eq.{bytes_eq-Decides}
-use Rattle.tree_io.specs.PathText.{path_of, joined, parent_of, child_name}
-use Rattle.tree_io.specs.Files.{Node, File, Nodes, bytes_of, bytes_at, kind_of, is_folder, is_folder_at, has_parent}
-use Rattle.tree_io.specs.Changes.{can_create, with_appended}
-use Rattle.tree_io.specs.AppendingLaws.{appended_both}
-use Rattle.tree_io.specs.Children.{children, entry_in}
-use Rattle.tree_io.specs.Outside.{Change, ToOut, ToErr, Creates, ToFile, Removes, changed_files, files_by}
-use Rattle.tree_io.specs.NodeLaws.{tied_path, same_path, same_nodes, put_elsewhere, taken_elsewhere}
+use Rattle.uxn_io_traits.specs.PathText.{path_of, joined, parent_of, child_name}
+use Rattle.uxn_io_traits.specs.Files.{Node, File, Nodes, bytes_of, file_bytes_at, kind_of, is_folder, is_folder_at, has_parent}
+use Rattle.uxn_io_traits.specs.Changes.{can_create, with_appended}
+use Rattle.uxn_io_traits.specs.AppendingLaws.{appended_both}
+use Rattle.uxn_io_traits.specs.Children.{children, entry_in}
+use Rattle.uxn_io_traits.specs.Outside.{Change, ToOut, ToErr, Creates, ToFile, Removes, changed_files, files_by}
+use Rattle.uxn_io_traits.specs.NodeLaws.{tied_path, same_path, same_nodes, put_elsewhere, taken_elsewhere}
 use Rattle.file_ports.specs.RootPart.{is_in, LiesIn, below, parent_is_folder, path_changed, IsIn, LieIn}
 use Rattle.file_ports.specs.Device.{FileState, idle_at, suits, Suits}
 use Rattle.file_ports.specs.Names.{bytes_around, before_zero, named_in, path_named}
-use Rattle.file_ports.specs.Actions.{FileAction, Seen, can_make_in, seen_in, seen_of, acts}
-use Rattle.file_ports.specs.Answers.{outcome_of}
+use Rattle.file_ports.specs.Actions.{FileAction, Observed, can_make_in, observed_in, observed_file, acts}
+use Rattle.file_ports.specs.AnswersAction.{file_outcome_of}
 use Rattle.file_ports.specs.BeneathLaws.{is_in-Decides, root_in, joined_in, in_deeper, parent_in}
-use Rattle.tree_io.specs.PathLaws.{parent_before}
+use Rattle.uxn_io_traits.specs.PathLaws.{parent_before}
 
 -- the node at a path of the root part, and at any other
 get-below : (root : List ℕ) (nodes : Nodes) (q : List ℕ) → map.get (below (Some root) nodes) q ≡ cond (is_in root q) (map.get nodes q) None
@@ -100,11 +100,11 @@ children_in root folder nodes in_root =
     ap (filter_map (entry_in folder)) (entries-below root nodes) ∙ unlisted root folder (map.entries nodes) in_root
 
 -- whether a file can be made at a path of the root part
-parent_seen : (same : Bool) (root path : List ℕ) (nodes : Nodes) → bytes_eq root path ≡ same → LiesIn root path
+parent_observed : (same : Bool) (root path : List ℕ) (nodes : Nodes) → bytes_eq root path ≡ same → LiesIn root path
     → (if same then has_parent nodes root else has_parent (below (Some root) nodes) path) ≡ has_parent nodes path
-parent_seen true root path nodes e in_root = ap (has_parent nodes) ((bytes_eq-Decides root path).0 e)
-parent_seen false root path nodes e (inl same) = let no : true ≡ false = sym ((bytes_eq-Decides root path).1 (sym same)) ∙ e in cc
-parent_seen false root path nodes e (inr deep) =
+parent_observed true root path nodes e in_root = ap (has_parent nodes) ((bytes_eq-Decides root path).0 e)
+parent_observed false root path nodes e (inl same) = let no : true ≡ false = sym ((bytes_eq-Decides root path).1 (sym same)) ∙ e in cc
+parent_observed false root path nodes e (inr deep) =
     let up = parent_in root path deep in
     ap (is_folder_at (below (Some root) nodes)) up.1
     ∙ ap is_folder (get_in root nodes up.0 ((is_in-Decides root up.0).1 up.2))
@@ -113,13 +113,13 @@ parent_seen false root path nodes e (inr deep) =
 can_make_same : (root path : List ℕ) (nodes : Nodes) → is_in root path ≡ true
     → can_make_in (Some root) (below (Some root) nodes) (has_parent nodes root) path ≡ can_create nodes path
 can_make_same root path nodes in_root = λ i.
-    parent_seen (bytes_eq root path) root path nodes refl ((is_in-Decides root path).0 in_root) i
+    parent_observed (bytes_eq root path) root path nodes refl ((is_in-Decides root path).0 in_root) i
     && not (is_folder (get_in root nodes path in_root i))
 
 -- what a device sees in the root part
-pub seen-same : (root path : List ℕ) (nodes : Nodes) → is_in root path ≡ true
-    → seen_in (Some root) (below (Some root) nodes) (has_parent nodes root) path ≡ seen_of nodes path
-seen-same root path nodes in_root = λ i. record {
+pub observed-same : (root path : List ℕ) (nodes : Nodes) → is_in root path ≡ true
+    → observed_in (Some root) (below (Some root) nodes) (has_parent nodes root) path ≡ observed_file nodes path
+observed-same root path nodes in_root = λ i. record {
   path = path;
   kind = kind_of (get_in root nodes path in_root i);
   bytes = unwrap_or (bytes_of (get_in root nodes path in_root i)) [];
@@ -128,15 +128,15 @@ seen-same root path nodes in_root = λ i. record {
 }
 
 -- an action sees nothing of a tree but its root part, and whether the root's parent is a folder
-seen_by : (root path : Option (List ℕ)) (nodes : Nodes) → IsTrue (suits root path)
-    → option_map (seen_in root (below root nodes) (parent_is_folder root nodes)) path ≡ option_map (seen_of nodes) path
-seen_by root None nodes suits = refl
-seen_by None (Some path) nodes suits = cc
-seen_by (Some root) (Some path) nodes suits = ap (λ (s : Seen). Some s) (seen-same root path nodes suits)
+observed_by : (root path : Option (List ℕ)) (nodes : Nodes) → IsTrue (suits root path)
+    → option_map (observed_in root (below root nodes) (parent_is_folder root nodes)) path ≡ option_map (observed_file nodes) path
+observed_by root None nodes suits = refl
+observed_by None (Some path) nodes suits = cc
+observed_by (Some root) (Some path) nodes suits = ap (λ (s : Observed). Some s) (observed-same root path nodes suits)
 
 pub outcome-same : (action : FileAction) (root : Option (List ℕ)) (nodes : Nodes) (device : FileState) (memory : List ℕ) → Suits root device
-    → outcome_of action root nodes device memory ≡ acts action root device memory (option_map (seen_of nodes) device.path)
-outcome-same action root nodes device memory suits = ap (acts action root device memory) (seen_by root device.path nodes suits)
+    → file_outcome_of action root nodes device memory ≡ acts action root device memory (option_map (observed_file nodes) device.path)
+outcome-same action root nodes device memory suits = ap (acts action root device memory) (observed_by root device.path nodes suits)
 
 -- a node put in the root part is put in the tree
 either_first : (p q : Bool) (x : Node) (o : Option Node) → (q ≡ true → p ≡ true)
@@ -188,7 +188,7 @@ below-change root (ToOut byte) nodes lies = refl
 below-change root (ToErr byte) nodes lies = refl
 below-change root (Creates path) nodes lies = below-insert root path nodes (File []) lies
 below-change root (ToFile path byte) nodes lies =
-    below-insert root path nodes (File (bytes_at nodes path ++ byte ∷ [])) lies
+    below-insert root path nodes (File (file_bytes_at nodes path ++ byte ∷ [])) lies
     ∙ ap (λ (o : Option Node). map.insert (below (Some root) nodes) path (File (unwrap_or (bytes_of o) [] ++ byte ∷ [])))
     (sym (get_in root nodes path lies))
 below-change root (Removes path) nodes lies = below-remove root path nodes

@@ -2,9 +2,9 @@
 use Rattle.std.specs.Prelude.{◌≡◌, ℕ, ◌⊎◌, Bool, false, IsTrue, ⊤, ◌||◌, List, [], ◌∷◌, Option, Some, None}
 use Rattle.std.specs.Str.{bytes_eq}
 use Rattle.std.specs.FinMap as map
-use Rattle.tree_io.specs.PathText.{is_under, ContinuesAfter}
-use Rattle.tree_io.specs.Files.{Nodes, has_parent}
-use Rattle.tree_io.specs.Outside.{Change, ToOut, ToErr, Creates, ToFile, Removes}
+use Rattle.uxn_io_traits.specs.PathText.{is_under, ContinuesAfter}
+use Rattle.uxn_io_traits.specs.Files.{Nodes, has_parent}
+use Rattle.uxn_io_traits.specs.Outside.{Change, ToOut, ToErr, Creates, ToFile, Removes}
 
 -- the root's own path, or one beneath it
 unfoldable pub is_in : List ℕ → List ℕ → Bool

@@ -1,8 +1,8 @@
 -- What a stat shows of a path (Varvara device reference: File/stat).
 use Rattle.std.specs.Prelude.{ℕ, zero, suc, ◌/◌, ◌%◌, ◌^◌, nat_lt, List, [], ◌∷◌, ◌++◌, replicate, if◌then◌else◌}
-use Rattle.tree_io.specs.NumberText.{hex_digit}
-use Rattle.tree_io.specs.declared.trees.Kind.{Kind}
-use Rattle.tree_io.specs.declared.trees.Kind.TheVariants.{Missing, File, Folder}
+use Rattle.uxn_io_traits.specs.NumberText.{hex_digit}
+use Rattle.uxn_io_traits.specs.declared.trees.Kind.{Kind}
+use Rattle.uxn_io_traits.specs.declared.trees.Kind.TheVariants.{Missing, File, Folder}
 
 -- a number in so many hexadecimal digits, with zeros before it
 unfoldable pub hex_digits : ℕ → ℕ → List ℕ

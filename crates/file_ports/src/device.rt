@@ -1,11 +1,11 @@
 //! A file device.
 ghost use Rattle.std.specs.Prelude.{◌≡◌, ℕ, ◌+◌, ◌≤◌, List, None};
 ghost use Rattle.std.specs.Option.{option_copied};
-ghost use Rattle.tree_io.specs.Ended.{TreeEnded, TreeLooked, RefusedOnce};
+ghost use Rattle.uxn_io_traits.specs.Ended.{TreeEnded, TreeLooked, RefusedOnce};
 ghost use Rattle.file_ports.specs.Device.{idle_at, Suits};
 ghost use Rattle.file_ports.specs.Names.{path_named};
 ghost use Rattle.file_ports.specs.Actions.{Read, Write, Stat, Delete, count_from};
-ghost use Rattle.file_ports.specs.Answers.{changes_by, ActedOrStopped, has_failed};
+ghost use Rattle.file_ports.specs.AnswersAction.{changes_by, ActedOrStopped, has_failed};
 
 use crate::mode::Mode;
 use crate::names::path_named;
@@ -16,7 +16,7 @@ use crate::writing::add;
 use std::alloc::Global;
 use std::marker::Model;
 use std::mem;
-use tree_io::{Kind, Path, Tree};
+use uxn_io_traits::{Kind, Path, Tree};
 use uxn_memory::Memory;
 
 /// A file device: the path that was named, if there is one, and what it is doing.
@@ -75,7 +75,7 @@ impl FileDevice {
         length: u16,
     ) -> Result<u16, FileStop>
         ensures tree { TreeLooked (has_failed result) (T.state tree.old) (T.state tree.new) }
-        ensures acted { ActedOrStopped (Read at length) self.old memory.old (T.state tree.old).told result self.new memory.new }
+        ensures acted { ActedOrStopped (Read at length) self.old memory.old (T.state tree.old).contents result self.new memory.new }
         ensures untouched { self.old.path ≡ None → tree.new ≡ tree.old }
     {
         match self.path {
@@ -100,10 +100,10 @@ impl FileDevice {
         length: u16,
         keep: bool,
     ) -> Result<u16, FileStop>
-        ensures tree { TreeEnded (changes_by (Write at length keep) (T.state tree.old).told self.old memory.now) (has_failed result)
+        ensures tree { TreeEnded (changes_by (Write at length keep) (T.state tree.old).contents self.old memory.now) (has_failed result)
             (T.state tree.old) (T.state tree.new) }
         ensures refused { RefusedOnce (T.state tree.old) (T.state tree.new) }
-        ensures acted { ActedOrStopped (Write at length keep) self.old memory.now (T.state tree.old).told result self.new memory.now }
+        ensures acted { ActedOrStopped (Write at length keep) self.old memory.now (T.state tree.old).contents result self.new memory.now }
         ensures untouched { self.old.path ≡ None → tree.new ≡ tree.old }
     {
         match self.path {
@@ -130,7 +130,7 @@ impl FileDevice {
         length: u16,
     ) -> Result<u16, FileStop>
         ensures tree { TreeLooked (has_failed result) (T.state tree.old) (T.state tree.new) }
-        ensures acted { ActedOrStopped (Stat at length) self.old memory.old (T.state tree.old).told result self.new memory.new }
+        ensures acted { ActedOrStopped (Stat at length) self.old memory.old (T.state tree.old).contents result self.new memory.new }
         ensures untouched { self.old.path ≡ None → tree.new ≡ tree.old }
         ensures device { self.new ≡ self.old }
     {
@@ -144,9 +144,9 @@ impl FileDevice {
 
     /// Takes the file away, and answers 1, or 0 where none is there. The device does nothing then.
     pub fn delete<T: Tree>(&mut self, tree: &mut T) -> Result<u16, FileStop>
-        ensures tree { (memory : List ℕ) → TreeEnded (changes_by Delete (T.state tree.old).told self.old memory) (has_failed result)
+        ensures tree { (memory : List ℕ) → TreeEnded (changes_by Delete (T.state tree.old).contents self.old memory) (has_failed result)
             (T.state tree.old) (T.state tree.new) }
-        ensures acted { (memory : List ℕ) → ActedOrStopped Delete self.old memory (T.state tree.old).told result self.new memory }
+        ensures acted { (memory : List ℕ) → ActedOrStopped Delete self.old memory (T.state tree.old).contents result self.new memory }
         ensures untouched { self.old.path ≡ None → tree.new ≡ tree.old }
     {
         match self.path {

@@ -2,19 +2,19 @@
 ghost use Rattle.std.specs.Prelude.{◌≡◌, ℕ, Bool, false, List, Option, Some};
 ghost use Rattle.std.specs.Option.{option_map};
 ghost use Rattle.std.specs.FinMap as map;
-ghost use Rattle.tree_io.specs.Files.{Nodes};
-ghost use Rattle.tree_io.specs.Outside.{Change, files_by};
+ghost use Rattle.uxn_io_traits.specs.Files.{Nodes};
+ghost use Rattle.uxn_io_traits.specs.Outside.{Change, files_by};
 ghost use Rattle.file_ports.specs.RootPart.{below, parent_is_folder, LieIn};
 ghost use Rattle.file_ports.specs.Device.{FileState, suits, Suits};
-ghost use Rattle.file_ports.specs.Actions.{FileAction, act, acts, seen_of};
-ghost use Rattle.file_ports.specs.Answers.{outcome_of};
+ghost use Rattle.file_ports.specs.Actions.{FileAction, act, acts, observed_file};
+ghost use Rattle.file_ports.specs.AnswersAction.{file_outcome_of};
 
 /// Of a whole tree an action of a device that suits its root sees the root part alone. It changes files in the root part
 /// alone, and leaves a device that suits the root. Such changes change the root part as they change the whole tree; the
 /// root's parent stays what it is, and so does the node at every other path.
 pub fn actions_keep_to_the_root()
-    ensures seen { (action : FileAction) (root : Option (List ℕ)) (nodes : Nodes) (device : FileState) (memory : List ℕ) → Suits root device
-        → outcome_of action root nodes device memory ≡ acts action root device memory (option_map (seen_of nodes) device.path) }
+    ensures observed { (action : FileAction) (root : Option (List ℕ)) (nodes : Nodes) (device : FileState) (memory : List ℕ) → Suits root device
+        → file_outcome_of action root nodes device memory ≡ acts action root device memory (option_map (observed_file nodes) device.path) }
     ensures changes { (action : FileAction) (root : Option (List ℕ)) (part : Nodes) (parent : Bool) (device : FileState) (memory : List ℕ)
         → Suits root device → LieIn root (act action root part parent device memory).changes }
     ensures suits { (action : FileAction) (root : Option (List ℕ)) (part : Nodes) (parent : Bool) (device : FileState) (memory : List ℕ)

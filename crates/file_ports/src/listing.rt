@@ -1,11 +1,11 @@
 //! The text that is read of a folder.
 ghost use Rattle.std.specs.Prelude.{◌≡◌, ◌++◌, IfOk};
-ghost use Rattle.file_ports.specs.Listing.{line_of, listing_of};
+ghost use Rattle.file_ports.specs.Listing.{listing_line, folder_listing};
 
 use crate::signs::four_signs;
 use std::alloc::{AllocError, Global};
 use std::marker::Model;
-use tree_io::{Entry, Kind};
+use uxn_io_traits::{Entry, Kind};
 
 /// A folder's listing.
 #[derive(Drop)]
@@ -22,9 +22,9 @@ impl Model for Listing {
 }
 
 impl Listing {
-    /// The listing of these children. Errors with want of memory.
+    /// The listing of these children. Errors when out of memory.
     pub(crate) fn of(alloc: Global, entries: &[Entry]) -> Result<Listing, AllocError>
-        ensures { IfOk result (λ listing. listing ≡ listing_of entries.now) }
+        ensures { IfOk result (λ listing. listing ≡ folder_listing entries.now) }
     {
         let mut text = Vec::new(alloc);
         for entry in entries {
@@ -43,7 +43,7 @@ impl Listing {
 
 /// Puts the line of a child: four signs, a space, its name, a slash where it is a folder, and a newline.
 fn put_line(text: &mut Vec<u8>, entry: &Entry) -> Result<(), AllocError>
-    ensures { IfOk result (λ _. text.new.items ≡ text.old.items ++ line_of entry.now) }
+    ensures { IfOk result (λ _. text.new.items ≡ text.old.items ++ listing_line entry.now) }
 {
     text.extend_from_slice(&four_signs(entry.kind))?;
     text.push(b' ')?;

@@ -3,7 +3,7 @@ ghost use Rattle.std.specs.Prelude.{◌≡◌, ◌+◌, ◌++◌, length};
 ghost use Rattle.std.specs.Option.{option_copied};
 ghost use Rattle.file_ports.specs.Names.{bytes_around, before_zero, named_in, path_named};
 
-use tree_io::Path;
+use uxn_io_traits::Path;
 use uxn_memory::Memory;
 
 /// The first bytes and the rest, which are 256 together.

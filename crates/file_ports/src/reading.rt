@@ -1,20 +1,20 @@
 //! Reads: of a file, and of a folder's listing.
 ghost use Rattle.std.specs.Prelude.{◌≡◌, ℕ, ◌+◌, ◌-◌, ◌^◌, ◌<◌, ◌≤◌, false, take, drop, IfOk, IfSome, OnErr, Err, is_err, min};
 ghost use Rattle.std.specs.Option.{option_map};
-ghost use Rattle.tree_io.specs.Files.{bytes_from, kind_at};
-ghost use Rattle.tree_io.specs.Children.{children};
-ghost use Rattle.tree_io.specs.Ended.{TreeLooked};
+ghost use Rattle.uxn_io_traits.specs.Files.{file_bytes_from, kind_at};
+ghost use Rattle.uxn_io_traits.specs.Children.{children};
+ghost use Rattle.uxn_io_traits.specs.Ended.{TreeLooked};
 ghost use Rattle.file_ports.specs.Device.{is_reading};
-ghost use Rattle.file_ports.specs.Listing.{listing_of};
+ghost use Rattle.file_ports.specs.Listing.{folder_listing};
 ghost use Rattle.file_ports.specs.Place.{last_place};
-ghost use Rattle.file_ports.specs.Actions.{seen_of, looked, reading, given, moved};
-ghost use Rattle.file_ports.specs.Answers.{has_failed, GivesPiece, PutsFront};
+ghost use Rattle.file_ports.specs.Actions.{observed_file, looked, reading, given, moved};
+ghost use Rattle.file_ports.specs.AnswersAction.{has_failed, GivesPiece, PutsPrefix};
 
 use crate::listing::Listing;
 use crate::mode::Mode;
 use crate::stop::FileStop;
 use std::alloc::Global;
-use tree_io::{Failed, Kind, NamesStop, Path, Tree};
+use uxn_io_traits::{Failed, Kind, NamesStop, Path, Tree};
 use uxn_memory::Memory;
 
 /// How many bytes of a file are read at once.
@@ -22,9 +22,9 @@ const CHUNK: usize = 4096;
 
 /// What a device does that looks at its path to read what is there.
 fn look<T: Tree>(alloc: Global, tree: &mut T, path: &Path) -> Result<Mode, FileStop>
-    ensures mode { IfOk result (λ mode. IfSome (T.state tree.old).told (λ nodes. mode ≡ looked (kind_at nodes path.now) (children nodes path.now))) }
+    ensures mode { IfOk result (λ mode. IfSome (T.state tree.old).contents (λ nodes. mode ≡ looked (kind_at nodes path.now) (children nodes path.now))) }
     ensures tree { TreeLooked (has_failed result) (T.state tree.old) (T.state tree.new) }
-    ensures folder { result ≡ Err FileStop.NoMemory → IfSome (T.state tree.old).told (λ nodes. kind_at nodes path.now ≡ Kind.Folder) }
+    ensures folder { result ≡ Err FileStop.NoMemory → IfSome (T.state tree.old).contents (λ nodes. kind_at nodes path.now ≡ Kind.Folder) }
 {
     match tree.kind(path)? {
         Kind::Missing => Ok(Mode::Idle),
@@ -38,8 +38,8 @@ fn look<T: Tree>(alloc: Global, tree: &mut T, path: &Path) -> Result<Mode, FileS
 
 /// The listing of a folder.
 fn list<T: Tree>(alloc: Global, tree: &mut T, folder: &Path) -> Result<Listing, FileStop>
-    requires { IfSome (T.state tree.old).told (λ nodes. kind_at nodes folder.now ≡ Kind.Folder) }
-    ensures listing { IfOk result (λ listing. IfSome (T.state tree.old).told (λ nodes. listing ≡ listing_of (children nodes folder.now))) }
+    requires { IfSome (T.state tree.old).contents (λ nodes. kind_at nodes folder.now ≡ Kind.Folder) }
+    ensures listing { IfOk result (λ listing. IfSome (T.state tree.old).contents (λ nodes. listing ≡ folder_listing (children nodes folder.now))) }
     ensures tree { TreeLooked (has_failed result) (T.state tree.old) (T.state tree.new) }
 {
     match tree.names(alloc, folder) {
@@ -59,10 +59,10 @@ pub(crate) fn reading<T: Tree>(
     path: &Path,
     mode: Mode,
 ) -> Result<Mode, FileStop>
-    ensures mode { IfOk result (λ now. IfSome (T.state tree.old).told (λ nodes. now ≡ reading mode (seen_of nodes path.now))) }
+    ensures mode { IfOk result (λ now. IfSome (T.state tree.old).contents (λ nodes. now ≡ reading mode (observed_file nodes path.now))) }
     ensures tree { TreeLooked (has_failed result) (T.state tree.old) (T.state tree.new) }
     ensures looks { result ≡ Err FileStop.NoMemory → is_reading mode ≡ false }
-    ensures folder { result ≡ Err FileStop.NoMemory → IfSome (T.state tree.old).told (λ nodes. kind_at nodes path.now ≡ Kind.Folder) }
+    ensures folder { result ≡ Err FileStop.NoMemory → IfSome (T.state tree.old).contents (λ nodes. kind_at nodes path.now ≡ Kind.Folder) }
 {
     match mode {
         Mode::Idle | Mode::Writing => look(alloc, tree, path),
@@ -81,10 +81,10 @@ pub(crate) fn read_on<T: Tree>(
     count: u16,
 ) -> Result<(u16, Mode), Failed>
     requires { at + count ≤ 65536 }
-    ensures piece { IfOk result (λ read. IfSome (T.state tree.old).told (λ nodes.
-        GivesPiece (given mode (seen_of nodes path.now) count) memory.old at read.0 memory.new)) }
+    ensures piece { IfOk result (λ read. IfSome (T.state tree.old).contents (λ nodes.
+        GivesPiece (given mode (observed_file nodes path.now) count) memory.old at read.0 memory.new)) }
     ensures mode { IfOk result (λ read. read.1 ≡ moved mode read.0) }
-    ensures stopped { OnErr result (PutsFront (option_map (λ nodes. given mode (seen_of nodes path.now) count) (T.state tree.old).told)
+    ensures stopped { OnErr result (PutsPrefix (option_map (λ nodes. given mode (observed_file nodes path.now) count) (T.state tree.old).contents)
         count memory.old at memory.new) }
     ensures tree { TreeLooked (is_err result) (T.state tree.old) (T.state tree.new) }
 {
@@ -140,10 +140,10 @@ fn put_file<T: Tree>(
 ) -> Result<u16, Failed>
     requires room { at + count ≤ 65536 }
     requires places { place + count < 2 ^ 64 }
-    ensures piece { IfOk result (λ n. IfSome (T.state tree.old).told (λ nodes.
-        GivesPiece (take count (bytes_from nodes path.now place)) memory.old at n memory.new)) }
+    ensures piece { IfOk result (λ n. IfSome (T.state tree.old).contents (λ nodes.
+        GivesPiece (take count (file_bytes_from nodes path.now place)) memory.old at n memory.new)) }
     ensures within { IfOk result (λ n. n ≤ count) }
-    ensures stopped { OnErr result (PutsFront (option_map (λ nodes. take count (bytes_from nodes path.now place)) (T.state tree.old).told)
+    ensures stopped { OnErr result (PutsPrefix (option_map (λ nodes. take count (file_bytes_from nodes path.now place)) (T.state tree.old).contents)
         count memory.old at memory.new) }
     ensures tree { TreeLooked (is_err result) (T.state tree.old) (T.state tree.new) }
 {

@@ -1,11 +1,11 @@
 //! The signs by which a stat shows what is there.
 ghost use Rattle.std.specs.Prelude.{◌≡◌, ◌+◌, ◌%◌, ◌^◌, ◌≤◌, nat_lt, replicate};
-ghost use Rattle.tree_io.specs.NumberText.{hex_digit};
+ghost use Rattle.uxn_io_traits.specs.NumberText.{hex_digit};
 ghost use Rattle.uxn_memory.specs.Bytes.{with_bytes};
 ghost use Rattle.file_ports.specs.Signs.{hex_digits, signs};
 ghost use Rattle.file_ports.specs.Actions.{stat_success};
 
-use tree_io::{Kind, hex_byte, hex_short};
+use uxn_io_traits::{Kind, hex_byte, hex_short};
 use uxn_memory::Memory;
 
 /// The sign for nothing there.

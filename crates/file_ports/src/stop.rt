@@ -1,13 +1,13 @@
 //! Why an action of a file device stopped.
 use std::alloc::AllocError;
-use tree_io::{Failed, NamesStop};
+use uxn_io_traits::{Failed, NamesStop};
 
 /// Why an action stopped.
 #[derive(Clone, Copy, PartialEq, Eq)]
 pub enum FileStop {
     /// The tree failed.
     TreeFault,
-    /// Want of memory for a folder's listing.
+    /// Running out of memory for a folder's listing.
     NoMemory,
 }
 

@@ -1,16 +1,16 @@
 //! Writes.
 ghost use Rattle.std.specs.Prelude.{◌≡◌, ◌&&◌, ◌||◌, [], map, IfOk, IfSome, IsTrue, IsSome, is_err, is_some};
-ghost use Rattle.tree_io.specs.Ended.{TreeEnded, TreeLooked, RefusedOnce};
-ghost use Rattle.tree_io.specs.Files.{kind_at, file_at};
-ghost use Rattle.tree_io.specs.Outside.{ToFile};
-ghost use Rattle.file_ports.specs.Actions.{seen_of, is_file, begun};
-ghost use Rattle.file_ports.specs.Answers.{changes_written};
+ghost use Rattle.uxn_io_traits.specs.Ended.{TreeEnded, TreeLooked, RefusedOnce};
+ghost use Rattle.uxn_io_traits.specs.Files.{kind_at, file_at};
+ghost use Rattle.uxn_io_traits.specs.Outside.{ToFile};
+ghost use Rattle.file_ports.specs.Actions.{observed_file, is_file, begun};
+ghost use Rattle.file_ports.specs.AnswersAction.{changes_written};
 
-use tree_io::{Failed, Kind, Path, Tree, append_all};
+use uxn_io_traits::{Failed, Kind, Path, Tree, append_all};
 
 /// Whether a write goes on with a file that is there.
 fn goes_on<T: Tree>(tree: &mut T, path: &Path, is_writing: bool, keep: bool) -> Result<bool, Failed>
-    ensures answer { IfOk result (λ goes. IfSome (T.state tree.old).told (λ nodes.
+    ensures answer { IfOk result (λ goes. IfSome (T.state tree.old).contents (λ nodes.
         goes ≡ ((is_writing || keep) && is_file (kind_at nodes path.now)))) }
     ensures tree { TreeLooked (is_err result) (T.state tree.old) (T.state tree.new) }
 {
@@ -26,9 +26,9 @@ fn goes_on<T: Tree>(tree: &mut T, path: &Path, is_writing: bool, keep: bool) -> 
 /// Begins a write, and says whether bytes can be added to the file then. One that is writing goes on with the
 /// file, and so does one that keeps a file which is there; else the file is made empty.
 fn begin<T: Tree>(tree: &mut T, path: &Path, is_writing: bool, keep: bool) -> Result<bool, Failed>
-    ensures begun { IfOk result (λ goes. IfSome (T.state tree.old).told (λ nodes. goes ≡ is_some (begun is_writing keep (seen_of nodes path.now)))) }
-    ensures file { IfOk result (λ goes. IsTrue goes → IfSome (T.state tree.new).told (λ nodes. IsSome (file_at nodes path.now))) }
-    ensures tree { TreeEnded (changes_written is_writing keep (T.state tree.old).told path.now []) (is_err result)
+    ensures begun { IfOk result (λ goes. IfSome (T.state tree.old).contents (λ nodes. goes ≡ is_some (begun is_writing keep (observed_file nodes path.now)))) }
+    ensures file { IfOk result (λ goes. IsTrue goes → IfSome (T.state tree.new).contents (λ nodes. IsSome (file_at nodes path.now))) }
+    ensures tree { TreeEnded (changes_written is_writing keep (T.state tree.old).contents path.now []) (is_err result)
         (T.state tree.old) (T.state tree.new) }
     ensures refused { RefusedOnce (T.state tree.old) (T.state tree.new) }
 {
@@ -49,8 +49,8 @@ pub(crate) fn add<T: Tree>(
     is_writing: bool,
     keep: bool,
 ) -> Result<bool, Failed>
-    ensures begun { IfOk result (λ goes. IfSome (T.state tree.old).told (λ nodes. goes ≡ is_some (begun is_writing keep (seen_of nodes path.now)))) }
-    ensures tree { TreeEnded (changes_written is_writing keep (T.state tree.old).told path.now (map (λ byte. ToFile path.now byte) piece.now))
+    ensures begun { IfOk result (λ goes. IfSome (T.state tree.old).contents (λ nodes. goes ≡ is_some (begun is_writing keep (observed_file nodes path.now)))) }
+    ensures tree { TreeEnded (changes_written is_writing keep (T.state tree.old).contents path.now (map (λ byte. ToFile path.now byte) piece.now))
         (is_err result) (T.state tree.old) (T.state tree.new) }
     ensures refused { RefusedOnce (T.state tree.old) (T.state tree.new) }
 {

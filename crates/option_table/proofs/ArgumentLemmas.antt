@@ -20,7 +20,7 @@ use Rattle.clap.specs.declared.parser.matches.ValueSource.TheVariants.{DefaultVa
 use Rattle.clap.specs.declared.error.kind.ErrorKind.TheVariants as kind
 use Rattle.std.specs.Prelude.{option_and_then, slice_get}
 use Rattle.option_table.specs.Parsing.{argument, choice_argument, from_words, operand_argument}
-use Rattle.option_table.specs.Words.{Choice, Given, choice_named, operand, given, is_given, value_of}
+use Rattle.option_table.specs.Words.{Choice, GivenArgument, choice_named, operand, given, is_given, argument_value}
 
 -- ---- rules
 
@@ -101,10 +101,10 @@ known choices name choice named e =
 
 -- ---- rows
 
-abbrev pub row : Given → Row
+abbrev pub row : GivenArgument → Row
 row item = record { id = item.name; values = item.value ∷ []; count = None; source = Some CommandLine; reading = AsWritten }
 
-pub has_row-items : (id : Text) (items : List Given) → has_row id (map row items) ≡ is_given id items
+pub has_row-items : (id : Text) (items : List GivenArgument) → has_row id (map row items) ≡ is_given id items
 has_row-items id [] = refl
 has_row-items id (item ∷ items) = ap (λ b. bytes_eq item.name id || b) (has_row-items id items)
 
@@ -129,14 +129,14 @@ values_for has_value value = cond has_value (value ∷ []) []
 abbrev pub Fits : Bool → Text → Type 0
 Fits has_value value = has_value ≡ false → value ≡ codes "true"
 
-pub use_faults : (id : Text) (long : Option Text) (index : Option ℕ) (has_value required : Bool) (value : Text) (items : List Given)
+pub use_faults : (id : Text) (long : Option Text) (index : Option ℕ) (has_value required : Bool) (value : Text) (items : List GivenArgument)
     → use_fault false (ruled id long index has_value required) (values_for has_value value) (map row items) ≡ conflict (not (is_given id items))
 use_faults id long index true required value items =
     ap (λ b. or_else (cond (b && true) (kind.ArgumentConflict ∷ []) []) []) (has_row-items id items) ∙ conflict-is (is_given id items)
 use_faults id long index false required value items =
     ap (λ b. or_else (cond (b && true) (kind.ArgumentConflict ∷ []) []) []) (has_row-items id items) ∙ conflict-is (is_given id items)
 
-appended : (id : Text) (change remove : Row → List Row) (value : Text) (items : List Given) → is_given id items ≡ false
+appended : (id : Text) (change remove : Row → List Row) (value : Text) (items : List GivenArgument) → is_given id items ≡ false
     → at_row id change (row (given id value) ∷ []) (at_row id remove [] (map row items)) ≡ map row (items ++ given id value ∷ [])
 appended id change remove value items fresh =
     let none = has_row-items id items ∙ fresh in
@@ -144,7 +144,7 @@ appended id change remove value items fresh =
     ap (at_row id change (row (given id value) ∷ [])) kept ∙ absent id change (row (given id value) ∷ []) (map row items) none
     ∙ sym (map-append row items (given id value ∷ []))
 
-pub use_rows : (id : Text) (long : Option Text) (index : Option ℕ) (has_value required : Bool) (value : Text) (items : List Given) → Fits has_value value
+pub use_rows : (id : Text) (long : Option Text) (index : Option ℕ) (has_value required : Bool) (value : Text) (items : List GivenArgument) → Fits has_value value
     → is_given id items ≡ false → used (ruled id long index has_value required) (values_for has_value value) (map row items) ≡ map row (items ++ given id value ∷ [])
 use_rows id long index true required value items fits fresh = appended id (more_values CommandLine (value ∷ [])) (λ _. []) value items fresh
 use_rows id long index false required value items fits fresh =
@@ -175,10 +175,10 @@ module _ {Z : Type 0} (read : Option Row → Z) (same : (name : Text) → read (
   abbrev found : List Row → Z
   found rows = read (find (λ r. bytes_eq r.id id) rows)
 
-  default_unseen : (name : Text) (long : Option Text) (index : Option ℕ) (has_value required : Bool) (rows : List Row)
+  default_unobserved : (name : Text) (long : Option Text) (index : Option ℕ) (has_value required : Bool) (rows : List Row)
       → found (with_default rows (ruled name long index has_value required)) ≡ found rows
-  default_unseen name long index true required rows = elim (has_row name rows) as (λ b. found (cond b rows rows) ≡ found rows) [ true ↦ refl | false ↦ refl ]
-  default_unseen name long index false required rows =
+  default_unobserved name long index true required rows = elim (has_row name rows) as (λ b. found (cond b rows rows) ≡ found rows) [ true ↦ refl | false ↦ refl ]
+  default_unobserved name long index false required rows =
       elim (has_row name rows) as (λ b. has_row name rows ≡ b
       → found (cond b rows (default_rows name AsWritten (codes "false" ∷ []) rows)) ≡ found rows) [
         | true ↦ λ h. refl
@@ -187,13 +187,13 @@ module _ {Z : Type 0} (read : Option Row → Z) (same : (name : Text) → read (
             (elim (bytes_eq name id) as (λ b. read (cond b (Some (default_row name)) None) ≡ read None) [ true ↦ same name | false ↦ refl ])
       ] refl
 
-  choices_unseen : (choices : List Choice) (rows : List Row) → found (fold with_default rows (map choice_rule choices)) ≡ found rows
-  choices_unseen [] rows = refl
-  choices_unseen (choice ∷ choices) rows =
-      choices_unseen choices (with_choice rows choice) ∙ default_unseen choice.name (Some choice.name) None choice.has_value choice.is_required rows
+  choices_unobserved : (choices : List Choice) (rows : List Row) → found (fold with_default rows (map choice_rule choices)) ≡ found rows
+  choices_unobserved [] rows = refl
+  choices_unobserved (choice ∷ choices) rows =
+      choices_unobserved choices (with_choice rows choice) ∙ default_unobserved choice.name (Some choice.name) None choice.has_value choice.is_required rows
 
-  pub unseen : (choices : List Choice) (rows : List Row) → found (with_defaults choices rows) ≡ found rows
-  unseen choices rows = choices_unseen choices (with_default rows operand_rule) ∙ default_unseen operand None (Some 1) true true rows
+  pub unobserved : (choices : List Choice) (rows : List Row) → found (with_defaults choices rows) ≡ found rows
+  unobserved choices rows = choices_unobserved choices (with_default rows operand_rule) ∙ default_unobserved operand None (Some 1) true true rows
 
 default_passes : (id : Text) (long : Option Text) (index : Option ℕ) (has_value required : Bool) (rows : List Row) → default_fault rows (ruled id long index has_value required) ≡ []
 default_passes id long index true required rows = elim (has_row id rows) as (λ b. cond (b || true) [] (or_else [] []) ≡ []) [ true ↦ refl | false ↦ refl ]
@@ -218,26 +218,26 @@ defaults_pass choices rows =
 abbrev pub explicit : Option Row → Bool
 explicit found = option_map_or (λ r. explicit_source r.source) found false
 
-items_given : (id : Text) (items : List Given) → takes.is_given id (map row items) ≡ is_given id items
+items_given : (id : Text) (items : List GivenArgument) → takes.is_given id (map row items) ≡ is_given id items
 items_given id [] = refl
 items_given id (item ∷ items) = elim (bytes_eq item.name id) as (λ b. explicit (cond b (Some (row item)) (find (λ r. bytes_eq r.id id) (map row items))) ≡ (b || is_given id items)) [
   | true ↦ refl
   | false ↦ items_given id items
 ]
 
-pub rows_given : (choices : List Choice) (id : Text) (items : List Given) → takes.is_given id (with_defaults choices (map row items)) ≡ is_given id items
-rows_given choices id items = unseen explicit (λ name. refl) id choices (map row items) ∙ items_given id items
+pub rows_given : (choices : List Choice) (id : Text) (items : List GivenArgument) → takes.is_given id (with_defaults choices (map row items)) ≡ is_given id items
+rows_given choices id items = unobserved explicit (λ name. refl) id choices (map row items) ∙ items_given id items
 
 -- the value that the words gave, of a row
-abbrev pub told : Option Row → Option Text
-told found = from_words (option_and_then (λ r. r.source) found) (option_and_then (λ r. slice_get r.values 0) found)
+abbrev pub contents : Option Row → Option Text
+contents found = from_words (option_and_then (λ r. r.source) found) (option_and_then (λ r. slice_get r.values 0) found)
 
-items_told : (id : Text) (items : List Given) → told (find (λ r. bytes_eq r.id id) (map row items)) ≡ value_of id items
-items_told id items = ap told (sym (find-map (λ r. bytes_eq r.id id) row items)) ∙ of_row (find (λ item. bytes_eq item.name id) items)
+items_known : (id : Text) (items : List GivenArgument) → contents (find (λ r. bytes_eq r.id id) (map row items)) ≡ argument_value id items
+items_known id items = ap contents (sym (find-map (λ r. bytes_eq r.id id) row items)) ∙ of_row (find (λ item. bytes_eq item.name id) items)
   where
-    of_row : (o : Option Given) → told (option_map row o) ≡ option_map (λ item. item.value) o
+    of_row : (o : Option GivenArgument) → contents (option_map row o) ≡ option_map (λ item. item.value) o
     of_row None = refl
     of_row (Some item) = refl
 
-pub rows_told : (choices : List Choice) (id : Text) (items : List Given) → told (find (λ r. bytes_eq r.id id) (with_defaults choices (map row items))) ≡ value_of id items
-rows_told choices id items = unseen told (λ name. refl) id choices (map row items) ∙ items_told id items
+pub rows_known : (choices : List Choice) (id : Text) (items : List GivenArgument) → contents (find (λ r. bytes_eq r.id id) (with_defaults choices (map row items))) ≡ argument_value id items
+rows_known choices id items = unobserved contents (λ name. refl) id choices (map row items) ∙ items_known id items

@@ -17,8 +17,8 @@ use Rattle.clap.specs.declared.error.kind.ErrorKind.TheVariants as kind
 use Rattle.clap.proofs.FaultLemmas.{leaf_fault}
 use Rattle.clap.proofs.WalkLemmas.{list_any-map}
 use Rattle.option_table.specs.Parsing.{parser_for}
-use Rattle.option_table.specs.Words.{Choice, Given, begins_without, choice_named, choice_step, operand, follow, given, is_given, is_legal, is_legal_text, is_plain, is_whole, items_of, each_once, lacks_some, name_before, option_text, value_behind, values_in, value_of}
-use Rattle.option_table.proofs.ArgumentLemmas.{Fits, IsKnown, by_long, choice_rule, conflict, defaults_pass, filled_rules, known, operand_rule, or_none, row, rows_given, rows_told, ruled, rules_for, same-sym, told, use_faults, use_rows, values_for, with_defaults}
+use Rattle.option_table.specs.Words.{Choice, GivenArgument, begins_without, choice_named, choice_step, operand, follow, given, is_given, is_legal, is_legal_text, is_plain, is_whole, arguments_of, each_once, lacks_some, name_before, option_text, value_behind, values_in, argument_value}
+use Rattle.option_table.proofs.ArgumentLemmas.{Fits, IsKnown, by_long, choice_rule, conflict, defaults_pass, filled_rules, known, operand_rule, or_none, row, rows_given, rows_known, ruled, rules_for, same-sym, contents, use_faults, use_rows, values_for, with_defaults}
 
 -- ---- words
 
@@ -90,10 +90,10 @@ legal_word word e = go (is_plain word) (option_text word) refl refl e
 -- ---- items
 
 -- one more item
-once-push : (items : List Given) (item : Given) → each_once (items ++ item ∷ []) ≡ (each_once items && not (is_given item.name items))
+once-push : (items : List GivenArgument) (item : GivenArgument) → each_once (items ++ item ∷ []) ≡ (each_once items && not (is_given item.name items))
 once-push [] item = refl
 once-push (first ∷ items) item =
-    ap₂ (λ a b. not a && b) (list_any-append (λ (i : Given). bytes_eq i.name first.name) items (item ∷ [])) (once-push items item)
+    ap₂ (λ a b. not a && b) (list_any-append (λ (i : GivenArgument). bytes_eq i.name first.name) items (item ∷ [])) (once-push items item)
     ∙ ap (λ b. not (is_given first.name items || (b || false)) && (each_once items && not (is_given item.name items))) (same-sym item.name first.name)
     ∙ moved (is_given first.name items) (bytes_eq first.name item.name) (each_once items) (is_given item.name items)
   where
@@ -104,53 +104,53 @@ once-push (first ∷ items) item =
     moved false false c d = refl
 
 -- items of which two have one name, before others
-once-front : (items later : List Given) → each_once items ≡ false → each_once (items ++ later) ≡ false
-once-front [] later e = absurd (true≢false e)
-once-front (first ∷ items) later e = elim (and_cases (not (is_given first.name items)) (each_once items) e) [
+once-prefix : (items later : List GivenArgument) → each_once items ≡ false → each_once (items ++ later) ≡ false
+once-prefix [] later e = absurd (true≢false e)
+once-prefix (first ∷ items) later e = elim (and_cases (not (is_given first.name items)) (each_once items) e) [
   | inl again ↦ and_left (not (is_given first.name (items ++ later))) (each_once (items ++ later))
-      (ap not (list_any-append (λ (i : Given). bytes_eq i.name first.name) items later ∙ or_left (is_given first.name items) (is_given first.name later) (not-false (is_given first.name items) again)))
-  | inr rest ↦ and_right (not (is_given first.name (items ++ later))) (each_once (items ++ later)) (once-front items later rest)
+      (ap not (list_any-append (λ (i : GivenArgument). bytes_eq i.name first.name) items later ∙ or_left (is_given first.name items) (is_given first.name later) (not-false (is_given first.name items) again)))
+  | inr rest ↦ and_right (not (is_given first.name (items ++ later))) (each_once (items ++ later)) (once-prefix items later rest)
 ]
 
-operand-push : (items : List Given) (name value : Text) → is_given operand (items ++ given name value ∷ []) ≡ (is_given operand items || (bytes_eq name operand || false))
-operand-push items name value = list_any-append (λ (i : Given). bytes_eq i.name operand) items (given name value ∷ [])
+operand-push : (items : List GivenArgument) (name value : Text) → is_given operand (items ++ given name value ∷ []) ≡ (is_given operand items || (bytes_eq name operand || false))
+operand-push items name value = list_any-append (λ (i : GivenArgument). bytes_eq i.name operand) items (given name value ∷ [])
 
 -- items before others
-abbrev before : List Given → Option (List Given) → Option (List Given)
+abbrev before : List GivenArgument → Option (List GivenArgument) → Option (List GivenArgument)
 before items more = option_map (λ later. items ++ later) more
 
-before-item : (items : List Given) (item : Given) (more : Option (List Given)) → before (items ++ item ∷ []) more ≡ before items (option_map (λ later. item ∷ later) more)
+before-item : (items : List GivenArgument) (item : GivenArgument) (more : Option (List GivenArgument)) → before (items ++ item ∷ []) more ≡ before items (option_map (λ later. item ∷ later) more)
 before-item items item None = refl
 before-item items item (Some later) = ap Some (append_assoc items (item ∷ []) later)
 
 -- the values that rows tell, and those of items
 abbrev pub values_at : List Row → Text → Option Text
-values_at rows name = told (find (λ r. bytes_eq r.id name) rows)
+values_at rows name = contents (find (λ r. bytes_eq r.id name) rows)
 
-abbrev item_values : List Given → Text → Option Text
-item_values items name = value_of name items
+abbrev item_values : List GivenArgument → Text → Option Text
+item_values items name = argument_value name items
 
 -- the rows that a parse is to give for items
 module _ (choices : List Choice) where
-  abbrev rows_when : Bool → List Given → Option (List Row)
+  abbrev rows_when : Bool → List GivenArgument → Option (List Row)
   rows_when whole items = cond whole (Some (with_defaults choices (map row items))) None
 
-  abbrev pub wanted : Option (List Given) → Option (List Row)
+  abbrev pub wanted : Option (List GivenArgument) → Option (List Row)
   wanted items = option_and_then (λ all. rows_when (is_whole choices all) all) items
 
-  unwanted : (items : List Given) (more : Option (List Given)) → each_once items ≡ false → wanted (before items more) ≡ None
+  unwanted : (items : List GivenArgument) (more : Option (List GivenArgument)) → each_once items ≡ false → wanted (before items more) ≡ None
   unwanted items None e = refl
-  unwanted items (Some later) e = ap (λ b. rows_when (b && not (lacks_some choices (items ++ later))) (items ++ later)) (once-front items later e)
+  unwanted items (Some later) e = ap (λ b. rows_when (b && not (lacks_some choices (items ++ later))) (items ++ later)) (once-prefix items later e)
 
-  unwanted_again : (items : List Given) (item : Given) (more : Option (List Given)) → is_given item.name items ≡ true → wanted (before items (option_map (λ later. item ∷ later) more)) ≡ None
+  unwanted_again : (items : List GivenArgument) (item : GivenArgument) (more : Option (List GivenArgument)) → is_given item.name items ≡ true → wanted (before items (option_map (λ later. item ∷ later) more)) ≡ None
   unwanted_again items item more again =
       ap wanted (sym (before-item items item more)) ∙ unwanted (items ++ item ∷ []) more (once-push items item ∙ and_right (each_once items) (not (is_given item.name items)) (ap not again))
 
   -- they tell the values of the items
-  pub values-wanted : (items : Option (List Given)) → option_and_then (values_in choices) items ≡ option_map values_at (wanted items)
+  pub values-wanted : (items : Option (List GivenArgument)) → option_and_then (values_in choices) items ≡ option_map values_at (wanted items)
   values-wanted None = refl
   values-wanted (Some all) = elim (is_whole choices all) as (λ b. cond b (Some (item_values all)) None ≡ option_map values_at (rows_when b all)) [
-    | true ↦ ap Some (sym (λ i name. rows_told choices name all i))
+    | true ↦ ap Some (sym (λ i name. rows_known choices name all i))
     | false ↦ refl
   ]
 
@@ -202,19 +202,19 @@ module _ (choices : List Choice) where
   abbrev turned : Walk → Text → Kinds → Held × WordStep → Kinds × Walk
   turned w word fault met = (or_else fault (step_fault shape w.position met.0 met.1), after_step rules word w met.0 met.1)
 
-  -- the walk between two words: what is held, what waits for a value, and whether the operand was seen
+  -- the walk between two words: what is held, what waits for a value, and whether the operand was observed
   abbrev walk_at : Held → Waiting → Bool → Walk
-  walk_at h waiting seen = record { held = h; waiting = waiting; position = cond seen 2 1; is_trailing = false; stopped = None }
+  walk_at h waiting observed = record { held = h; waiting = waiting; position = cond observed 2 1; is_trailing = false; stopped = None }
 
   quiet : (waiting : Waiting) (word : Text) → subcommand_met [] waiting word ≡ None
   quiet idle word = refl
   quiet (option id) word = refl
   quiet positional word = refl
 
-  plain_turn : (waiting : Waiting) (seen : Bool) (word : Text) (h : Held) → PlainWord word
-      → turn (walk_at h waiting seen) word ≡ turned (walk_at h waiting seen) word [] (plain_met rules waiting word h)
+  plain_turn : (waiting : Waiting) (observed : Bool) (word : Text) (h : Held) → PlainWord word
+      → turn (walk_at h waiting observed) word ≡ turned (walk_at h waiting observed) word [] (plain_met rules waiting word h)
   unfolding walked
-  plain_turn waiting seen word h w = rw (quiet waiting word, w.dashes, w.long, w.short) refl
+  plain_turn waiting observed word h w = rw (quiet waiting word, w.dashes, w.long, w.short) refl
 
   abbrev fault_by : Option Choice → Option Text → Held → Kinds
   fault_by o v h = long_fault rules false (option_map choice_rule o) v h
@@ -222,34 +222,34 @@ module _ (choices : List Choice) where
   abbrev met_by : Waiting → Text → Option Choice → Option Text → Held → Held × WordStep
   met_by waiting word o v h = after_flag rules waiting word (long_met rules (option_map choice_rule o) v h).0 (long_met rules (option_map choice_rule o) v h).1
 
-  long_turn : (waiting : Waiting) (seen : Bool) (word text : Text) (h : Held) (o : Option Choice) (v : Option Text) → LongWord word text
+  long_turn : (waiting : Waiting) (observed : Bool) (word text : Text) (h : Held) (o : Option Choice) (v : Option Text) → LongWord word text
       → choice_named choices (name_before text) ≡ o → value_behind text ≡ v
-      → turn (walk_at h waiting seen) word ≡ turned (walk_at h waiting seen) word (fault_by o v h) (met_by waiting word o v h)
+      → turn (walk_at h waiting observed) word ≡ turned (walk_at h waiting observed) word (fault_by o v h) (met_by waiting word o v h)
   unfolding walked
-  long_turn waiting seen word text h o v w named valued =
+  long_turn waiting observed word text h o v w named valued =
       rw (quiet waiting word, w.dashes, w.long, ← by_long choices (name_before text)) refl
-      ∙ ap₂ (λ o v. turned (walk_at h waiting seen) word (fault_by o v h) (met_by waiting word o v h)) named valued
+      ∙ ap₂ (λ o v. turned (walk_at h waiting observed) word (fault_by o v h) (met_by waiting word o v h)) named valued
 
   -- ---- the states between two words
 
-  abbrev held_at : List Given → Option (Text × List Text) → Held
+  abbrev held_at : List GivenArgument → Option (Text × List Text) → Held
   held_at items pending = record { rows = map row items; pending = pending; skip = 0 }
 
   abbrev held_rows : List Row → Held
   held_rows rs = record { rows = rs; pending = None; skip = 0 }
 
   -- what is pending is read without a fault where no two items have one name, and then the rows are those of the items
-  record IsReady (h : Held) (items : List Given) : Type 0 where
+  record IsReady (h : Held) (items : List GivenArgument) : Type 0 where
     pub fault : settle_fault rules false h ≡ conflict (each_once items)
     pub rows : each_once items ≡ true → settled rules h ≡ held_at items None
 
-  ready_at : (items : List Given) → each_once items ≡ true → IsReady (held_at items None) items
+  ready_at : (items : List GivenArgument) → each_once items ≡ true → IsReady (held_at items None) items
   ready_at items once = record { fault = sym (ap conflict once); rows = λ all. refl }
 
-  once-fresh : (items : List Given) (item : Given) → each_once items ≡ true → each_once (items ++ item ∷ []) ≡ not (is_given item.name items)
+  once-fresh : (items : List GivenArgument) (item : GivenArgument) → each_once items ≡ true → each_once (items ++ item ∷ []) ≡ not (is_given item.name items)
   once-fresh items item once = once-push items item ∙ ap (λ b. b && not (is_given item.name items)) once
 
-  pending_ready : (items : List Given) (id : Text) (long : Option Text) (index : Option ℕ) (required : Bool) (value : Text) → each_once items ≡ true
+  pending_ready : (items : List GivenArgument) (id : Text) (long : Option Text) (index : Option ℕ) (required : Bool) (value : Text) → each_once items ≡ true
       → arg_by_id rules id ≡ Some (ruled id long index true required) → IsReady (held_at items (Some (id, value ∷ []))) (items ++ given id value ∷ [])
   pending_ready items id long index required value once found = record {
     fault = ap (λ o. option_map_or (λ a. use_fault false a (value ∷ []) (map row items)) o []) found ∙ use_faults id long index true required value items
@@ -258,18 +258,18 @@ module _ (choices : List Choice) where
         ∙ ap held_rows (use_rows id long index true required value items (λ e. absurd (true≢false e)) (not-true (is_given id items) (sym (once-fresh items (given id value) once) ∙ all)));
   }
 
-  faulty : (h : Held) (items : List Given) → IsReady h items → each_once items ≡ false → is_empty (settle_fault rules false h) ≡ false
+  faulty : (h : Held) (items : List GivenArgument) → IsReady h items → each_once items ≡ false → is_empty (settle_fault rules false h) ≡ false
   faulty h items ready twice = ap is_empty (ready.fault ∙ ap conflict twice)
 
   -- ---- the end of the words
 
-  check-is : (items : List Given) → check_fault shape (with_defaults choices (map row items)) false ≡ cond (lacks_some choices items) (kind.MissingRequiredArgument ∷ []) []
+  check-is : (items : List GivenArgument) → check_fault shape (with_defaults choices (map row items)) false ≡ cond (lacks_some choices items) (kind.MissingRequiredArgument ∷ []) []
   check-is items =
       ap (λ b. cond b (kind.MissingRequiredArgument ∷ []) [])
       ((λ i. (not (rows_given choices operand items i) || list_any (λ (a : Rule). a.required && not (rows_given choices a.id items i)) (map choice_rule choices)))
       ∙ ap (λ b. not (is_given operand items) || b) (sym (list_any-map (λ (a : Rule). a.required && not (is_given a.id items)) choice_rule choices)))
 
-  ended : (h : Held) (items : List Given) → IsReady h items → outcome (end_fault h) (finished rules h) ≡ wanted choices (Some items)
+  ended : (h : Held) (items : List GivenArgument) → IsReady h items → outcome (end_fault h) (finished rules h) ≡ wanted choices (Some items)
   ended h items ready = elim (cases_Bool (each_once items)) [
     | inr twice ↦ ap (λ b. cond b (Some (finished rules h)) None) (nonempty_first (settle_fault rules false h) _ (faulty h items ready twice))
         ∙ sym (ap (λ b. rows_when choices (b && not (lacks_some choices items)) items) twice)
@@ -304,14 +304,14 @@ module _ (choices : List Choice) where
       ∙ ap (λ o. option_map_or (λ a. cond (is_pending a h.pending && takes_several a) [] (settle_fault rules false h)) o (kind.UnknownArgument ∷ [])) (no_second choices)
 
   -- the value of an option
-  value_turn : (name word : Text) (items : List Given) (seen required : Bool) → PlainWord word → IsKnown choices name true required
-      → turn (walk_at (held_at items (Some (name, []))) (option name) seen) word ≡ ([], walk_at (held_at items (Some (name, word ∷ []))) idle seen)
-  value_turn name word items seen required w k =
+  value_turn : (name word : Text) (items : List GivenArgument) (observed required : Bool) → PlainWord word → IsKnown choices name true required
+      → turn (walk_at (held_at items (Some (name, []))) (option name) observed) word ≡ ([], walk_at (held_at items (Some (name, word ∷ []))) idle observed)
+  value_turn name word items observed required w k =
       let h = held_at items (Some (name, [])) in
       let met : (m : Option Rule) → m ≡ Some (ruled name (Some name) None true required)
-      → walk_at (option_word m name word h).0 (option_word m name word h).1 seen ≡ walk_at (held_at items (Some (name, word ∷ []))) idle seen =
+      → walk_at (option_word m name word h).0 (option_word m name word h).1 observed ≡ walk_at (held_at items (Some (name, word ∷ []))) idle observed =
       λ m e. rw (e, (bytes_eq-Decides name name).1 refl) refl in
-      plain_turn (option name) seen word h w ∙ ap (λ after. ([], after)) (met (arg_by_id rules name) k.found)
+      plain_turn (option name) observed word h w ∙ ap (λ after. ([], after)) (met (arg_by_id rules name) k.found)
 
   -- ---- a long word where what is pending is refused
 
@@ -325,45 +325,45 @@ module _ (choices : List Choice) where
       go name false required (Some v) = refl
       go name false required None = nonempty_first (settle_fault rules false h) _ e
 
-  long_stops : (waiting : Waiting) (seen : Bool) (word text : Text) (words : List Text) (h : Held) → LongWord word text → is_empty (settle_fault rules false h) ≡ false
-      → read_from (walk_at h waiting seen) (word ∷ words) ≡ None
-  long_stops waiting seen word text words h w e =
-      stops (walk_at h waiting seen) word words (ap (λ (p : Kinds × Walk). is_empty p.0) (long_turn waiting seen word text h _ _ w refl refl)
+  long_stops : (waiting : Waiting) (observed : Bool) (word text : Text) (words : List Text) (h : Held) → LongWord word text → is_empty (settle_fault rules false h) ≡ false
+      → read_from (walk_at h waiting observed) (word ∷ words) ≡ None
+  long_stops waiting observed word text words h w e =
+      stops (walk_at h waiting observed) word words (ap (λ (p : Kinds × Walk). is_empty p.0) (long_turn waiting observed word text h _ _ w refl refl)
       ∙ nonempty_first (fault_by (choice_named choices (name_before text)) (value_behind text) h) _ (blocked (choice_named choices (name_before text)) (value_behind text) h e))
 
   -- ---- the whole line
 
   -- from each state the words are read
   abbrev Readies : List Text → Type 0
-  Readies words = (h : Held) (items : List Given) (seen : Bool) → seen ≡ is_given operand items → IsReady h items
-      → read_from (walk_at h idle seen) words ≡ wanted choices (before items (items_of choices words None))
+  Readies words = (h : Held) (items : List GivenArgument) (observed : Bool) → observed ≡ is_given operand items → IsReady h items
+      → read_from (walk_at h idle observed) words ≡ wanted choices (before items (arguments_of choices words None))
 
   abbrev Waits : List Text → Type 0
-  Waits words = (name : Text) (required : Bool) (items : List Given) (seen : Bool) → IsKnown choices name true required → seen ≡ is_given operand items → each_once items ≡ true
-      → read_from (walk_at (held_at items (Some (name, []))) (option name) seen) words ≡ wanted choices (before items (items_of choices words (Some name)))
+  Waits words = (name : Text) (required : Bool) (items : List GivenArgument) (observed : Bool) → IsKnown choices name true required → observed ≡ is_given operand items → each_once items ≡ true
+      → read_from (walk_at (held_at items (Some (name, []))) (option name) observed) words ≡ wanted choices (before items (arguments_of choices words (Some name)))
 
   -- an option still waits for its value
-  waiting_fault : (name : Text) (required : Bool) (items : List Given) → IsKnown choices name true required → settle_fault rules false (held_at items (Some (name, []))) ≡ kind.InvalidValue ∷ []
+  waiting_fault : (name : Text) (required : Bool) (items : List GivenArgument) → IsKnown choices name true required → settle_fault rules false (held_at items (Some (name, []))) ≡ kind.InvalidValue ∷ []
   waiting_fault name required items k = ap (λ o. option_map_or (λ a. use_fault false a [] (map row items)) o []) k.found
 
   module _ (word : Text) (words : List Text) (next : Readies words × Waits words) where
-    abbrev later : Option (List Given)
-    later = items_of choices words None
+    abbrev later : Option (List GivenArgument)
+    later = arguments_of choices words None
 
-    abbrev Gives : Walk → List Given → Given → Type 0
+    abbrev Gives : Walk → List GivenArgument → GivenArgument → Type 0
     Gives w items item = read_from w (word ∷ words) ≡ wanted choices (before items (option_map (λ more. item ∷ more) later))
 
     -- the word gives an item
-    gives_one : (w : Walk) (h : Held) (items : List Given) (item : Given) (seen : Bool) → turn w word ≡ ([], walk_at h idle seen) → seen ≡ is_given operand (items ++ item ∷ [])
+    gives_one : (w : Walk) (h : Held) (items : List GivenArgument) (item : GivenArgument) (observed : Bool) → turn w word ≡ ([], walk_at h idle observed) → observed ≡ is_given operand (items ++ item ∷ [])
         → IsReady h (items ++ item ∷ []) → Gives w items item
-    gives_one w h items item seen turns is ready =
-        goes_on w (walk_at h idle seen) word words turns ∙ next.0 h (items ++ item ∷ []) seen is ready ∙ ap (wanted choices) (before-item items item later)
+    gives_one w h items item observed turns is ready =
+        goes_on w (walk_at h idle observed) word words turns ∙ next.0 h (items ++ item ∷ []) observed is ready ∙ ap (wanted choices) (before-item items item later)
 
-    -- the operand was seen as before
-    still : (name value : Text) (items : List Given) (seen : Bool) → bytes_eq name operand ≡ false → seen ≡ is_given operand items → seen ≡ is_given operand (items ++ given name value ∷ [])
-    still name value items seen other is = is ∙ sym (operand-push items name value ∙ ap (λ b. is_given operand items || (b || false)) other ∙ or_none (is_given operand items))
+    -- the operand was observed as before
+    still : (name value : Text) (items : List GivenArgument) (observed : Bool) → bytes_eq name operand ≡ false → observed ≡ is_given operand items → observed ≡ is_given operand (items ++ given name value ∷ [])
+    still name value items observed other is = is ∙ sym (operand-push items name value ∙ ap (λ b. is_given operand items || (b || false)) other ∙ or_none (is_given operand items))
 
-    ready_plain : (h : Held) (items : List Given) (seen : Bool) → PlainWord word → seen ≡ is_given operand items → IsReady h items → Gives (walk_at h idle seen) items (given operand word)
+    ready_plain : (h : Held) (items : List GivenArgument) (observed : Bool) → PlainWord word → observed ≡ is_given operand items → IsReady h items → Gives (walk_at h idle observed) items (given operand word)
     ready_plain h items true w is ready =
         stops (walk_at h idle true) word words (ap is_empty (second_fault word h w)) ∙ sym (unwanted_again choices items (given operand word) later (sym is))
     ready_plain h items false w is ready = elim (cases_Bool (each_once items)) [
@@ -374,86 +374,86 @@ module _ (choices : List Choice) where
           (sym (operand-push items operand word ∙ or_right (is_given operand items) true refl)) (pending_ready items operand None (Some 1) true word once refl)
     ]
 
-    waits_plain : (name : Text) (required : Bool) (items : List Given) (seen : Bool) → PlainWord word → IsKnown choices name true required → seen ≡ is_given operand items → each_once items ≡ true
-        → Gives (walk_at (held_at items (Some (name, []))) (option name) seen) items (given name word)
-    waits_plain name required items seen w k is once =
-        gives_one (walk_at (held_at items (Some (name, []))) (option name) seen) (held_at items (Some (name, word ∷ []))) items (given name word) seen
-        (value_turn name word items seen required w k) (still name word items seen k.other is) (pending_ready items name (Some name) None required word once k.found)
+    waits_plain : (name : Text) (required : Bool) (items : List GivenArgument) (observed : Bool) → PlainWord word → IsKnown choices name true required → observed ≡ is_given operand items → each_once items ≡ true
+        → Gives (walk_at (held_at items (Some (name, []))) (option name) observed) items (given name word)
+    waits_plain name required items observed w k is once =
+        gives_one (walk_at (held_at items (Some (name, []))) (option name) observed) (held_at items (Some (name, word ∷ []))) items (given name word) observed
+        (value_turn name word items observed required w k) (still name word items observed k.other is) (pending_ready items name (Some name) None required word once k.found)
 
-    module _ (text : Text) (w : LongWord word text) (h : Held) (items : List Given) (seen : Bool) (is : seen ≡ is_given operand items) (once : each_once items ≡ true) (ready : IsReady h items) where
+    module _ (text : Text) (w : LongWord word text) (h : Held) (items : List GivenArgument) (observed : Bool) (is : observed ≡ is_given operand items) (once : each_once items ≡ true) (ready : IsReady h items) where
       -- a use of an option that is whole
       reacts : (name : Text) (has_value required : Bool) (value : Text) → Fits has_value value → IsKnown choices name has_value required
-          → turn (walk_at h idle seen) word
+          → turn (walk_at h idle observed) word
           ≡ (
             or_else (or_else (settle_fault rules false h) (use_fault false (ruled name (Some name) None has_value required) (values_for has_value value) (settled rules h).rows)) [],
-            walk_at (record (settled rules h) { rows = used (ruled name (Some name) None has_value required) (values_for has_value value) (settled rules h).rows }) idle seen,
+            walk_at (record (settled rules h) { rows = used (ruled name (Some name) None has_value required) (values_for has_value value) (settled rules h).rows }) idle observed,
           )
-          → Gives (walk_at h idle seen) items (given name value)
+          → Gives (walk_at h idle observed) items (given name value)
       reacts name has_value required value fits k turns =
           let r = ruled name (Some name) None has_value required in
           let item = given name value in
-          let turn_is : turn (walk_at h idle seen) word
-          ≡ (or_else (conflict (not (is_given name items))) [], walk_at (held_rows (used r (values_for has_value value) (map row items))) idle seen) =
-          turns ∙ ap₂ (λ f (s : Held). (or_else (or_else f (use_fault false r (values_for has_value value) s.rows)) [], walk_at (record s { rows = used r (values_for has_value value) s.rows }) idle seen))
+          let turn_is : turn (walk_at h idle observed) word
+          ≡ (or_else (conflict (not (is_given name items))) [], walk_at (held_rows (used r (values_for has_value value) (map row items))) idle observed) =
+          turns ∙ ap₂ (λ f (s : Held). (or_else (or_else f (use_fault false r (values_for has_value value) s.rows)) [], walk_at (record s { rows = used r (values_for has_value value) s.rows }) idle observed))
           (ready.fault ∙ ap conflict once) (ready.rows once)
-          ∙ ap (λ f. (or_else f [], walk_at (held_rows (used r (values_for has_value value) (map row items))) idle seen)) (use_faults name (Some name) None has_value required value items) in
+          ∙ ap (λ f. (or_else f [], walk_at (held_rows (used r (values_for has_value value) (map row items))) idle observed)) (use_faults name (Some name) None has_value required value items) in
           elim (cases_Bool (is_given name items)) [
-            | inl again ↦ stops (walk_at h idle seen) word words (ap (λ (p : Kinds × Walk). is_empty p.0) turn_is ∙ ap (λ b. is_empty (or_else (conflict (not b)) [])) again)
+            | inl again ↦ stops (walk_at h idle observed) word words (ap (λ (p : Kinds × Walk). is_empty p.0) turn_is ∙ ap (λ b. is_empty (or_else (conflict (not b)) [])) again)
                 ∙ sym (unwanted_again choices items item later again)
-            | inr fresh ↦ gives_one (walk_at h idle seen) (held_at (items ++ item ∷ []) None) items item seen
-                (turn_is ∙ ap₂ (λ b rs. (or_else (conflict (not b)) [], walk_at (held_rows rs) idle seen)) fresh (use_rows name (Some name) None has_value required value items fits fresh))
-                (still name value items seen k.other is) (ready_at (items ++ item ∷ []) (once-fresh items item once ∙ ap not fresh))
+            | inr fresh ↦ gives_one (walk_at h idle observed) (held_at (items ++ item ∷ []) None) items item observed
+                (turn_is ∙ ap₂ (λ b rs. (or_else (conflict (not b)) [], walk_at (held_rows rs) idle observed)) fresh (use_rows name (Some name) None has_value required value items fits fresh))
+                (still name value items observed k.other is) (ready_at (items ++ item ∷ []) (once-fresh items item once ∙ ap not fresh))
           ]
 
       abbrev Here : Option Choice → Option Text → Type 0
-      Here o v = read_from (walk_at h idle seen) (word ∷ words) ≡ wanted choices (before items (follow (choice_step o v) (items_of choices words)))
+      Here o v = read_from (walk_at h idle observed) (word ∷ words) ≡ wanted choices (before items (follow (choice_step o v) (arguments_of choices words)))
 
       long_choice : (name : Text) (has_value required : Bool) (v : Option Text)
           → choice_named choices (name_before text) ≡ Some (record { name = name; has_value = has_value; is_required = required }) → value_behind text ≡ v
           → IsKnown choices name has_value required → Here (Some (record { name = name; has_value = has_value; is_required = required })) v
       long_choice name true required None here valued k =
-          goes_on (walk_at h idle seen) (walk_at (held_at items (Some (name, []))) (option name) seen) word words
-          (long_turn idle seen word text h _ None w here valued
-          ∙ ap₂ (λ f (s : Held). (or_else f [], walk_at (record s { pending = Some (name, []) }) (option name) seen)) (ready.fault ∙ ap conflict once) (ready.rows once))
-          ∙ next.1 name required items seen k is once
+          goes_on (walk_at h idle observed) (walk_at (held_at items (Some (name, []))) (option name) observed) word words
+          (long_turn idle observed word text h _ None w here valued
+          ∙ ap₂ (λ f (s : Held). (or_else f [], walk_at (record s { pending = Some (name, []) }) (option name) observed)) (ready.fault ∙ ap conflict once) (ready.rows once))
+          ∙ next.1 name required items observed k is once
       long_choice name true required (Some v) here valued k =
-          reacts name true required v (λ e. absurd (true≢false e)) k (long_turn idle seen word text h _ (Some v) w here valued)
+          reacts name true required v (λ e. absurd (true≢false e)) k (long_turn idle observed word text h _ (Some v) w here valued)
       long_choice name false required None here valued k =
-          reacts name false required (codes "true") (λ e. refl) k (long_turn idle seen word text h _ None w here valued)
+          reacts name false required (codes "true") (λ e. refl) k (long_turn idle observed word text h _ None w here valued)
       long_choice name false required (Some v) here valued k =
-          stops (walk_at h idle seen) word words (ap (λ (p : Kinds × Walk). is_empty p.0) (long_turn idle seen word text h _ (Some v) w here valued))
+          stops (walk_at h idle observed) word words (ap (λ (p : Kinds × Walk). is_empty p.0) (long_turn idle observed word text h _ (Some v) w here valued))
 
       sound_long : (o : Option Choice) → choice_named choices (name_before text) ≡ o → Here o (value_behind text)
-      sound_long None here = stops (walk_at h idle seen) word words (ap (λ (p : Kinds × Walk). is_empty p.0) (long_turn idle seen word text h None (value_behind text) w here refl))
+      sound_long None here = stops (walk_at h idle observed) word words (ap (λ (p : Kinds × Walk). is_empty p.0) (long_turn idle observed word text h None (value_behind text) w here refl))
       sound_long (Some choice) here =
           long_choice choice.name choice.has_value choice.is_required (value_behind text) here refl (known choices (name_before text) choice w.named here)
 
-    ready_long : (text : Text) (h : Held) (items : List Given) (seen : Bool) → LongWord word text → seen ≡ is_given operand items → IsReady h items
-        → read_from (walk_at h idle seen) (word ∷ words) ≡ wanted choices (before items (follow (choice_step (choice_named choices (name_before text)) (value_behind text)) (items_of choices words)))
-    ready_long text h items seen w is ready = elim (cases_Bool (each_once items)) [
-      | inl once ↦ sound_long text w h items seen is once ready (choice_named choices (name_before text)) refl
-      | inr twice ↦ long_stops idle seen word text words h w (faulty h items ready twice) ∙ sym (unwanted choices items _ twice)
+    ready_long : (text : Text) (h : Held) (items : List GivenArgument) (observed : Bool) → LongWord word text → observed ≡ is_given operand items → IsReady h items
+        → read_from (walk_at h idle observed) (word ∷ words) ≡ wanted choices (before items (follow (choice_step (choice_named choices (name_before text)) (value_behind text)) (arguments_of choices words)))
+    ready_long text h items observed w is ready = elim (cases_Bool (each_once items)) [
+      | inl once ↦ sound_long text w h items observed is once ready (choice_named choices (name_before text)) refl
+      | inr twice ↦ long_stops idle observed word text words h w (faulty h items ready twice) ∙ sym (unwanted choices items _ twice)
     ]
 
     one_more : is_legal word ≡ true → Readies (word ∷ words) × Waits (word ∷ words)
-    unfolding items_of
+    unfolding arguments_of
     one_more legal = go (legal_word word legal)
       where
         go : PlainWord word ⊎ ((text : Text) × LongWord word text) → Readies (word ∷ words) × Waits (word ∷ words)
         go (inl w) = (
-          λ h items seen is ready. rw (w.plain) (ready_plain h items seen w is ready),
-          λ name required items seen k is once. rw (w.plain) (waits_plain name required items seen w k is once),
+          λ h items observed is ready. rw (w.plain) (ready_plain h items observed w is ready),
+          λ name required items observed k is once. rw (w.plain) (waits_plain name required items observed w k is once),
         )
         go (inr t) = (
-          λ h items seen is ready. rw (t.1.plain, t.1.says) (ready_long t.0 h items seen t.1 is ready),
-          λ name required items seen k is once. rw (t.1.plain) (long_stops (option name) seen word t.0 words (held_at items (Some (name, []))) t.1 (ap is_empty (waiting_fault name required items k))),
+          λ h items observed is ready. rw (t.1.plain, t.1.says) (ready_long t.0 h items observed t.1 is ready),
+          λ name required items observed k is once. rw (t.1.plain) (long_stops (option name) observed word t.0 words (held_at items (Some (name, []))) t.1 (ap is_empty (waiting_fault name required items k))),
         )
 
   each_line : (words : List Text) → list_all is_legal words ≡ true → Readies words × Waits words
-  unfolding walk_fault items_of
+  unfolding walk_fault arguments_of
   each_line [] legal = (
-    λ h items seen is ready. ended h items ready ∙ ap (λ all. wanted choices (Some all)) (sym (append-nil items)),
-    λ name required items seen k is once. let h = held_at items (Some (name, [])) in
+    λ h items observed is ready. ended h items ready ∙ ap (λ all. wanted choices (Some all)) (sym (append-nil items)),
+    λ name required items observed k is once. let h = held_at items (Some (name, [])) in
         ap (λ b. cond b (Some (finished rules h)) None) (nonempty_first (settle_fault rules false h) _ (ap is_empty (waiting_fault name required items k))),
   )
   each_line (word ∷ words) legal =
@@ -466,12 +466,12 @@ module _ (choices : List Choice) where
   built_is = ap (λ rs. record { top = record shape { rules = rs }; subs = [] }) (filled_rules choices)
 
   pub parsed : (words : List Text) → list_all is_legal words ≡ true
-      → outcome (fault_of (parser_for choices) words) (matches_of (parser_for choices) words) ≡ wanted choices (items_of choices words None)
+      → outcome (fault_of (parser_for choices) words) (matches_of (parser_for choices) words) ≡ wanted choices (arguments_of choices words None)
   parsed words legal =
       let fault = ap (λ a. built_fault a nothing_held words) built_is ∙ leaf_fault (record { top = shape; subs = [] }) nothing_held words refl in
       ap₂ outcome fault (ap (λ a. rows_after a.top.rules (names_of a) words) built_is)
-      ∙ (each_line words legal).0 nothing_held [] false refl (ready_at [] refl) ∙ ap (wanted choices) (before-nothing (items_of choices words None))
+      ∙ (each_line words legal).0 nothing_held [] false refl (ready_at [] refl) ∙ ap (wanted choices) (before-nothing (arguments_of choices words None))
     where
-      before-nothing : (o : Option (List Given)) → before [] o ≡ o
+      before-nothing : (o : Option (List GivenArgument)) → before [] o ≡ o
       before-nothing None = refl
       before-nothing (Some items) = refl

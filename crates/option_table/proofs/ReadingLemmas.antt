@@ -16,9 +16,9 @@ use Rattle.clap.specs.declared.error.kind.ErrorKind.TheVariants.{OutOfMemory}
 use Rattle.clap.specs.declared.parser.matches.Found.{Found as Matched}
 use Rattle.clap.proofs.WalkLemmas.{find_row, first_value-rows}
 use Rattle.option_table.specs.declared.reading.Found.{Found}
-use Rattle.option_table.specs.Words.{Choice, is_legal, items_of, value_behind, values_in, values_over}
+use Rattle.option_table.specs.Words.{Choice, is_legal, arguments_of, value_behind, values_in, values_over}
 use Rattle.option_table.specs.Parsing.{choice_argument, found_value, from_words, parser_for}
-use Rattle.option_table.proofs.ArgumentLemmas.{choice_rule, rules_for, told}
+use Rattle.option_table.proofs.ArgumentLemmas.{choice_rule, rules_for, contents}
 use Rattle.option_table.proofs.LineLemmas.{built_is, outcome, parsed, shape, values-wanted, values_at}
 
 -- ---- the command is one of which `clap` says what it does
@@ -48,7 +48,7 @@ module _ (choices : List Choice) where
 
 -- ---- the value of a name
 
-value-rows : (f : Matched) (id : Text) → from_words (option_and_then (λ entry. entry.source) (matched_of f id)) (first_value f id) ≡ told (find (λ r. bytes_eq r.id id) (rows_of f))
+value-rows : (f : Matched) (id : Text) → from_words (option_and_then (λ entry. entry.source) (matched_of f id)) (first_value f id) ≡ contents (find (λ r. bytes_eq r.id id) (rows_of f))
 value-rows f id =
     ap (from_words (option_and_then (λ entry. entry.source) (matched_of f id))) (first_value-rows f id)
     ∙ ap (λ s. from_words s (option_and_then (λ r. slice_get r.values 0) (find (λ r. bytes_eq r.id id) (rows_of f))))
@@ -64,7 +64,7 @@ module _ (choices : List Choice) (app : App) (is : app ≡ parser_for choices) (
   values : option_map values_at (outcome choices (fault_of app words) (matches_of app words)) ≡ values_over choices words
   unfolding values_over
   values = ap (λ a. option_map values_at (outcome choices (fault_of a words) (matches_of a words))) is ∙ ap (option_map values_at) (parsed choices words legal)
-      ∙ sym (values-wanted choices (items_of choices words None)) ∙ sym (ap (λ b. cond b (option_and_then (values_in choices) (items_of choices words None)) None) legal)
+      ∙ sym (values-wanted choices (arguments_of choices words None)) ∙ sym (ap (λ b. cond b (option_and_then (values_in choices) (arguments_of choices words None)) None) legal)
 
   pub read_ok : (found : Found) → HasMatchesOf app words found.matches → (is_simple_and_free app ≡ true → fault_of app words ≡ []) → Some (found_value found) ≡ values_over choices words
   read_ok found has faultless =
@@ -84,7 +84,7 @@ module _ (choices : List Choice) (app : App) (is : app ≡ parser_for choices) (
 
 pub read_illegal : (choices : List Choice) (words : List Text) → list_all is_legal words ≡ false → None ≡ values_over choices words
 unfolding values_over
-read_illegal choices words bad = sym (ap (λ b. cond b (option_and_then (values_in choices) (items_of choices words None)) None) bad)
+read_illegal choices words bad = sym (ap (λ b. cond b (option_and_then (values_in choices) (arguments_of choices words None)) None) bad)
 
 -- ---- a value behind `=`
 

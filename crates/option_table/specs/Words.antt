@@ -74,80 +74,80 @@ is_legal word = is_plain word || option_map_or is_legal_text (option_text word) 
 -- ---- items
 
 -- what a line gives: its operand, or an option by its name; a switch has the value `true`
-pub record Given : Type 0 where
+pub record GivenArgument : Type 0 where
   pub name : List ℕ
   pub value : List ℕ
 
-abbrev pub given : List ℕ → List ℕ → Given
+abbrev pub given : List ℕ → List ℕ → GivenArgument
 given name value = record { name = name; value = value }
 
 -- what a legal word gives: an item; the option whose value is the next word; or nothing that the table knows
-pub data Step : Type 0 where
-  gives : Given → Step
-  awaits : List ℕ → Step
-  refuses : Step
+pub data WalkStep : Type 0 where
+  gives : GivenArgument → WalkStep
+  awaits : List ℕ → WalkStep
+  refuses : WalkStep
 
 -- `--name` and `--name=value`, of an option that has a value, and of a switch
-abbrev pub valued_step : List ℕ → Option (List ℕ) → Step
+abbrev pub valued_step : List ℕ → Option (List ℕ) → WalkStep
 valued_step name None = awaits name
 valued_step name (Some value) = gives (given name value)
 
-abbrev pub switch_step : List ℕ → Option (List ℕ) → Step
+abbrev pub switch_step : List ℕ → Option (List ℕ) → WalkStep
 switch_step name None = gives (given name (codes "true"))
 switch_step name (Some value) = refuses
 
-abbrev pub choice_step : Option Choice → Option (List ℕ) → Step
+abbrev pub choice_step : Option Choice → Option (List ℕ) → WalkStep
 choice_step None value = refuses
 choice_step (Some choice) value = if choice.has_value then valued_step choice.name value else switch_step choice.name value
 
-abbrev pub option_step : List Choice → Option (List ℕ) → Step
+abbrev pub option_step : List Choice → Option (List ℕ) → WalkStep
 option_step choices None = refuses
 option_step choices (Some text) = choice_step (choice_named choices (name_before text)) (value_behind text)
 
 -- a word, where an option may await it as its value
-abbrev pub step_of : List Choice → Option (List ℕ) → List ℕ → Step
-step_of choices (Some name) word = if is_plain word then gives (given name word) else refuses
-step_of choices None word = if is_plain word then gives (given operand word) else option_step choices (option_text word)
+abbrev pub word_step : List Choice → Option (List ℕ) → List ℕ → WalkStep
+word_step choices (Some name) word = if is_plain word then gives (given name word) else refuses
+word_step choices None word = if is_plain word then gives (given operand word) else option_step choices (option_text word)
 
-abbrev pub follow : Step → (Option (List ℕ) → Option (List Given)) → Option (List Given)
+abbrev pub follow : WalkStep → (Option (List ℕ) → Option (List GivenArgument)) → Option (List GivenArgument)
 follow (gives item) next = option_map (λ items. item ∷ items) (next None)
 follow (awaits name) next = next (Some name)
 follow refuses next = None
 
 -- the items of legal words; an option may await the first word
-unfoldable pub items_of : List Choice → List (List ℕ) → Option (List ℕ) → Option (List Given)
-items_of choices [] None = Some []
-items_of choices [] (Some name) = None
-items_of choices (word ∷ words) awaited = follow (step_of choices awaited word) (items_of choices words)
+unfoldable pub arguments_of : List Choice → List (List ℕ) → Option (List ℕ) → Option (List GivenArgument)
+arguments_of choices [] None = Some []
+arguments_of choices [] (Some name) = None
+arguments_of choices (word ∷ words) awaited = follow (word_step choices awaited word) (arguments_of choices words)
 
 -- ---- lines
 
 -- an item of this name is among them
-abbrev pub is_given : List ℕ → List Given → Bool
+abbrev pub is_given : List ℕ → List GivenArgument → Bool
 is_given name items = list_any (λ item. bytes_eq item.name name) items
 
 -- the value of the item of this name
-abbrev pub value_of : List ℕ → List Given → Option (List ℕ)
-value_of name items = option_map (λ item. item.value) (find (λ item. bytes_eq item.name name) items)
+abbrev pub argument_value : List ℕ → List GivenArgument → Option (List ℕ)
+argument_value name items = option_map (λ item. item.value) (find (λ item. bytes_eq item.name name) items)
 
 -- no two items have one name
-abbrev pub each_once : List Given → Bool
+abbrev pub each_once : List GivenArgument → Bool
 each_once [] = true
 each_once (item ∷ items) = not (is_given item.name items) && each_once items
 
 -- the operand, or an option that may not be missing, is missing
-abbrev pub lacks_some : List Choice → List Given → Bool
+abbrev pub lacks_some : List Choice → List GivenArgument → Bool
 lacks_some choices items =
     not (is_given operand items) || list_any (λ choice. choice.is_required && not (is_given choice.name items)) choices
 
 -- nothing that may not be missing is missing, and nothing is given twice
-abbrev pub is_whole : List Choice → List Given → Bool
+abbrev pub is_whole : List Choice → List GivenArgument → Bool
 is_whole choices items = each_once items && not (lacks_some choices items)
 
 -- the value of each name, where a line is whole
-abbrev pub values_in : List Choice → List Given → Option (List ℕ → Option (List ℕ))
-values_in choices items = if is_whole choices items then Some (λ name. value_of name items) else None
+abbrev pub values_in : List Choice → List GivenArgument → Option (List ℕ → Option (List ℕ))
+values_in choices items = if is_whole choices items then Some (λ name. argument_value name items) else None
 
 -- the value that a line gives each name: all its words are legal, they give items, and these are whole
 unfoldable pub values_over : List Choice → List (List ℕ) → Option (List ℕ → Option (List ℕ))
-values_over choices words = if list_all is_legal words then option_and_then (values_in choices) (items_of choices words None) else None
+values_over choices words = if list_all is_legal words then option_and_then (values_in choices) (arguments_of choices words None) else None

@@ -45,7 +45,7 @@ impl<'a> Found<'a> {
 
 /// What a line of words gives over a table, where it is legal: each word is the operand, an option of
 /// the table or its value, nothing is given twice, and nothing that is needed is missing. Errors with
-/// want of memory.
+/// running out of memory.
 pub fn read<'a>(
     alloc: Global,
     table: &[Choice],

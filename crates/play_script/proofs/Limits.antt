@@ -31,4 +31,4 @@ pub made_longer : (before items : List Event) (given : Event) (size held count :
     → items ≡ take (size + count) before ++ replicate (size + count - held) given → items ≡ before ++ replicate count given
 made_longer before items given size held count is_size is_held is =
     let more : size + count - held ≡ count = omega (arith, is_size) in
-    is ∙ ap₂ (λ front n. front ++ replicate n given) (take_all (size + count) before (omega (arith, is_size, is_held))) more
+    is ∙ ap₂ (λ prefix n. prefix ++ replicate n given) (take_all (size + count) before (omega (arith, is_size, is_held))) more

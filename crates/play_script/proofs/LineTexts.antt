@@ -5,7 +5,7 @@ use Rattle.std.specs.List.{flat_map, join_with_byte}
 use Rattle.std.proofs.lemmas.Simd.{map-map}
 use Rattle.std.proofs.lemmas.List.Concat.{flat_map-append}
 use Rattle.std.proofs.lemmas.List.Folds.{flat_map-map}
-use Rattle.tree_io.specs.ByteList.{ByteList}
+use Rattle.uxn_io_traits.specs.ByteList.{ByteList}
 use Rattle.play_script.specs.Held.{bytes_in}
 use Rattle.play_script.specs.declared.values.Value.{Value}
 use Rattle.play_script.specs.PlainText.{line_text, text_word, argument_words, clock_words, event_words, value_word, version_words, plain_lines, plain_text}

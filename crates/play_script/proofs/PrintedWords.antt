@@ -13,10 +13,10 @@ use Rattle.hex.proofs.HexLemmas.{length-encode_with, decode_of-encode_lower, dec
 use Rattle.play_script.specs.declared.values.Value.{Value}
 use Rattle.play_script.specs.declared.values.Value.TheVariants.{Byte, Button, MouseButton, Player, Pixel, Turn, Seconds, Minutes}
 use Rattle.play_script.specs.Limits.{AreValues, IsBit, IsValue}
-use Rattle.line_texts.specs.Numbers.{is_digit, is_number, number_within, integer_within, byte_of, begins_with}
-use Rattle.line_texts.proofs.Numerals.{own}
+use Rattle.text_lines.specs.Numbers.{is_digit, is_number, number_within, integer_within, byte_of, begins_with}
+use Rattle.text_lines.proofs.Numerals.{own}
 use Rattle.play_script.specs.PlainText.{text_word, name_in, value_word}
-use Rattle.play_script.specs.Values.{text_of, Buttons, bit_in, buttons, mouse_buttons}
+use Rattle.play_script.specs.Values.{text_of_values, Buttons, bit_in, buttons, mouse_buttons}
 use borrow.Author.Differences.{le_out, neg_is}
 
 -- a word has bytes, and none that parts words or lines
@@ -103,18 +103,18 @@ are_bytes bytes small i = elim (cases_lt i (length bytes)) [
   | inr past ↦ rw (get_or_past bytes i 0 past) (omega arith)
 ]
 
-pub pairs_back : (bytes : List ℕ) → All (λ byte. byte < 256) bytes → text_of (encode_lower bytes) ≡ Some bytes
-unfolding text_of
+pub pairs_back : (bytes : List ℕ) → All (λ byte. byte < 256) bytes → text_of_values (encode_lower bytes) ≡ Some bytes
+unfolding text_of_values
 pairs_back bytes small =
     rw (digit_first 34 (encode_lower bytes) (pairs_high bytes small) (omega arith), decode_of-encode_lower bytes (are_bytes bytes small)) refl
 
 text_word_is : (byte : ℕ) (bytes : List ℕ) → text_word (byte ∷ bytes) ≡ encode_lower (byte ∷ bytes)
 text_word_is byte bytes = let filled : eqb (length (byte ∷ bytes)) 0 ≡ false = grind arith in rw filled refl
 
-pub text_back : (bytes : List ℕ) → All (λ byte. byte < 256) bytes → text_of (text_word bytes) ≡ Some bytes
-unfolding text_of
+pub text_back : (bytes : List ℕ) → All (λ byte. byte < 256) bytes → text_of_values (text_word bytes) ≡ Some bytes
+unfolding text_of_values
 text_back [] small = refl
-text_back (byte ∷ bytes) small = ap text_of (text_word_is byte bytes) ∙ pairs_back (byte ∷ bytes) small
+text_back (byte ∷ bytes) small = ap text_of_values (text_word_is byte bytes) ∙ pairs_back (byte ∷ bytes) small
 
 pub plain_text_word : (bytes : List ℕ) → All (λ byte. byte < 256) bytes → is_plain (text_word bytes) ≡ true
 plain_text_word [] small = refl
@@ -136,16 +136,16 @@ any_holds P (bit ∷ bits) all mask is = elim (cases_eq bit mask) [
 ]
 
 -- a button's name is read back, and is a plain word
-abbrev pub IsRead : Buttons → ℕ → Type 0
-IsRead table mask = (bit_in table (name_in table mask) ≡ Some mask) × (is_plain (name_in table mask) ≡ true)
+abbrev pub IsScriptRead : Buttons → ℕ → Type 0
+IsScriptRead table mask = (bit_in table (name_in table mask) ≡ Some mask) × (is_plain (name_in table mask) ≡ true)
 
-pub button_back : (mask : ℕ) → IsBit mask → IsRead buttons mask
+pub button_back : (mask : ℕ) → IsBit mask → IsScriptRead buttons mask
 unfolding bit_in name_in
-button_back = any_holds (IsRead buttons) (1 ∷ 2 ∷ 4 ∷ 8 ∷ 16 ∷ 32 ∷ 64 ∷ 128 ∷ []) ((refl, refl), ((refl, refl), ((refl, refl), ((refl, refl), ((refl, refl), ((refl, refl), ((refl, refl), ((refl, refl), tt))))))))
+button_back = any_holds (IsScriptRead buttons) (1 ∷ 2 ∷ 4 ∷ 8 ∷ 16 ∷ 32 ∷ 64 ∷ 128 ∷ []) ((refl, refl), ((refl, refl), ((refl, refl), ((refl, refl), ((refl, refl), ((refl, refl), ((refl, refl), ((refl, refl), tt))))))))
 
-pub mouse_button_back : (mask : ℕ) → IsBit mask → IsRead mouse_buttons mask
+pub mouse_button_back : (mask : ℕ) → IsBit mask → IsScriptRead mouse_buttons mask
 unfolding bit_in name_in
-mouse_button_back = any_holds (IsRead mouse_buttons) (1 ∷ 2 ∷ 4 ∷ 8 ∷ 16 ∷ 32 ∷ 64 ∷ 128 ∷ []) ((refl, refl), ((refl, refl), ((refl, refl), ((refl, refl), ((refl, refl), ((refl, refl), ((refl, refl), ((refl, refl), tt))))))))
+mouse_button_back = any_holds (IsScriptRead mouse_buttons) (1 ∷ 2 ∷ 4 ∷ 8 ∷ 16 ∷ 32 ∷ 64 ∷ 128 ∷ []) ((refl, refl), ((refl, refl), ((refl, refl), ((refl, refl), ((refl, refl), ((refl, refl), ((refl, refl), ((refl, refl), tt))))))))
 
 -- the words of values are plain
 plain_value : (value : Value) → IsValue value → is_plain (value_word value) ≡ true

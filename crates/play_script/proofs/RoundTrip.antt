@@ -12,10 +12,10 @@ use Rattle.std.proofs.lemmas.List.Folds.{list_all-append}
 use Rattle.std.proofs.lemmas.List.Sums.{AllPass-from_list_all}
 use Rattle.std.proofs.lemmas.List.Splits.{slice_split_at}
 use Rattle.hex.specs.Hex.{encode_lower}
-use Rattle.line_texts.specs.Lines.{is_blank, is_newline, lines_of, words_of}
-use Rattle.line_texts.specs.Numbers.{number_within, integer_within}
-use Rattle.line_texts.specs.Reading.{Line, given}
-use Rattle.line_texts.proofs.Cutting.{no_words, after_blank, front_word, not_lt}
+use Rattle.text_lines.specs.Lines.{is_blank, is_newline, lines_of, words_of}
+use Rattle.text_lines.specs.Numbers.{number_within, integer_within}
+use Rattle.text_lines.specs.Reading.{Line, given}
+use Rattle.text_lines.proofs.Cutting.{no_words, after_blank, prefix_word, not_lt}
 use Rattle.input_ports.specs.declared.Input.TheVariants.{Key, Down, Up, Mouse, Press, Release, Scroll, DownOf, UpOf}
 use Rattle.play_script.specs.declared.script.Clock.{Clock}
 use Rattle.play_script.specs.declared.script.Event.{Event}
@@ -26,10 +26,10 @@ use Rattle.play_script.specs.declared.script.Version.{Version}
 use Rattle.play_script.specs.declared.script.Version.TheVariants.{First, Second}
 use Rattle.play_script.specs.Limits.{IsEvent, IsScript, IsTime}
 use Rattle.play_script.specs.PlainText.{text_word, value_word, plain_event, event_words, clock_values, clock_words, argument_words, plain_lines, line_text, plain_text}
-use Rattle.play_script.specs.Rows.{Meaning, version, clock, arguments, event, rows_of, device_of, given_of, made_of, version_of, clock_of, keys_of, expect_of, buttons_of, mouse_buttons_of, mouse_of, scroll_of, line_of}
-use Rattle.play_script.specs.Scripts.{ScriptView, script_with, arguments_of, events_of, events_in, fault_behind, read_by, script_by, script_from, script_in, script_of, version_at, version_in}
-use Rattle.play_script.specs.Values.{texts_of, both, one_or}
-use Rattle.line_texts.specs.Rows.{row_of}
+use Rattle.play_script.specs.Rows.{Meaning, version, clock, arguments, event, rows_of, device_of, events_of_line, script_meaning_of, version_of, clock_of_values, keys_of, expect_of, buttons_of, mouse_buttons_of, mouse_of, scroll_of, script_line_of}
+use Rattle.play_script.specs.Scripts.{ScriptView, script_with, arguments_of, events_of, events_in, script_fault, script_lines, script_by, script_from, script_in, script_of, version_at, version_in}
+use Rattle.play_script.specs.Values.{texts_of_values, both_values, one_or}
+use Rattle.text_lines.specs.Rows.{keyword_row}
 use Rattle.play_script.proofs.PrintedWords.{is_plain, weaker, number_back, integer_back, pairs_back, text_back, plain_text_word, one_byte, byte_back, button_back, mouse_button_back, plain_values}
 use Rattle.play_script.proofs.Versions.{lift}
 use borrow.Author.Differences.{le_out}
@@ -51,10 +51,10 @@ pub joined_words : (words : List (List ℕ)) → are_plain words ≡ true → wo
 joined_words [] plain = no_words
 joined_words (word ∷ []) plain =
     let here = (and_parts (is_plain word) true plain).0 in
-    ap words_of (sym (append-nil word)) ∙ front_word word [] (some_bytes word here) (no_blanks word here) (λ more. absurd (omega arith)) ∙ ap (λ none. word ∷ none) no_words
+    ap words_of (sym (append-nil word)) ∙ prefix_word word [] (some_bytes word here) (no_blanks word here) (λ more. absurd (omega arith)) ∙ ap (λ none. word ∷ none) no_words
 joined_words (word ∷ next ∷ words) plain =
     let parts = and_parts (is_plain word) (are_plain (next ∷ words)) plain in
-    front_word word (32 ∷ join_with_byte 32 (next ∷ words)) (some_bytes word parts.0) (no_blanks word parts.0) (λ more. refl)
+    prefix_word word (32 ∷ join_with_byte 32 (next ∷ words)) (some_bytes word parts.0) (no_blanks word parts.0) (λ more. refl)
     ∙ ap (λ rest. word ∷ rest) (after_blank 32 (join_with_byte 32 (next ∷ words)) refl ∙ joined_words (next ∷ words) parts.1)
 
 -- they part no lines
@@ -74,7 +74,7 @@ no_newlines line high = All-weaker (λ byte. leb 32 byte ≡ true) (λ byte. is_
 
 -- the lines of a text are read back
 abbrev line_by : Version → List (List ℕ) → Line Meaning ScriptKind
-line_by number words = line_of number words
+line_by number words = script_line_of number words
 
 cut_line : (line : List (List ℕ)) (lines : List (List (List ℕ))) → are_plain line ≡ true
     → lines_of (flat_map line_text (line ∷ lines)) ≡ join_with_byte 32 line ∷ lines_of (flat_map line_text lines)
@@ -83,15 +83,15 @@ cut_line line lines plain =
     ∙ slice_split_at is_newline (join_with_byte 32 line) 10 (flat_map line_text lines) (no_newlines _ (high_bytes line plain)) refl
 
 empty_line : (number : Version) → line_by number (words_of []) ∷ [] ≡ Ok None ∷ []
-unfolding line_of words_of
+unfolding script_line_of words_of
 empty_line number = refl
 
-printed_lines : (number : Version) (lines : List (List (List ℕ))) → list_all are_plain lines ≡ true → read_by number (lines_of (flat_map line_text lines)) ≡ map (line_by number) lines ++ Ok None ∷ []
+printed_lines : (number : Version) (lines : List (List (List ℕ))) → list_all are_plain lines ≡ true → script_lines number (lines_of (flat_map line_text lines)) ≡ map (line_by number) lines ++ Ok None ∷ []
 printed_lines number [] plain = empty_line number
 printed_lines number (line ∷ lines) plain =
     let parts = and_parts (are_plain line) (list_all are_plain lines) plain in
-    ap (read_by number) (cut_line line lines parts.0)
-    ∙ ap (λ words. line_by number words ∷ read_by number (lines_of (flat_map line_text lines))) (joined_words line parts.0)
+    ap (script_lines number) (cut_line line lines parts.0)
+    ∙ ap (λ words. line_by number words ∷ script_lines number (lines_of (flat_map line_text lines))) (joined_words line parts.0)
     ∙ ap (λ more. line_by number line ∷ more) (printed_lines number lines parts.1)
 
 -- the line of the clock
@@ -100,15 +100,15 @@ seconds_back (pos n) from to = ap (option_map pos) (number_back 0 253370000000 n
 seconds_back (negsuc n) from to = absurd (omega (arith, le_out, from))
 
 with_seconds : (time : Clock) (first : Option ℕ) (second : Option ℤ) → option_map pos first ≡ Some time.seconds → second ≡ Some time.offset
-    → both (λ seconds offset. record { seconds = pos seconds; offset = offset }) first second ≡ Some time
+    → both_values (λ seconds offset. record { seconds = pos seconds; offset = offset }) first second ≡ Some time
 with_seconds time None second found other = grind (arith, found)
 with_seconds time (Some n) second found other = let is : pos n ≡ time.seconds = grind (arith, found) in rw (other, is) refl
 
-abbrev Reads : Version → List (List ℕ) → Meaning → Type 0
-Reads number words m = line_of number words ≡ Ok (Some m)
+abbrev ReadsScript : Version → List (List ℕ) → Meaning → Type 0
+ReadsScript number words m = script_line_of number words ≡ Ok (Some m)
 
-clock_line : (time : Clock) → IsTime time → Reads First (clock_words time) (clock time)
-unfolding line_of rows_of row_of made_of clock_of value_word
+clock_line : (time : Clock) → IsTime time → ReadsScript First (clock_words time) (clock time)
+unfolding script_line_of rows_of keyword_row script_meaning_of clock_of_values value_word
 clock_line time is =
     rw (with_seconds time (number_within 0 253370000000 (signed_decimal time.seconds)) (integer_within 840 840 (signed_decimal time.offset)) (seconds_back time.seconds is.seconds_from is.seconds_to)
     (integer_back 840 840 time.offset (omega arith) (omega arith) is.offset_from is.offset_to)) refl
@@ -117,13 +117,13 @@ clock_line time is =
 abbrev AreBytes : List (List ℕ) → Type 0
 AreBytes texts = All (All (λ byte. byte < 256)) texts
 
-texts_back : (texts : List (List ℕ)) → AreBytes texts → texts_of (map text_word texts) ≡ Some texts
+texts_back : (texts : List (List ℕ)) → AreBytes texts → texts_of_values (map text_word texts) ≡ Some texts
 texts_back [] small = refl
 texts_back (text ∷ texts) small =
     rw (text_back text (All-head (All (λ byte. byte < 256)) text texts small), texts_back texts (All-tail (All (λ byte. byte < 256)) text texts small)) refl
 
-args_line : (text : List ℕ) (texts : List (List ℕ)) → AreBytes (text ∷ texts) → Reads First (codes "args" ∷ map text_word (text ∷ texts)) (arguments (text ∷ texts))
-unfolding line_of rows_of row_of made_of
+args_line : (text : List ℕ) (texts : List (List ℕ)) → AreBytes (text ∷ texts) → ReadsScript First (codes "args" ∷ map text_word (text ∷ texts)) (arguments (text ∷ texts))
+unfolding script_line_of rows_of keyword_row script_meaning_of
 args_line text texts small =
     rw (not_lt (length (map text_word (text ∷ texts))) 1 (omega arith), text_back text (All-head (All (λ byte. byte < 256)) text texts small), texts_back texts (All-tail (All (λ byte. byte < 256)) text texts small)) refl
 
@@ -133,7 +133,7 @@ plain_texts (text ∷ texts) small =
     and_from _ _ (plain_text_word text (All-head (All (λ byte. byte < 256)) text texts small)) (plain_texts texts (All-tail (All (λ byte. byte < 256)) text texts small))
 
 -- the line of an event
-one_text : (byte : ℕ) → byte < 256 → texts_of (encode_lower (byte ∷ []) ∷ []) ≡ Some ((byte ∷ []) ∷ [])
+one_text : (byte : ℕ) → byte < 256 → texts_of_values (encode_lower (byte ∷ []) ∷ []) ≡ Some ((byte ∷ []) ∷ [])
 one_text byte small = rw (pairs_back (byte ∷ []) (one_byte byte small)) refl
 
 player_back : (player : ℕ) → (2 ≤ player) × (player ≤ 4) → number_within 1 4 (decimal player) ≡ Some player
@@ -149,18 +149,18 @@ further_player : (player : ℕ) → 2 ≤ player → eqb player 1 ≡ false
 further_player player from = grind arith
 
 -- what version 1 reads, in each version
-in_version : (number : Version) (words : List (List ℕ)) (m : Meaning) → Reads First words m → Reads number words m
+in_version : (number : Version) (words : List (List ℕ)) (m : Meaning) → ReadsScript First words m → ReadsScript number words m
 in_version First words m is = is
 in_version Second words m is = (lift words (Some m) is).0
 
 abbrev ReadsEvent : Version → Event → Type 0
-ReadsEvent number e = Reads number (event_words e) (event e)
+ReadsEvent number e = ReadsScript number (event_words e) (event e)
 
 old : (number : Version) (e : Event) → ReadsEvent First e → ReadsEvent number e
 old number e is = in_version number (event_words e) (event e) is
 
 event_line : (number : Version) (e : Event) → IsEvent number e → ReadsEvent number e
-unfolding line_of rows_of row_of made_of given_of device_of keys_of expect_of buttons_of mouse_buttons_of mouse_of scroll_of value_word one_or
+unfolding script_line_of rows_of keyword_row script_meaning_of events_of_line device_of keys_of expect_of buttons_of mouse_buttons_of mouse_of scroll_of value_word one_or
 event_line number (Input byte) is = old number (Input byte) (rw (one_text byte is.within.0) refl)
 event_line number EndInput is = old number EndInput refl
 event_line number Frame is = old number Frame refl
@@ -192,7 +192,7 @@ abbrev ok_event : Event → Line Meaning ScriptKind
 ok_event e = Ok (Some (event e))
 
 given_events : (n : ℕ) (before : List Meaning) (more : List Event) → length (events_of before) + length more ≤ 1000000
-    → given fault_behind n before (map ok_event more ++ Ok None ∷ []) ≡ Ok (before ++ map event more)
+    → given script_fault n before (map ok_event more ++ Ok None ∷ []) ≡ Ok (before ++ map event more)
 given_events n before [] few = ap Ok (sym (append-nil before))
 given_events n before (e ∷ more) few =
     let fits = not_lt 1000000 (length (events_of before) + 1) (omega (arith, few)) in
@@ -212,12 +212,12 @@ start First time (text ∷ texts) = clock time ∷ arguments (text ∷ texts) �
 start Second time [] = version ∷ clock time ∷ []
 start Second time (text ∷ texts) = version ∷ clock time ∷ arguments (text ∷ texts) ∷ []
 
-version_line : Reads Second (codes "script" ∷ codes "2" ∷ []) version
-unfolding line_of rows_of row_of made_of version_of
+version_line : ReadsScript Second (codes "script" ∷ codes "2" ∷ []) version
+unfolding script_line_of rows_of keyword_row script_meaning_of version_of
 version_line = refl
 
 all_given : (number : Version) (time : Clock) (texts : List (List ℕ)) (more : List Event) → IsTime time → AreBytes texts → All (IsEvent number) more → length more ≤ 1000000
-    → given fault_behind 1 [] (map (line_by number) (plain_lines (script_with number time texts more)) ++ Ok None ∷ []) ≡ Ok (start number time texts ++ map event more)
+    → given script_fault 1 [] (map (line_by number) (plain_lines (script_with number time texts more)) ++ Ok None ∷ []) ≡ Ok (start number time texts ++ map event more)
 unfolding plain_lines start
 all_given First time [] more is small valid few =
     rw (clock_line time is, events_read First more valid) (given_events 2 (clock time ∷ []) more (omega (arith, few)))
@@ -264,16 +264,16 @@ all_plain First time texts more is small valid = and_from _ _ (plain_clock time 
 all_plain Second time texts more is small valid =
     and_from _ _ refl (and_from _ _ (plain_clock time is) (plain_args texts (map event_words more) small (plain_events Second more valid)))
 
-told : (number : Version) (line : List (List ℕ)) (lines : List (List (List ℕ))) → are_plain line ≡ true → version_at line ≡ Some number → version_in (lines_of (flat_map line_text (line ∷ lines))) ≡ number
-told number line lines plain is = ap version_in (cut_line line lines plain) ∙ rw (joined_words line plain, is) refl
+contents : (number : Version) (line : List (List ℕ)) (lines : List (List (List ℕ))) → are_plain line ≡ true → version_at line ≡ Some number → version_in (lines_of (flat_map line_text (line ∷ lines))) ≡ number
+contents number line lines plain is = ap version_in (cut_line line lines plain) ∙ rw (joined_words line plain, is) refl
 
 version_back : (number : Version) (time : Clock) (texts : List (List ℕ)) (more : List Event) → IsTime time → version_in (lines_of (plain_text (script_with number time texts more))) ≡ number
 unfolding plain_text plain_lines
-version_back First time texts more is = told First (clock_words time) (argument_words texts ++ map event_words more) (plain_clock time is) refl
+version_back First time texts more is = contents First (clock_words time) (argument_words texts ++ map event_words more) (plain_clock time is) refl
 version_back Second time texts more is =
-    told Second (codes "script" ∷ codes "2" ∷ []) (clock_words time ∷ (argument_words texts ++ map event_words more)) refl refl
+    contents Second (codes "script" ∷ codes "2" ∷ []) (clock_words time ∷ (argument_words texts ++ map event_words more)) refl refl
 
-text_read : (number : Version) (script : ScriptView) → list_all are_plain (plain_lines script) ≡ true → read_by number (lines_of (plain_text script)) ≡ map (line_by number) (plain_lines script) ++ Ok None ∷ []
+text_read : (number : Version) (script : ScriptView) → list_all are_plain (plain_lines script) ≡ true → script_lines number (lines_of (plain_text script)) ≡ map (line_by number) (plain_lines script) ++ Ok None ∷ []
 unfolding plain_text
 text_read number script plain = printed_lines number (plain_lines script) plain
 
@@ -284,7 +284,7 @@ printed_scripts script is short =
     let small = is.arguments.1 in
     let lines = lines_of (plain_text script) in
     ap (λ test. cond test (Err (1, LongScript)) (script_in lines)) (not_lt 4194304 (length (plain_text script)) short)
-    ∙ ap (λ v. script_by v (given fault_behind 1 [] (read_by v lines))) (version_back number script.clock script.arguments script.events is.time)
-    ∙ ap (λ read. script_by number (given fault_behind 1 [] read)) (text_read number script (all_plain number script.clock script.arguments script.events is.time small is.events_given))
+    ∙ ap (λ v. script_by v (given script_fault 1 [] (script_lines v lines))) (version_back number script.clock script.arguments script.events is.time)
+    ∙ ap (λ read. script_by number (given script_fault 1 [] read)) (text_read number script (all_plain number script.clock script.arguments script.events is.time small is.events_given))
     ∙ ap (script_by number) (all_given number script.clock script.arguments script.events is.time small is.events_given is.events_few)
     ∙ ap Ok (same_script number script.clock script.arguments script.events)

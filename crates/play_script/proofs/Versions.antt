@@ -6,23 +6,23 @@ use Rattle.std.specs.Option.{option_map, ok_or, IfSome}
 use Rattle.std.specs.Str.{bytes_eq}
 use Rattle.std.proofs.lemmas.List.Elements.{All-from_get_or}
 use Rattle.std.proofs.lemmas.List.Splits.{slice_split_at}
-use Rattle.line_texts.specs.declared.row.Counts.{Counts}
-use Rattle.line_texts.specs.declared.row.Counts.TheVariants.{Exactly, Between}
-use Rattle.line_texts.specs.declared.row.LineFault.{LineFault}
-use Rattle.line_texts.specs.declared.row.LineFault.TheVariants.{Missing, Extra}
-use Rattle.line_texts.specs.Lines.{is_newline, lines_of, words_of}
-use Rattle.line_texts.specs.Numbers.{begins_with}
-use Rattle.line_texts.specs.Reading.{Line, given}
-use Rattle.line_texts.specs.Rows.{row_of, are_too_few, are_too_many, counted}
+use Rattle.text_lines.specs.declared.row.Counts.{Counts}
+use Rattle.text_lines.specs.declared.row.Counts.TheVariants.{Exactly, Between}
+use Rattle.text_lines.specs.declared.row.LineFault.{LineFault}
+use Rattle.text_lines.specs.declared.row.LineFault.TheVariants.{Missing, Extra}
+use Rattle.text_lines.specs.Lines.{is_newline, lines_of, words_of}
+use Rattle.text_lines.specs.Numbers.{begins_with}
+use Rattle.text_lines.specs.Reading.{Line, given}
+use Rattle.text_lines.specs.Rows.{keyword_row, are_too_few, are_too_many, counted}
 use Rattle.play_script.specs.declared.keyword.Keyword.{Keyword}
 use Rattle.play_script.specs.declared.keyword.Keyword.TheVariants as word
 use Rattle.play_script.specs.declared.script.ScriptKind.{ScriptKind}
 use Rattle.play_script.specs.declared.script.ScriptKind.TheVariants.{BadValue, LongScript}
 use Rattle.play_script.specs.declared.script.Version.{Version}
 use Rattle.play_script.specs.declared.script.Version.TheVariants.{First, Second}
-use Rattle.play_script.specs.Rows.{Meaning, version, clock, arguments, events, made_of, given_of, device_of, version_of, clock_of, keys_of, buttons_of, made_by, as_line, line_of, rows_of, first_rows, second_rows}
-use Rattle.play_script.specs.Scripts.{ScriptView, fault_behind, read_by, script_by, script_from, script_in, script_of, version_in}
-use Rattle.play_script.specs.Values.{texts_of}
+use Rattle.play_script.specs.Rows.{Meaning, version, clock, arguments, events, script_meaning_of, events_of_line, device_of, version_of, clock_of_values, keys_of, buttons_of, script_meaning_by, script_as_line, script_line_of, rows_of, first_rows, second_rows}
+use Rattle.play_script.specs.Scripts.{ScriptView, script_fault, script_lines, script_by, script_from, script_in, script_of, version_in}
+use Rattle.play_script.specs.Values.{texts_of_values}
 
 -- what is found in a table
 found_at : {A : Type 0} (P : A → Type 0) (test : A → Bool) (x : A) (later : Option A) (b : Bool) → test x ≡ b → P x → IfSome later (λ y. P y × (test y ≡ true))
@@ -39,40 +39,40 @@ abbrev Row : Type 0
 Row = List ℕ × Counts × Keyword
 
 abbrev reads : Version → Option Row → List (List ℕ) → Line Meaning ScriptKind
-reads number found values = as_line (made_by number (counted found (length values)) values)
+reads number found values = script_as_line (script_meaning_by number (counted found (length values)) values)
 
 record Carries (row : Row) : Type 0 where
-  same : (values : List (List ℕ)) (m : Option Meaning) → reads First (Some row) values ≡ Ok m → reads Second (row_of second_rows row.0) values ≡ Ok m
+  same : (values : List (List ℕ)) (m : Option Meaning) → reads First (Some row) values ≡ Ok m → reads Second (keyword_row second_rows row.0) values ≡ Ok m
 
-same_answer : (few many : Bool) (keyword : Keyword) (values : List (List ℕ)) → made_of keyword First values ≡ made_of keyword Second values
-    → made_by First (cond few (Err Missing) (cond many (Err Extra) (Ok keyword))) values ≡ made_by Second (cond few (Err Missing) (cond many (Err Extra) (Ok keyword))) values
+same_answer : (few many : Bool) (keyword : Keyword) (values : List (List ℕ)) → script_meaning_of keyword First values ≡ script_meaning_of keyword Second values
+    → script_meaning_by First (cond few (Err Missing) (cond many (Err Extra) (Ok keyword))) values ≡ script_meaning_by Second (cond few (Err Missing) (cond many (Err Extra) (Ok keyword))) values
 same_answer true many keyword values made = refl
 same_answer false true keyword values made = refl
 same_answer false false keyword values made = ap (λ m. ok_or m BadValue) made
 
-same_row : (row : Row) → row_of second_rows row.0 ≡ Some row → ((values : List (List ℕ)) → made_of row.2 First values ≡ made_of row.2 Second values) → Carries row
+same_row : (row : Row) → keyword_row second_rows row.0 ≡ Some row → ((values : List (List ℕ)) → script_meaning_of row.2 First values ≡ script_meaning_of row.2 Second values) → Carries row
 same_row row found made = record {
   same = λ values m is.
-      rw found (ap as_line (sym (same_answer (are_too_few row.1 (length values)) (are_too_many row.1 (length values)) row.2 values (made values))) ∙ is);
+      rw found (ap script_as_line (sym (same_answer (are_too_few row.1 (length values)) (are_too_many row.1 (length values)) row.2 values (made values))) ∙ is);
 }
 
-wide_line : (name : List ℕ) (keyword : Keyword) → row_of second_rows name ≡ Some (name, Between 1 2, keyword)
-    → ((b : List ℕ) → made_of keyword First (b ∷ []) ≡ made_of keyword Second (b ∷ [])) → (values : List (List ℕ)) (m : Option Meaning)
-    → reads First (Some (name, Exactly 1, keyword)) values ≡ Ok m → reads Second (row_of second_rows name) values ≡ Ok m
+wide_line : (name : List ℕ) (keyword : Keyword) → keyword_row second_rows name ≡ Some (name, Between 1 2, keyword)
+    → ((b : List ℕ) → script_meaning_of keyword First (b ∷ []) ≡ script_meaning_of keyword Second (b ∷ [])) → (values : List (List ℕ)) (m : Option Meaning)
+    → reads First (Some (name, Exactly 1, keyword)) values ≡ Ok m → reads Second (keyword_row second_rows name) values ≡ Ok m
 wide_line name keyword found made [] m is = absurd (grind (arith, is))
-wide_line name keyword found made (b ∷ []) m is = rw found (ap (λ given. as_line (ok_or given BadValue)) (sym (made b)) ∙ is)
+wide_line name keyword found made (b ∷ []) m is = rw found (ap (λ given. script_as_line (ok_or given BadValue)) (sym (made b)) ∙ is)
 wide_line name keyword found made (b ∷ c ∷ more) m is =
     let enough : ltb (length (b ∷ c ∷ more)) 1 ≡ false = grind arith in
     let over : ltb 1 (length (b ∷ c ∷ more)) ≡ true = grind arith in
     let no = rw (enough, over) at is in
     absurd (grind (arith, no))
 
-wide_row : (name : List ℕ) (keyword : Keyword) → row_of second_rows name ≡ Some (name, Between 1 2, keyword)
-    → ((b : List ℕ) → made_of keyword First (b ∷ []) ≡ made_of keyword Second (b ∷ [])) → Carries (name, Exactly 1, keyword)
+wide_row : (name : List ℕ) (keyword : Keyword) → keyword_row second_rows name ≡ Some (name, Between 1 2, keyword)
+    → ((b : List ℕ) → script_meaning_of keyword First (b ∷ []) ≡ script_meaning_of keyword Second (b ∷ [])) → Carries (name, Exactly 1, keyword)
 wide_row name keyword found made = record { same = wide_line name keyword found made }
 
 all_carry : AllByRecursion Carries first_rows
-unfolding row_of made_of given_of device_of keys_of buttons_of
+unfolding keyword_row script_meaning_of events_of_line device_of keys_of buttons_of
 all_carry = search (same_row, wide_row)
 
 -- version 1 has no line that tells a version
@@ -84,81 +84,81 @@ none_by : {A : Type 0} (make : A → Meaning) (value : Option A) → ((a : A) �
 none_by make None step = tt
 none_by make (Some a) step = step a
 
-none_made : (keyword : Keyword) (values : List (List ℕ)) → IfSome (made_of keyword First values) IsNoVersion
-unfolding made_of version_of
+none_made : (keyword : Keyword) (values : List (List ℕ)) → IfSome (script_meaning_of keyword First values) IsNoVersion
+unfolding script_meaning_of version_of
 none_made word.Script values = tt
-none_made word.Clock values = none_by clock (clock_of values) (λ a. tt)
-none_made word.Args values = none_by arguments (texts_of values) (λ a. tt)
-none_made keyword values = none_by events (given_of keyword First values) (λ a. tt)
+none_made word.Clock values = none_by clock (clock_of_values values) (λ a. tt)
+none_made word.Args values = none_by arguments (texts_of_values values) (λ a. tt)
+none_made keyword values = none_by events (events_of_line keyword First values) (λ a. tt)
 
 -- lines that were read without a fault, and what they give
 abbrev Gives : Line Meaning ScriptKind → Option Meaning → Type 0
 Gives line m = line ≡ Ok m
 
-none_ok : (made : Option Meaning) (m : Option Meaning) → IfSome made IsNoVersion → Gives (as_line (ok_or made BadValue)) m → IfSome m IsNoVersion
+none_ok : (made : Option Meaning) (m : Option Meaning) → IfSome made IsNoVersion → Gives (script_as_line (ok_or made BadValue)) m → IfSome m IsNoVersion
 none_ok None m none is = absurd (grind (arith, is))
 none_ok (Some made) m none is = let same : m ≡ Some made = grind (arith, is) in rw same none
 
-none_read : (answer : Result Keyword LineFault) (values : List (List ℕ)) (m : Option Meaning) → Gives (as_line (made_by First answer values)) m → IfSome m IsNoVersion
-none_read (Ok keyword) values m is = none_ok (made_of keyword First values) m (none_made keyword values) is
+none_read : (answer : Result Keyword LineFault) (values : List (List ℕ)) (m : Option Meaning) → Gives (script_as_line (script_meaning_by First answer values)) m → IfSome m IsNoVersion
+none_read (Ok keyword) values m is = none_ok (script_meaning_of keyword First values) m (none_made keyword values) is
 none_read (Err fault) values m is = absurd (grind (arith, is))
 
 abbrev Lifts : Version → List (List ℕ) → Option Meaning → Type 0
-Lifts number words m = (Gives (line_of number words) m) × IfSome m IsNoVersion
+Lifts number words m = (Gives (script_line_of number words) m) × IfSome m IsNoVersion
 
 same_text : (xs ys : List ℕ) → bytes_eq xs ys ≡ true → xs ≡ ys
 same_text xs ys is = search (rules, tests)
 
 lift_row : (name : List ℕ) (values : List (List ℕ)) (m : Option Meaning) (found : Option Row) → IfSome found (λ row. Carries row × (bytes_eq name row.0 ≡ true))
-    → Gives (reads First found values) m → Gives (reads Second (row_of second_rows name) values) m
+    → Gives (reads First found values) m → Gives (reads Second (keyword_row second_rows name) values) m
 lift_row name values m None holds is = absurd (grind (arith, is))
 lift_row name values m (Some row) holds is = rw (same_text name row.0 holds.1) (holds.0.same values m is)
 
-lift_if : (test : Bool) (name : List ℕ) (values : List (List ℕ)) (m : Option Meaning) → Gives (cond test (Ok None) (reads First (row_of first_rows name) values)) m
-    → (Gives (cond test (Ok None) (reads Second (row_of second_rows name) values)) m) × IfSome m IsNoVersion
-unfolding row_of
+lift_if : (test : Bool) (name : List ℕ) (values : List (List ℕ)) (m : Option Meaning) → Gives (cond test (Ok None) (reads First (keyword_row first_rows name) values)) m
+    → (Gives (cond test (Ok None) (reads Second (keyword_row second_rows name) values)) m) × IfSome m IsNoVersion
+unfolding keyword_row
 lift_if true name values m is = (is, let same : m ≡ None = grind (arith, is) in rw same tt)
 lift_if false name values m is = (
-  lift_row name values m (row_of first_rows name) (found_holds Carries (λ row. bytes_eq name row.0) first_rows all_carry) is,
-  none_read (counted (row_of first_rows name) (length values)) values m is,
+  lift_row name values m (keyword_row first_rows name) (found_holds Carries (λ row. bytes_eq name row.0) first_rows all_carry) is,
+  none_read (counted (keyword_row first_rows name) (length values)) values m is,
 )
 
-pub lift : (words : List (List ℕ)) (m : Option Meaning) → Gives (line_of First words) m → Lifts Second words m
-unfolding line_of rows_of
+pub lift : (words : List (List ℕ)) (m : Option Meaning) → Gives (script_line_of First words) m → Lifts Second words m
+unfolding script_line_of rows_of
 lift [] m is = (is, let same : m ≡ None = grind (arith, is) in rw same tt)
 lift (name ∷ values) m is = lift_if (begins_with 35 name) name values m is
 
 -- lines that version 1 reads, behind a line that tells version 2
 abbrev Carried : List (List ℕ) → Type 0
-Carried lines = (n k : ℕ) (before all : List Meaning) → given fault_behind n before (read_by First lines) ≡ Ok all → given fault_behind k (version ∷ before) (read_by Second lines) ≡ Ok (version ∷ all)
+Carried lines = (n k : ℕ) (before all : List Meaning) → given script_fault n before (script_lines First lines) ≡ Ok all → given script_fault k (version ∷ before) (script_lines Second lines) ≡ Ok (version ∷ all)
 
-same_behind : (before : List Meaning) (m : Meaning) → IsNoVersion m → fault_behind (version ∷ before) m ≡ fault_behind before m
+same_behind : (before : List Meaning) (m : Meaning) → IsNoVersion m → script_fault (version ∷ before) m ≡ script_fault before m
 same_behind before version other = absurd other
 same_behind before (clock time) other = refl
 same_behind before (arguments texts) other = refl
 same_behind before (events more) other = refl
 
-carry_fault : (lines : List (List ℕ)) (n k : ℕ) (before all : List Meaning) (m : Meaning) (fault : Option ScriptKind) → fault_behind before m ≡ fault → IsNoVersion m → Carried lines
-    → given fault_behind n before (Ok (Some m) ∷ read_by First lines) ≡ Ok all → given fault_behind k (version ∷ before) (Ok (Some m) ∷ read_by Second lines) ≡ Ok (version ∷ all)
+carry_fault : (lines : List (List ℕ)) (n k : ℕ) (before all : List Meaning) (m : Meaning) (fault : Option ScriptKind) → script_fault before m ≡ fault → IsNoVersion m → Carried lines
+    → given script_fault n before (Ok (Some m) ∷ script_lines First lines) ≡ Ok all → given script_fault k (version ∷ before) (Ok (Some m) ∷ script_lines Second lines) ≡ Ok (version ∷ all)
 carry_fault lines n k before all m None is other rest fine =
     rw (same_behind before m other, is) (rest (n + 1) (k + 1) (before ++ m ∷ []) all (rw is at fine))
 carry_fault lines n k before all m (Some kind) is other rest fine = absurd (let wrong = rw is at fine in grind (arith, wrong))
 
-carry_line : (lines : List (List ℕ)) (words : List (List ℕ)) (read : Line Meaning ScriptKind) → line_of First words ≡ read → Carried lines → (n k : ℕ) (before all : List Meaning)
-    → given fault_behind n before (read ∷ read_by First lines) ≡ Ok all → given fault_behind k (version ∷ before) (line_of Second words ∷ read_by Second lines) ≡ Ok (version ∷ all)
+carry_line : (lines : List (List ℕ)) (words : List (List ℕ)) (read : Line Meaning ScriptKind) → script_line_of First words ≡ read → Carried lines → (n k : ℕ) (before all : List Meaning)
+    → given script_fault n before (read ∷ script_lines First lines) ≡ Ok all → given script_fault k (version ∷ before) (script_line_of Second words ∷ script_lines Second lines) ≡ Ok (version ∷ all)
 carry_line lines words (Err kind) is rest n k before all fine = absurd (grind (arith, fine))
 carry_line lines words (Ok None) is rest n k before all fine = rw (lift words None is).0 (rest (n + 1) (k + 1) before all fine)
 carry_line lines words (Ok (Some m)) is rest n k before all fine =
     let lifted = lift words (Some m) is in
-    rw lifted.0 (carry_fault lines n k before all m (fault_behind before m) refl lifted.1 rest fine)
+    rw lifted.0 (carry_fault lines n k before all m (script_fault before m) refl lifted.1 rest fine)
 
 carried : (lines : List (List ℕ)) → Carried lines
 carried [] = λ n k before all fine. let same : before ≡ all = grind (arith, fine) in rw same refl
-carried (line ∷ lines) = carry_line lines (words_of line) (line_of First (words_of line)) refl (carried lines)
+carried (line ∷ lines) = carry_line lines (words_of line) (script_line_of First (words_of line)) refl (carried lines)
 
 -- the first line, which tells version 2
-first_line : line_of Second (words_of (codes "script 2")) ≡ Ok (Some version)
-unfolding line_of rows_of row_of made_of version_of words_of
+first_line : script_line_of Second (words_of (codes "script 2")) ≡ Ok (Some version)
+unfolding script_line_of rows_of keyword_row script_meaning_of version_of words_of
 first_line = refl
 
 tells : (lines : List (List ℕ)) → version_in (codes "script 2" ∷ lines) ≡ Second
@@ -171,15 +171,15 @@ read_is number (Ok all) script is = (all, refl, grind (arith, is))
 read_is number (Err fault) script is = absurd (grind (arith, is))
 
 behind_first : (lines : List (List ℕ)) (number : Version) → number ≡ Second
-    → script_by number (given fault_behind 1 [] (read_by number (codes "script 2" ∷ lines))) ≡ script_by Second (given fault_behind 2 (version ∷ []) (read_by Second lines))
+    → script_by number (given script_fault 1 [] (script_lines number (codes "script 2" ∷ lines))) ≡ script_by Second (given script_fault 2 (version ∷ []) (script_lines Second lines))
 behind_first lines First is = absurd (grind (arith, is))
 behind_first lines Second is = rw first_line refl
 
-with_version : (lines : List (List ℕ)) (number : Version) (script : ScriptView) → number ≡ First → script_by number (given fault_behind 1 [] (read_by number lines)) ≡ Ok script
+with_version : (lines : List (List ℕ)) (number : Version) (script : ScriptView) → number ≡ First → script_by number (given script_fault 1 [] (script_lines number lines)) ≡ Ok script
     → script_in (codes "script 2" ∷ lines) ≡ Ok (record script { version = Second })
 with_version lines Second script first is = absurd (grind (arith, first))
 with_version lines First script first is =
-    let found = read_is First (given fault_behind 1 [] (read_by First lines)) script is in
+    let found = read_is First (given script_fault 1 [] (script_lines First lines)) script is in
     behind_first lines (version_in (codes "script 2" ∷ lines)) (tells lines) ∙ ap (script_by Second) (carried lines 1 2 [] found.0 found.1) ∙ ap {A = ScriptView} (λ read. Ok (record read { version = Second })) (sym found.2)
 
 version_is : (number : Version) (answer : Result (List Meaning) (ℕ × ScriptKind)) (script : ScriptView) → script_by number answer ≡ Ok script → number ≡ script.version

@@ -3,7 +3,7 @@ use Rattle.std.specs.Prelude.{◌≡◌, ◌+◌, ◌≤◌, Bool, true, ◌||�
 use Rattle.std.specs.Prelude.{length, Option, Some, None, is_some, Result, Ok, Err, slice_get, replicate, option_map}
 use Rattle.std.specs.List.{All}
 use Rattle.std.specs.Option.{unwrap_or, IfSome}
-use Rattle.line_texts.specs.Reading.{Line}
+use Rattle.text_lines.specs.Reading.{Line}
 use Rattle.play_script.specs.declared.script.Clock.{Clock}
 use Rattle.play_script.specs.declared.script.Event.{Event}
 use Rattle.play_script.specs.declared.script.Version.{Version}
@@ -20,7 +20,7 @@ use Rattle.play_script.specs.Limits.{AreTexts, IsEvent, IsTime}
 use Rattle.play_script.specs.Rows.{Meaning, version, clock, arguments, events, inputs_of}
 use Rattle.play_script.specs.Scripts.{ScriptView, clocks_of, arguments_of, events_of, late_if}
 
--- what a meaning stands for
+-- what a meaning represents
 abbrev pub shown : Read → Meaning
 shown VersionLine = version
 shown (ClockLine time) = clock time
@@ -35,12 +35,12 @@ FitsLine (Err (Faulty kind)) defined = defined ≡ Err kind
 FitsLine (Err NoMemory) defined = Unit {0}
 
 -- what a line of this version and of so many bytes may give
-abbrev pub IsRead : Version → ℕ → Read → Type 0
-IsRead number size VersionLine = Unit {0}
-IsRead number size (ClockLine time) = IsTime time
-IsRead number size (Arguments texts) = AreTexts size (bytes_in texts.items)
-IsRead number size (Inputs texts) = AreTexts size (bytes_in texts.items)
-IsRead number size (Times given count) = IsEvent number given
+abbrev pub IsScriptRead : Version → ℕ → Read → Type 0
+IsScriptRead number size VersionLine = Unit {0}
+IsScriptRead number size (ClockLine time) = IsTime time
+IsScriptRead number size (Arguments texts) = AreTexts size (bytes_in texts.items)
+IsScriptRead number size (Inputs texts) = AreTexts size (bytes_in texts.items)
+IsScriptRead number size (Times given count) = IsEvent number given
 
 -- what the lines so far gave
 pub record GatheredView : Type 0 where
@@ -63,7 +63,7 @@ gathered number lines = record {
 }
 
 -- what the limits of scripts say of it
-pub record IsGathered (all : GatheredView) : Type 0 where
+pub record IsGatheredScript (all : GatheredView) : Type 0 where
   pub time : IfSome all.clock IsTime
   pub texts : IfSome all.arguments (AreTexts 4194304)
   pub few : length all.events ≤ 1000000
@@ -75,11 +75,11 @@ at_line line (Faulty kind) = Refused line kind
 at_line line NoMemory = OutOfMemory
 
 -- what is wrong with a line behind these
-abbrev pub fault_in : GatheredView → Meaning → Option ScriptKind
-fault_in before version = late_if before.begun
-fault_in before (clock time) = late_if (nat_lt 0 (length before.events) || is_some before.clock)
-fault_in before (arguments texts) = late_if (nat_lt 0 (length before.events) || is_some before.arguments)
-fault_in before (events given) = if nat_lt 1000000 (length before.events + length given) then Some ManyEvents else None
+abbrev pub gathering_fault : GatheredView → Meaning → Option ScriptKind
+gathering_fault before version = late_if before.begun
+gathering_fault before (clock time) = late_if (nat_lt 0 (length before.events) || is_some before.clock)
+gathering_fault before (arguments texts) = late_if (nat_lt 0 (length before.events) || is_some before.arguments)
+gathering_fault before (events given) = if nat_lt 1000000 (length before.events + length given) then Some ManyEvents else None
 
 -- what the lines gave with one more
 abbrev pub grown : GatheredView → Meaning → GatheredView
@@ -89,13 +89,13 @@ grown before (arguments texts) = record before { begun = true; arguments = Some 
 grown before (events given) = record before { begun = true; events = before.events ++ given }
 
 -- a line without a fault is taken
-abbrev pub Takes : GatheredView → Meaning → Result (Unit {0}) LineStop → GatheredView → Type 0
-Takes before line (Ok _) after = (fault_in before line ≡ None) × (after ≡ grown before line)
-Takes before line (Err (Faulty kind)) after = fault_in before line ≡ Some kind
-Takes before line (Err NoMemory) after = Unit {0}
+abbrev pub TakesMeaning : GatheredView → Meaning → Result (Unit {0}) LineStop → GatheredView → Type 0
+TakesMeaning before line (Ok _) after = (gathering_fault before line ≡ None) × (after ≡ grown before line)
+TakesMeaning before line (Err (Faulty kind)) after = gathering_fault before line ≡ Some kind
+TakesMeaning before line (Err NoMemory) after = Unit {0}
 
 abbrev pub TakesLine : GatheredView → Line Meaning ScriptKind → Result (Unit {0}) LineStop → GatheredView → Type 0
-TakesLine before (Ok (Some line)) result after = Takes before line result after
+TakesLine before (Ok (Some line)) result after = TakesMeaning before line result after
 TakesLine before (Ok None) (Ok _) after = after ≡ before
 TakesLine before (Ok None) (Err (Faulty kind)) after = ⊥
 TakesLine before (Ok None) (Err NoMemory) after = Unit {0}
@@ -104,8 +104,8 @@ TakesLine before (Err kind) (Err (Faulty found)) after = found ≡ kind
 TakesLine before (Err kind) (Err NoMemory) after = Unit {0}
 
 -- the script of all lines
-abbrev pub finished : GatheredView → ScriptView
-finished all = record {
+abbrev pub finished_script : GatheredView → ScriptView
+finished_script all = record {
   version = all.version;
   clock = unwrap_or all.clock (record { seconds = pos 0; offset = pos 0 });
   arguments = unwrap_or all.arguments [];

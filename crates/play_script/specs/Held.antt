@@ -1,7 +1,7 @@
 -- The bytes of texts that are held.
 use Rattle.std.specs.Prelude.{ℕ, List, map, Option, option_map}
 use Rattle.std.specs.Global.{Vec}
-use Rattle.tree_io.specs.ByteList.{ByteList}
+use Rattle.uxn_io_traits.specs.ByteList.{ByteList}
 
 abbrev pub bytes_in : List ByteList → List (List ℕ)
 bytes_in texts = map (λ text. text.list) texts

@@ -3,11 +3,11 @@ use Rattle.std.specs.Prelude.{ℕ, List, codes}
 use Rattle.play_script.specs.declared.script.ScriptKind.{ScriptKind}
 use Rattle.play_script.specs.declared.script.ScriptKind.TheVariants.{Unknown, BadValue, Missing, Extra, Late, ManyEvents, LongScript}
 
-abbrev pub kind_name : ScriptKind → List ℕ
-kind_name Unknown = codes "Unknown"
-kind_name BadValue = codes "BadValue"
-kind_name Missing = codes "Missing"
-kind_name Extra = codes "Extra"
-kind_name Late = codes "Late"
-kind_name ManyEvents = codes "ManyEvents"
-kind_name LongScript = codes "LongScript"
+abbrev pub script_kind_name : ScriptKind → List ℕ
+script_kind_name Unknown = codes "Unknown"
+script_kind_name BadValue = codes "BadValue"
+script_kind_name Missing = codes "Missing"
+script_kind_name Extra = codes "Extra"
+script_kind_name Late = codes "Late"
+script_kind_name ManyEvents = codes "ManyEvents"
+script_kind_name LongScript = codes "LongScript"

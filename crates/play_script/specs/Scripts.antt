@@ -4,9 +4,9 @@ use Rattle.std.specs.Prelude.{Option, Some, None, Result, Ok, Err}
 use Rattle.std.specs.List.{flat_map}
 use Rattle.std.specs.Option.{unwrap_or}
 use Rattle.std.specs.Str.{bytes_eq}
-use Rattle.line_texts.specs.Lines.{lines_of, words_of}
-use Rattle.line_texts.specs.Numbers.{begins_with}
-use Rattle.line_texts.specs.Reading.{Line, given}
+use Rattle.text_lines.specs.Lines.{lines_of, words_of}
+use Rattle.text_lines.specs.Numbers.{begins_with}
+use Rattle.text_lines.specs.Reading.{Line, given}
 use Rattle.play_script.specs.declared.script.Clock.{Clock}
 use Rattle.play_script.specs.declared.script.Event.{Event}
 use Rattle.play_script.specs.declared.script.ScriptKind.{ScriptKind}
@@ -15,7 +15,7 @@ use Rattle.play_script.specs.declared.script.ScriptStop.{ScriptStop}
 use Rattle.play_script.specs.declared.script.ScriptStop.TheVariants.{Refused, NoMemory}
 use Rattle.play_script.specs.declared.script.Version.{Version}
 use Rattle.play_script.specs.declared.script.Version.TheVariants.{First, Second}
-use Rattle.play_script.specs.Rows.{Meaning, version, clock, arguments, events, line_of}
+use Rattle.play_script.specs.Rows.{Meaning, version, clock, arguments, events, script_line_of}
 
 -- what contracts see of a script
 pub record ScriptView : Type 0 where
@@ -71,11 +71,11 @@ events_of lines = flat_map events_in lines
 abbrev pub late_if : Bool → Option ScriptKind
 late_if test = if test then Some Late else None
 
-abbrev pub fault_behind : List Meaning → Meaning → Option ScriptKind
-fault_behind before version = late_if (nat_lt 0 (length before))
-fault_behind before (clock time) = late_if (nat_lt 0 (length (events_of before) + length (clocks_of before)))
-fault_behind before (arguments texts) = late_if (nat_lt 0 (length (events_of before) + length (arguments_of before)))
-fault_behind before (events given) = if nat_lt 1000000 (length (events_of before) + length given) then Some ManyEvents else None
+abbrev pub script_fault : List Meaning → Meaning → Option ScriptKind
+script_fault before version = late_if (nat_lt 0 (length before))
+script_fault before (clock time) = late_if (nat_lt 0 (length (events_of before) + length (clocks_of before)))
+script_fault before (arguments texts) = late_if (nat_lt 0 (length (events_of before) + length (arguments_of before)))
+script_fault before (events given) = if nat_lt 1000000 (length (events_of before) + length given) then Some ManyEvents else None
 
 -- the first of a list, or this where it is empty
 abbrev pub first_or : {A : Type 0} → A → List A → A
@@ -96,18 +96,18 @@ script_by number (Ok lines) = Ok (script_from number lines)
 script_by number (Err fault) = Err fault
 
 -- each line by itself
-abbrev pub read_by : Version → List (List ℕ) → List (Line Meaning ScriptKind)
-read_by number lines = map (λ line. line_of number (words_of line)) lines
+abbrev pub script_lines : Version → List (List ℕ) → List (Line Meaning ScriptKind)
+script_lines number lines = map (λ line. script_line_of number (words_of line)) lines
 
 abbrev pub script_in : List (List ℕ) → Result ScriptView (ℕ × ScriptKind)
-script_in lines = script_by (version_in lines) (given fault_behind 1 [] (read_by (version_in lines) lines))
+script_in lines = script_by (version_in lines) (given script_fault 1 [] (script_lines (version_in lines) lines))
 
 -- the script of a text, or its first faulty line and the first fault there
 unfoldable pub script_of : List ℕ → Result ScriptView (ℕ × ScriptKind)
 script_of text = if nat_lt 4194304 (length text) then Err (1, LongScript) else script_in (lines_of text)
 
 -- a script is read as it is defined, unless memory runs out
-abbrev pub Reads : Result ScriptView ScriptStop → Result ScriptView (ℕ × ScriptKind) → Type 0
-Reads (Ok script) defined = defined ≡ Ok script
-Reads (Err (Refused line kind)) defined = defined ≡ Err (line, kind)
-Reads (Err NoMemory) defined = Unit {0}
+abbrev pub ReadsScript : Result ScriptView ScriptStop → Result ScriptView (ℕ × ScriptKind) → Type 0
+ReadsScript (Ok script) defined = defined ≡ Ok script
+ReadsScript (Err (Refused line kind)) defined = defined ≡ Err (line, kind)
+ReadsScript (Err NoMemory) defined = Unit {0}

@@ -1,11 +1,11 @@
 //! The first words of lines, and how many values stand behind them.
 
 ghost use Rattle.std.specs.Prelude.{◌≡◌};
-ghost use Rattle.line_texts.specs.Rows.{rows_in};
+ghost use Rattle.text_lines.specs.Rows.{rows_in};
 ghost use Rattle.play_script.specs.Rows.{rows_of};
 
 use crate::script::Version;
-use line_texts::{Counts, Row};
+use text_lines::{Counts, Row};
 
 /// What the first word of a line says.
 #[derive(Clone, Copy)]

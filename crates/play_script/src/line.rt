@@ -1,14 +1,14 @@
 //! What a line means.
 
 ghost use Rattle.std.specs.Prelude.{◌≡◌, ◌≢◌, ◌≤◌, ℕ, length, option_map, IfOk, IfSome};
-ghost use Rattle.line_texts.specs.Lines.{words_of};
+ghost use Rattle.text_lines.specs.Lines.{words_of};
 ghost use Rattle.input_ports.specs.declared.Input.{Input as DeviceInput};
-ghost use Rattle.play_script.specs.Gathered.{shown, FitsLine, IsRead};
+ghost use Rattle.play_script.specs.Gathered.{shown, FitsLine, IsScriptRead};
 ghost use Rattle.play_script.specs.Held.{bytes_in, texts_if};
 ghost use Rattle.play_script.specs.Limits.{AreTexts, IsBit, IsEvent, IsPlayer, IsSecond};
-ghost use Rattle.play_script.specs.Rows.{made_of, line_of, device_of, version_of, clock, clock_of, events, keys_of, expect_of};
+ghost use Rattle.play_script.specs.Rows.{script_meaning_of, script_line_of, device_of, version_of, clock, clock_of_values, events, keys_of, expect_of};
 ghost use Rattle.play_script.specs.Rows.{further, buttons_of, mouse_buttons_of, mouse_of, scroll_of};
-ghost use Rattle.play_script.specs.Values.{one_or, texts_of};
+ghost use Rattle.play_script.specs.Values.{one_or, texts_of_values};
 ghost use Rattle.play_script.specs.declared.line.Meaning.TheVariants as read;
 ghost use Rattle.play_script.specs.declared.script.Event.TheVariants.{Device};
 ghost use Rattle.play_script.specs.declared.script.Version.{Version};
@@ -16,13 +16,13 @@ ghost use Rattle.play_script.specs.declared.script.Version.TheVariants.{First as
 
 use crate::keyword::{Keyword, rows_of};
 use crate::script::{Clock, Event, LineStop, ScriptKind, Version};
-use crate::values::{bit_in, buttons, mouse_buttons, one_or, text_of};
+use crate::values::{bit_in, buttons, mouse_buttons, one_or, text_of_values};
 use input_ports::Input;
-use line_texts::{
+use std::alloc::{AllocError, Global};
+use text_lines::{
     LineFault, begins_with, byte_of, first_word, integer_within, keyword_line, number_within,
 };
-use std::alloc::{AllocError, Global};
-use tree_io::Bytes;
+use uxn_io_traits::Bytes;
 
 /// The greatest seconds of a script's clock.
 const LAST_SECOND: u64 = 253_370_000_000;
@@ -47,9 +47,9 @@ pub(crate) enum Meaning {
 }
 
 impl From<LineFault> for ScriptKind {
-    ghost use Rattle.play_script.specs.Rows.{kind_of};
+    ghost use Rattle.play_script.specs.Rows.{script_kind_of};
 
-    ghost from_gives = { λ fault kind. kind ≡ kind_of fault };
+    ghost from_gives = { λ fault kind. kind ≡ script_kind_of fault };
 
     fn from(fault: LineFault) -> ScriptKind {
         match fault {
@@ -61,14 +61,14 @@ impl From<LineFault> for ScriptKind {
 }
 
 // What a line of a version means, if it has words, or what is wrong with it by itself.
-#[tactic(auto, unfolding(crate::specs::Rows::line_of))]
-pub(crate) fn line_of(
+#[tactic(auto, unfolding(crate::specs::Rows::script_line_of))]
+pub(crate) fn script_line_of(
     alloc: Global,
     version: Version,
     line: &[u8],
 ) -> Result<Option<Meaning>, LineStop>
-    ensures fits { FitsLine result (line_of version (words_of line.now)) }
-    ensures limits { IfOk result (λ given. IfSome given (IsRead version (length line.now))) }
+    ensures fits { FitsLine result (script_line_of version (words_of line.now)) }
+    ensures limits { IfOk result (λ given. IfSome given (IsScriptRead version (length line.now))) }
 {
     let Some((name, values)) = first_word(line) else {
         return Ok(None);
@@ -77,7 +77,7 @@ pub(crate) fn line_of(
         return Ok(None);
     }
     match keyword_line(rows_of(version), name, values) {
-        Ok(keyword) => match made_of(alloc, version, keyword, values)? {
+        Ok(keyword) => match script_meaning_of(alloc, version, keyword, values)? {
             Some(meaning) => Ok(Some(meaning)),
             None => Err(LineStop::Faulty(ScriptKind::BadValue)),
         },
@@ -86,24 +86,24 @@ pub(crate) fn line_of(
 }
 
 // What the values behind a first word make, as many as it takes; nothing where one is not of its form or range.
-#[tactic(auto, unfolding(crate::specs::Rows::made_of, crate::specs::Rows::given_of))]
-fn made_of(
+#[tactic(auto, unfolding(crate::specs::Rows::script_meaning_of, crate::specs::Rows::events_of_line))]
+fn script_meaning_of(
     alloc: Global,
     version: Version,
     keyword: Keyword,
     values: &[u8],
 ) -> Result<Option<Meaning>, AllocError>
-    ensures made { IfOk result (λ made. option_map shown made ≡ made_of keyword version (words_of values.now)) }
-    ensures limits { IfOk result (λ made. IfSome made (IsRead version (length values.now))) }
+    ensures made { IfOk result (λ made. option_map shown made ≡ script_meaning_of keyword version (words_of values.now)) }
+    ensures limits { IfOk result (λ made. IfSome made (IsScriptRead version (length values.now))) }
 {
     match keyword {
         Keyword::Script => Ok(version_of(version, values)),
-        Keyword::Clock => Ok(clock_of(values)),
-        Keyword::Args => match texts_of(alloc, values)? {
+        Keyword::Clock => Ok(clock_of_values(values)),
+        Keyword::Args => match texts_of_values(alloc, values)? {
             Some(texts) => Ok(Some(Meaning::Arguments(texts))),
             None => Ok(None),
         },
-        Keyword::Input => match texts_of(alloc, values)? {
+        Keyword::Input => match texts_of_values(alloc, values)? {
             Some(texts) => Ok(Some(Meaning::Inputs(texts))),
             None => Ok(None),
         },
@@ -159,10 +159,10 @@ fn version_of(version: Version, values: &[u8]) -> Option<Meaning>
     }
 }
 
-#[tactic(auto, unfolding(crate::specs::Rows::clock_of))]
-fn clock_of(values: &[u8]) -> Option<Meaning>
-    ensures made { option_map shown result ≡ option_map clock (clock_of (words_of values.now)) }
-    ensures limits { IfSome result (IsRead first 0) }
+#[tactic(auto, unfolding(crate::specs::Rows::clock_of_values))]
+fn clock_of_values(values: &[u8]) -> Option<Meaning>
+    ensures made { option_map shown result ≡ option_map clock (clock_of_values (words_of values.now)) }
+    ensures limits { IfSome result (IsScriptRead first 0) }
 {
     let (seconds, more) = first_word(values)?;
     let (offset, _) = first_word(more)?;
@@ -174,7 +174,7 @@ fn clock_of(values: &[u8]) -> Option<Meaning>
 #[tactic(auto, unfolding(crate::specs::Rows::keys_of))]
 fn keys_of(version: Version, values: &[u8]) -> Option<Meaning>
     ensures made { option_map shown result ≡ option_map events (keys_of version (words_of values.now)) }
-    ensures limits { IfSome result (IsRead version 0) }
+    ensures limits { IfSome result (IsScriptRead version 0) }
 {
     let (word, more) = first_word(values)?;
     let byte = byte_of(word)?;
@@ -185,7 +185,7 @@ fn keys_of(version: Version, values: &[u8]) -> Option<Meaning>
 #[tactic(auto, unfolding(crate::specs::Rows::expect_of))]
 fn expect_of(version: Version, values: &[u8]) -> Option<Meaning>
     ensures made { option_map shown result ≡ option_map events (expect_of version (words_of values.now)) }
-    ensures limits { IfSome result (IsRead version 0) }
+    ensures limits { IfSome result (IsScriptRead version 0) }
 {
     match version {
         Version::First => None,
@@ -254,14 +254,14 @@ fn scroll_of(values: &[u8]) -> Option<Input>
 }
 
 // The texts of a line, if each of its words is one.
-fn texts_of(alloc: Global, values: &[u8]) -> Result<Option<Vec<Bytes>>, AllocError>
-    ensures texts { IfOk result (λ texts. texts_if texts ≡ texts_of (words_of values.now)) }
+fn texts_of_values(alloc: Global, values: &[u8]) -> Result<Option<Vec<Bytes>>, AllocError>
+    ensures texts { IfOk result (λ texts. texts_if texts ≡ texts_of_values (words_of values.now)) }
     ensures limits { IfOk result (λ texts. IfSome texts (λ each. AreTexts (length values.now) (bytes_in each.items))) }
 {
     let mut texts = Vec::new(alloc);
     let mut left = values;
     while let Some((word, more)) = first_word(left) {
-        match text_of(alloc, word)? {
+        match text_of_values(alloc, word)? {
             Some(text) => texts.push(text)?,
             None => return Ok(None),
         }

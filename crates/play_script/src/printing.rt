@@ -20,7 +20,7 @@ use crate::values::Value::{
 use crate::values::{buttons, mouse_buttons, name_in};
 use input_ports::Input;
 use std::alloc::{AllocError, Global};
-use tree_io::{Bytes, decimal};
+use uxn_io_traits::{Bytes, decimal};
 
 /// The plain text of a script: `script 2` where that is its version, a line for the clock, one for the arguments if there are
 /// any, and one for each event.

@@ -1,19 +1,19 @@
 //! Reading a script.
 
 ghost use Rattle.std.specs.Prelude.{◌≡◌, ◌+◌, ◌≤◌, ◌++◌, length, map, IfOk, OnOk};
-ghost use Rattle.line_texts.specs.Lines.{words_of, lines_of};
+ghost use Rattle.text_lines.specs.Lines.{words_of, lines_of};
 ghost use Rattle.play_script.specs.Held.{bytes_in};
 ghost use Rattle.play_script.specs.Rows.{inputs_of};
-ghost use Rattle.play_script.specs.Scripts.{script_of, version_at, version_in, Reads};
+ghost use Rattle.play_script.specs.Scripts.{script_of, version_at, version_in, ReadsScript};
 ghost use Rattle.play_script.specs.Gathered.{at_line};
 ghost use Rattle.play_script.specs.declared.script.Event.TheVariants.{Input};
 
-use crate::line::{Meaning, line_of};
+use crate::line::{Meaning, script_line_of};
 use crate::script::{Clock, Event, LineStop, Script, ScriptKind, ScriptStop, Version};
-use line_texts::{Lines, begins_with, first_word};
 use std::alloc::{AllocError, Global};
 use std::marker::Model;
-use tree_io::Bytes;
+use text_lines::{Lines, begins_with, first_word};
+use uxn_io_traits::Bytes;
 
 /// The greatest length of a script, in bytes.
 const LONGEST: usize = 4_194_304;
@@ -25,7 +25,7 @@ const MOST_EVENTS: usize = 1_000_000;
 /// and the first fault there.
 #[tactic(auto, unfolding(crate::specs::Scripts::script_of))]
 pub fn read_script(alloc: Global, text: &[u8]) -> Result<Script, ScriptStop>
-    ensures { Reads result (script_of text.now) }
+    ensures { ReadsScript result (script_of text.now) }
 {
     if text.len() > LONGEST {
         return Err(ScriptStop::Refused {
@@ -94,20 +94,20 @@ struct Gathered {
 
 impl Model for Gathered {
     ghost use Rattle.play_script.specs.Held.{texts_if};
-    ghost use Rattle.play_script.specs.Gathered.{GatheredView, IsGathered, so_far};
+    ghost use Rattle.play_script.specs.Gathered.{GatheredView, IsGatheredScript, so_far};
 
     ghost Value = { GatheredView };
 
     ghost view = { λ g. so_far g.version g.begun g.clock (texts_if g.arguments) g.events.items };
 
-    ghost invariant = { λ g. IsGathered (so_far g.version g.begun g.clock (texts_if g.arguments) g.events.items) };
+    ghost invariant = { λ g. IsGatheredScript (so_far g.version g.begun g.clock (texts_if g.arguments) g.events.items) };
 }
 
 impl Gathered {
     ghost use Rattle.std.specs.Prelude.{◌≤◌, [], length, replicate};
-    ghost use Rattle.line_texts.specs.Lines.{words_of};
-    ghost use Rattle.play_script.specs.Rows.{version, clock, arguments, events, line_of};
-    ghost use Rattle.play_script.specs.Gathered.{gathered, finished, shown, IsRead, Takes, TakesLine};
+    ghost use Rattle.text_lines.specs.Lines.{words_of};
+    ghost use Rattle.play_script.specs.Rows.{version, clock, arguments, events, script_line_of};
+    ghost use Rattle.play_script.specs.Gathered.{gathered, finished_script, shown, IsScriptRead, TakesMeaning, TakesLine};
     ghost use Rattle.play_script.specs.Held.{bytes_in};
     ghost use Rattle.play_script.specs.Limits.{AreTexts, IsEvent, IsTime};
 
@@ -127,17 +127,17 @@ impl Gathered {
     // Takes what a line gives. Nothing is taken of a line with a fault.
     fn take_line(&mut self, alloc: Global, line: &[u8]) -> Result<(), LineStop>
         requires { length line.now ≤ 4194304 }
-        ensures { TakesLine self.old (line_of self.old.version (words_of line.now)) result self.new }
+        ensures { TakesLine self.old (script_line_of self.old.version (words_of line.now)) result self.new }
     {
-        match line_of(alloc, self.version, line)? {
+        match script_line_of(alloc, self.version, line)? {
             None => Ok(()),
             Some(meaning) => self.take(alloc, meaning),
         }
     }
 
     fn take(&mut self, alloc: Global, meaning: Meaning) -> Result<(), LineStop>
-        requires { IsRead self.old.version 4194304 meaning }
-        ensures { Takes self.old (shown meaning) result self.new }
+        requires { IsScriptRead self.old.version 4194304 meaning }
+        ensures { TakesMeaning self.old (shown meaning) result self.new }
     {
         match meaning {
             Meaning::VersionLine => self.take_version(),
@@ -149,7 +149,7 @@ impl Gathered {
     }
 
     fn take_version(&mut self) -> Result<(), LineStop>
-        ensures { Takes self.old version result self.new }
+        ensures { TakesMeaning self.old version result self.new }
     {
         if self.begun {
             return Err(LineStop::Faulty(ScriptKind::Late));
@@ -160,7 +160,7 @@ impl Gathered {
 
     fn take_clock(&mut self, time: Clock) -> Result<(), LineStop>
         requires { IsTime time }
-        ensures { Takes self.old (clock time) result self.new }
+        ensures { TakesMeaning self.old (clock time) result self.new }
     {
         if !self.events.is_empty() || self.clock.is_some() {
             return Err(LineStop::Faulty(ScriptKind::Late));
@@ -172,7 +172,7 @@ impl Gathered {
 
     fn take_arguments(&mut self, texts: Vec<Bytes>) -> Result<(), LineStop>
         requires { AreTexts 4194304 (bytes_in texts.items) }
-        ensures { Takes self.old (arguments (bytes_in texts.items)) result self.new }
+        ensures { TakesMeaning self.old (arguments (bytes_in texts.items)) result self.new }
     {
         if !self.events.is_empty() || self.arguments.is_some() {
             return Err(LineStop::Faulty(ScriptKind::Late));
@@ -184,7 +184,7 @@ impl Gathered {
 
     fn take_inputs(&mut self, alloc: Global, texts: Vec<Bytes>) -> Result<(), LineStop>
         requires { AreTexts 4194304 (bytes_in texts.items) }
-        ensures { Takes self.old (events (inputs_of (bytes_in texts.items))) result self.new }
+        ensures { TakesMeaning self.old (events (inputs_of (bytes_in texts.items))) result self.new }
     {
         let given = inputs_of(alloc, &texts)?;
         if given.len() > MOST_EVENTS - self.events.len() {
@@ -197,7 +197,7 @@ impl Gathered {
 
     fn take_times(&mut self, given: Event, count: usize) -> Result<(), LineStop>
         requires { IsEvent self.old.version given }
-        ensures { Takes self.old (events (replicate count given)) result self.new }
+        ensures { TakesMeaning self.old (events (replicate count given)) result self.new }
     {
         if count > MOST_EVENTS - self.events.len() {
             return Err(LineStop::Faulty(ScriptKind::ManyEvents));
@@ -210,7 +210,7 @@ impl Gathered {
 
     // The script of all lines.
     fn into_script(self, alloc: Global) -> Script
-        ensures { result ≡ finished self }
+        ensures { result ≡ finished_script self }
     {
         let Gathered {
             version,

@@ -6,7 +6,7 @@ use input_ports::Input;
 use std::alloc::{AllocError, AllocFailed};
 use std::marker::Model;
 use thiserror::Error;
-use tree_io::Bytes;
+use uxn_io_traits::Bytes;
 
 /// The moment at which a script begins.
 #[derive(Clone, Copy, PartialEq, Eq)]
@@ -149,11 +149,11 @@ pub enum ScriptKind {
 }
 
 impl ScriptKind {
-    ghost use Rattle.play_script.specs.Kinds.{kind_name};
+    ghost use Rattle.play_script.specs.Kinds.{script_kind_name};
 
     /// The name of the kind, as it is printed.
     pub fn name(self) -> &'static str
-        ensures { result.now ≡ kind_name self }
+        ensures { result.now ≡ script_kind_name self }
     {
         match self {
             ScriptKind::Unknown => "Unknown",

@@ -1,17 +1,17 @@
-//! What the words behind a line's first word stand for.
+//! What the words behind a line's first word represent.
 
 ghost use Rattle.std.specs.Prelude.{◌≡◌, ◌+◌, ◌<◌, ◌≤◌, length, IfOk, IfSome, IsTrue};
 ghost use Rattle.std.specs.List.{All};
-ghost use Rattle.line_texts.specs.Lines.{words_of};
+ghost use Rattle.text_lines.specs.Lines.{words_of};
 ghost use Rattle.play_script.specs.Held.{bytes_if};
 ghost use Rattle.play_script.specs.PlainText.{name_in};
 ghost use Rattle.play_script.specs.Limits.{are_bits, IsBit};
-ghost use Rattle.play_script.specs.Values.{text_of, bit_in, buttons, buttons_in, mouse_buttons, one_or};
+ghost use Rattle.play_script.specs.Values.{text_of_values, bit_in, buttons, buttons_in, mouse_buttons, one_or};
 
 use hex::FromHexError;
-use line_texts::{begins_with, first_word, number_within};
 use std::alloc::{AllocError, Global};
-use tree_io::Bytes;
+use text_lines::{begins_with, first_word, number_within};
+use uxn_io_traits::Bytes;
 
 /// A value of a line in plain text.
 #[derive(Clone, Copy)]
@@ -29,10 +29,10 @@ pub(crate) enum Value {
 }
 
 // A text: `"` and bytes, or pairs of hexadecimal digits.
-#[tactic(auto, unfolding(crate::specs::Values::text_of))]
-pub(crate) fn text_of(alloc: Global, word: &[u8]) -> Result<Option<Bytes>, AllocError>
+#[tactic(auto, unfolding(crate::specs::Values::text_of_values))]
+pub(crate) fn text_of_values(alloc: Global, word: &[u8]) -> Result<Option<Bytes>, AllocError>
     requires { 0 < length word.now }
-    ensures text { IfOk result (λ text. bytes_if text ≡ text_of word.now) }
+    ensures text { IfOk result (λ text. bytes_if text ≡ text_of_values word.now) }
     ensures short { IfOk result (λ text. IfSome text (λ bytes. length bytes.list + 1 ≤ length word.now)) }
     ensures bytes { IfOk result (λ text. IfSome text (λ bytes. All (λ byte. byte < 256) bytes.list)) }
 {

@@ -36,9 +36,9 @@ row_more colours row into colour i h l v three before =
     rw more (taken ∙ whole ∙ sym joined)
 
 -- the colour of one more pixel behind those before
-row_next : (colours : List (List ℕ)) (row front : List ℕ) (i : ℕ) → i < length row → front ≡ row_bytes colours (take i row)
-    → front ++ slice_index_or colours (slice_index_or row i 0) [] ≡ row_bytes colours (take (i + 1) row)
-row_next colours row front i h before =
+row_next : (colours : List (List ℕ)) (row prefix : List ℕ) (i : ℕ) → i < length row → prefix ≡ row_bytes colours (take i row)
+    → prefix ++ slice_index_or colours (slice_index_or row i 0) [] ≡ row_bytes colours (take (i + 1) row)
+row_next colours row prefix i h before =
     let joined : row_bytes colours (take (i + 1) row) ≡ row_bytes colours (take i row) ++ slice_index_or colours (slice_index_or row i 0) [] =
     rw (take_more row i 0 h, flat_map-append (λ x. slice_index_or colours x []) (take i row) (slice_index_or row i 0 ∷ [])) (rw (append-nil (slice_index_or colours (slice_index_or row i 0) [])) refl) in
     rw before (sym joined)
@@ -51,8 +51,8 @@ pub row_two : (colours : List (List ℕ)) (row into after one other : List ℕ) 
 row_two colours row into after one other i at at_is h put first second before =
     let bytes : 3 * (i + 2) ≡ at + 6 = omega arith in
     let pixels : i + 1 + 1 ≡ i + 2 = omega arith in
-    let front : take at into ≡ row_bytes colours (take i row) = ap (λ n. take n into) at_is ∙ before in
-    let a = row_next colours row (take at into) i (omega arith) front in
+    let prefix : take at into ≡ row_bytes colours (take i row) = ap (λ n. take n into) at_is ∙ before in
+    let a = row_next colours row (take at into) i (omega arith) prefix in
     let b = row_next colours row (take at into ++ slice_index_or colours (slice_index_or row i 0) []) (i + 1) h a in
     ap (λ n. take n after) bytes ∙ put ∙ rw (first, second) (sym (append_assoc (take at into) (slice_index_or colours (slice_index_or row i 0) []) (slice_index_or colours (slice_index_or row (i + 1) 0) [])))
     ∙ b ∙ ap (λ n. row_bytes colours (take n row)) pixels

@@ -2,7 +2,7 @@
 #![tactic(auto)]
 
 ghost use Rattle.std.specs.Prelude.{ℕ, ◌≡◌, ◌+◌, ◌*◌, ◌/◌, ◌%◌, ◌<◌, ◌≤◌, [], ◌∷◌, ◌++◌, All, length, take, slice_index_or};
-ghost use Rattle.screen_frame.specs.Colours.{short_of, colours_of, shown};
+ghost use Rattle.screen_frame.specs.Colours.{colour_short, colours_of, shown};
 ghost use Rattle.screen_frame.specs.Ppm.{head_bytes, row_bytes};
 
 use arrayvec::ArrayVec;
@@ -62,7 +62,7 @@ fn widen(colour: [u8; 3]) -> [u8; 4]
 // The colour whose nibbles have this weight in their shorts.
 fn colour(ports: &[u8; 6], weight: u16) -> [u8; 3]
     requires { 0 < weight }
-    ensures { result ≡ short_of ports.now 0 / weight % 16 * 17 ∷ short_of ports.now 2 / weight % 16 * 17 ∷ short_of ports.now 4 / weight % 16 * 17 ∷ [] }
+    ensures { result ≡ colour_short ports.now 0 / weight % 16 * 17 ∷ colour_short ports.now 2 / weight % 16 * 17 ∷ colour_short ports.now 4 / weight % 16 * 17 ∷ [] }
 {
     let [red, next_red, green, next_green, blue, next_blue] = *ports;
     [
@@ -147,7 +147,7 @@ fn wide_of(wide: &[[u8; 4]; 4], value: u8) -> [u8; 4]
 // Puts two colours at a place, and one byte behind them, since four bytes are put at once.
 fn put_two(into: &mut [u8], at: usize, first: [u8; 4], second: [u8; 4])
     requires { at + 7 ≤ length into.old }
-    ensures front { take (at + 6) into.new ≡ take at into.old ++ (take 3 first ++ take 3 second) }
+    ensures prefix { take (at + 6) into.new ≡ take at into.old ++ (take 3 first ++ take 3 second) }
     ensures length { length into.new ≡ length into.old }
 {
     put_wide(into, at, first);
@@ -157,7 +157,7 @@ fn put_two(into: &mut [u8], at: usize, first: [u8; 4], second: [u8; 4])
 // Puts the three bytes of a colour at a place, and one behind them.
 fn put_wide(into: &mut [u8], at: usize, colour: [u8; 4])
     requires { at + 4 ≤ length into.old }
-    ensures front { take (at + 3) into.new ≡ take at into.old ++ take 3 colour }
+    ensures prefix { take (at + 3) into.new ≡ take at into.old ++ take 3 colour }
     ensures length { length into.new ≡ length into.old }
 {
     into[at..at + 4].copy_from_slice(&colour);

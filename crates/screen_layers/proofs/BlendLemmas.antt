@@ -3,7 +3,7 @@ use Rattle.std.proofs.Common.{◌≡◌, ℕ, ◌+◌, ◌*◌, ◌^◌, ◌<◌
 use Rattle.std.proofs.lemmas.Bool.{cases_eq, cond-false, and_left, and_right, ne_eqb, eq-eqb}
 use Rattle.std.proofs.lemmas.Nat.{pow_pos}
 use Rattle.std.proofs.lemmas.Nat.Bits.{and_pow, bit_at-lt}
-use Rattle.screen_layers.specs.Drawings.{number_of, bit_of}
+use Rattle.screen_layers.specs.Drawings.{bit_number, bit_of}
 use Rattle.screen_layers.specs.Blending.{ink, blends, is_transparent, AreInks}
 
 ink-clear : (blend value : ℕ) → value ≡ 0 → is_transparent blend ≡ true → ink blend value ≡ None
@@ -29,7 +29,7 @@ over-drawn blend value under colours clear inks bound t =
 -- the colour of two bits
 pub over-pair : (blend under : ℕ) (colours : List ℕ) (clear low high : Bool) → AreInks blend colours clear
     → (if low then (if high then slice_index colours 3 else slice_index colours 1) else (if high then slice_index colours 2 else (if clear then under else slice_index colours 0)))
-    ≡ unwrap_or (ink blend (number_of low + 2 * number_of high)) under
+    ≡ unwrap_or (ink blend (bit_number low + 2 * bit_number high)) under
 over-pair blend under colours clear true true inks = over-drawn blend 3 under colours clear inks (omega arith) (λ e. absurd (omega arith))
 over-pair blend under colours clear true false inks = over-drawn blend 1 under colours clear inks (omega arith) (λ e. absurd (omega arith))
 over-pair blend under colours clear false true inks = over-drawn blend 2 under colours clear inks (omega arith) (λ e. absurd (omega arith))
@@ -45,7 +45,7 @@ over-bound blend under colours true false false inks h = h
 over-bound blend under colours false false false inks h = inks.bound 0 (omega arith)
 
 -- what a mask of one bit finds
-pub bit-found : (byte place mask : ℕ) → mask ≡ 2 ^ place → number_of (not (bit_and byte mask == 0)) ≡ bit_of byte place
+pub bit-found : (byte place mask : ℕ) → mask ≡ 2 ^ place → bit_number (not (bit_and byte mask == 0)) ≡ bit_of byte place
 bit-found byte place mask e =
     let masked : bit_and byte mask ≡ bit_of byte place * 2 ^ place = ap (λ m. bit_and byte m) e ∙ and_pow byte place in
     let low = bit_at-lt byte place in

@@ -4,12 +4,12 @@ use Rattle.std.proofs.lemmas.List.{get_or-take, get_or-drop, get_or_past, get_or
 use Rattle.std.proofs.lemmas.Bool.{cases_lt}
 use Rattle.uxn_memory.specs.Bytes.{bank0}
 use Rattle.uxn_memory.specs.Banks.{bank0-at, length-bank0}
-use Rattle.screen_layers.specs.Drawings.{bytes_at}
+use Rattle.screen_layers.specs.Drawings.{tile_bytes_at}
 
-pub bytes_at-get : (memory : List ℕ) (at count place : ℕ) → length memory ≡ 1048576 → at < 65536 → place < 65536 → place < count
-    → slice_index memory ((at + place) % 65536) ≡ slice_index (bytes_at memory at count) place
-unfolding bytes_at
-bytes_at-get memory at count place size at_in place_in h =
+pub tile_bytes_at-get : (memory : List ℕ) (at count place : ℕ) → length memory ≡ 1048576 → at < 65536 → place < 65536 → place < count
+    → slice_index memory ((at + place) % 65536) ≡ slice_index (tile_bytes_at memory at count) place
+unfolding tile_bytes_at
+tile_bytes_at-get memory at count place size at_in place_in h =
     let bank : List ℕ = bank0 memory in
     let all : length bank ≡ 65536 = length-bank0 memory (omega arith) in
     let read : slice_index (take count (drop at (bank ++ bank))) place ≡ slice_index (bank ++ bank) (at + place) =
@@ -24,8 +24,8 @@ bytes_at-get memory at count place size at_in place_in h =
           ap (λ j. slice_index bank j) same ∙ sym (read ∙ get_or-append_right bank bank 65536 (at + place) 0 all (omega arith))
     ]
 
-pub bytes_at-past : (memory : List ℕ) (at count place : ℕ) → count ≤ place → 0 ≡ slice_index (bytes_at memory at count) place
-unfolding bytes_at
-bytes_at-past memory at count place h =
+pub tile_bytes_at-past : (memory : List ℕ) (at count place : ℕ) → count ≤ place → 0 ≡ slice_index (tile_bytes_at memory at count) place
+unfolding tile_bytes_at
+tile_bytes_at-past memory at count place h =
     let behind : List ℕ = drop at (bank0 memory ++ bank0 memory) in
     sym (get_or_past (take count behind) place 0 (omega (arith, length-take count behind)))

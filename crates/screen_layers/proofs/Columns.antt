@@ -4,33 +4,33 @@ use Rattle.std.proofs.lemmas.List.{get_or-take, get_or-drop}
 use Rattle.std.proofs.lemmas.Bool.{cases_lt, cond-true, cond-false, lt-ltb, le-ltb}
 use borrow.Rule.Slice.PartMut.{put_mid}
 use Rattle.screen_layers.specs.Blending.{ink}
-use Rattle.screen_layers.specs.Drawings.{distance, value_of, row_painted}
+use Rattle.screen_layers.specs.Drawings.{pixel_distance, pixel_value, row_painted}
 use Rattle.screen_layers.proofs.Spans.{length-span, put_mid-below, put_mid-within, put_mid-past}
 
 -- what the first columns of a row paint
 abbrev pub columns_painted : ℕ → ℕ → ℕ → Bool → ℕ → ℕ → ℕ → Option ℕ
 columns_painted corner low high flip_x blend count at =
-    if nat_lt (distance corner at) count then ink blend (value_of low high flip_x (distance corner at)) else None
+    if nat_lt (pixel_distance corner at) count then ink blend (pixel_value low high flip_x (pixel_distance corner at)) else None
 
 -- a row after its first columns were painted
 abbrev pub ColumnsPainted : List ℕ → List ℕ → ℕ → ℕ → ℕ → Bool → ℕ → ℕ → Type 0
 ColumnsPainted before after corner low high flip_x blend count =
     (k : ℕ) → k < length before → slice_index after k ≡ unwrap_or (columns_painted corner low high flip_x blend count k) (slice_index before k)
 
-row-hit : (corner low high : ℕ) (flip_x : Bool) (blend at column : ℕ) → distance corner at ≡ column → column < 8
-    → row_painted corner low high flip_x blend at ≡ ink blend (value_of low high flip_x column)
+row-hit : (corner low high : ℕ) (flip_x : Bool) (blend at column : ℕ) → pixel_distance corner at ≡ column → column < 8
+    → row_painted corner low high flip_x blend at ≡ ink blend (pixel_value low high flip_x column)
 row-hit corner low high flip_x blend at column e h =
-    cond-true (nat_lt (distance corner at) 8) (ink blend (value_of low high flip_x (distance corner at))) None (lt-ltb (distance corner at) 8 (omega arith))
-    ∙ ap (λ d. ink blend (value_of low high flip_x d)) e
+    cond-true (nat_lt (pixel_distance corner at) 8) (ink blend (pixel_value low high flip_x (pixel_distance corner at))) None (lt-ltb (pixel_distance corner at) 8 (omega arith))
+    ∙ ap (λ d. ink blend (pixel_value low high flip_x d)) e
 
-row-miss : (corner low high : ℕ) (flip_x : Bool) (blend at : ℕ) → 8 ≤ distance corner at → row_painted corner low high flip_x blend at ≡ None
+row-miss : (corner low high : ℕ) (flip_x : Bool) (blend at : ℕ) → 8 ≤ pixel_distance corner at → row_painted corner low high flip_x blend at ≡ None
 row-miss corner low high flip_x blend at h =
-    cond-false (nat_lt (distance corner at) 8) (ink blend (value_of low high flip_x (distance corner at))) None (le-ltb (distance corner at) 8 h)
+    cond-false (nat_lt (pixel_distance corner at) 8) (ink blend (pixel_value low high flip_x (pixel_distance corner at))) None (le-ltb (pixel_distance corner at) 8 h)
 
 -- eight pixels that lie on the row, written as one span
 pub whole-row : (row span : List ℕ) (corner low high : ℕ) (flip_x : Bool) (blend a k : ℕ) → length row ≤ 2047 → corner + 8 ≤ length row → a ≡ corner → k ≡ 8
     → length span ≡ length (take k (drop a row))
-    → ((j : ℕ) → j < 8 → slice_index span j ≡ unwrap_or (ink blend (value_of low high flip_x j)) (slice_index (take k (drop a row)) j))
+    → ((j : ℕ) → j < 8 → slice_index span j ≡ unwrap_or (ink blend (pixel_value low high flip_x j)) (slice_index (take k (drop a row)) j))
     → (i : ℕ) → i < length row → slice_index (put_mid a k row span) i ≡ unwrap_or (row_painted corner low high flip_x blend i) (slice_index row i)
 whole-row row span corner low high flip_x blend a k short fits a_is k_is same_size drawn i h =
     let count : length span ≡ k = same_size ∙ length-span a k row (omega arith) in
@@ -41,7 +41,7 @@ whole-row row span corner low high flip_x blend a k short fits a_is k_is same_si
         | inl within ↦
             let place : a + (i - a) ≡ i = omega arith in
             put_mid-within 0 a k row span i (omega arith) high_i (omega arith) ∙ drawn (i - a) (omega arith)
-            ∙ ap (λ p. unwrap_or (ink blend (value_of low high flip_x (i - a))) p)
+            ∙ ap (λ p. unwrap_or (ink blend (pixel_value low high flip_x (i - a))) p)
             (get_or-take k (drop a row) (i - a) 0 (omega arith) ∙ get_or-drop a row (i - a) 0 ∙ ap (λ j. slice_index row j) place)
             ∙ sym (ap keep (row-hit corner low high flip_x blend i (i - a) (omega arith) (omega arith)))
         | inr past ↦ put_mid-past 0 a k row span i (omega arith) count past ∙ sym (ap keep (row-miss corner low high flip_x blend i (omega arith)))

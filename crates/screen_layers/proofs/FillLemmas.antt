@@ -94,7 +94,7 @@ filled-more span piece from k colour room filled so_far =
     let piece_is : piece ≡ replicate k colour = filled ∙ ap (λ n. replicate n colour) (length-span from k span room) in
     let count : length piece ≡ k = ap length piece_is ∙ length-replicate k colour in
     take-put_mid from k span piece (from + k) (omega arith) (omega arith)
-    ∙ ap (λ front. front ++ piece) so_far ∙ ap (λ back. replicate from colour ++ back) piece_is ∙ replicate-append-replicate from k colour
+    ∙ ap (λ prefix. prefix ++ piece) so_far ∙ ap (λ back. replicate from colour ++ back) piece_is ∙ replicate-append-replicate from k colour
 
 pub filled-whole : (span piece : List ℕ) (from k colour size : ℕ) → from + k ≡ length span → length span ≡ size → piece ≡ replicate (length (take k (drop from span))) colour
     → take from span ≡ replicate from colour → put_mid from k span piece ≡ replicate size colour

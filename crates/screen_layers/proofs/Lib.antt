@@ -12,3 +12,4 @@ mod SpriteLemmas
 pub mod RefreshLemmas
 mod ComposedLemmas
 mod InkLemmas
+pub mod RowLemmas

@@ -7,7 +7,7 @@ use Rattle.screen_layers.proofs.Spans.{length-span, put_mid-below, put_mid-withi
 use Rattle.std.proofs.lemmas.Bool.Decides.{nat_tests}
 use Rattle.screen_layers.specs.declared.control.Layer.{Layer}
 use Rattle.screen_layers.specs.declared.control.Layer.TheVariants.{Background, Foreground}
-use Rattle.screen_layers.specs.Drawings.{Shape, Drawing, fill, dot, tile, painted, paint, covers, distance, row_painted}
+use Rattle.screen_layers.specs.Drawings.{Shape, Drawing, fill, dot, tile, painted, paint, covers, pixel_distance}
 use Rattle.screen_layers.specs.Layers.{Layers, MarksMore, Draws, pixel_at, pixels_of, mark_at}
 
 -- a shape paints nothing where it does not cover
@@ -16,8 +16,8 @@ unfolding covers painted
 covers-painted (fill left right top bottom colour) x y e = rw e refl
 covers-painted (dot at_x at_y colour) x y e = rw e refl
 covers-painted (tile at_x at_y bytes flip_x flip_y blend) x y e =
-    elim (and_cases (nat_lt (distance at_x x) 8) (nat_lt (distance at_y y) 8) e) [
-      | inl past ↦ rw past (same_both (nat_lt (distance at_y y) 8) None)
+    elim (and_cases (nat_lt (pixel_distance at_x x) 8) (nat_lt (pixel_distance at_y y) 8) e) [
+      | inl past ↦ rw past (same_both (nat_lt (pixel_distance at_y y) 8) None)
       | inr past ↦ rw past refl
     ] where
       same_both : (t : Bool) (colour : Option ℕ) → (if t then colour else colour) ≡ colour
@@ -138,25 +138,25 @@ dot-marks before after width height at_x at_y colour in_at marks = record {
 -- the rows that are marked with a tile: its first column is on the screen, or the columns wrap to the left side
 pub tile-marks : (before after : List Bool) (width height at_x at_y : ℕ) (bytes : List ℕ) (flip_x flip_y : Bool) (blend : ℕ)
     → 0 < width → at_x < 65536 → (at_x < width) ⊎ (65528 < at_x)
-    → ((y : ℕ) → y < height → mark_at after y ≡ (nat_lt (distance at_y y) 8 || mark_at before y))
+    → ((y : ℕ) → y < height → mark_at after y ≡ (nat_lt (pixel_distance at_y y) 8 || mark_at before y))
     → ((y : ℕ) → mark_at before y ≡ true → mark_at after y ≡ true)
     → MarksMore before after width height (tile at_x at_y bytes flip_x flip_y blend)
 unfolding covers
 tile-marks before after width height at_x at_y bytes flip_x flip_y blend some in_short on marks kept = record {
-  covered = λ x y in_x in_y e. marks y in_y ∙ or_left (nat_lt (distance at_y y) 8) (mark_at before y)
-      (and_parts (nat_lt (distance at_x x) 8) (nat_lt (distance at_y y) 8) e).1;
+  covered = λ x y in_x in_y e. marks y in_y ∙ or_left (nat_lt (pixel_distance at_y y) 8) (mark_at before y)
+      (and_parts (nat_lt (pixel_distance at_x x) 8) (nat_lt (pixel_distance at_y y) 8) e).1;
   kept = kept;
-  only = λ y in_y e. elim (or_cases (nat_lt (distance at_y y) 8) (mark_at before y) (sym (marks y in_y) ∙ e)) [
+  only = λ y in_y e. elim (or_cases (nat_lt (pixel_distance at_y y) 8) (mark_at before y) (sym (marks y in_y) ∙ e)) [
     | inl here ↦ inr (elim on [
       | inl first ↦ record {
         x = at_x;
         within = first;
-        covered = and_from (nat_lt (distance at_x at_x) 8) (nat_lt (distance at_y y) 8) (lt-ltb (distance at_x at_x) 8 (omega arith)) here;
+        covered = and_from (nat_lt (pixel_distance at_x at_x) 8) (nat_lt (pixel_distance at_y y) 8) (lt-ltb (pixel_distance at_x at_x) 8 (omega arith)) here;
       }
       | inr wraps ↦ record {
         x = 0;
         within = some;
-        covered = and_from (nat_lt (distance at_x 0) 8) (nat_lt (distance at_y y) 8) (lt-ltb (distance at_x 0) 8 (omega arith)) here;
+        covered = and_from (nat_lt (pixel_distance at_x 0) 8) (nat_lt (pixel_distance at_y y) 8) (lt-ltb (pixel_distance at_x 0) 8 (omega arith)) here;
       }
     ])
     | inr old ↦ inl old
@@ -186,10 +186,10 @@ marks-span marks span top bottom ordered room set y =
 
 -- the marks after those of the first rows of a tile that lie above a height were set
 abbrev pub TileMarked : List Bool → List Bool → ℕ → ℕ → ℕ → Type 0
-TileMarked before after at_y height count = (y : ℕ) → y < height → mark_at after y ≡ (nat_lt (distance at_y y) count || mark_at before y)
+TileMarked before after at_y height count = (y : ℕ) → y < height → mark_at after y ≡ (nat_lt (pixel_distance at_y y) count || mark_at before y)
 
 pub tile-none : (marks : List Bool) (at_y height : ℕ) → TileMarked marks marks at_y height 0
-tile-none marks at_y height y in_y = ap (λ t. t || mark_at marks y) (sym (le-ltb (distance at_y y) 0 (omega arith)))
+tile-none marks at_y height y in_y = ap (λ t. t || mark_at marks y) (sym (le-ltb (pixel_distance at_y y) 0 (omega arith)))
 
 same-test : (d row : ℕ) → d ≢ row → nat_lt d (row + 1) ≡ nat_lt d row
 same-test d row ne = grind (arith, nat_tests)
@@ -199,20 +199,20 @@ pub tile-next : (before after : List Bool) (at_y height row at : ℕ) → length
 tile-next before after at_y height row at size height_in at_in row_in at_is on so_far y in_y =
     elim (cases_eq y at) [
       | inl e ↦
-          let here : distance at_y y ≡ row = omega arith in
+          let here : pixel_distance at_y y ≡ row = omega arith in
           ap (λ j. mark_at (slice_set after at true) j) e ∙ get_or-set_same after at true false (omega arith)
-          ∙ sym (or_left (nat_lt (distance at_y y) (row + 1)) (mark_at before y) (lt-ltb (distance at_y y) (row + 1) (omega arith)))
+          ∙ sym (or_left (nat_lt (pixel_distance at_y y) (row + 1)) (mark_at before y) (lt-ltb (pixel_distance at_y y) (row + 1) (omega arith)))
       | inr ne ↦
-          let far : distance at_y y ≢ row = λ d. ne (omega arith) in
+          let far : pixel_distance at_y y ≢ row = λ d. ne (omega arith) in
           get_or-set_other after at y true false ne ∙ so_far y in_y
-          ∙ ap (λ t. t || mark_at before y) (sym (same-test (distance at_y y) row far))
+          ∙ ap (λ t. t || mark_at before y) (sym (same-test (pixel_distance at_y y) row far))
     ]
 
 pub tile-skip : (before after : List Bool) (at_y height row at : ℕ) → height ≤ 2047 → at_y < 65536 → row < 8 → at ≡ (at_y + row) % 65536 → height ≤ at
     → TileMarked before after at_y height row → TileMarked before after at_y height (row + 1)
 tile-skip before after at_y height row at height_in at_in row_in at_is off so_far y in_y =
-    let far : distance at_y y ≢ row = λ d. absurd (omega arith) in
-    so_far y in_y ∙ ap (λ t. t || mark_at before y) (sym (same-test (distance at_y y) row far))
+    let far : pixel_distance at_y y ≢ row = λ d. absurd (omega arith) in
+    so_far y in_y ∙ ap (λ t. t || mark_at before y) (sym (same-test (pixel_distance at_y y) row far))
 
 pub none-marked : (count y : ℕ) → mark_at (replicate count false) y ≡ false
 none-marked count y = elim (cases_lt y count) [

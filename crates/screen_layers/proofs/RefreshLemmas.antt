@@ -1,37 +1,21 @@
 -- A refresh, row by row.
-use Rattle.std.proofs.Common.{◌≡◌, ℕ, ◌+◌, ◌<◌, ◌≤◌, ◌==◌, Bool, true, false, if◌then◌else◌, List, [], ◌∷◌, length, take, inl, inr, refl, sym, ap, ◌∙◌, arith}
+use Rattle.std.proofs.Common.{◌≡◌, ℕ, ◌+◌, ◌<◌, ◌≤◌, ◌==◌, true, false, if◌then◌else◌, inl, inr, refl, sym, ap, ◌∙◌, arith}
 use Rattle.std.specs.Prelude.{count_by}
-use Rattle.std.proofs.lemmas.List.{take_more, take_all, get_or_past}
-use Rattle.std.proofs.lemmas.List.Sums.{sum_by-append}
-use Rattle.std.proofs.lemmas.Bool.{cases_lt, cases_eq, eq-eqb, ne_eqb}
+use Rattle.std.specs.List.{range_with_len}
+use Rattle.std.proofs.lemmas.Bool.{cases_eq, eq-eqb, ne_eqb}
 use Rattle.screen_layers.specs.declared.control.Layer.{Layer}
 use Rattle.screen_layers.specs.declared.control.Layer.TheVariants.{Background, Foreground}
-use Rattle.screen_layers.specs.Layers.{Layers, SamePixels, Refreshes, StandsFor, pixel_at, pixels_of, mark_at}
-use Rattle.screen_layers.specs.Pictures.{Picture}
-use Rattle.screen_layers.proofs.ScreenLemmas.{none-marked}
+use Rattle.screen_layers.specs.Layers.{Layers, SamePixels, Refreshes, RepresentsPicture, pixel_at, pixels_of, mark_at}
+use Rattle.screen_layers.specs.Pictures.{Picture, refreshed, is_marked, marked_rows}
+use Rattle.screen_layers.proofs.RowLemmas.{covers-none, count-next, count-same}
 
 -- the first rows of a screen are refreshed
 pub record Refreshed (start now : Layers) (y count : ℕ) : Type 0 where
   pub same : SamePixels start now
   pub done : (other : ℕ) → other < y → mark_at now.marks other ≡ false
   pub later : (other : ℕ) → y ≤ other → mark_at now.marks other ≡ mark_at start.marks other
-  pub counted : count ≡ count_by (λ mark. mark) (take y start.marks)
+  pub counted : count ≡ count_by (mark_at start.marks) (range_with_len 0 y)
   pub most : count ≤ y
-
-count-one : (mark : Bool) → count_by (λ m. m) (mark ∷ []) ≡ (if mark then 1 else 0)
-count-one true = refl
-count-one false = refl
-
-count-more : (marks : List Bool) (y : ℕ) → count_by (λ mark. mark) (take (y + 1) marks) ≡ count_by (λ mark. mark) (take y marks) + (if mark_at marks y then 1 else 0)
-count-more marks y =
-    elim (cases_lt y (length marks)) [
-      | inl within ↦
-          ap (λ ms. count_by (λ mark. mark) ms) (take_more marks y false within)
-          ∙ sum_by-append _ (take y marks) (mark_at marks y ∷ []) ∙ ap (λ n. count_by (λ mark. mark) (take y marks) + n) (count-one (mark_at marks y))
-      | inr past ↦
-          let none : mark_at marks y ≡ false = get_or_past marks y false past in
-          rw none (ap (λ ms. count_by (λ mark. mark) ms) (take_all (y + 1) marks (omega arith) ∙ sym (take_all y marks past)) ∙ omega arith)
-    ]
 
 pub refreshed-none : (start : Layers) → Refreshed start start 0 0
 refreshed-none start = record {
@@ -58,7 +42,7 @@ refreshed-marked start now after y count so_far marked same marks = record {
   ];
   later = λ other from. marks other ∙ rw (ne_eqb other y (λ e. absurd (omega arith))) (so_far.later other (omega arith));
   counted = let was : mark_at start.marks y ≡ true = sym (so_far.later y (omega arith)) ∙ marked in
-      ap (λ n. n + 1) so_far.counted ∙ sym (count-more start.marks y ∙ rw was refl);
+      ap (λ n. n + 1) so_far.counted ∙ sym (count-next (mark_at start.marks) y ∙ rw was refl);
   most = let most = so_far.most in omega arith;
 }
 
@@ -72,26 +56,34 @@ refreshed-plain start now y count so_far plain = record {
   ];
   later = λ other from. so_far.later other (omega arith);
   counted = let was : mark_at start.marks y ≡ false = sym (so_far.later y (omega arith)) ∙ plain in
-      so_far.counted ∙ sym (count-more start.marks y ∙ rw was (omega arith));
+      so_far.counted ∙ sym (count-next (mark_at start.marks) y ∙ rw was (omega arith));
   most = let most = so_far.most in omega arith;
 }
 
-same-stands : (before after : Layers) (picture : Picture) → SamePixels before after → StandsFor before picture → StandsFor after picture
-same-stands before after picture same stands = record {
+-- a screen of the same pixels, none of whose rows is marked
+refreshed-stands : (before after : Layers) (picture : Picture) → SamePixels before after → ((y : ℕ) → y < before.height → mark_at after.marks y ≡ false)
+    → RepresentsPicture before picture → RepresentsPicture after (refreshed picture)
+refreshed-stands before after picture same unmarked stands = record {
   width = same.width ∙ stands.width;
   height = same.height ∙ stands.height;
   pixels = λ layer x y in_x in_y. rw same.width (ap (λ pixels. pixel_at before.width pixels x y) (layer-same layer)
       ∙ stands.pixels layer x y (rw (← same.width) in_x) (rw (← same.height) in_y));
+  marks = λ y in_y. unmarked y (rw (← same.height) in_y) ∙ sym (covers-none picture.width y);
 } where
   layer-same : (layer : Layer) → pixels_of after layer ≡ pixels_of before layer
   layer-same Background = same.background
   layer-same Foreground = same.foreground
 
+-- the rows that are marked are those of the picture
+marks-counted : (start : Layers) (picture : Picture) → RepresentsPicture start picture → count_by (mark_at start.marks) (range_with_len 0 start.height) ≡ marked_rows picture
+unfolding marked_rows
+marks-counted start picture stands =
+    count-same (mark_at start.marks) (is_marked picture) start.height stands.marks ∙ ap (λ h. count_by (is_marked picture) (range_with_len 0 h)) stands.height
+
 -- all rows are refreshed
 pub refreshed-all : (start now : Layers) (y count : ℕ) → Refreshed start now y count → y ≡ start.height → Refreshes start now count
 refreshed-all start now y count rows whole = record {
-  counted = rows.counted ∙ ap (λ n. count_by (λ mark. mark) (take n start.marks)) whole;
+  counted = λ picture stands. rows.counted ∙ ap (λ n. count_by (mark_at start.marks) (range_with_len 0 n)) whole ∙ marks-counted start picture stands;
   pixels = rows.same;
-  stands = λ picture stands. same-stands start now picture rows.same stands;
-  marked = none-marked now (λ other below. rows.done other (rw whole (rw (← rows.same.height) below)));
+  stands = λ picture stands. refreshed-stands start now picture rows.same (λ other below. rows.done other (rw whole below)) stands;
 }

@@ -1,15 +1,16 @@
--- What one more drawing does to the pictures that a screen stands for, to its marks and to what it keeps composed.
-use Rattle.std.proofs.Common.{◌≡◌, ℕ, ◌+◌, ◌*◌, ◌<◌, Bool, true, false, ◌&&◌, nat_le, nat_lt, List, [], ◌∷◌, length, replicate, slice_index, if◌then◌else◌, Some, None, unwrap_or, inl, inr, refl, sym, ap, ◌∙◌, subst, arith}
+-- What one more drawing does to the pictures that a screen represents, to its marks and to what it keeps composed.
+use Rattle.std.proofs.Common.{◌≡◌, ℕ, ◌+◌, ◌*◌, ◌<◌, Bool, true, false, ◌&&◌, nat_le, nat_lt, List, [], ◌∷◌, ◌++◌, length, replicate, slice_index, if◌then◌else◌, Some, None, unwrap_or, inl, inr, refl, sym, ap, ◌∙◌, subst, arith}
 use Rattle.std.proofs.lemmas.List.{get_or-replicate, get_or_past, length-replicate}
-use Rattle.std.proofs.lemmas.Bool.{cases_lt, or_cases, or_left, or_right, false_from_ne_true, both_ways}
+use Rattle.std.proofs.lemmas.Bool.{cases_lt, false_from_ne_true, both_ways}
 use Rattle.screen_layers.specs.declared.control.Layer.{Layer}
 use Rattle.screen_layers.specs.declared.control.Layer.TheVariants.{Background, Foreground}
 use Rattle.screen_frame.specs.Colours.{shown}
-use Rattle.screen_layers.specs.Drawings.{Shape, Drawing, fill, painted, paint, covers, is_covered, drawn_by_pixel, filled, dotted}
+use Rattle.screen_layers.specs.Drawings.{Shape, Drawing, fill, painted, paint, covers, drawn_by_pixel, filled, dotted}
 use Rattle.screen_layers.specs.Control.{fills}
-use Rattle.screen_layers.specs.Layers.{Layers, StandsFor, MarkedBy, MarksMore, IsKept, Draws, PaintedOver, pixel_at, pixels_of, mark_at}
-use Rattle.screen_layers.specs.Pictures.{Picture, with_drawings, after_pixel}
+use Rattle.screen_layers.specs.Layers.{Layers, RepresentsPicture, MarksMore, LayersAreMaintained, Draws, PaintedOver, pixel_at, pixels_of, mark_at}
+use Rattle.screen_layers.specs.Pictures.{Picture, with_drawings, after_pixel, can_resize, resized, covers_row}
 use Rattle.screen_layers.proofs.MarkLemmas.{paint-none}
+use Rattle.screen_layers.proofs.RowLemmas.{covers-none, marks-more}
 
 background-pixels : (screen : Layers) (after : List ℕ) (shape : Shape) → PaintedOver screen.background after screen.width screen.height shape
     → (layer : Layer) (x y : ℕ) → x < screen.width → y < screen.height
@@ -55,7 +56,7 @@ fill-clipped before after width height left right top bottom left' right' top' b
 
 -- the picture with the drawing
 pub stands-more : (before after : Layers) (drawing : Drawing) (newer : List Drawing) (picture : Picture) → Draws before after drawing
-    → StandsFor before (with_drawings newer picture) → StandsFor after (with_drawings (drawing ∷ newer) picture)
+    → RepresentsPicture before (with_drawings newer picture) → RepresentsPicture after (with_drawings (drawing ∷ newer) picture)
 stands-more before after drawing newer picture draws stands = record {
   width = draws.width ∙ stands.width;
   height = draws.height ∙ stands.height;
@@ -64,31 +65,16 @@ stands-more before after drawing newer picture draws stands = record {
       let down : y < before.height = rw (← draws.height) in_y in
       ap (λ w. pixel_at w (pixels_of after layer) x y) draws.width ∙ draws.pixels layer x y across down
       ∙ ap (λ p. unwrap_or (paint drawing layer x y) p) (stands.pixels layer x y across down);
-}
-
--- the marks with the drawing
-pub marked-more : (before after : Layers) (drawing : Drawing) (since : List Drawing) → Draws before after drawing → MarkedBy before since → MarkedBy after (drawing ∷ since)
-marked-more before after drawing since draws marked = record {
-  covered = λ y in_y row.
+  marks = λ y in_y.
       let down : y < before.height = rw (← draws.height) in_y in
-      let across : row.x < before.width = rw (← draws.width) row.within in
-      elim (or_cases (covers drawing.shape row.x y) (is_covered since row.x y) row.covered) [
-        | inl new ↦ draws.marks.covered row.x y across down new
-        | inr old ↦ draws.marks.kept y (marked.covered y down (record { x = row.x; within = across; covered = old }))
-      ];
-  only = λ y in_y mark.
-      let down : y < before.height = rw (← draws.height) in_y in
-      elim (draws.marks.only y down mark) [
-        | inl old ↦
-            let row = marked.only y down old in
-            record { x = row.x; within = rw draws.width row.within; covered = or_right (covers drawing.shape row.x y) (is_covered since row.x y) row.covered }
-        | inr new ↦ record { x = new.x; within = rw draws.width new.within; covered = or_left (covers drawing.shape new.x y) (is_covered since new.x y) new.covered }
-      ];
+      let older : List Drawing = newer ++ picture.unrefreshed in
+      marks-more before.marks after.marks before.width before.height drawing older y draws.marks down (stands.marks y down ∙ ap (λ w. covers_row older w y) (sym stands.width))
+      ∙ ap (λ w. covers_row (drawing ∷ older) w y) stands.width;
 }
 
 -- a row without a mark stays composed
-pub draws-kept : (before after : Layers) (drawing : Drawing) → IsKept before → Draws before after drawing → after.composed ≡ before.composed
-    → length after.background ≡ length before.background → length after.foreground ≡ length before.foreground → IsKept after
+pub draws-kept : (before after : Layers) (drawing : Drawing) → LayersAreMaintained before → Draws before after drawing → after.composed ≡ before.composed
+    → length after.background ≡ length before.background → length after.foreground ≡ length before.foreground → LayersAreMaintained after
 draws-kept before after drawing kept draws composed background foreground = record {
   column = rw draws.width kept.column;
   background = background ∙ kept.background ∙ size;
@@ -120,23 +106,23 @@ drawn-dotted width height x y control e = rw e refl
 -- the picture after a write to pixel
 pub stands-after : (before after : Layers) (drawing : Drawing) (x y control : ℕ) (picture : Picture)
     → drawing ≡ drawn_by_pixel before.width before.height x y control → Draws before after drawing
-    → StandsFor before picture → StandsFor after (after_pixel picture x y control)
+    → RepresentsPicture before picture → RepresentsPicture after (after_pixel picture x y control)
 stands-after before after drawing x y control picture drawing_is draws stands =
     let same : drawing ≡ drawn_by_pixel picture.width picture.height x y control =
     drawing_is ∙ ap (λ w. drawn_by_pixel w before.height x y control) stands.width ∙ ap (λ h. drawn_by_pixel picture.width h x y control) stands.height in
-    let P : Drawing → Type 0 = λ d. StandsFor after (with_drawings (d ∷ []) picture) in
+    let P : Drawing → Type 0 = λ d. RepresentsPicture after (with_drawings (d ∷ []) picture) in
     subst P same (stands-more before after drawing [] picture draws stands)
 
 -- what is kept after a drawing on the background, and on the foreground
-pub background-kept : (screen : Layers) (after : List ℕ) (marks : List Bool) (shape : Shape) → IsKept screen → PaintedOver screen.background after screen.width screen.height shape
+pub background-kept : (screen : Layers) (after : List ℕ) (marks : List Bool) (shape : Shape) → LayersAreMaintained screen → PaintedOver screen.background after screen.width screen.height shape
     → MarksMore screen.marks marks screen.width screen.height shape → length after ≡ length screen.background
-    → IsKept (record screen { background = after; marks = marks })
+    → LayersAreMaintained (record screen { background = after; marks = marks })
 background-kept screen after marks shape kept over more size =
     draws-kept screen _ (record { layer = Background; shape = shape }) kept (draws-background screen after marks Background shape refl over more) refl size refl
 
-pub foreground-kept : (screen : Layers) (after : List ℕ) (marks : List Bool) (shape : Shape) → IsKept screen → PaintedOver screen.foreground after screen.width screen.height shape
+pub foreground-kept : (screen : Layers) (after : List ℕ) (marks : List Bool) (shape : Shape) → LayersAreMaintained screen → PaintedOver screen.foreground after screen.width screen.height shape
     → MarksMore screen.marks marks screen.width screen.height shape → length after ≡ length screen.foreground
-    → IsKept (record screen { foreground = after; marks = marks })
+    → LayersAreMaintained (record screen { foreground = after; marks = marks })
 foreground-kept screen after marks shape kept over more size =
     draws-kept screen _ (record { layer = Foreground; shape = shape }) kept (draws-foreground screen after marks Foreground shape refl over more) refl refl size
 
@@ -149,34 +135,46 @@ blank-at count place = elim (cases_lt place count) [
 -- a screen whose lists are all 0
 pub blank-kept : (width height : ℕ) (background foreground composed : List ℕ) (marks : List Bool) → 0 < width
     → background ≡ replicate (height * width) 0 → foreground ≡ replicate (height * width) 0 → composed ≡ replicate (height * width) 0
-    → IsKept (record { width = width; height = height; background = background; foreground = foreground; composed = composed; marks = marks })
-blank-kept width height background foreground composed marks column back front both = record {
+    → LayersAreMaintained (record { width = width; height = height; background = background; foreground = foreground; composed = composed; marks = marks })
+blank-kept width height background foreground composed marks column back prefix both = record {
   column = column;
   background = ap length back ∙ length-replicate (height * width) 0;
-  foreground = ap length front ∙ length-replicate (height * width) 0;
+  foreground = ap length prefix ∙ length-replicate (height * width) 0;
   composed = ap length both ∙ length-replicate (height * width) 0;
   rows = λ y in_y unmarked x in_x.
       let place = y * width + x in
       ap (λ p. slice_index p place) both ∙ blank-at (height * width) place
-      ∙ sym (ap (λ f. shown f (slice_index background place)) (ap (λ p. slice_index p place) front ∙ blank-at (height * width) place)
+      ∙ sym (ap (λ f. shown f (slice_index background place)) (ap (λ p. slice_index p place) prefix ∙ blank-at (height * width) place)
       ∙ ap (λ p. slice_index p place) back ∙ blank-at (height * width) place);
 }
 
 pub blank-stands : (width height : ℕ) (background foreground composed : List ℕ) (marks : List Bool)
-    → background ≡ replicate (height * width) 0 → foreground ≡ replicate (height * width) 0
-    → StandsFor (record { width = width; height = height; background = background; foreground = foreground; composed = composed; marks = marks })
-    (record { width = width; height = height; drawings = [] })
-blank-stands width height background foreground composed marks back front = record { width = refl; height = refl; pixels = blank } where
+    → background ≡ replicate (height * width) 0 → foreground ≡ replicate (height * width) 0 → ((y : ℕ) → mark_at marks y ≡ false)
+    → RepresentsPicture (record { width = width; height = height; background = background; foreground = foreground; composed = composed; marks = marks })
+    (record { width = width; height = height; drawings = []; unrefreshed = [] })
+blank-stands width height background foreground composed marks back prefix unmarked = record {
+  width = refl;
+  height = refl;
+  pixels = blank;
+  marks = λ y in_y. unmarked y ∙ sym (covers-none width y);
+} where
   screen : Layers
   screen = record { width = width; height = height; background = background; foreground = foreground; composed = composed; marks = marks }
 
   blank : (layer : Layer) (x y : ℕ) → x < width → y < height → pixel_at width (pixels_of screen layer) x y ≡ 0
   blank Background x y in_x in_y = ap (λ p. slice_index p (y * width + x)) back ∙ blank-at (height * width) (y * width + x)
-  blank Foreground x y in_x in_y = ap (λ p. slice_index p (y * width + x)) front ∙ blank-at (height * width) (y * width + x)
+  blank Foreground x y in_x in_y = ap (λ p. slice_index p (y * width + x)) prefix ∙ blank-at (height * width) (y * width + x)
 
--- no row is marked where no drawing came since
-pub none-marked : (screen : Layers) → ((y : ℕ) → y < screen.height → mark_at screen.marks y ≡ false) → MarkedBy screen []
-none-marked screen unmarked = record {
-  covered = λ y in_y row. absurd (both_ways _ refl row.covered);
-  only = λ y in_y mark. absurd (both_ways _ (unmarked y in_y) mark);
-}
+-- the picture once it has another size
+pub resized-stands : (before : Layers) (picture : Picture) (width height : ℕ) (background foreground composed : List ℕ) (marks : List Bool)
+    → can_resize before.width before.height width height ≡ true
+    → background ≡ replicate (height * width) 0 → foreground ≡ replicate (height * width) 0 → ((y : ℕ) → mark_at marks y ≡ false)
+    → RepresentsPicture before picture
+    → RepresentsPicture (record { width = width; height = height; background = background; foreground = foreground; composed = composed; marks = marks })
+    (resized picture width height)
+resized-stands before picture width height background foreground composed marks can back prefix unmarked stands =
+    let screen : Layers = record { width = width; height = height; background = background; foreground = foreground; composed = composed; marks = marks } in
+    let same : can_resize picture.width picture.height width height ≡ true =
+    sym (ap (λ w. can_resize w before.height width height) stands.width ∙ ap (λ h. can_resize picture.width h width height) stands.height) ∙ can in
+    let P : Bool → Type 0 = λ b. RepresentsPicture screen (if b then record { width = width; height = height; drawings = []; unrefreshed = [] } else picture) in
+    subst P (sym same) (blank-stands width height background foreground composed marks back prefix unmarked)

@@ -2,7 +2,7 @@
 use Rattle.std.specs.Prelude.{ℕ, ◌-◌, ◌^◌, ◌==◌, ◌≡◌, ◌<◌, Bool, ◌&&◌, ◌||◌, if◌then◌else◌}
 use Rattle.std.specs.Prelude.{List, [], ◌∷◌, length, map, codes, slice_index, slice_index_or, Option, Some, None}
 
--- the numbers that the digits of a text stand for
+-- the numbers that the digits of a text represent
 abbrev pub digits : List ℕ → List ℕ
 digits text = map (λ code. code - 48) text
 

@@ -30,5 +30,5 @@ abbrev pub tile_size : Bool → ℕ
 tile_size two_bits = if two_bits then 16 else 8
 
 -- 8 where auto has the bit, negated modulo 65536 by a flip; else 0
-abbrev pub step_of : ℕ → ℕ → Bool → ℕ
-step_of auto bit flip = if has_bit auto bit then (if flip then 65536 - 8 else 8) else 0
+abbrev pub auto_step : ℕ → ℕ → Bool → ℕ
+auto_step auto bit flip = if has_bit auto bit then (if flip then 65536 - 8 else 8) else 0

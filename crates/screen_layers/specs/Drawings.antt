@@ -7,7 +7,7 @@ use Rattle.uxn_memory.specs.Bytes.{bank0}
 use Rattle.screen_layers.specs.declared.control.Layer.{Layer}
 use Rattle.screen_layers.specs.declared.control.Layer.TheVariants.{Background, Foreground}
 use Rattle.screen_layers.specs.declared.Moved.{Moved}
-use Rattle.screen_layers.specs.Control.{has_bit, flips_x, flips_y, layer_of, fills, has_two_bits, tile_size, step_of}
+use Rattle.screen_layers.specs.Control.{has_bit, flips_x, flips_y, layer_of, fills, has_two_bits, tile_size, auto_step}
 use Rattle.screen_layers.specs.Blending.{ink}
 
 -- a rectangle from left up to right and from top up to bottom, these two not in it; one place; or a tile with its corner,
@@ -23,30 +23,30 @@ pub record Drawing : Type 0 where
   pub shape : Shape
 
 -- how far a coordinate lies after a corner, modulo 65536
-abbrev pub distance : ℕ → ℕ → ℕ
-distance corner at = (at + 65536 - corner) % 65536
+abbrev pub pixel_distance : ℕ → ℕ → ℕ
+pixel_distance corner at = (at + 65536 - corner) % 65536
 
 -- the bit of a byte, 0 being the lowest
 abbrev pub bit_of : ℕ → ℕ → ℕ
 bit_of byte place = byte / 2 ^ place % 2
 
 -- a bit as a number
-abbrev pub number_of : Bool → ℕ
-number_of bit = if bit then 1 else 0
+abbrev pub bit_number : Bool → ℕ
+bit_number bit = if bit then 1 else 0
 
 -- the value at a column of a tile's row: the bit of its low byte, plus twice that of its high byte
-abbrev pub value_of : ℕ → ℕ → Bool → ℕ → ℕ
-value_of low high flip_x column =
+abbrev pub pixel_value : ℕ → ℕ → Bool → ℕ → ℕ
+pixel_value low high flip_x column =
     bit_of low (if flip_x then column else 7 - column) + 2 * bit_of high (if flip_x then column else 7 - column)
 
 -- the colour that a row of a tile paints at a coordinate, if it covers it and is opaque there
 abbrev pub row_painted : ℕ → ℕ → ℕ → Bool → ℕ → ℕ → Option ℕ
 row_painted corner low high flip_x blend at =
-    if nat_lt (distance corner at) 8 then ink blend (value_of low high flip_x (distance corner at)) else None
+    if nat_lt (pixel_distance corner at) 8 then ink blend (pixel_value low high flip_x (pixel_distance corner at)) else None
 
 -- the byte of a tile that a row shows
-abbrev pub byte_of : Bool → ℕ → ℕ
-byte_of flip_y row = if flip_y then 7 - row else row
+abbrev pub plane_byte : Bool → ℕ → ℕ
+plane_byte flip_y row = if flip_y then 7 - row else row
 
 -- the colour that a shape paints at a place, if it covers it and is opaque there; a tile of one bit a pixel has no bytes
 -- past the eighth, so its high bits are 0
@@ -56,8 +56,8 @@ painted (fill left right top bottom colour) x y =
 painted (dot at_x at_y colour) x y =
     if (x == at_x) && (y == at_y) then Some colour else None
 painted (tile at_x at_y bytes flip_x flip_y blend) x y =
-    let row = byte_of flip_y (distance at_y y) in
-    if nat_lt (distance at_y y) 8
+    let row = plane_byte flip_y (pixel_distance at_y y) in
+    if nat_lt (pixel_distance at_y y) 8
     then row_painted at_x (slice_index bytes row) (slice_index bytes (8 + row)) flip_x blend x
     else None
 
@@ -65,7 +65,7 @@ painted (tile at_x at_y bytes flip_x flip_y blend) x y =
 unfoldable pub covers : Shape → ℕ → ℕ → Bool
 covers (fill left right top bottom colour) x y = (nat_le left x && nat_lt x right) && (nat_le top y && nat_lt y bottom)
 covers (dot at_x at_y colour) x y = (x == at_x) && (y == at_y)
-covers (tile at_x at_y bytes flip_x flip_y blend) x y = nat_lt (distance at_x x) 8 && nat_lt (distance at_y y) 8
+covers (tile at_x at_y bytes flip_x flip_y blend) x y = nat_lt (pixel_distance at_x x) 8 && nat_lt (pixel_distance at_y y) 8
 
 -- whether one of these drawings covers a place of its layer
 abbrev pub is_covered : List Drawing → ℕ → ℕ → Bool
@@ -109,8 +109,8 @@ moved_by_pixel x y auto control =
     else ((x + (if has_bit auto 1 then 1 else 0)) % 65536, (y + (if has_bit auto 2 then 1 else 0)) % 65536)
 
 -- so many bytes of bank 0 from an address on; the bank follows itself, since addresses are modulo 65536
-unfoldable pub bytes_at : List ℕ → ℕ → ℕ → List ℕ
-bytes_at memory at count = take count (drop at (bank0 memory ++ bank0 memory))
+unfoldable pub tile_bytes_at : List ℕ → ℕ → ℕ → List ℕ
+tile_bytes_at memory at count = take count (drop at (bank0 memory ++ bank0 memory))
 
 -- how far the bytes of one tile lie from those of the next: a tile's size where auto has 04, else 0
 abbrev pub bytes_step : ℕ → ℕ → ℕ
@@ -121,9 +121,9 @@ unfoldable pub tile_of : List ℕ → ℕ → ℕ → ℕ → ℕ → ℕ → �
 tile_of memory x y addr auto control i = record {
   layer = layer_of control;
   shape = tile
-      ((x + i * step_of auto 2 (flips_x control)) % 65536)
-      ((y + i * step_of auto 1 (flips_y control)) % 65536)
-      (bytes_at memory ((addr + i * bytes_step auto control) % 65536) (tile_size (has_two_bits control)))
+      ((x + i * auto_step auto 2 (flips_x control)) % 65536)
+      ((y + i * auto_step auto 1 (flips_y control)) % 65536)
+      (tile_bytes_at memory ((addr + i * bytes_step auto control) % 65536) (tile_size (has_two_bits control)))
       (flips_x control) (flips_y control) (control % 16);
 }
 
@@ -139,7 +139,7 @@ drawn_by_sprite memory x y addr auto control = newest_first (tile_of memory x y 
 -- the next x, y and addr after a write to sprite: auto 01 moves x, auto 02 moves y and auto 04 moves addr past the tiles
 abbrev pub moved_by_sprite : ℕ → ℕ → ℕ → ℕ → ℕ → Moved
 moved_by_sprite x y addr auto control = record {
-  x = (x + step_of auto 1 (flips_x control)) % 65536;
-  y = (y + step_of auto 2 (flips_y control)) % 65536;
+  x = (x + auto_step auto 1 (flips_x control)) % 65536;
+  y = (y + auto_step auto 2 (flips_y control)) % 65536;
   addr = (addr + (auto / 16 + 1) * bytes_step auto control) % 65536;
 }

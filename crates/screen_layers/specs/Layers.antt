@@ -1,11 +1,11 @@
--- What a screen keeps, the pictures that it stands for, and the rows that are marked.
-use Rattle.std.specs.Prelude.{◌≡◌, ◌⊎◌, ℕ, ◌+◌, ◌*◌, ◌<◌, Bool, true, false, List, [], length, take}
-use Rattle.std.specs.Prelude.{count_by, slice_index, slice_index_or, unwrap_or}
+-- What a screen keeps, the pictures that it represents, and the rows that are marked.
+use Rattle.std.specs.Prelude.{◌≡◌, ◌⊎◌, ℕ, ◌+◌, ◌*◌, ◌<◌, Bool, true, false, List, length}
+use Rattle.std.specs.Prelude.{slice_index, slice_index_or, unwrap_or}
 use Rattle.screen_frame.specs.Colours.{shown}
 use Rattle.screen_layers.specs.declared.control.Layer.{Layer}
 use Rattle.screen_layers.specs.declared.control.Layer.TheVariants.{Background, Foreground}
-use Rattle.screen_layers.specs.Drawings.{Shape, Drawing, painted, paint, covers, is_covered}
-use Rattle.screen_layers.specs.Pictures.{Picture, pixel_of}
+use Rattle.screen_layers.specs.Drawings.{Shape, Drawing, painted, paint, covers}
+use Rattle.screen_layers.specs.Pictures.{Picture, pixel_of, refreshed, is_marked, marked_rows}
 
 -- the size, the pixels of both layers and the composed values, all in rows of the width, and a mark for each row
 pub record Layers : Type 0 where
@@ -28,24 +28,13 @@ pixels_of screen Foreground = screen.foreground
 abbrev pub mark_at : List Bool → ℕ → Bool
 mark_at marks y = slice_index_or marks y false
 
--- A screen stands for a size and two lists of drawings, the newest first: those since the last refresh, and those before it. The
--- picture has both, the first followed by the second. Its size and pixels are those of the screen ..
-pub record StandsFor (screen : Layers) (picture : Picture) : Type 0 where
+-- a screen represents a picture: it has its size, its pixels and its marks
+pub record RepresentsPicture (screen : Layers) (picture : Picture) : Type 0 where
   pub width : screen.width ≡ picture.width
   pub height : screen.height ≡ picture.height
   pub pixels : (layer : Layer) (x y : ℕ) → x < screen.width → y < screen.height
       → pixel_at screen.width (pixels_of screen layer) x y ≡ pixel_of picture.drawings layer x y
-
--- some place of a row, up to a width, is covered by one of these drawings
-pub record CoversRow (drawings : List Drawing) (width y : ℕ) : Type 0 where
-  pub x : ℕ
-  pub within : x < width
-  pub covered : is_covered drawings x y ≡ true
-
--- .. and the marked rows are those of which a drawing since the last refresh covers a place on the screen
-pub record MarkedBy (screen : Layers) (since : List Drawing) : Type 0 where
-  pub covered : (y : ℕ) → y < screen.height → CoversRow since screen.width y → mark_at screen.marks y ≡ true
-  pub only : (y : ℕ) → y < screen.height → mark_at screen.marks y ≡ true → CoversRow since screen.width y
+  pub marks : (y : ℕ) → y < screen.height → mark_at screen.marks y ≡ is_marked picture y
 
 -- a row has the values that are shown where its two layers lie over each other
 abbrev pub IsComposed : Layers → ℕ → Type 0
@@ -54,7 +43,7 @@ IsComposed screen y = (x : ℕ) → x < screen.width
     ≡ shown (pixel_at screen.width screen.foreground x y) (pixel_at screen.width screen.background x y)
 
 -- there is a column, the lists have the screen's size, and each row without a mark is composed
-pub record IsKept (screen : Layers) : Type 0 where
+pub record LayersAreMaintained (screen : Layers) : Type 0 where
   pub column : 0 < screen.width
   pub background : length screen.background ≡ screen.height * screen.width
   pub foreground : length screen.foreground ≡ screen.height * screen.width
@@ -96,7 +85,6 @@ pub record SamePixels (before after : Layers) : Type 0 where
 
 -- a refresh counts the marked rows, changes no pixel, and leaves no row marked
 pub record Refreshes (before after : Layers) (count : ℕ) : Type 0 where
-  pub counted : count ≡ count_by (λ mark. mark) (take before.height before.marks)
+  pub counted : (picture : Picture) → RepresentsPicture before picture → count ≡ marked_rows picture
   pub pixels : SamePixels before after
-  pub stands : (picture : Picture) → StandsFor before picture → StandsFor after picture
-  pub marked : MarkedBy after []
+  pub stands : (picture : Picture) → RepresentsPicture before picture → RepresentsPicture after (refreshed picture)

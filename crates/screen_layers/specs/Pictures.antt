@@ -1,26 +1,28 @@
 -- A picture is a size and what was drawn since the screen had it (Varvara device reference: screen).
 use Rattle.std.specs.Prelude.{ℕ, ◌==◌, nat_le, Bool, not, ◌&&◌, if◌then◌else◌, List, [], ◌∷◌, ◌++◌, map}
-use Rattle.std.specs.Prelude.{unwrap_or}
-use Rattle.std.specs.List.{range_with_len}
+use Rattle.std.specs.Prelude.{unwrap_or, count_by}
+use Rattle.std.specs.List.{range_with_len, list_any}
 use Rattle.screen_frame.specs.Colours.{shown}
 use Rattle.screen_frame.specs.Ppm.{row_bytes}
 use Rattle.screen_layers.specs.declared.control.Layer.{Layer}
 use Rattle.screen_layers.specs.declared.control.Layer.TheVariants.{Background, Foreground}
-use Rattle.screen_layers.specs.Drawings.{Drawing, paint, drawn_by_pixel, drawn_by_sprite}
+use Rattle.screen_layers.specs.Drawings.{Drawing, paint, is_covered, drawn_by_pixel, drawn_by_sprite}
 
--- the size, and the drawings since the last resize that succeeded, the newest first; what lies off the screen is never shown
+-- the size, the drawings since the last resize that succeeded, and those since the last refresh or such a resize, whichever is later;
+-- both lists have the newest first, and what lies off the screen is never shown
 pub record Picture : Type 0 where
   pub width : ℕ
   pub height : ℕ
   pub drawings : List Drawing
+  pub unrefreshed : List Drawing
 
 -- a new screen's picture
 abbrev pub new_picture : Picture
-new_picture = record { width = 512; height = 320; drawings = [] }
+new_picture = record { width = 512; height = 320; drawings = []; unrefreshed = [] }
 
 -- a picture with newer drawings
 abbrev pub with_drawings : List Drawing → Picture → Picture
-with_drawings newer picture = record picture { drawings = newer ++ picture.drawings }
+with_drawings newer picture = record picture { drawings = newer ++ picture.drawings; unrefreshed = newer ++ picture.unrefreshed }
 
 -- the picture after a write to pixel
 abbrev pub after_pixel : Picture → ℕ → ℕ → ℕ → Picture
@@ -41,12 +43,28 @@ can_resize width height new_width new_height =
     (nat_le 8 new_width && nat_le new_width 2047) && (nat_le 8 new_height && nat_le new_height 2047)
     && not (new_width == width && new_height == height)
 
--- a picture once a size was asked for: both layers are 0 where it was had
+-- a picture once a size was requested: both layers are 0 where it was had
 abbrev pub resized : Picture → ℕ → ℕ → Picture
 resized picture width height =
     if can_resize picture.width picture.height width height
-    then record { width = width; height = height; drawings = [] }
+    then record { width = width; height = height; drawings = []; unrefreshed = [] }
     else picture
+
+-- a picture after a refresh
+abbrev pub refreshed : Picture → Picture
+refreshed picture = record picture { unrefreshed = [] }
+
+-- whether one of these drawings covers a place of a row, up to a width, opaque there or not
+unfoldable pub covers_row : List Drawing → ℕ → ℕ → Bool
+covers_row drawings width y = list_any (λ x. is_covered drawings x y) (range_with_len 0 width)
+
+-- whether a row is marked: a drawing since the last refresh or resize covers a place of it on the screen
+abbrev pub is_marked : Picture → ℕ → Bool
+is_marked picture y = covers_row picture.unrefreshed picture.width y
+
+-- how many rows of the screen are marked
+unfoldable pub marked_rows : Picture → ℕ
+marked_rows picture = count_by (is_marked picture) (range_with_len 0 picture.height)
 
 -- the values that a row shows, from left to right
 abbrev pub values_of : Picture → ℕ → List ℕ

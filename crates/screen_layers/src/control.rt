@@ -1,6 +1,6 @@
 //! What the control byte of a drawing and the auto byte say.
 ghost use Rattle.std.specs.Prelude.{◌≡◌, ◌<◌};
-ghost use Rattle.screen_layers.specs.Control.{has_bit, layer_of, step_of};
+ghost use Rattle.screen_layers.specs.Control.{has_bit, layer_of, auto_step};
 
 /// One of the two layers of a screen; the foreground lies over the background.
 #[derive(Clone, Copy)]
@@ -29,9 +29,9 @@ pub fn layer_of(control: u8) -> Layer
 }
 
 /// How far one tile stands from the next: 8 places where auto has the bit, back where it is flipped, else none.
-pub fn step_of(auto: u8, bit: u8, flip: bool) -> u16
+pub fn auto_step(auto: u8, bit: u8, flip: bool) -> u16
     requires { 0 < bit }
-    ensures { result ≡ step_of auto bit flip }
+    ensures { result ≡ auto_step auto bit flip }
 {
     if !has_bit(auto, bit) {
         0

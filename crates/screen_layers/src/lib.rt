@@ -1,11 +1,11 @@
 //! The screen: two layers of pixels, drawn by the ports pixel and sprite.
 #![tactic(auto)]
 
-ghost use Rattle.std.specs.Prelude.{ℕ, ◌≡◌, ◌==◌, ◌↔◌, ◌+◌, ◌*◌, ◌/◌, ◌%◌, ◌<◌, ◌≤◌, true, false, nat_le, nat_lt, ◌&&◌, if◌then◌else◌, List, [], ◌∷◌, ◌++◌, IfOk, All, length, take, drop, slice_index};
-ghost use Rattle.screen_layers.specs.Control.{has_bit, step_of, tile_size};
-ghost use Rattle.screen_layers.specs.Drawings.{Drawing, tile, filled, dotted, drawn_by_pixel, drawn_by_sprite, moved_by_pixel, moved_by_sprite, bytes_at};
+ghost use Rattle.std.specs.Prelude.{ℕ, ◌≡◌, ◌==◌, ◌+◌, ◌*◌, ◌/◌, ◌%◌, ◌<◌, ◌≤◌, true, false, nat_le, nat_lt, ◌&&◌, if◌then◌else◌, List, [], ◌∷◌, ◌++◌, IfOk, All, length, take, drop, slice_index};
+ghost use Rattle.screen_layers.specs.Control.{has_bit, auto_step, tile_size};
+ghost use Rattle.screen_layers.specs.Drawings.{Drawing, tile, filled, dotted, moved_by_pixel, moved_by_sprite, tile_bytes_at};
 ghost use Rattle.screen_layers.specs.Layers.{mark_at};
-ghost use Rattle.screen_layers.specs.Pictures.{Picture, new_picture, after_pixel, after_sprite, can_resize, resized, values_of, picture_row_of};
+ghost use Rattle.screen_layers.specs.Pictures.{Picture, new_picture, after_pixel, after_sprite, can_resize, resized, is_marked, values_of, picture_row_of};
 
 mod control;
 mod marks;
@@ -13,7 +13,7 @@ mod plane;
 mod size;
 mod tile;
 
-use control::{Layer, has_bit, layer_of, step_of};
+use control::{Layer, auto_step, has_bit, layer_of};
 use marks::Marks;
 use plane::{Plane, Tile, compose_row};
 use screen_frame::{CHANNELS, Palette, ppm_row};
@@ -38,7 +38,7 @@ pub struct Moved {
 }
 
 /// A screen of two layers, 8 to 2047 pixels each way, which keeps what is shown of each row that is not marked. Contracts
-/// see its size, its layers' pixels, the composed values and the marks, and say which pictures these stand for.
+/// see its size, its layers' pixels, the composed values and the marks, and say which pictures these represent.
 #[derive(Drop)]
 pub struct Screen {
     size: Size,
@@ -50,7 +50,7 @@ pub struct Screen {
 
 impl Model for Screen {
     ghost use Rattle.std.specs.Prelude.{◌≤◌};
-    ghost use Rattle.screen_layers.specs.Layers.{Layers, IsKept};
+    ghost use Rattle.screen_layers.specs.Layers.{Layers, LayersAreMaintained};
 
     ghost Value = { Layers };
 
@@ -63,7 +63,7 @@ impl Model for Screen {
       marks = s.marks;
     } };
 
-    ghost invariant = { λ s. (s.size.width ≤ 2047) × (s.size.height ≤ 2047) × IsKept (record {
+    ghost invariant = { λ s. (s.size.width ≤ 2047) × (s.size.height ≤ 2047) × LayersAreMaintained (record {
       width = s.size.width;
       height = s.size.height;
       background = s.background;
@@ -74,13 +74,12 @@ impl Model for Screen {
 }
 
 impl Screen {
-    ghost use Rattle.screen_layers.specs.Layers.{StandsFor, MarkedBy, CoversRow, SamePixels, Refreshes, Draws};
+    ghost use Rattle.screen_layers.specs.Layers.{RepresentsPicture, SamePixels, Refreshes, Draws};
 
     /// A screen of 512 by 320 pixels, both layers 0, no row marked. It takes the memory of both layers and of the composed
     /// values at the greatest size; no other call takes any.
     pub fn new(alloc: Global) -> Result<Screen, AllocError>
-        ensures picture { IfOk result (λ screen. StandsFor screen new_picture) }
-        ensures marked { IfOk result (λ screen. MarkedBy screen []) }
+        ensures picture { IfOk result (λ screen. RepresentsPicture screen new_picture) }
     {
         let size = Size {
             width: 512,
@@ -118,9 +117,7 @@ impl Screen {
 
     /// Does a write to the port pixel, and gives the next x and y. It colours the pixel at x and y, or fills.
     pub fn pixel(&mut self, x: u16, y: u16, auto: u8, control: u8) -> (u16, u16)
-        ensures drawn { (picture : Picture) → StandsFor self.old picture → StandsFor self.new (after_pixel picture x y control) }
-        ensures marked { (since : List Drawing) → MarkedBy self.old since
-            → MarkedBy self.new (drawn_by_pixel self.old.width self.old.height x y control ∷ since) }
+        ensures drawn { (picture : Picture) → RepresentsPicture self.old picture → RepresentsPicture self.new (after_pixel picture x y control) }
         ensures moved { result ≡ moved_by_pixel x y auto control }
     {
         if has_bit(control, 0x80) {
@@ -146,10 +143,8 @@ impl Screen {
         auto: u8,
         control: u8,
     ) -> Moved
-        ensures drawn { (picture : Picture) → StandsFor self.old picture → StandsFor self.new
+        ensures drawn { (picture : Picture) → RepresentsPicture self.old picture → RepresentsPicture self.new
             (after_sprite picture memory.now x y addr auto control) }
-        ensures marked { (since : List Drawing) → MarkedBy self.old since
-            → MarkedBy self.new (drawn_by_sprite memory.now x y addr auto control ++ since) }
         ensures moved { result ≡ moved_by_sprite x y addr auto control }
     {
         let look = Look::of(control);
@@ -164,14 +159,10 @@ impl Screen {
     /// has that size, both layers are 0, and no row is marked. False changes nothing.
     pub fn resize(&mut self, width: u16, height: u16) -> bool
         ensures answer { result ≡ can_resize self.old.width self.old.height width height }
-        ensures picture { (picture : Picture) → StandsFor self.old picture → StandsFor self.new (resized picture width height) }
-        ensures marked { result ≡ true → MarkedBy self.new [] }
+        ensures picture { (picture : Picture) → RepresentsPicture self.old picture → RepresentsPicture self.new (resized picture width height) }
         ensures refused { result ≡ false → self.new ≡ self.old }
     {
-        if !is_size(width)
-            || !is_size(height)
-            || (width == self.size.width && height == self.size.height)
-        {
+        if !self.can_resize(width, height) {
             return false;
         }
         let size = Size { width, height };
@@ -181,6 +172,15 @@ impl Screen {
         self.composed.clear(size);
         self.marks.clear();
         true
+    }
+
+    // Whether each way lies in 8 to 2047 and one differs from the present size.
+    fn can_resize(&self, width: u16, height: u16) -> bool
+        ensures { result ≡ can_resize self.now.width self.now.height width height }
+    {
+        is_size(width)
+            && is_size(height)
+            && !(width == self.size.width && height == self.size.height)
     }
 
     /// Composes each marked row, takes its mark away, and gives the number of these rows.
@@ -197,11 +197,12 @@ impl Screen {
         count
     }
 
-    /// Whether a row is marked: whether a drawing since the last refresh covers a place of it, opaque there or not.
+    /// Whether a row is marked: whether a drawing since the last refresh, or since a later resize, covers a place of it,
+    /// opaque there or not.
     pub fn is_marked(&self, y: u16) -> bool
         requires { y < self.now.height }
         ensures held { result ≡ mark_at self.now.marks y }
-        ensures exact { (since : List Drawing) → MarkedBy self.now since → (result ≡ true) ↔ CoversRow since self.now.width y }
+        ensures exact { (picture : Picture) → RepresentsPicture self.now picture → result ≡ is_marked picture y }
     {
         self.marks.get(y)
     }
@@ -211,19 +212,19 @@ impl Screen {
         requires row { y < self.now.height }
         requires composed { mark_at self.now.marks y ≡ false }
         ensures held { result.now ≡ take self.now.width (drop (y * self.now.width) self.now.composed) }
-        ensures values { (picture : Picture) → StandsFor self.now picture → result.now ≡ values_of picture y }
+        ensures values { (picture : Picture) → RepresentsPicture self.now picture → result.now ≡ values_of picture y }
         ensures colours { All (λ value. value < 4) result.now }
     {
         self.composed.row(self.size, y)
     }
 
-    /// Puts a row of the picture file into the front of a buffer, and gives the number of bytes: three a pixel.
+    /// Puts a row of the picture file into the start of a buffer, and gives the number of bytes: three a pixel.
     pub fn picture_row(&self, y: u16, palette: &Palette, into: &mut [u8]) -> usize
         requires row { y < self.now.height }
         requires room { 6141 ≤ length into.old }
         ensures count { result ≡ 3 * self.now.width }
         ensures most { result ≤ 6141 }
-        ensures row { (picture : Picture) → StandsFor self.now picture →
+        ensures row { (picture : Picture) → RepresentsPicture self.now picture →
             into.new ≡ picture_row_of palette.now.colours picture y ++ drop result into.old }
     {
         let count = CHANNELS * usize::from(self.size.width);
@@ -240,7 +241,7 @@ impl Screen {
     fn marked_row(&self, y: u16, palette: &Palette, into: &mut [u8])
         requires row { y < self.now.height }
         requires room { length into.old ≡ 3 * self.now.width }
-        ensures { (picture : Picture) → StandsFor self.now picture → into.new ≡ picture_row_of palette.now.colours picture y }
+        ensures { (picture : Picture) → RepresentsPicture self.now picture → into.new ≡ picture_row_of palette.now.colours picture y }
     {
         let mut buffer = [0; 2047];
         let values = &mut buffer[..usize::from(self.size.width)];
@@ -302,7 +303,7 @@ impl Screen {
         ensures { Draws self.old self.new (record {
           layer = layer;
           shape = tile place.x place.y
-              (bytes_at memory.now place.at (tile_size look.now.two_bits)) look.now.columns look.now.flip_y look.now.inks;
+              (tile_bytes_at memory.now place.at (tile_size look.now.two_bits)) look.now.columns look.now.flip_y look.now.inks;
         }) }
     {
         let size = self.size;
@@ -319,13 +320,13 @@ impl Screen {
 
 // Where a tile of a sprite stands, by its number, and where its bytes are.
 fn place_of(x: u16, y: u16, addr: u16, auto: u8, look: &Look, i: u16) -> Tile
-    ensures x { result.x ≡ (x + i * step_of auto 2 look.now.columns) % 65536 }
-    ensures y { result.y ≡ (y + i * step_of auto 1 look.now.flip_y) % 65536 }
+    ensures x { result.x ≡ (x + i * auto_step auto 2 look.now.columns) % 65536 }
+    ensures y { result.y ≡ (y + i * auto_step auto 1 look.now.flip_y) % 65536 }
     ensures at { result.at ≡ (addr + i * (if has_bit auto 4 then tile_size look.now.two_bits else 0)) % 65536 }
 {
     Tile {
-        x: x.wrapping_add(i.wrapping_mul(step_of(auto, 0x02, look.columns.is_flipped()))),
-        y: y.wrapping_add(i.wrapping_mul(step_of(auto, 0x01, look.flip_y))),
+        x: x.wrapping_add(i.wrapping_mul(auto_step(auto, 0x02, look.columns.is_flipped()))),
+        y: y.wrapping_add(i.wrapping_mul(auto_step(auto, 0x01, look.flip_y))),
         at: addr.wrapping_add(i.wrapping_mul(bytes_step(auto, look))),
     }
 }
@@ -339,14 +340,14 @@ fn bytes_step(auto: u8, look: &Look) -> u16
 
 // Where a sprite leaves x, y and the address.
 fn place_after(x: u16, y: u16, addr: u16, auto: u8, look: &Look) -> Moved
-    ensures x { result.x ≡ (x + step_of auto 1 look.now.columns) % 65536 }
-    ensures y { result.y ≡ (y + step_of auto 2 look.now.flip_y) % 65536 }
+    ensures x { result.x ≡ (x + auto_step auto 1 look.now.columns) % 65536 }
+    ensures y { result.y ≡ (y + auto_step auto 2 look.now.flip_y) % 65536 }
     ensures addr { result.addr ≡ (addr + (auto / 16 + 1) * (if has_bit auto 4 then tile_size look.now.two_bits else 0)) % 65536 }
 {
     let count = u16::from(auto / 16) + 1;
     Moved {
-        x: x.wrapping_add(step_of(auto, 0x01, look.columns.is_flipped())),
-        y: y.wrapping_add(step_of(auto, 0x02, look.flip_y)),
+        x: x.wrapping_add(auto_step(auto, 0x01, look.columns.is_flipped())),
+        y: y.wrapping_add(auto_step(auto, 0x02, look.flip_y)),
         addr: addr.wrapping_add(count.wrapping_mul(bytes_step(auto, look))),
     }
 }

@@ -1,7 +1,7 @@
 //! The marks of a screen's rows.
 ghost use Rattle.std.specs.Prelude.{ℕ, ◌≡◌, ◌⊎◌, ◌+◌, ◌==◌, ◌<◌, ◌≤◌, ◌&&◌, ◌||◌, Bool, true, false, nat_le, nat_lt, if◌then◌else◌, List, IfOk, length};
 ghost use Rattle.screen_layers.specs.Layers.{MarksMore, mark_at};
-ghost use Rattle.screen_layers.specs.Drawings.{fill, dot, tile, distance};
+ghost use Rattle.screen_layers.specs.Drawings.{fill, dot, tile, pixel_distance};
 
 use crate::plane::Tile;
 use crate::size::{Area, Size};
@@ -117,7 +117,7 @@ fn mark_span(rows: &mut [bool], top: usize, bottom: usize)
 fn mark_tile(rows: &mut [bool], y: u16, height: u16)
     requires length { length rows.old ≡ 2047 }
     requires height { height ≤ 2047 }
-    ensures marks { (row : ℕ) → row < height → mark_at rows.new row ≡ (nat_lt (distance y row) 8 || mark_at rows.old row) }
+    ensures marks { (row : ℕ) → row < height → mark_at rows.new row ≡ (nat_lt (pixel_distance y row) 8 || mark_at rows.old row) }
     ensures kept { (row : ℕ) → mark_at rows.old row ≡ true → mark_at rows.new row ≡ true }
     ensures length { length rows.new ≡ 2047 }
 {
@@ -134,7 +134,7 @@ fn mark_tile(rows: &mut [bool], y: u16, height: u16)
 fn mark_rows(rows: &mut [bool], y: u16, height: u16)
     requires length { length rows.old ≡ 2047 }
     requires height { height ≤ 2047 }
-    ensures marks { (row : ℕ) → row < height → mark_at rows.new row ≡ (nat_lt (distance y row) 8 || mark_at rows.old row) }
+    ensures marks { (row : ℕ) → row < height → mark_at rows.new row ≡ (nat_lt (pixel_distance y row) 8 || mark_at rows.old row) }
     ensures kept { (row : ℕ) → mark_at rows.old row ≡ true → mark_at rows.new row ≡ true }
     ensures length { length rows.new ≡ 2047 }
 {

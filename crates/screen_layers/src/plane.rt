@@ -2,7 +2,7 @@
 ghost use Rattle.std.specs.Prelude.{ℕ, ◌≡◌, ◌+◌, ◌*◌, ◌<◌, ◌≤◌, All, IfOk, length, take, drop, slice_index, replicate};
 ghost use Rattle.screen_frame.specs.Colours.{shown};
 ghost use Rattle.screen_layers.specs.Control.{tile_size};
-ghost use Rattle.screen_layers.specs.Drawings.{fill, dot, tile, bytes_at};
+ghost use Rattle.screen_layers.specs.Drawings.{fill, dot, tile, tile_bytes_at};
 ghost use Rattle.screen_layers.specs.Layers.{PaintedOver, pixel_at};
 
 use crate::size::{Area, Size};
@@ -90,7 +90,7 @@ impl Plane {
         requires plane { length self.old ≡ size.height * size.width }
         requires size { size.width ≤ 2047 }
         ensures painted { PaintedOver self.old self.new size.width size.height
-            (tile place.x place.y (bytes_at memory.now place.at (tile_size look.now.two_bits)) look.now.columns look.now.flip_y look.now.inks) }
+            (tile place.x place.y (tile_bytes_at memory.now place.at (tile_size look.now.two_bits)) look.now.columns look.now.flip_y look.now.inks) }
         ensures length { length self.new ≡ length self.old }
     {
         paint_tile(&mut self.pixels, size, memory, place, look);
@@ -175,12 +175,14 @@ fn fill_span(span: &mut [u8], colour: u8)
     fill_piece(&mut span[from..], colour);
 }
 
-// Not inlined, so that the pieces stay pieces.
+// Not inlined, so that the pieces stay pieces; a loop, since `fill` puts the last one by itself.
 #[inline(never)]
 fn fill_piece(piece: &mut [u8], colour: u8)
     ensures { piece.new ≡ replicate (length piece.old) colour }
 {
-    piece.fill(colour);
+    for i in 0..piece.len() {
+        piece[i] = colour;
+    }
 }
 
 // Fills a rectangle: a span of each row, or whole rows together.
@@ -199,7 +201,7 @@ fn fill_area(pixels: &mut [u8], size: Size, area: Area, colour: u8)
     }
     for y in area.top..area.bottom {
         let start = size.start(y);
-        fill_span(
+        fill_piece(
             &mut pixels[start + usize::from(area.left)..start + usize::from(area.right)],
             colour,
         );
@@ -211,7 +213,7 @@ fn paint_tile(pixels: &mut [u8], size: Size, memory: &Memory, place: Tile, look:
     requires plane { length pixels.old ≡ size.height * size.width }
     requires size { size.width ≤ 2047 }
     ensures painted { PaintedOver pixels.old pixels.new size.width size.height
-        (tile place.x place.y (bytes_at memory.now place.at (tile_size look.now.two_bits)) look.now.columns look.now.flip_y look.now.inks) }
+        (tile place.x place.y (tile_bytes_at memory.now place.at (tile_size look.now.two_bits)) look.now.columns look.now.flip_y look.now.inks) }
     ensures length { length pixels.new ≡ length pixels.old }
     ensures colours { All (λ colour. colour < 4) pixels.old → All (λ colour. colour < 4) pixels.new }
 {

@@ -2,7 +2,7 @@
 ghost use Rattle.std.specs.Prelude.{ℕ, ◌≡◌, ◌+◌, ◌-◌, ◌*◌, ◌%◌, ◌<◌, ◌≤◌, if◌then◌else◌, All, length, slice_index, unwrap_or};
 ghost use Rattle.screen_layers.specs.Blending.{ink};
 ghost use Rattle.screen_layers.specs.Control.{flips_x, flips_y, has_two_bits, tile_size};
-ghost use Rattle.screen_layers.specs.Drawings.{number_of, bit_of, value_of, row_painted, byte_of, bytes_at};
+ghost use Rattle.screen_layers.specs.Drawings.{bit_number, bit_of, pixel_value, row_painted, plane_byte, tile_bytes_at};
 
 use crate::control::has_bit;
 use std::marker::Model;
@@ -56,7 +56,7 @@ impl Inks {
 
     /// The pixel once the value of these two bits was drawn over it.
     fn over(&self, low: bool, high: bool, under: u8) -> u8
-        ensures pixel { result ≡ unwrap_or (ink self.now (number_of low + 2 * number_of high)) under }
+        ensures pixel { result ≡ unwrap_or (ink self.now (bit_number low + 2 * bit_number high)) under }
         ensures colour { under < 4 → result < 4 }
     {
         let [first, second, third, fourth] = self.colours;
@@ -123,7 +123,7 @@ impl Columns {
     // Whether a byte has the bit of a column.
     fn bit(&self, byte: u8, column: usize) -> bool
         requires { column < 8 }
-        ensures { number_of result ≡ bit_of byte (if self.now then column else 7 - column) }
+        ensures { bit_number result ≡ bit_of byte (if self.now then column else 7 - column) }
     {
         byte & self.masks[column] != 0
     }
@@ -164,10 +164,10 @@ impl Look {
     /// The low and the high byte that a row of the tile at an address shows.
     pub fn row_bytes(&self, memory: &Memory, at: u16, row: u16) -> (u8, u8)
         requires { row < 8 }
-        ensures low { result.0 ≡ slice_index (bytes_at memory.now at (tile_size self.now.two_bits)) (byte_of self.now.flip_y row) }
-        ensures high { result.1 ≡ slice_index (bytes_at memory.now at (tile_size self.now.two_bits)) (8 + byte_of self.now.flip_y row) }
+        ensures low { result.0 ≡ slice_index (tile_bytes_at memory.now at (tile_size self.now.two_bits)) (plane_byte self.now.flip_y row) }
+        ensures high { result.1 ≡ slice_index (tile_bytes_at memory.now at (tile_size self.now.two_bits)) (8 + plane_byte self.now.flip_y row) }
     {
-        let place = self.byte_of(row);
+        let place = self.plane_byte(row);
         (
             self.byte(memory, at, place),
             self.byte(memory, at, 8 + place),
@@ -175,9 +175,9 @@ impl Look {
     }
 
     // The place of the low byte that a row shows.
-    fn byte_of(&self, row: u16) -> u16
+    fn plane_byte(&self, row: u16) -> u16
         requires { row < 8 }
-        ensures place { result ≡ byte_of self.now.flip_y row }
+        ensures place { result ≡ plane_byte self.now.flip_y row }
         ensures bound { result < 8 }
     {
         if self.flip_y { 7 - row } else { row }
@@ -185,7 +185,7 @@ impl Look {
 
     // A byte of the tile at an address, or 0 past its bytes.
     fn byte(&self, memory: &Memory, at: u16, place: u16) -> u8
-        ensures { result ≡ slice_index (bytes_at memory.now at (tile_size self.now.two_bits)) place }
+        ensures { result ≡ slice_index (tile_bytes_at memory.now at (tile_size self.now.two_bits)) place }
     {
         memory.known();
         if place < self.size() {
@@ -199,7 +199,7 @@ impl Look {
 // The pixel at a column of a row, once it was drawn over what was there.
 fn pixel_over(low: u8, high: u8, column: usize, look: &Look, under: u8) -> u8
     requires { column < 8 }
-    ensures pixel { result ≡ unwrap_or (ink look.now.inks (value_of low high look.now.columns column)) under }
+    ensures pixel { result ≡ unwrap_or (ink look.now.inks (pixel_value low high look.now.columns column)) under }
     ensures colour { under < 4 → result < 4 }
 {
     look.inks.over(
@@ -228,7 +228,7 @@ pub fn paint_row(row: &mut [u8], x: u16, low: u8, high: u8, look: &Look)
 fn paint_whole(span: &mut [u8], low: u8, high: u8, look: &Look)
     requires { length span.old ≡ 8 }
     ensures pixels { (k : ℕ) → k < 8 → slice_index span.new k
-        ≡ unwrap_or (ink look.now.inks (value_of low high look.now.columns k)) (slice_index span.old k) }
+        ≡ unwrap_or (ink look.now.inks (pixel_value low high look.now.columns k)) (slice_index span.old k) }
     ensures colours { All (λ colour. colour < 4) span.old → All (λ colour. colour < 4) span.new }
 {
     let mut pixels = [0; 8];

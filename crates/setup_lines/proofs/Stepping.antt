@@ -3,14 +3,14 @@ use Rattle.std.proofs.Common.{◌≡◌, ℕ, ◌+◌, List, [], ◌∷◌, ◌+
 use Rattle.std.specs.Prelude.{slice_get, is_some}
 use Rattle.std.specs.List.{flat_map}
 use Rattle.std.proofs.lemmas.List.Concat.{flat_map-append}
-use Rattle.line_texts.specs.Lines.{LinesView, lines_of, words_of}
-use Rattle.line_texts.specs.Reading.{Line, given}
+use Rattle.text_lines.specs.Lines.{LinesView, lines_of, words_of}
+use Rattle.text_lines.specs.Reading.{Line, given}
 use Rattle.setup_lines.specs.declared.setup.SetupKind.{SetupKind}
 use Rattle.setup_lines.specs.declared.setup_line.SetupLine.{SetupLine}
 use Rattle.setup_lines.specs.declared.setup_line.SetupLine.TheVariants.{Machine, Script, Budget, Turn}
-use Rattle.setup_lines.specs.SetupLines.{line_of}
-use Rattle.setup_lines.specs.Setups.{SetupView, sources_in, scripts_in, budgets_in, schedule_in, setup_from, fault_if, fault_behind, read_by}
-use Rattle.setup_lines.specs.Gathered.{judged, grown}
+use Rattle.setup_lines.specs.SetupLines.{setup_line_of}
+use Rattle.setup_lines.specs.Setups.{SetupView, sources_in, scripts_in, budgets_in, schedule_in, setup_from, fault_if, setup_fault, lines_of_setup}
+use Rattle.setup_lines.specs.Gathered.{validated, grown}
 
 -- one line more gives what it gives
 more : {A : Type 0} (give : SetupLine → List A) (before : List SetupLine) (line : SetupLine) → flat_map give (before ++ line ∷ []) ≡ flat_map give before ++ give line
@@ -28,7 +28,7 @@ first : {A : Type 0} (xs : List A) (x : A) (kind : SetupKind) → fault_if (is_s
 first [] x kind fine = refl
 first (y ∷ ys) x kind fine = absurd (some_not_none fine)
 
-grows : (before : List SetupLine) (line : SetupLine) → fault_behind before line ≡ None → setup_from (before ++ line ∷ []) ≡ grown (setup_from before) line
+grows : (before : List SetupLine) (line : SetupLine) → setup_fault before line ≡ None → setup_from (before ++ line ∷ []) ≡ grown (setup_from before) line
 grows before (Machine path) fine =
     rw (more sources_in before (Machine path), none scripts_in before (Machine path) refl, none budgets_in before (Machine path) refl, none schedule_in before (Machine path) refl) refl
 grows before (Script path) fine =
@@ -42,70 +42,70 @@ grows before (Turn turns) fine =
 pub record Standing (text : List ℕ) (lines : LinesView) (so_far : SetupView) : Type 0 where
   pub before : List SetupLine
   pub gathers : so_far ≡ setup_from before
-  pub rest : given fault_behind (lines.number + 1) before (read_by lines.left) ≡ given fault_behind 1 [] (read_by (lines_of text))
+  pub rest : given setup_fault (lines.number + 1) before (lines_of_setup lines.left) ≡ given setup_fault 1 [] (lines_of_setup (lines_of text))
 
--- how a line goes on that is judged to give something, to give nothing, or to be faulty
+-- how a line goes on that is validated to give something, to give nothing, or to be faulty
 abbrev Goes : ℕ → List SetupLine → Line SetupLine SetupKind → List (Line SetupLine SetupKind) → Line SetupLine SetupKind → Type 0
 Goes at before line left (Ok (Some found)) =
-    (given fault_behind at before (line ∷ left) ≡ given fault_behind (at + 1) (before ++ found ∷ []) left) × (fault_behind before found ≡ None)
-Goes at before line left (Ok None) = given fault_behind at before (line ∷ left) ≡ given fault_behind (at + 1) before left
-Goes at before line left (Err kind) = given fault_behind at before (line ∷ left) ≡ Err (at, kind)
+    (given setup_fault at before (line ∷ left) ≡ given setup_fault (at + 1) (before ++ found ∷ []) left) × (setup_fault before found ≡ None)
+Goes at before line left (Ok None) = given setup_fault at before (line ∷ left) ≡ given setup_fault (at + 1) before left
+Goes at before line left (Err kind) = given setup_fault at before (line ∷ left) ≡ Err (at, kind)
 
-goes_by : (at : ℕ) (before : List SetupLine) (found : SetupLine) (left : List (Line SetupLine SetupKind)) (fault : Option SetupKind) → fault_behind before found ≡ fault
-    → Goes at before (Ok (Some found)) left (judged (setup_from before) (Ok (Some found)))
+goes_by : (at : ℕ) (before : List SetupLine) (found : SetupLine) (left : List (Line SetupLine SetupKind)) (fault : Option SetupKind) → setup_fault before found ≡ fault
+    → Goes at before (Ok (Some found)) left (validated (setup_from before) (Ok (Some found)))
 goes_by at before found left None is = rw is (rw is refl, is)
 goes_by at before found left (Some kind) is = rw is (rw is refl)
 
-goes : (at : ℕ) (before : List SetupLine) (line : Line SetupLine SetupKind) (left : List (Line SetupLine SetupKind)) → Goes at before line left (judged (setup_from before) line)
-goes at before (Ok (Some found)) left = goes_by at before found left (fault_behind before found) refl
+goes : (at : ℕ) (before : List SetupLine) (line : Line SetupLine SetupKind) (left : List (Line SetupLine SetupKind)) → Goes at before line left (validated (setup_from before) line)
+goes at before (Ok (Some found)) left = goes_by at before found left (setup_fault before found) refl
 goes at before (Ok None) left = refl
 goes at before (Err kind) left = refl
 
--- the next line, as it is judged
+-- the next line, as it is validated
 next_line : (text line : List ℕ) (lines next : LinesView) (so_far : SetupView) (answer : Line SetupLine SetupKind) → (standing : Standing text lines so_far) → lines.left ≡ line ∷ next.left
-    → answer ≡ judged so_far (line_of (words_of line))
-    → Goes (lines.number + 1) standing.before (line_of (words_of line)) (read_by next.left) answer
+    → answer ≡ validated so_far (setup_line_of (words_of line))
+    → Goes (lines.number + 1) standing.before (setup_line_of (words_of line)) (lines_of_setup next.left) answer
 next_line text line lines next so_far answer standing cut is =
-    rw (is, standing.gathers) (goes (lines.number + 1) standing.before (line_of (words_of line)) (read_by next.left))
+    rw (is, standing.gathers) (goes (lines.number + 1) standing.before (setup_line_of (words_of line)) (lines_of_setup next.left))
 
--- what is left, with the next line in front
+-- what is left, with the next line before it
 with_next : (text line : List ℕ) (lines next : LinesView) (so_far : SetupView) → (standing : Standing text lines so_far) → lines.left ≡ line ∷ next.left
-    → given fault_behind (lines.number + 1) standing.before (line_of (words_of line) ∷ read_by next.left) ≡ given fault_behind 1 [] (read_by (lines_of text))
+    → given setup_fault (lines.number + 1) standing.before (setup_line_of (words_of line) ∷ lines_of_setup next.left) ≡ given setup_fault 1 [] (lines_of_setup (lines_of text))
 with_next text line lines next so_far standing cut =
-    ap (λ left. given fault_behind (lines.number + 1) standing.before (read_by left)) (sym cut) ∙ standing.rest
+    ap (λ left. given setup_fault (lines.number + 1) standing.before (lines_of_setup left)) (sym cut) ∙ standing.rest
 
 pub taken : (text line : List ℕ) (lines next : LinesView) (so_far after : SetupView) (found : SetupLine) → Standing text lines so_far → lines.left ≡ line ∷ next.left
-    → next.number ≡ lines.number + 1 → Ok (Some found) ≡ judged so_far (line_of (words_of line)) → after ≡ grown so_far found → Standing text next after
+    → next.number ≡ lines.number + 1 → Ok (Some found) ≡ validated so_far (setup_line_of (words_of line)) → after ≡ grown so_far found → Standing text next after
 taken text line lines next so_far after found standing cut counted is grew =
     let step = next_line text line lines next so_far (Ok (Some found)) standing cut is in
     record {
       before = standing.before ++ found ∷ [];
       gathers = grew ∙ ap (λ view. grown view found) standing.gathers ∙ sym (grows standing.before found step.1);
-      rest = ap (λ at. given fault_behind (at + 1) (standing.before ++ found ∷ []) (read_by next.left)) counted ∙ sym step.0
+      rest = ap (λ at. given setup_fault (at + 1) (standing.before ++ found ∷ []) (lines_of_setup next.left)) counted ∙ sym step.0
           ∙ with_next text line lines next so_far standing cut;
     }
 
 pub passed : (text line : List ℕ) (lines next : LinesView) (so_far : SetupView) → Standing text lines so_far → lines.left ≡ line ∷ next.left
-    → next.number ≡ lines.number + 1 → Ok None ≡ judged so_far (line_of (words_of line)) → Standing text next so_far
+    → next.number ≡ lines.number + 1 → Ok None ≡ validated so_far (setup_line_of (words_of line)) → Standing text next so_far
 passed text line lines next so_far standing cut counted is =
     let step = next_line text line lines next so_far (Ok None) standing cut is in
     record {
       before = standing.before;
       gathers = standing.gathers;
-      rest = ap (λ at. given fault_behind (at + 1) standing.before (read_by next.left)) counted ∙ sym step
+      rest = ap (λ at. given setup_fault (at + 1) standing.before (lines_of_setup next.left)) counted ∙ sym step
           ∙ with_next text line lines next so_far standing cut;
     }
 
 -- a line is refused
 pub refused : (text line : List ℕ) (lines next : LinesView) (so_far : SetupView) (kind : SetupKind) → Standing text lines so_far → lines.left ≡ line ∷ next.left
-    → next.number ≡ lines.number + 1 → Err kind ≡ judged so_far (line_of (words_of line))
-    → given fault_behind 1 [] (read_by (lines_of text)) ≡ Err (next.number, kind)
+    → next.number ≡ lines.number + 1 → Err kind ≡ validated so_far (setup_line_of (words_of line))
+    → given setup_fault 1 [] (lines_of_setup (lines_of text)) ≡ Err (next.number, kind)
 refused text line lines next so_far kind standing cut counted is =
     let step = next_line text line lines next so_far (Err kind) standing cut is in
     sym (with_next text line lines next so_far standing cut) ∙ step ∙ ap (λ at. Err (at, kind)) (sym counted)
 
 -- all lines are taken
 pub all_taken : (text : List ℕ) (lines : LinesView) (so_far : SetupView) → Standing text lines so_far → lines.left ≡ []
-    → (all : List SetupLine) × (so_far ≡ setup_from all) × (given fault_behind 1 [] (read_by (lines_of text)) ≡ Ok all)
+    → (all : List SetupLine) × (so_far ≡ setup_from all) × (given setup_fault 1 [] (lines_of_setup (lines_of text)) ≡ Ok all)
 all_taken text lines so_far standing end =
-    (standing.before, standing.gathers, sym standing.rest ∙ ap (λ left. given fault_behind (lines.number + 1) standing.before (read_by left)) end)
+    (standing.before, standing.gathers, sym standing.rest ∙ ap (λ left. given setup_fault (lines.number + 1) standing.before (lines_of_setup left)) end)

@@ -1,23 +1,23 @@
 -- What one more line changes.
 use Rattle.std.specs.Prelude.{nat_lt, if◌then◌else◌, [], ◌∷◌, ◌++◌, length, Option, Some, None, Result, Ok, Err}
-use Rattle.line_texts.specs.Reading.{Line}
+use Rattle.text_lines.specs.Reading.{Line}
 use Rattle.setup_lines.specs.declared.setup.SetupKind.{SetupKind}
 use Rattle.setup_lines.specs.declared.setup.SetupKind.TheVariants.{FewMachines}
 use Rattle.setup_lines.specs.declared.setup.SetupStop.{SetupStop}
 use Rattle.setup_lines.specs.declared.setup.SetupStop.TheVariants.{Refused}
 use Rattle.setup_lines.specs.declared.setup_line.SetupLine.{SetupLine}
 use Rattle.setup_lines.specs.declared.setup_line.SetupLine.TheVariants.{Machine, Script, Budget, Turn}
-use Rattle.setup_lines.specs.Setups.{SetupView, fault_in}
+use Rattle.setup_lines.specs.Setups.{SetupView, setup_gathering_fault}
 
--- a line that was judged by itself, behind those that gave this
+-- a line that was validated by itself, behind those that gave this
 abbrev pub unless : SetupLine → Option SetupKind → Line SetupLine SetupKind
 unless line None = Ok (Some line)
 unless line (Some kind) = Err kind
 
-abbrev pub judged : SetupView → Line SetupLine SetupKind → Line SetupLine SetupKind
-judged before (Ok (Some line)) = unless line (fault_in before line)
-judged before (Ok None) = Ok None
-judged before (Err kind) = Err kind
+abbrev pub validated : SetupView → Line SetupLine SetupKind → Line SetupLine SetupKind
+validated before (Ok (Some line)) = unless line (setup_gathering_fault before line)
+validated before (Ok None) = Ok None
+validated before (Err kind) = Err kind
 
 -- what the lines gave with one more
 abbrev pub grown : SetupView → SetupLine → SetupView
@@ -27,5 +27,5 @@ grown before (Budget number) = record before { budget = Some number }
 grown before (Turn turns) = record before { schedule = before.schedule ++ turns ∷ [] }
 
 -- the setup of all lines
-abbrev pub finished : SetupView → Result SetupView SetupStop
-finished all = if nat_lt (length all.sources) 2 then Err (Refused 1 FewMachines) else Ok all
+abbrev pub finished_setup : SetupView → Result SetupView SetupStop
+finished_setup all = if nat_lt (length all.sources) 2 then Err (Refused 1 FewMachines) else Ok all

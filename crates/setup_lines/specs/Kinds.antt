@@ -4,14 +4,14 @@ use Rattle.setup_lines.specs.declared.setup.SetupKind.{SetupKind}
 use Rattle.setup_lines.specs.declared.setup.SetupKind.TheVariants.{Unknown, Missing, Extra, BadValue, Twice}
 use Rattle.setup_lines.specs.declared.setup.SetupKind.TheVariants.{ManyMachines, NoMachine, ManyTurns, FewMachines, LongSetup}
 
-abbrev pub kind_name : SetupKind → List ℕ
-kind_name Unknown = codes "Unknown"
-kind_name Missing = codes "Missing"
-kind_name Extra = codes "Extra"
-kind_name BadValue = codes "BadValue"
-kind_name Twice = codes "Twice"
-kind_name ManyMachines = codes "ManyMachines"
-kind_name NoMachine = codes "NoMachine"
-kind_name ManyTurns = codes "ManyTurns"
-kind_name FewMachines = codes "FewMachines"
-kind_name LongSetup = codes "LongSetup"
+abbrev pub setup_kind_name : SetupKind → List ℕ
+setup_kind_name Unknown = codes "Unknown"
+setup_kind_name Missing = codes "Missing"
+setup_kind_name Extra = codes "Extra"
+setup_kind_name BadValue = codes "BadValue"
+setup_kind_name Twice = codes "Twice"
+setup_kind_name ManyMachines = codes "ManyMachines"
+setup_kind_name NoMachine = codes "NoMachine"
+setup_kind_name ManyTurns = codes "ManyTurns"
+setup_kind_name FewMachines = codes "FewMachines"
+setup_kind_name LongSetup = codes "LongSetup"

@@ -20,7 +20,7 @@ IsWithin (Turn turns) = AreTurns 8 turns
 IsWithin _ = Unit {0}
 
 -- what lines may give
-pub record IsGathered (so_far : SetupView) : Type 0 where
+pub record IsGatheredSetup (so_far : SetupView) : Type 0 where
   pub most : length so_far.sources ≤ 8
   pub number : IfSome so_far.budget IsBudget
   pub each : All (AreTurns (length so_far.sources)) so_far.schedule
@@ -29,4 +29,4 @@ pub record IsGathered (so_far : SetupView) : Type 0 where
 -- a setup has two machines at least
 pub record IsSetup (all : SetupView) : Type 0 where
   pub least : 2 ≤ length all.sources
-  pub within : IsGathered all
+  pub within : IsGatheredSetup all

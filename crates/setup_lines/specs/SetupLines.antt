@@ -2,13 +2,13 @@
 use Rattle.std.specs.Prelude.{ℕ, if◌then◌else◌, List, [], ◌∷◌, codes, length, Option, Some, None, option_map, Result, Ok, Err}
 use Rattle.std.specs.Option.{ok_or}
 use Rattle.std.specs.Result.{result_ok}
-use Rattle.line_texts.specs.declared.row.Counts.TheVariants.{Exactly}
-use Rattle.line_texts.specs.declared.row.LineFault.{LineFault}
-use Rattle.line_texts.specs.declared.row.LineFault.TheVariants as line
-use Rattle.line_texts.specs.Numbers.{begins_with, number_within}
-use Rattle.line_texts.specs.Reading.{Line}
-use Rattle.line_texts.specs.Rows.{Rows, row_of, counted}
-use Rattle.tree_io.specs.PathText.{path_of}
+use Rattle.text_lines.specs.declared.row.Counts.TheVariants.{Exactly}
+use Rattle.text_lines.specs.declared.row.LineFault.{LineFault}
+use Rattle.text_lines.specs.declared.row.LineFault.TheVariants as line
+use Rattle.text_lines.specs.Numbers.{begins_with, number_within}
+use Rattle.text_lines.specs.Reading.{Line}
+use Rattle.text_lines.specs.Rows.{Rows, keyword_row, counted}
+use Rattle.uxn_io_traits.specs.PathText.{path_of}
 use Rattle.setup_lines.specs.declared.keyword.Keyword.{Keyword}
 use Rattle.setup_lines.specs.declared.keyword.Keyword.TheVariants as word
 use Rattle.setup_lines.specs.declared.setup.SetupKind.{SetupKind}
@@ -35,28 +35,28 @@ abbrev pub turns_of : List ℕ → List ℕ → Option Turns
 turns_of m n = turns_if (number_within 1 8 m) (number_within 1 1000000 n)
 
 -- what the values behind a first word give, as many as it takes; nothing where one is not of its form or range
-unfoldable pub made_of : Keyword → List (List ℕ) → Option SetupLine
-made_of word.Machine (path ∷ more) = option_map Machine (result_ok (path_of path))
-made_of word.Script (path ∷ more) = option_map Script (result_ok (path_of path))
-made_of word.Budget (n ∷ more) = option_map Budget (number_within 1 4294967295 n)
-made_of word.Turn (m ∷ n ∷ more) = option_map Turn (turns_of m n)
-made_of _ values = None
+unfoldable pub setup_of_values : Keyword → List (List ℕ) → Option SetupLine
+setup_of_values word.Machine (path ∷ more) = option_map Machine (result_ok (path_of path))
+setup_of_values word.Script (path ∷ more) = option_map Script (result_ok (path_of path))
+setup_of_values word.Budget (n ∷ more) = option_map Budget (number_within 1 4294967295 n)
+setup_of_values word.Turn (m ∷ n ∷ more) = option_map Turn (turns_of m n)
+setup_of_values _ values = None
 
-abbrev pub kind_of : LineFault → SetupKind
-kind_of line.Unknown = Unknown
-kind_of line.Missing = Missing
-kind_of line.Extra = Extra
+abbrev pub setup_kind_of : LineFault → SetupKind
+setup_kind_of line.Unknown = Unknown
+setup_kind_of line.Missing = Missing
+setup_kind_of line.Extra = Extra
 
-abbrev pub made_by : Result Keyword LineFault → List (List ℕ) → Result SetupLine SetupKind
-made_by (Ok keyword) values = ok_or (made_of keyword values) BadValue
-made_by (Err fault) values = Err (kind_of fault)
+abbrev pub setup_by_keyword : Result Keyword LineFault → List (List ℕ) → Result SetupLine SetupKind
+setup_by_keyword (Ok keyword) values = ok_or (setup_of_values keyword values) BadValue
+setup_by_keyword (Err fault) values = Err (setup_kind_of fault)
 
-abbrev pub as_line : Result SetupLine SetupKind → Line SetupLine SetupKind
-as_line (Ok given) = Ok (Some given)
-as_line (Err kind) = Err kind
+abbrev pub setup_as_line : Result SetupLine SetupKind → Line SetupLine SetupKind
+setup_as_line (Ok given) = Ok (Some given)
+setup_as_line (Err kind) = Err kind
 
 -- what the words of a line give, or what is wrong with them; a line without words or with `#` before its first gives nothing
-unfoldable pub line_of : List (List ℕ) → Line SetupLine SetupKind
-line_of [] = Ok None
-line_of (name ∷ values) =
-    if begins_with 35 name then Ok None else as_line (made_by (counted (row_of rows name) (length values)) values)
+unfoldable pub setup_line_of : List (List ℕ) → Line SetupLine SetupKind
+setup_line_of [] = Ok None
+setup_line_of (name ∷ values) =
+    if begins_with 35 name then Ok None else setup_as_line (setup_by_keyword (counted (keyword_row rows name) (length values)) values)

@@ -2,8 +2,8 @@
 use Rattle.std.specs.Prelude.{◌≡◌, ℕ, ◌+◌, Bool, is_some, nat_lt, if◌then◌else◌, List, [], ◌∷◌, length, map, slice_get}
 use Rattle.std.specs.Prelude.{Option, Some, None, Result, Ok, Err}
 use Rattle.std.specs.List.{flat_map, sum_by}
-use Rattle.line_texts.specs.Lines.{lines_of, words_of}
-use Rattle.line_texts.specs.Reading.{Line, given}
+use Rattle.text_lines.specs.Lines.{lines_of, words_of}
+use Rattle.text_lines.specs.Reading.{Line, given}
 use Rattle.setup_lines.specs.declared.setup.SetupKind.{SetupKind}
 use Rattle.setup_lines.specs.declared.setup.SetupKind.TheVariants.{Twice, ManyMachines, NoMachine, ManyTurns, FewMachines, LongSetup}
 use Rattle.setup_lines.specs.declared.setup.SetupStop.{SetupStop}
@@ -11,7 +11,7 @@ use Rattle.setup_lines.specs.declared.setup.SetupStop.TheVariants.{Refused, NoMe
 use Rattle.setup_lines.specs.declared.setup.Turns.{Turns}
 use Rattle.setup_lines.specs.declared.setup_line.SetupLine.{SetupLine}
 use Rattle.setup_lines.specs.declared.setup_line.SetupLine.TheVariants.{Machine, Script, Budget, Turn}
-use Rattle.setup_lines.specs.SetupLines.{line_of}
+use Rattle.setup_lines.specs.SetupLines.{setup_line_of}
 
 -- what contracts see of a setup: the paths of the machines' sources, that of the script where one is given, the budget where one is
 -- given, and who gets turns
@@ -60,16 +60,16 @@ fault_if test kind = if test then Some kind else None
 
 -- what is wrong with a line behind those that gave this: there are 8 machines at most, one `script` and one `budget`; turns are of
 -- machines that are there, and 10,000,000 at most
-abbrev pub fault_in : SetupView → SetupLine → Option SetupKind
-fault_in before (Machine path) = fault_if (nat_lt 8 (length before.sources + 1)) ManyMachines
-fault_in before (Script path) = fault_if (is_some before.script) Twice
-fault_in before (Budget number) = fault_if (is_some before.budget) Twice
-fault_in before (Turn turns) =
+abbrev pub setup_gathering_fault : SetupView → SetupLine → Option SetupKind
+setup_gathering_fault before (Machine path) = fault_if (nat_lt 8 (length before.sources + 1)) ManyMachines
+setup_gathering_fault before (Script path) = fault_if (is_some before.script) Twice
+setup_gathering_fault before (Budget number) = fault_if (is_some before.budget) Twice
+setup_gathering_fault before (Turn turns) =
     if nat_lt (length before.sources) turns.machine then Some NoMachine
     else fault_if (nat_lt 10000000 (turns_in before.schedule + turns.count)) ManyTurns
 
-abbrev pub fault_behind : List SetupLine → SetupLine → Option SetupKind
-fault_behind before line = fault_in (setup_from before) line
+abbrev pub setup_fault : List SetupLine → SetupLine → Option SetupKind
+setup_fault before line = setup_gathering_fault (setup_from before) line
 
 -- the setup of lines without a fault, which give two machines at least
 abbrev pub setup_by : Result (List SetupLine) (ℕ × SetupKind) → Result SetupView (ℕ × SetupKind)
@@ -77,16 +77,16 @@ setup_by (Ok lines) = if nat_lt (length (setup_from lines).sources) 2 then Err (
 setup_by (Err fault) = Err fault
 
 -- each line by itself
-abbrev pub read_by : List (List ℕ) → List (Line SetupLine SetupKind)
-read_by lines = map (λ line. line_of (words_of line)) lines
+abbrev pub lines_of_setup : List (List ℕ) → List (Line SetupLine SetupKind)
+lines_of_setup lines = map (λ line. setup_line_of (words_of line)) lines
 
 -- the setup of a text, or its first faulty line and the first fault there
 unfoldable pub setup_of : List ℕ → Result SetupView (ℕ × SetupKind)
 setup_of text =
-    if nat_lt 4194304 (length text) then Err (1, LongSetup) else setup_by (given fault_behind 1 [] (read_by (lines_of text)))
+    if nat_lt 4194304 (length text) then Err (1, LongSetup) else setup_by (given setup_fault 1 [] (lines_of_setup (lines_of text)))
 
 -- a setup is read as it is defined, unless memory runs out
-abbrev pub Reads : Result SetupView SetupStop → Result SetupView (ℕ × SetupKind) → Type 0
-Reads (Ok setup) defined = defined ≡ Ok setup
-Reads (Err (Refused line kind)) defined = defined ≡ Err (line, kind)
-Reads (Err NoMemory) defined = Unit {0}
+abbrev pub ReadsSetup : Result SetupView SetupStop → Result SetupView (ℕ × SetupKind) → Type 0
+ReadsSetup (Ok setup) defined = defined ≡ Ok setup
+ReadsSetup (Err (Refused line kind)) defined = defined ≡ Err (line, kind)
+ReadsSetup (Err NoMemory) defined = Unit {0}

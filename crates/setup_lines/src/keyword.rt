@@ -1,10 +1,10 @@
 //! The first words of lines, and how many values stand behind them.
 
 ghost use Rattle.std.specs.Prelude.{◌≡◌};
-ghost use Rattle.line_texts.specs.Rows.{rows_in};
+ghost use Rattle.text_lines.specs.Rows.{rows_in};
 ghost use Rattle.setup_lines.specs.SetupLines.{rows};
 
-use line_texts::{Counts, Row};
+use text_lines::{Counts, Row};
 
 /// The first word of a line of a setup.
 #[derive(Clone, Copy, PartialEq, Eq)]

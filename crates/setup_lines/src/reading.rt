@@ -1,13 +1,13 @@
 //! Reading a setup.
 
-ghost use Rattle.setup_lines.specs.Setups.{setup_of, Reads};
+ghost use Rattle.setup_lines.specs.Setups.{setup_of, ReadsSetup};
 
 use crate::setup::{Setup, SetupKind, SetupStop, Turns};
-use crate::setup_line::{SetupLine, line_of};
-use line_texts::Lines;
+use crate::setup_line::{SetupLine, setup_line_of};
 use std::alloc::{AllocError, Global};
 use std::marker::Model;
-use tree_io::Path;
+use text_lines::Lines;
+use uxn_io_traits::Path;
 
 /// The greatest length of a setup, in bytes.
 const LONGEST: usize = 4_194_304;
@@ -25,7 +25,7 @@ const MOST_TURNS: u32 = 10_000_000;
 /// at line 1 where no line is faulty and fewer than two machines are given.
 #[tactic(auto, unfolding(crate::specs::Setups::setup_of))]
 pub fn read_setup(alloc: Global, text: &[u8]) -> Result<Setup, SetupStop>
-    ensures { Reads result (setup_of text.now) }
+    ensures { ReadsSetup result (setup_of text.now) }
 {
     if text.len() > LONGEST {
         return Err(SetupStop::Refused {
@@ -36,7 +36,7 @@ pub fn read_setup(alloc: Global, text: &[u8]) -> Result<Setup, SetupStop>
     let mut gathered = Gathered::new(alloc);
     let mut lines = Lines::new(text);
     while let Some(line) = lines.next_line() {
-        match gathered.judge(line) {
+        match gathered.validate(line) {
             Ok(Some(given)) => gathered.push(given)?,
             Ok(None) => {}
             Err(kind) => {
@@ -60,24 +60,24 @@ struct Gathered {
 
 impl Model for Gathered {
     ghost use Rattle.std.specs.Prelude.{◌≡◌};
-    ghost use Rattle.setup_lines.specs.Limits.{IsGathered};
+    ghost use Rattle.setup_lines.specs.Limits.{IsGatheredSetup};
     ghost use Rattle.setup_lines.specs.Setups.{SetupView, of_parts, turns_in};
 
     ghost Value = { SetupView };
 
     ghost view = { λ g. of_parts g.sources.items g.script g.budget g.schedule.items };
 
-    ghost invariant = { λ g. IsGathered (of_parts g.sources.items g.script g.budget g.schedule.items)
+    ghost invariant = { λ g. IsGatheredSetup (of_parts g.sources.items g.script g.budget g.schedule.items)
         × (g.turns ≡ turns_in g.schedule.items) };
 }
 
 impl Gathered {
     ghost use Rattle.std.specs.Prelude.{◌≡◌, [], None, IfOk, IfSome, OnOk};
-    ghost use Rattle.line_texts.specs.Lines.{words_of};
+    ghost use Rattle.text_lines.specs.Lines.{words_of};
     ghost use Rattle.setup_lines.specs.Limits.{IsWithin};
-    ghost use Rattle.setup_lines.specs.Setups.{setup_from, fault_in};
-    ghost use Rattle.setup_lines.specs.SetupLines.{line_of};
-    ghost use Rattle.setup_lines.specs.Gathered.{judged, grown, finished};
+    ghost use Rattle.setup_lines.specs.Setups.{setup_from, setup_gathering_fault};
+    ghost use Rattle.setup_lines.specs.SetupLines.{setup_line_of};
+    ghost use Rattle.setup_lines.specs.Gathered.{validated, grown, finished_setup};
 
     // What no lines give.
     fn new(alloc: Global) -> Gathered
@@ -93,12 +93,12 @@ impl Gathered {
     }
 
     // What a line gives behind those so far, if it gives something, or what is wrong with it.
-    fn judge(&self, line: &[u8]) -> Result<Option<SetupLine>, SetupKind>
-        ensures line { result ≡ judged self.now (line_of (words_of line.now)) }
+    fn validate(&self, line: &[u8]) -> Result<Option<SetupLine>, SetupKind>
+        ensures line { result ≡ validated self.now (setup_line_of (words_of line.now)) }
         ensures limits { IfOk result (λ given. IfSome given IsWithin) }
-        ensures faultless { IfOk result (λ given. IfSome given (λ fine. fault_in self.now fine ≡ None)) }
+        ensures faultless { IfOk result (λ given. IfSome given (λ fine. setup_gathering_fault self.now fine ≡ None)) }
     {
-        let Some(given) = line_of(line)? else {
+        let Some(given) = setup_line_of(line)? else {
             return Ok(None);
         };
         if let Some(kind) = self.fault_of(&given) {
@@ -109,7 +109,7 @@ impl Gathered {
 
     // What is wrong with what a line gives behind those so far.
     fn fault_of(&self, given: &SetupLine) -> Option<SetupKind>
-        ensures { result ≡ fault_in self.now given.now }
+        ensures { result ≡ setup_gathering_fault self.now given.now }
     {
         match given {
             SetupLine::Machine(_) => {
@@ -142,7 +142,7 @@ impl Gathered {
     // Takes what a line without a fault gives.
     fn push(&mut self, given: SetupLine) -> Result<(), AllocError>
         requires limits { IsWithin given }
-        requires faultless { fault_in self.old given ≡ None }
+        requires faultless { setup_gathering_fault self.old given ≡ None }
         ensures { OnOk result (self.new ≡ grown self.old given) }
     {
         match given {
@@ -159,7 +159,7 @@ impl Gathered {
 
     // The setup of all lines, unless there are too few machines.
     fn into_setup(self) -> Result<Setup, SetupStop>
-        ensures { result ≡ finished self }
+        ensures { result ≡ finished_setup self }
     {
         let Gathered {
             sources,

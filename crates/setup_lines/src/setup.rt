@@ -2,11 +2,11 @@
 
 ghost use Rattle.std.specs.Prelude.{◌≡◌};
 
-use line_texts::LineFault;
 use std::alloc::{AllocError, AllocFailed};
 use std::marker::Model;
+use text_lines::LineFault;
 use thiserror::Error;
-use tree_io::Path;
+use uxn_io_traits::Path;
 
 /// The budget of every vector where a setup gives none.
 const USUAL_BUDGET: u32 = 4_000_000;
@@ -126,11 +126,11 @@ pub enum SetupKind {
 }
 
 impl SetupKind {
-    ghost use Rattle.setup_lines.specs.Kinds.{kind_name};
+    ghost use Rattle.setup_lines.specs.Kinds.{setup_kind_name};
 
     /// The name of the kind, as it is printed.
     pub fn name(self) -> &'static str
-        ensures { result.now ≡ kind_name self }
+        ensures { result.now ≡ setup_kind_name self }
     {
         match self {
             SetupKind::Unknown => "Unknown",
@@ -148,9 +148,9 @@ impl SetupKind {
 }
 
 impl From<LineFault> for SetupKind {
-    ghost use Rattle.setup_lines.specs.SetupLines.{kind_of};
+    ghost use Rattle.setup_lines.specs.SetupLines.{setup_kind_of};
 
-    ghost from_gives = { λ fault kind. kind ≡ kind_of fault };
+    ghost from_gives = { λ fault kind. kind ≡ setup_kind_of fault };
 
     fn from(fault: LineFault) -> SetupKind {
         match fault {

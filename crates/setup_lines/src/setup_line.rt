@@ -1,15 +1,15 @@
 //! What a line of a setup gives.
 
 ghost use Rattle.std.specs.Prelude.{◌≡◌, IfOk, IfSome};
-ghost use Rattle.line_texts.specs.Lines.{words_of};
+ghost use Rattle.text_lines.specs.Lines.{words_of};
 ghost use Rattle.setup_lines.specs.Limits.{IsWithin};
-ghost use Rattle.setup_lines.specs.SetupLines.{line_of, made_of, turns_of};
+ghost use Rattle.setup_lines.specs.SetupLines.{setup_line_of, setup_of_values, turns_of};
 ghost use Rattle.setup_lines.specs.declared.setup_line.SetupLine.TheVariants.{Turn};
 
 use crate::keyword::{Keyword, rows};
 use crate::setup::{SetupKind, Turns};
-use line_texts::{begins_with, first_word, keyword_line, number_within};
-use tree_io::Path;
+use text_lines::{begins_with, first_word, keyword_line, number_within};
+use uxn_io_traits::Path;
 
 /// The greatest number of a machine.
 const LAST_MACHINE: u64 = 8;
@@ -34,9 +34,9 @@ pub(crate) enum SetupLine {
 }
 
 // What a line gives, if it gives something, or what is wrong with it by itself.
-#[tactic(auto, unfolding(crate::specs::SetupLines::line_of))]
-pub(crate) fn line_of(line: &[u8]) -> Result<Option<SetupLine>, SetupKind>
-    ensures line { result ≡ line_of (words_of line.now) }
+#[tactic(auto, unfolding(crate::specs::SetupLines::setup_line_of))]
+pub(crate) fn setup_line_of(line: &[u8]) -> Result<Option<SetupLine>, SetupKind>
+    ensures line { result ≡ setup_line_of (words_of line.now) }
     ensures limits { IfOk result (λ given. IfSome given IsWithin) }
 {
     let Some((name, values)) = first_word(line) else {
@@ -46,7 +46,7 @@ pub(crate) fn line_of(line: &[u8]) -> Result<Option<SetupLine>, SetupKind>
         return Ok(None);
     }
     match keyword_line(rows(), name, values) {
-        Ok(keyword) => match made_of(keyword, values) {
+        Ok(keyword) => match setup_of_values(keyword, values) {
             Some(given) => Ok(Some(given)),
             None => Err(SetupKind::BadValue),
         },
@@ -55,9 +55,9 @@ pub(crate) fn line_of(line: &[u8]) -> Result<Option<SetupLine>, SetupKind>
 }
 
 // What the values behind a first word give, as many as it takes; nothing where one is not of its form or range.
-#[tactic(auto, unfolding(crate::specs::SetupLines::made_of))]
-fn made_of(keyword: Keyword, values: &[u8]) -> Option<SetupLine>
-    ensures made { result ≡ made_of keyword (words_of values.now) }
+#[tactic(auto, unfolding(crate::specs::SetupLines::setup_of_values))]
+fn setup_of_values(keyword: Keyword, values: &[u8]) -> Option<SetupLine>
+    ensures made { result ≡ setup_of_values keyword (words_of values.now) }
     ensures limits { IfSome result IsWithin }
 {
     let (word, more) = first_word(values)?;

@@ -13,15 +13,15 @@ abbrev pub short_in : List ℕ → ℕ → ℕ → ℕ
 short_in memory at offset = short_at memory ((at + offset) % 65536)
 
 -- a bank and an address in it
-abbrev pub place_in : List ℕ → ℕ → ℕ → Place
-place_in memory at offset = record { bank = short_in memory at offset; address = short_in memory at (offset + 2) }
+abbrev pub record_place : List ℕ → ℕ → ℕ → Place
+record_place memory at offset = record { bank = short_in memory at offset; address = short_in memory at (offset + 2) }
 
 -- the record at an address: an operation, a length, then places and a value as the operation says
 unfoldable pub record_at : List ℕ → ℕ → Record
 record_at memory at =
-    if byte_in memory at 0 == 0 then Fill (short_in memory at 1) (place_in memory at 3) (byte_in memory at 7)
-    else if byte_in memory at 0 == 1 then CopyUp (short_in memory at 1) (place_in memory at 3) (place_in memory at 7)
-    else if byte_in memory at 0 == 2 then CopyDown (short_in memory at 1) (place_in memory at 3) (place_in memory at 7)
+    if byte_in memory at 0 == 0 then Fill (short_in memory at 1) (record_place memory at 3) (byte_in memory at 7)
+    else if byte_in memory at 0 == 1 then CopyUp (short_in memory at 1) (record_place memory at 3) (record_place memory at 7)
+    else if byte_in memory at 0 == 2 then CopyDown (short_in memory at 1) (record_place memory at 3) (record_place memory at 7)
     else Unknown
 
 -- there are sixteen banks; a record that names another does nothing, whatever its length (profile)

@@ -4,7 +4,7 @@ ghost use Rattle.arrayvec.specs.ArrayVec.{array_vec_len};
 ghost use Rattle.system_port.specs.DebugText.{eight_below, spaced, ring_line, debug_text_of, exit_code_of};
 
 use arrayvec::ArrayVec;
-use tree_io::hex_byte;
+use uxn_io_traits::hex_byte;
 use uxn_stacks::Ring;
 
 /// The greatest length of a debug text, and the length of each.
@@ -38,7 +38,7 @@ fn put_byte(text: &mut ArrayVec<u8, LENGTH>, byte: u8)
     text.push(low);
 }
 
-/// Puts the line of a ring under a name of three letters.
+/// Puts the line of a stack under a name of three letters.
 #[tactic(auto, unfolding(crate::specs::DebugText::ring_line))]
 fn put_line(text: &mut ArrayVec<u8, LENGTH>, name: [u8; 3], ring: &Ring)
     requires { array_vec_len text.old + 28 ≤ 56 }
@@ -55,7 +55,7 @@ fn put_line(text: &mut ArrayVec<u8, LENGTH>, name: [u8; 3], ring: &Ring)
     text.push(b'\n');
 }
 
-/// A line for each ring, `WST` for the working ring and `RST` for the return ring: the eight bytes below its
+/// A line for each stack, `WST` for the working stack and `RST` for the return stack: the eight bytes below its
 /// pointer, the deepest first, in two digits after a space.
 #[tactic(auto, unfolding(crate::specs::DebugText::debug_text_of))]
 pub fn debug_text(working: &Ring, returns: &Ring) -> ArrayVec<u8, 56>

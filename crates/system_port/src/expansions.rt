@@ -1,6 +1,6 @@
 //! The expansion port: records that fill and copy memory.
 ghost use Rattle.std.specs.Prelude.{◌≡◌, ◌+◌, ◌%◌, ◌<◌, ◌≤◌, MatchOption};
-ghost use Rattle.system_port.specs.Expansion.{byte_in, short_in, place_in, record_at, done, expanded};
+ghost use Rattle.system_port.specs.Expansion.{byte_in, short_in, record_place, record_at, done, expanded};
 
 use uxn_memory::{BANKS, Memory};
 
@@ -24,7 +24,7 @@ impl Place {
     }
 }
 
-/// What a record asks for.
+/// What a record requests.
 #[derive(Clone, Copy)]
 pub(crate) enum Record {
     /// So many bytes from a place on become a value.
@@ -49,9 +49,9 @@ fn short_in(memory: &Memory, at: u16, offset: u16) -> u16
     memory.get2(at.wrapping_add(offset))
 }
 
-fn place_in(memory: &Memory, at: u16, offset: u16) -> Place
+fn record_place(memory: &Memory, at: u16, offset: u16) -> Place
     requires { offset < 256 }
-    ensures { result ≡ place_in memory.now at offset }
+    ensures { result ≡ record_place memory.now at offset }
 {
     Place {
         bank: short_in(memory, at, offset),
@@ -67,14 +67,22 @@ impl Record {
     {
         let length = short_in(memory, at, 1);
         match byte_in(memory, at, 0) {
-            0x00 => Record::Fill(length, place_in(memory, at, 3), byte_in(memory, at, 7)),
-            0x01 => Record::CopyUp(length, place_in(memory, at, 3), place_in(memory, at, 7)),
-            0x02 => Record::CopyDown(length, place_in(memory, at, 3), place_in(memory, at, 7)),
+            0x00 => Record::Fill(length, record_place(memory, at, 3), byte_in(memory, at, 7)),
+            0x01 => Record::CopyUp(
+                length,
+                record_place(memory, at, 3),
+                record_place(memory, at, 7),
+            ),
+            0x02 => Record::CopyDown(
+                length,
+                record_place(memory, at, 3),
+                record_place(memory, at, 7),
+            ),
             _ => Record::Unknown,
         }
     }
 
-    /// Does what the record asks for, where all its banks are there.
+    /// Does what the record requests, where all its banks are there.
     fn perform(self, memory: &mut Memory)
         ensures { memory.new ≡ done self memory.old }
     {

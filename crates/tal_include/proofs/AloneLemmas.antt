@@ -2,10 +2,10 @@
 use Rattle.std.proofs.Common.{◌≡◌, ℕ, zero, suc, Bool, true, false, List, [], ◌∷◌, length, refl, ap, sym, ◌∙◌, subst, arith, Option, Some, None, Result, Ok, Err}
 use Rattle.std.specs.Prelude.{if◌then◌else◌, nat_le, ⊤}
 use Rattle.std.specs.List.{Contains}
-use Rattle.tree_io.specs.Files.{Nodes}
-use Rattle.tree_io.specs.ByteList.{ByteList}
-use Rattle.tree_io.specs.declared.trees.FileBytes.{FileBytes}
-use Rattle.tree_io.specs.declared.trees.FileBytes.TheVariants.{Found, Missing as NoFile, TooLong}
+use Rattle.uxn_io_traits.specs.Files.{Nodes}
+use Rattle.uxn_io_traits.specs.ByteList.{ByteList}
+use Rattle.uxn_io_traits.specs.declared.trees.FileBytes.{FileBytes}
+use Rattle.uxn_io_traits.specs.declared.trees.FileBytes.TheVariants.{Found, Missing as NoFile, TooLong}
 use Rattle.tal_words.specs.declared.fault.Fault.{Fault}
 use Rattle.tal_words.specs.declared.span.Word.{Word}
 use Rattle.tal_words.specs.Source.{word_text}
@@ -13,11 +13,11 @@ use Rattle.tal_words.specs.Comments.{words_of, word_fault}
 use Rattle.tal_include.specs.declared.faults.Origin.{Origin}
 use Rattle.tal_include.specs.declared.faults.IncludeKind.{IncludeKind}
 use Rattle.tal_include.specs.declared.faults.IncludeKind.TheVariants.{Many, LongFlat}
-use Rattle.tal_include.specs.Flat.{Flat, empty_flat, with_word, with_path}
-use Rattle.tal_include.specs.Includes.{is_include, included_path, most_files, path_or_kind, bytes_or_kind, fault_at}
-use Rattle.tal_include.specs.Splice.{Outcome, Came, Met, Reading, going_on, found_or, faultless_or, through, is_long_with, at_plain_word, at_include, at_word, through_file, has_includes, walk, spliced}
+use Rattle.tal_include.specs.Flat.{Flat, empty_flat, flat_with_word, flat_with_path}
+use Rattle.tal_include.specs.Includes.{is_include, included_path, most_files, path_or_kind, bytes_or_kind, include_fault_at}
+use Rattle.tal_include.specs.Splice.{SpliceOutcome, Came, Met, Reading, going_on, found_or, faultless_or, through, is_long_with, at_plain_word, at_include, at_word, through_file, has_includes, walk, spliced}
 use Rattle.tal_include.specs.FlatWords.{IfCame}
-use Rattle.tal_include.specs.Answers.{told_file, told_reading}
+use Rattle.tal_include.specs.Answers.{known_file_bytes, known_reading}
 use Rattle.tal_include.specs.Included.{Names, IsIncluded, ByMain, ByFile}
 
 -- a path that may be read is the one that is named
@@ -43,23 +43,23 @@ module _ (head : Flat) where
     pub includes : flat.includes ≡ head.includes
 
   -- two walks come to the same, with this main source
-  record Agree (one other : Outcome) : Type 0 where
+  record Agree (one other : SpliceOutcome) : Type 0 where
     same : one ≡ other
     kept : IfCame HasHead one
 
-  then_agree : (one other : Outcome) (next further : Flat → Outcome) → Agree one other
+  then_agree : (one other : SpliceOutcome) (next further : Flat → SpliceOutcome) → Agree one other
       → ((flat : Flat) → HasHead flat → Agree (next flat) (further flat)) → Agree (going_on one next) (going_on other further)
   then_agree (Came flat) other next further are more =
       let rest = more flat are.kept in
-      record { same = rest.same ∙ ap (λ (o : Outcome). going_on o further) are.same; kept = rest.kept }
-  then_agree (Met fault) other next further are more = record { same = ap (λ (o : Outcome). going_on o further) are.same; kept = tt }
+      record { same = rest.same ∙ ap (λ (o : SpliceOutcome). going_on o further) are.same; kept = rest.kept }
+  then_agree (Met fault) other next further are more = record { same = ap (λ (o : SpliceOutcome). going_on o further) are.same; kept = tt }
 
-  found_agree : (origin : Origin) (text : List ℕ) (found : Result (List ℕ) IncludeKind) (next further : List ℕ → Outcome)
+  found_agree : (origin : Origin) (text : List ℕ) (found : Result (List ℕ) IncludeKind) (next further : List ℕ → SpliceOutcome)
       → ((x : List ℕ) → found ≡ Ok x → Agree (next x) (further x)) → Agree (found_or origin text found next) (found_or origin text found further)
   found_agree origin text (Ok found) next further more = more found refl
   found_agree origin text (Err kind) next further more = record { same = refl; kept = tt }
 
-  faultless_agree : (path source : List ℕ) (fault : Option Fault) (one other : Outcome) → Agree one other
+  faultless_agree : (path source : List ℕ) (fault : Option Fault) (one other : SpliceOutcome) → Agree one other
       → Agree (faultless_or path source fault one) (faultless_or path source fault other)
   faultless_agree path source None one other are = are
   faultless_agree path source (Some fault) one other are = record { same = refl; kept = tt }
@@ -71,10 +71,10 @@ module _ (head : Flat) where
       → Agree (at_plain_word file origin word text flat) (at_plain_word file origin word text flat)
   plain_agrees file origin word text flat has = by (is_long_with flat text)
     where
-      by : (b : Bool) → Agree (if b then Met (fault_at origin LongFlat text) else Came (with_word file word text flat))
-          (if b then Met (fault_at origin LongFlat text) else Came (with_word file word text flat))
+      by : (b : Bool) → Agree (if b then Met (include_fault_at origin LongFlat text) else Came (flat_with_word file word text flat))
+          (if b then Met (include_fault_at origin LongFlat text) else Came (flat_with_word file word text flat))
       by true = record { same = refl; kept = tt }
-      by false = came_agree (with_word file word text flat) (record { main = has.main; includes = has.includes })
+      by false = came_agree (flat_with_word file word text flat) (record { main = has.main; includes = has.includes })
 
   -- at the paths of which this holds, the readings give the same, and it holds of those that such a file names
   module _ (reading other : Reading) (Holds : List ℕ → Type 0)
@@ -84,19 +84,19 @@ module _ (head : Flat) where
     abbrev IsCovered : List ℕ → Type 0
     IsCovered text = (path : List ℕ) → Names head.main text path → Holds path
 
-    module _ (deeper : ℕ) (inner further : List ℕ → List ℕ → Flat → Outcome)
+    module _ (deeper : ℕ) (inner further : List ℕ → List ℕ → Flat → SpliceOutcome)
         (are : (path text : List ℕ) (flat : Flat) → IsCovered text → HasHead flat → Agree (inner path text flat) (further path text flat)) where
       file_agrees : (origin : Origin) (word path : List ℕ) (flat : Flat) → Holds path → HasHead flat
-          → Agree (found_or origin word (bytes_or_kind (reading (length flat.paths) path)) (λ bytes. inner path bytes (with_path path flat)))
-          (found_or origin word (bytes_or_kind (other (length flat.paths) path)) (λ bytes. further path bytes (with_path path flat)))
+          → Agree (found_or origin word (bytes_or_kind (reading (length flat.paths) path)) (λ bytes. inner path bytes (flat_with_path path flat)))
+          (found_or origin word (bytes_or_kind (other (length flat.paths) path)) (λ bytes. further path bytes (flat_with_path path flat)))
       file_agrees origin word path flat holds has =
           let answer = reading (length flat.paths) path in
-          subst (λ (given : FileBytes). Agree (found_or origin word (bytes_or_kind answer) (λ bytes. inner path bytes (with_path path flat)))
-          (found_or origin word (bytes_or_kind given) (λ bytes. further path bytes (with_path path flat))))
+          subst (λ (given : FileBytes). Agree (found_or origin word (bytes_or_kind answer) (λ bytes. inner path bytes (flat_with_path path flat)))
+          (found_or origin word (bytes_or_kind given) (λ bytes. further path bytes (flat_with_path path flat))))
           (same (length flat.paths) path holds)
           (found_agree origin word (bytes_or_kind answer) _ _ (λ list found.
           let bytes = the_bytes answer list found in
-          are path list (with_path path flat)
+          are path list (flat_with_path path flat)
           (λ named names. inside (length flat.paths) path named bytes.0 holds bytes.1 (subst (λ (l : List ℕ). Names head.main l named) (sym bytes.2) names))
           (record { main = has.main; includes = has.includes })))
 
@@ -153,11 +153,11 @@ module _ (head : Flat) where
 
 -- over two trees
 pub splices_same : (nodes other : Nodes) (main source : List ℕ)
-    → ((path : List ℕ) → IsIncluded (told_file nodes) main source path → told_file nodes path ≡ told_file other path)
-    → spliced (told_reading nodes) main source ≡ spliced (told_reading other) main source
+    → ((path : List ℕ) → IsIncluded (known_file_bytes nodes) main source path → known_file_bytes nodes path ≡ known_file_bytes other path)
+    → spliced (known_reading nodes) main source ≡ spliced (known_reading other) main source
 splices_same nodes other main source same =
     let start = empty_flat main (has_includes source) in
-    (walks_agree start (told_reading nodes) (told_reading other) (IsIncluded (told_file nodes) main source) (λ before path included. same path included)
+    (walks_agree start (known_reading nodes) (known_reading other) (IsIncluded (known_file_bytes nodes) main source) (λ before path included. same path included)
     (λ before file path bytes included found names. ByFile file path bytes included found names) 15 main source start (λ path names. ByMain path names)
     (is_head start)).same
 

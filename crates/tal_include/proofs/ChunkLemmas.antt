@@ -8,7 +8,7 @@ use Rattle.std.proofs.lemmas.List.Sums.{fold_push}
 use Rattle.tal_words.specs.declared.span.Word.{Word}
 use Rattle.tal_words.specs.Faults.{phase_fault}
 use Rattle.tal_words.specs.Order.{each, collected}
-use Rattle.tal_words.specs.Comments.{depth_after, comment_depth, judged_token, word_given, words_of, word_fault, source_limit}
+use Rattle.tal_words.specs.Comments.{depth_after, comment_depth, validated_token, word_given, words_of, word_fault, source_limit}
 use Rattle.tal_words.specs.PlainTexts.{Chunk, chunk_text}
 use Rattle.tal_words.specs.Source.{begins, is_blank, word_text, is_after_blank, begins_token, token_at, tokens_below, tokens_of}
 use Rattle.tal_words.proofs.PlainTokens.{text_of_chunks, IsChunk, AreChunks, texts_of_tokens}
@@ -45,58 +45,58 @@ module _ (source : List ℕ) where
       let same : p + suc n ≡ p + n + 1 = omega arith in
       none_begins (p + suc n) (omega arith) last ∙ ap (tokens_below source) same ∙ none_within n p (λ j h. plain j (omega arith))
 
-  module _ (front : List ℕ) (chunk : Chunk) (rest : List ℕ) (is : IsChunk chunk) (split : source ≡ front ++ (chunk_text chunk ++ rest)) where
-    plain_at : (j : ℕ) → j < length chunk.text → is_blank (get_or source (length front + j) 0) ≡ false
+  module _ (prefix : List ℕ) (chunk : Chunk) (rest : List ℕ) (is : IsChunk chunk) (split : source ≡ prefix ++ (chunk_text chunk ++ rest)) where
+    plain_at : (j : ℕ) → j < length chunk.text → is_blank (get_or source (length prefix + j) 0) ≡ false
     plain_at j within =
         ap is_blank
-        (ap (λ (s : List ℕ). get_or s (length front + j) 0) split ∙ get_or-append-add front (chunk_text chunk ++ rest) j 0
+        (ap (λ (s : List ℕ). get_or s (length prefix + j) 0) split ∙ get_or-append-add prefix (chunk_text chunk ++ rest) j 0
         ∙ get_or_append_left (chunk_text chunk) rest 0 j (omega (arith, length-append chunk.text (chunk.blank ∷ [])))
         ∙ get_or_append_left chunk.text (chunk.blank ∷ []) 0 j within)
         ∙ any_none is_blank chunk.text j is.plain within
 
-    read_blank : get_or source (length front + length chunk.text) 0 ≡ chunk.blank
+    read_blank : get_or source (length prefix + length chunk.text) 0 ≡ chunk.blank
     read_blank =
-        ap (λ (s : List ℕ). get_or s (length front + length chunk.text) 0) split ∙ get_or-append-add front (chunk_text chunk ++ rest) (length chunk.text) 0
+        ap (λ (s : List ℕ). get_or s (length prefix + length chunk.text) 0) split ∙ get_or-append-add prefix (chunk_text chunk ++ rest) (length chunk.text) 0
         ∙ ap (λ (s : List ℕ). get_or s (length chunk.text) 0) (append_assoc chunk.text (chunk.blank ∷ []) rest)
         ∙ get_or_at chunk.text chunk.blank rest 0 (length chunk.text) refl
 
-    next_token : is_after_blank source (length front) ≡ true
-        → tokens_below source (length front + length chunk.text + 1) ≡ tokens_below source (length front) ++ token_at source (length front) ∷ []
+    next_token : is_after_blank source (length prefix) ≡ true
+        → tokens_below source (length prefix + length chunk.text + 1) ≡ tokens_below source (length prefix) ++ token_at source (length prefix) ∷ []
     next_token after =
-        let first : length front + 0 ≡ length front = omega arith in
-        let here : is_blank (get_or source (length front) 0) ≡ false = ap (λ (k : ℕ). is_blank (get_or source k 0)) (sym first) ∙ plain_at 0 is.some in
-        none_within (length chunk.text) (length front) plain_at ∙ tokens_more (length front) ∙ rw (after, here) refl
+        let first : length prefix + 0 ≡ length prefix = omega arith in
+        let here : is_blank (get_or source (length prefix) 0) ≡ false = ap (λ (k : ℕ). is_blank (get_or source k 0)) (sym first) ∙ plain_at 0 is.some in
+        none_within (length chunk.text) (length prefix) plain_at ∙ tokens_more (length prefix) ∙ rw (after, here) refl
 
-    behind_token : is_after_blank source (length front + length chunk.text + 1) ≡ true
+    behind_token : is_after_blank source (length prefix + length chunk.text + 1) ≡ true
     behind_token =
-        let before : length front + length chunk.text + 1 - 1 ≡ length front + length chunk.text = omega arith in
-        after_blank-suc source (length front + length chunk.text + 1) (omega arith)
+        let before : length prefix + length chunk.text + 1 - 1 ≡ length prefix + length chunk.text = omega arith in
+        after_blank-suc source (length prefix + length chunk.text + 1) (omega arith)
         ∙ ap (λ (k : ℕ). is_blank (get_or source k 0)) before ∙ ap is_blank read_blank ∙ is.parted
 
-    token_start : (token_at source (length front)).span.start ≡ length front
+    token_start : (token_at source (length prefix)).span.start ≡ length prefix
     unfolding token_at
     token_start = refl
 
   -- where the tokens begin from a place on
-  starts_from : (chunks : List Chunk) (front : List ℕ) → AreChunks chunks → source ≡ front ++ text_of_chunks chunks → is_after_blank source (length front) ≡ true
+  starts_from : (chunks : List Chunk) (prefix : List ℕ) → AreChunks chunks → source ≡ prefix ++ text_of_chunks chunks → is_after_blank source (length prefix) ≡ true
       → map (λ (w : Word). w.span.start) (tokens_below source (length source))
-      ≡ map (λ (w : Word). w.span.start) (tokens_below source (length front)) ++ starts (length front) chunks
-  starts_from [] front are split after =
-      let same : length source ≡ length front = ap length (split ∙ append-nil front) in
-      ap (λ (n : ℕ). map (λ (w : Word). w.span.start) (tokens_below source n)) same ∙ sym (append-nil (map (λ (w : Word). w.span.start) (tokens_below source (length front))))
-  starts_from (chunk ∷ chunks) front are split after =
+      ≡ map (λ (w : Word). w.span.start) (tokens_below source (length prefix)) ++ starts (length prefix) chunks
+  starts_from [] prefix are split after =
+      let same : length source ≡ length prefix = ap length (split ∙ append-nil prefix) in
+      ap (λ (n : ℕ). map (λ (w : Word). w.span.start) (tokens_below source n)) same ∙ sym (append-nil (map (λ (w : Word). w.span.start) (tokens_below source (length prefix))))
+  starts_from (chunk ∷ chunks) prefix are split after =
       let rest = text_of_chunks chunks in
-      let size : length (front ++ chunk_text chunk) ≡ length front + length chunk.text + 1 = omega (arith, length-append front (chunk_text chunk), length-append chunk.text (chunk.blank ∷ [])) in
-      let again : source ≡ (front ++ chunk_text chunk) ++ rest = split ∙ sym (append_assoc front (chunk_text chunk) rest) in
-      let later : is_after_blank source (length (front ++ chunk_text chunk)) ≡ true = ap (is_after_blank source) size ∙ behind_token front chunk rest are.0 split in
-      starts_from chunks (front ++ chunk_text chunk) are.1 again later
+      let size : length (prefix ++ chunk_text chunk) ≡ length prefix + length chunk.text + 1 = omega (arith, length-append prefix (chunk_text chunk), length-append chunk.text (chunk.blank ∷ [])) in
+      let again : source ≡ (prefix ++ chunk_text chunk) ++ rest = split ∙ sym (append_assoc prefix (chunk_text chunk) rest) in
+      let later : is_after_blank source (length (prefix ++ chunk_text chunk)) ≡ true = ap (is_after_blank source) size ∙ behind_token prefix chunk rest are.0 split in
+      starts_from chunks (prefix ++ chunk_text chunk) are.1 again later
       ∙ ap (λ (n : ℕ). map (λ (w : Word). w.span.start) (tokens_below source n) ++ starts n chunks) size
-      ∙ ap (λ (tokens : List Word). map (λ (w : Word). w.span.start) tokens ++ starts (length front + length chunk.text + 1) chunks) (next_token front chunk rest are.0 split after)
-      ∙ ap (λ (ns : List ℕ). ns ++ starts (length front + length chunk.text + 1) chunks)
-      (map-append (λ (w : Word). w.span.start) (tokens_below source (length front)) (token_at source (length front) ∷ []))
-      ∙ ap (λ (n : ℕ). (map (λ (w : Word). w.span.start) (tokens_below source (length front)) ++ n ∷ []) ++ starts (length front + length chunk.text + 1) chunks)
-      (token_start front chunk rest are.0 split)
-      ∙ append_assoc (map (λ (w : Word). w.span.start) (tokens_below source (length front))) (length front ∷ []) (starts (length front + length chunk.text + 1) chunks)
+      ∙ ap (λ (tokens : List Word). map (λ (w : Word). w.span.start) tokens ++ starts (length prefix + length chunk.text + 1) chunks) (next_token prefix chunk rest are.0 split after)
+      ∙ ap (λ (ns : List ℕ). ns ++ starts (length prefix + length chunk.text + 1) chunks)
+      (map-append (λ (w : Word). w.span.start) (tokens_below source (length prefix)) (token_at source (length prefix) ∷ []))
+      ∙ ap (λ (n : ℕ). (map (λ (w : Word). w.span.start) (tokens_below source (length prefix)) ++ n ∷ []) ++ starts (length prefix + length chunk.text + 1) chunks)
+      (token_start prefix chunk rest are.0 split)
+      ∙ append_assoc (map (λ (w : Word). w.span.start) (tokens_below source (length prefix))) (length prefix ∷ []) (starts (length prefix + length chunk.text + 1) chunks)
 
 -- where the tokens of chunks begin
 pub starts_of_tokens : (chunks : List Chunk) → AreChunks chunks
@@ -129,7 +129,7 @@ module _ (source : List ℕ) where
 
   -- and none has a fault
   all_sound : (tokens before : List Word) → comment_depth source before ≡ 0 → AllByRecursion (λ token. IsSpoken (word_text source token)) tokens
-      → phase_fault (each (judged_token source) before tokens) ≡ None
+      → phase_fault (each (validated_token source) before tokens) ≡ None
   all_sound [] before none spoken = refl
   all_sound (token ∷ tokens) before none spoken =
       let plain = spoken.0.no_comment in

@@ -13,9 +13,9 @@ use Rattle.tal_words.proofs.PlainTokens.{text_of_chunks, AreChunks}
 use Rattle.tal_include.specs.declared.faults.Origin.{Origin}
 use Rattle.tal_include.specs.declared.faults.IncludeKind.{IncludeKind}
 use Rattle.tal_include.specs.declared.spliced.Place.{Place}
-use Rattle.tal_include.specs.Flat.{Flat, empty_flat, with_word, with_path, place_at, origin_at, origin_of}
-use Rattle.tal_include.specs.Includes.{is_include, included_path, path_or_kind, bytes_or_kind, fault_at}
-use Rattle.tal_include.specs.Splice.{Outcome, Came, Met, Reading, going_on, found_or, faultless_or, through, is_long_with, at_plain_word, at_include, at_word, through_file, has_includes, spliced, walk}
+use Rattle.tal_include.specs.Flat.{Flat, empty_flat, flat_with_word, flat_with_path, place_in_list, origin_at, origin_of}
+use Rattle.tal_include.specs.Includes.{is_include, included_path, path_or_kind, bytes_or_kind, include_fault_at}
+use Rattle.tal_include.specs.Splice.{SpliceOutcome, Came, Met, Reading, going_on, found_or, faultless_or, through, is_long_with, at_plain_word, at_include, at_word, through_file, has_includes, spliced, walk}
 use Rattle.tal_include.specs.FlatWords.{HasItsWords, IfCame}
 use Rattle.tal_include.proofs.AloneLemmas.{HasHead, head_kept}
 use Rattle.tal_include.proofs.ChunkLemmas.{starts, IsSpoken, starts_of_tokens, words_are_tokens, chunks_faultless}
@@ -53,7 +53,7 @@ all_more : (texts : List (List ℕ)) (text : List ℕ) → AllByRecursion IsSoun
 all_more [] text all one = (one, tt)
 all_more (first ∷ texts) text all one = (all.0, all_more texts text all.1 one)
 
-flat_more : (flat : Flat) (file : ℕ) (word : Word) (text : List ℕ) → IsSound text → is_long_with flat text ≡ false → IsFlat flat → IsFlat (with_word file word text flat)
+flat_more : (flat : Flat) (file : ℕ) (word : Word) (text : List ℕ) → IsSound text → is_long_with flat text ≡ false → IsFlat flat → IsFlat (flat_with_word file word text flat)
 flat_more flat file word text sound short is = record {
   texts = is.texts ++ text ∷ [];
   sound = all_more is.texts text is.sound sound;
@@ -72,36 +72,36 @@ flat_more flat file word text sound short is = record {
     within : (b : Bool) (n : ℕ) → b ≡ true → (b && nat_lt source_limit n) ≡ false → n ≤ source_limit
     within b n is none = grind (arith, is, none)
 
-with_file : (flat : Flat) (path : List ℕ) → IsFlat flat → IsFlat (with_path path flat)
+with_file : (flat : Flat) (path : List ℕ) → IsFlat flat → IsFlat (flat_with_path path flat)
 with_file flat path is = record { texts = is.texts; sound = is.sound; text = is.text; places = is.places; short = is.short }
 
-then_flat : (outcome : Outcome) (next : Flat → Outcome) → IfCame IsFlat outcome → ((flat : Flat) → IsFlat flat → IfCame IsFlat (next flat)) → IfCame IsFlat (going_on outcome next)
+then_flat : (outcome : SpliceOutcome) (next : Flat → SpliceOutcome) → IfCame IsFlat outcome → ((flat : Flat) → IsFlat flat → IfCame IsFlat (next flat)) → IfCame IsFlat (going_on outcome next)
 then_flat (Came flat) next is more = more flat is
 then_flat (Met fault) next is more = tt
 
-found_flat : (origin : Origin) (text : List ℕ) (found : Result (List ℕ) IncludeKind) (next : List ℕ → Outcome) → ((x : List ℕ) → IfCame IsFlat (next x))
+found_flat : (origin : Origin) (text : List ℕ) (found : Result (List ℕ) IncludeKind) (next : List ℕ → SpliceOutcome) → ((x : List ℕ) → IfCame IsFlat (next x))
     → IfCame IsFlat (found_or origin text found next)
 found_flat origin text (Ok found) next more = more found
 found_flat origin text (Err kind) next more = tt
 
-faultless_flat : (path source : List ℕ) (fault : Option Fault) (next : Outcome) → (fault ≡ None → IfCame IsFlat next) → IfCame IsFlat (faultless_or path source fault next)
+faultless_flat : (path source : List ℕ) (fault : Option Fault) (next : SpliceOutcome) → (fault ≡ None → IfCame IsFlat next) → IfCame IsFlat (faultless_or path source fault next)
 faultless_flat path source None next more = more refl
 faultless_flat path source (Some fault) next more = tt
 
 plain_flat : (file : ℕ) (origin : Origin) (word : Word) (text : List ℕ) (flat : Flat) → IsSound text → IsFlat flat → IfCame IsFlat (at_plain_word file origin word text flat)
 plain_flat file origin word text flat sound is = by (is_long_with flat text) refl
   where
-    by : (b : Bool) → is_long_with flat text ≡ b → IfCame IsFlat (if b then Met (fault_at origin Rattle.tal_include.specs.declared.faults.IncludeKind.TheVariants.LongFlat text) else Came (with_word file word text flat))
+    by : (b : Bool) → is_long_with flat text ≡ b → IfCame IsFlat (if b then Met (include_fault_at origin Rattle.tal_include.specs.declared.faults.IncludeKind.TheVariants.LongFlat text) else Came (flat_with_word file word text flat))
     by true e = tt
     by false e = flat_more flat file word text sound e is
 
-module _ (reading : Reading) (deeper : ℕ) (inner : List ℕ → List ℕ → Flat → Outcome)
+module _ (reading : Reading) (deeper : ℕ) (inner : List ℕ → List ℕ → Flat → SpliceOutcome)
     (inner_flat : (path source : List ℕ) (flat : Flat) → IsFlat flat → IfCame IsFlat (inner path source flat)) where
   include_flat : (origin : Origin) (text : List ℕ) (flat : Flat) → IsFlat flat → IfCame IsFlat (at_include reading deeper inner origin text flat)
   include_flat origin text flat is =
       found_flat origin text (path_or_kind deeper (length flat.paths) (included_path flat.main text)) _
       (λ path. found_flat origin text (bytes_or_kind (reading (length flat.paths) path)) _
-      (λ bytes. inner_flat path bytes (with_path path flat) (with_file flat path is)))
+      (λ bytes. inner_flat path bytes (flat_with_path path flat) (with_file flat path is)))
 
   word_flat : (path source : List ℕ) (file : ℕ) (word : Word) (flat : Flat) → IsSoundWord source word → IsFlat flat
       → IfCame IsFlat (at_word reading deeper inner path source file word flat)
@@ -138,23 +138,23 @@ all_lines (text ∷ texts) all = let rest = all_lines texts all.1 in ((all.0.chu
 abbrev pub IsIn : ℕ → List ℕ → Type 0
 IsIn n ms = list_any (λ m. m == n) ms ≡ true
 
-place_there : (places : List Place) (at : ℕ) → IsIn at (map (λ (p : Place). p.at) places) → IsSome (place_at at places)
+place_there : (places : List Place) (at : ℕ) → IsIn at (map (λ (p : Place). p.at) places) → IsSome (place_in_list at places)
 place_there [] at is = is
 place_there (place ∷ places) at is = by (place.at == at) is (λ h. place_there places at h)
   where
     by : (b : Bool) → (b || list_any (λ m. m == at) (map (λ (p : Place). p.at) places)) ≡ true
-        → (IsIn at (map (λ (p : Place). p.at) places) → IsSome (place_at at places)) → IsSome (if b then Some place else place_at at places)
+        → (IsIn at (map (λ (p : Place). p.at) places) → IsSome (place_in_list at places)) → IsSome (if b then Some place else place_in_list at places)
     by true e h = refl
     by false e h = h e
 
 same_number : (n : ℕ) → (n == n) ≡ true
 same_number n = grind arith
 
-is_in : (n : ℕ) (front back : List ℕ) → IsIn n (front ++ n ∷ back)
+is_in : (n : ℕ) (prefix back : List ℕ) → IsIn n (prefix ++ n ∷ back)
 is_in n [] back = ap (λ (b : Bool). b || list_any (λ m. m == n) back) (same_number n)
-is_in n (m ∷ front) back = by (m == n) (is_in n front back)
+is_in n (m ∷ prefix) back = by (m == n) (is_in n prefix back)
   where
-    by : (b : Bool) → IsIn n (front ++ n ∷ back) → (b || list_any (λ k. k == n) (front ++ n ∷ back)) ≡ true
+    by : (b : Bool) → IsIn n (prefix ++ n ∷ back) → (b || list_any (λ k. k == n) (prefix ++ n ∷ back)) ≡ true
     by true h = refl
     by false h = h
 
@@ -162,16 +162,16 @@ some_mapped : {X Y : Type 0} (f : X → Y) (o : Option X) → IsSome o → IsSom
 some_mapped f None is = is
 some_mapped f (Some x) is = refl
 
-all_placed : (flat : Flat) (front words : List Word) → map (λ (w : Word). w.span.start) (front ++ words) ≡ map (λ (p : Place). p.at) flat.places
+all_placed : (flat : Flat) (prefix words : List Word) → map (λ (w : Word). w.span.start) (prefix ++ words) ≡ map (λ (p : Place). p.at) flat.places
     → AllByRecursion (λ word. IsSome (origin_at flat word.span.start)) words
-all_placed flat front [] is = tt
-all_placed flat front (word ∷ words) is = (
-  some_mapped (origin_of flat) (place_at word.span.start flat.places)
+all_placed flat prefix [] is = tt
+all_placed flat prefix (word ∷ words) is = (
+  some_mapped (origin_of flat) (place_in_list word.span.start flat.places)
       (place_there flat.places word.span.start
-      (subst (λ (ns : List ℕ). IsIn word.span.start ns) (sym (map-append (λ (w : Word). w.span.start) front (word ∷ words)) ∙ is)
-      (is_in word.span.start (map (λ (w : Word). w.span.start) front) (map (λ (w : Word). w.span.start) words)))),
-  all_placed flat (front ++ word ∷ []) words
-      (ap (map (λ (w : Word). w.span.start)) (append_assoc front (word ∷ []) words) ∙ is),
+      (subst (λ (ns : List ℕ). IsIn word.span.start ns) (sym (map-append (λ (w : Word). w.span.start) prefix (word ∷ words)) ∙ is)
+      (is_in word.span.start (map (λ (w : Word). w.span.start) prefix) (map (λ (w : Word). w.span.start) words)))),
+  all_placed flat (prefix ++ word ∷ []) words
+      (ap (map (λ (w : Word). w.span.start)) (append_assoc prefix (word ∷ []) words) ∙ is),
 )
 
 has_its_words : (source : List ℕ) (flat : Flat) → flat.includes ≡ has_includes source → IsFlat flat → HasItsWords source flat
@@ -191,7 +191,7 @@ has_its_words source flat includes is =
       short = λ has. is.short (includes ∙ has);
     }
 
-if_came : (main source : List ℕ) (outcome : Outcome) → IfCame (HasHead (empty_flat main (has_includes source))) outcome → IfCame IsFlat outcome
+if_came : (main source : List ℕ) (outcome : SpliceOutcome) → IfCame (HasHead (empty_flat main (has_includes source))) outcome → IfCame IsFlat outcome
     → IfCame (HasItsWords source) outcome
 if_came main source (Came flat) has is = has_its_words source flat has.includes is
 if_came main source (Met fault) has is = tt

@@ -2,25 +2,25 @@
 use Rattle.std.proofs.Common.{◌≡◌, ℕ, ◌+◌, List, [], ◌∷◌, ◌++◌, length, Option, sym, subst, arith, IfSome}
 use Rattle.std.specs.List.{AllByRecursion}
 use Rattle.std.proofs.lemmas.List.{length-append}
-use Rattle.tree_io.specs.Files.{Nodes, file_at}
-use Rattle.tree_io.specs.WholeFile.{whole_file}
-use Rattle.tree_io.specs.declared.trees.FileBytes.{FileBytes}
+use Rattle.uxn_io_traits.specs.Files.{Nodes, file_at}
+use Rattle.uxn_io_traits.specs.WholeFile.{whole_file}
+use Rattle.uxn_io_traits.specs.declared.trees.FileBytes.{FileBytes}
 use Rattle.tal_words.specs.Comments.{source_limit}
 use Rattle.tal_include.specs.Splice.{Reading}
-use Rattle.tal_include.specs.Parts.{Read, IsTold, Agrees, Along}
+use Rattle.tal_include.specs.Parts.{Read, HasKnownContents, Agrees, Along}
 
 -- no file was read
 pub no_read : (tree : Option Nodes) (before : ℕ) (Many : ℕ → Type 0) (Holds : Reading → Type 0) → Many 0
     → ((reading : Reading) → Holds reading) → Along tree before Many Holds
-no_read tree before Many Holds many holds = record { reads = []; told = tt; number = many; along = λ reading _. holds reading }
+no_read tree before Many Holds many holds = record { reads = []; contents = tt; number = many; along = λ reading _. holds reading }
 
 -- one file was read
 pub one_read : (tree : Option Nodes) (before : ℕ) (path : List ℕ) (answer : FileBytes) (Many : ℕ → Type 0) (Holds : Reading → Type 0)
     → IfSome tree (λ nodes. answer ≡ whole_file (file_at nodes path) source_limit) → Many 1
     → ((reading : Reading) → reading before path ≡ answer → Holds reading) → Along tree before Many Holds
-one_read tree before path answer Many Holds told many holds = record {
+one_read tree before path answer Many Holds contents many holds = record {
   reads = record { path = path; answer = answer } ∷ [];
-  told = (told, tt);
+  contents = (contents, tt);
   number = many;
   along = λ reading agrees. holds reading agrees.0;
 }
@@ -30,13 +30,13 @@ pub along_more : (tree : Option Nodes) (before : ℕ) (Many More : ℕ → Type 
     → ((count : ℕ) → Many count → More count) → ((reading : Reading) → Holds reading → Then reading) → Along tree before More Then
 along_more tree before Many More Holds Then was many then = record {
   reads = was.reads;
-  told = was.told;
+  contents = was.contents;
   number = many (length was.reads) was.number;
   along = λ reading agrees. then reading (was.along reading agrees);
 }
 
-all_both : (tree : Option Nodes) (first more : List Read) → AllByRecursion (IsTold tree) first → AllByRecursion (IsTold tree) more
-    → AllByRecursion (IsTold tree) (first ++ more)
+all_both : (tree : Option Nodes) (first more : List Read) → AllByRecursion (HasKnownContents tree) first → AllByRecursion (HasKnownContents tree) more
+    → AllByRecursion (HasKnownContents tree) (first ++ more)
 all_both tree [] more a b = b
 all_both tree (read ∷ first) more a b = (a.0, all_both tree first more a.1 b)
 
@@ -60,7 +60,7 @@ pub along_both : (tree : Option Nodes) (before after : ℕ) (Many More : ℕ →
     → ((reading : Reading) → Holds reading → Then reading → All reading) → Along tree before More All
 along_both tree before after Many More Holds Then All first later more all = record {
   reads = first.reads ++ later.reads;
-  told = all_both tree first.reads later.reads first.told later.told;
+  contents = all_both tree first.reads later.reads first.contents later.contents;
   number = subst More (sym (length-append first.reads later.reads)) (more _ _ first.number later.number);
   along = λ reading agrees.
       all reading (first.along reading (agrees_first reading before first.reads later.reads agrees))

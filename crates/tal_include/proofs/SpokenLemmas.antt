@@ -9,7 +9,7 @@ use Rattle.tal_words.specs.declared.fault.FaultKind.{FaultKind}
 use Rattle.tal_words.specs.declared.fault.FaultKind.TheVariants.{OpenComment, LongWord, StrayParen}
 use Rattle.tal_words.specs.Faults.{when, least, phase_fault, fault_or}
 use Rattle.tal_words.specs.Order.{each, collected}
-use Rattle.tal_words.specs.Comments.{is_word, opens_comment, closed_by, judged_token, word_given, words_of, word_fault, source_limit}
+use Rattle.tal_words.specs.Comments.{is_word, opens_comment, closed_comment, validated_token, word_given, words_of, word_fault, source_limit}
 use Rattle.tal_words.specs.PlainTexts.{Chunk}
 use Rattle.tal_words.specs.Source.{is_blank, word_text, run_length, is_after_blank, begins_token, token_at, tokens_below, tokens_of}
 use Rattle.tal_words.proofs.BlankFree.{all_joined, words_free}
@@ -53,7 +53,7 @@ module _ (source : List ℕ) where
   IsLong word = 0 < length (word_text source word)
 
   given_spoken : (token : Word) (before after : List Word) (b : Bool) → is_word source before token ≡ b
-      → (judged_token source before token after).kinds ≡ [] → AllByRecursion IsSpokenWord (if b then token ∷ [] else [])
+      → (validated_token source before token after).kinds ≡ [] → AllByRecursion IsSpokenWord (if b then token ∷ [] else [])
   given_spoken token before after false is kinds = tt
   given_spoken token before after true is kinds =
       let parts = no_when _ _ _ kinds in (
@@ -65,11 +65,11 @@ module _ (source : List ℕ) where
         tt,
       )
 
-  given_all : (before tokens : List Word) → phase_fault (each (judged_token source) before tokens) ≡ None
+  given_all : (before tokens : List Word) → phase_fault (each (validated_token source) before tokens) ≡ None
       → AllByRecursion IsSpokenWord (collected (word_given source) before tokens)
   given_all before [] none = tt
   given_all before (token ∷ tokens) none =
-      let parts = no_kinds (judged_token source before token tokens).kinds token (phase_fault (each (judged_token source) (before ++ token ∷ []) tokens)) none in
+      let parts = no_kinds (validated_token source before token tokens).kinds token (phase_fault (each (validated_token source) (before ++ token ∷ []) tokens)) none in
       all_joined IsSpokenWord (word_given source before token tokens) (collected (word_given source) (before ++ token ∷ []) tokens)
       (given_spoken token before tokens (is_word source before token) refl parts.0)
       (given_all (before ++ token ∷ []) tokens parts.1)
@@ -121,7 +121,7 @@ module _ (source : List ℕ) where
   unfolding words_of word_fault
   words_spoken none = by (nat_lt source_limit (length source)) none
     where
-      by : (b : Bool) → (if b then Some Rattle.tal_words.specs.Comments.long_source else phase_fault (each (judged_token source) [] (tokens_of source))) ≡ None
+      by : (b : Bool) → (if b then Some Rattle.tal_words.specs.Comments.long_source else phase_fault (each (validated_token source) [] (tokens_of source))) ≡ None
           → AllByRecursion IsSpokenWord (collected (word_given source) [] (tokens_of source))
       by true is = absurd (let P : Option Fault → Type 0 = λ o. elim o [ None ↦ ⊥ | Some _ ↦ Unit {0} ] in subst P is tt)
       by false is = given_all [] (tokens_of source) is

@@ -1,22 +1,22 @@
 -- What a call answers, by a walk.
 use Rattle.std.specs.Prelude.{◌≡◌, ℕ, List, Bool, true, false, Result, Ok, Err, ⊤}
-use Rattle.tree_io.specs.Files.{Nodes, file_at}
-use Rattle.tree_io.specs.WholeFile.{whole_file}
-use Rattle.tree_io.specs.declared.trees.FileBytes.{FileBytes}
+use Rattle.uxn_io_traits.specs.Files.{Nodes, file_at}
+use Rattle.uxn_io_traits.specs.WholeFile.{whole_file}
+use Rattle.uxn_io_traits.specs.declared.trees.FileBytes.{FileBytes}
 use Rattle.tal_words.specs.Comments.{source_limit}
 use Rattle.tal_include.specs.declared.faults.SpliceStop.{SpliceStop}
 use Rattle.tal_include.specs.declared.faults.SpliceStop.TheVariants.{Refused, TreeFault, NoMemory}
 use Rattle.tal_include.specs.Flat.{Flat}
-use Rattle.tal_include.specs.Splice.{Outcome, Came, Met, Reading}
+use Rattle.tal_include.specs.Splice.{SpliceOutcome, Came, Met, Reading}
 
 -- a call answers what a walk comes to, unless the tree fails or memory runs out
-abbrev pub Gives : {X : Type 0} → (X → Flat) → Result X SpliceStop → Outcome → Type 0
-Gives view (Ok x) outcome = outcome ≡ Came (view x)
-Gives view (Err (Refused fault)) outcome = outcome ≡ Met fault
-Gives view (Err TreeFault) outcome = ⊤
-Gives view (Err NoMemory) outcome = ⊤
+abbrev pub GivesFlat : {X : Type 0} → (X → Flat) → Result X SpliceStop → SpliceOutcome → Type 0
+GivesFlat view (Ok x) outcome = outcome ≡ Came (view x)
+GivesFlat view (Err (Refused fault)) outcome = outcome ≡ Met fault
+GivesFlat view (Err TreeFault) outcome = ⊤
+GivesFlat view (Err NoMemory) outcome = ⊤
 
--- the tree failed; a refusal and want of memory are no faults of it
+-- the tree failed; a refusal and running out of memory are no faults of it
 abbrev pub has_failed : {X : Type 0} → Result X SpliceStop → Bool
 has_failed (Ok x) = false
 has_failed (Err (Refused fault)) = false
@@ -24,9 +24,9 @@ has_failed (Err TreeFault) = true
 has_failed (Err NoMemory) = false
 
 -- what a tree gives of the file at a path
-abbrev pub told_file : Nodes → List ℕ → FileBytes
-told_file nodes path = whole_file (file_at nodes path) source_limit
+abbrev pub known_file_bytes : Nodes → List ℕ → FileBytes
+known_file_bytes nodes path = whole_file (file_at nodes path) source_limit
 
--- a file is read as the tree tells it
-abbrev pub told_reading : Nodes → Reading
-told_reading nodes before path = told_file nodes path
+-- a file is read as the contents of the tree have it
+abbrev pub known_reading : Nodes → Reading
+known_reading nodes before path = known_file_bytes nodes path

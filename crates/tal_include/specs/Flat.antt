@@ -21,15 +21,15 @@ abbrev pub empty_flat : List ℕ → Bool → Flat
 empty_flat main includes = record { main = main; includes = includes; text = []; places = []; paths = [] }
 
 -- with one word more, of the file with this number in the order of reading; 10 is a newline
-abbrev pub with_word : ℕ → Word → List ℕ → Flat → Flat
-with_word file word text flat = record flat {
+abbrev pub flat_with_word : ℕ → Word → List ℕ → Flat → Flat
+flat_with_word file word text flat = record flat {
   text = flat.text ++ text ++ 10 ∷ [];
   places = flat.places ++ record { at = length flat.text; file = file; line = word.line; column = word.column } ∷ [];
 }
 
 -- with one file more
-abbrev pub with_path : List ℕ → Flat → Flat
-with_path path flat = record flat { paths = flat.paths ++ path ∷ [] }
+abbrev pub flat_with_path : List ℕ → Flat → Flat
+flat_with_path path flat = record flat { paths = flat.paths ++ path ∷ [] }
 
 -- the main source is the file 0, and the first that was read the file 1
 abbrev pub path_of_file : List ℕ → List (List ℕ) → ℕ → List ℕ
@@ -37,8 +37,8 @@ path_of_file main paths zero = main
 path_of_file main paths (suc file) = slice_index_or paths file main
 
 -- the word that begins at an offset
-abbrev pub place_at : ℕ → List Place → Option Place
-place_at at places = find (λ place. place.at == at) places
+abbrev pub place_in_list : ℕ → List Place → Option Place
+place_in_list at places = find (λ place. place.at == at) places
 
 -- where a word stands
 abbrev pub origin_of : Flat → Place → Origin
@@ -46,4 +46,4 @@ origin_of flat place = record { path = path_of_file flat.main flat.paths place.f
 
 -- where the word stands that begins at an offset: nowhere, if none does
 abbrev pub origin_at : Flat → ℕ → Option Origin
-origin_at flat at = option_map (origin_of flat) (place_at at flat.places)
+origin_at flat at = option_map (origin_of flat) (place_in_list at flat.places)

@@ -1,9 +1,9 @@
 -- The files that a source includes, itself or by files that it includes.
 use Rattle.std.specs.Prelude.{◌≡◌, ℕ, true, List, Some}
 use Rattle.std.specs.List.{Contains}
-use Rattle.tree_io.specs.ByteList.{ByteList}
-use Rattle.tree_io.specs.declared.trees.FileBytes.{FileBytes}
-use Rattle.tree_io.specs.declared.trees.FileBytes.TheVariants.{Found}
+use Rattle.uxn_io_traits.specs.ByteList.{ByteList}
+use Rattle.uxn_io_traits.specs.declared.trees.FileBytes.{FileBytes}
+use Rattle.uxn_io_traits.specs.declared.trees.FileBytes.TheVariants.{Found}
 use Rattle.tal_words.specs.declared.span.Word.{Word}
 use Rattle.tal_words.specs.Source.{word_text}
 use Rattle.tal_words.specs.Comments.{words_of}

@@ -1,10 +1,10 @@
 -- Include words, the paths that they name, and faults of includes (profile).
 use Rattle.std.specs.Prelude.{ℕ, zero, suc, Bool, false, ◌==◌, nat_le, if◌then◌else◌, List, [], ◌∷◌, codes, drop, take}
 use Rattle.std.specs.Prelude.{Option, Some, None, Result, Ok, Err}
-use Rattle.tree_io.specs.PathText.{path_of, parent_of, joined}
-use Rattle.tree_io.specs.declared.paths.PathFault.{PathFault}
-use Rattle.tree_io.specs.declared.trees.FileBytes.{FileBytes}
-use Rattle.tree_io.specs.declared.trees.FileBytes.TheVariants.{Found, TooLong, Missing as NoFile}
+use Rattle.uxn_io_traits.specs.PathText.{path_of, parent_of, joined}
+use Rattle.uxn_io_traits.specs.declared.paths.PathFault.{PathFault}
+use Rattle.uxn_io_traits.specs.declared.trees.FileBytes.{FileBytes}
+use Rattle.uxn_io_traits.specs.declared.trees.FileBytes.TheVariants.{Found, TooLong, Missing as NoFile}
 use Rattle.tal_words.specs.declared.fault.Fault.{Fault}
 use Rattle.tal_words.specs.Faults.{kind_name, fault_text}
 use Rattle.tal_include.specs.declared.faults.Origin.{Origin}
@@ -55,15 +55,15 @@ bytes_or_kind NoFile = Err Missing
 bytes_or_kind (TooLong n) = Err Long
 bytes_or_kind (Found found) = Ok found.list
 
--- the front of a word that is kept with a fault
-unfoldable pub word_front : List ℕ → List ℕ
-word_front word = take 255 word
+-- the prefix of a word that is kept with a fault
+unfoldable pub word_prefix : List ℕ → List ℕ
+word_prefix word = take 255 word
 
 -- a fault of this kind at a word
-abbrev pub fault_at : Origin → IncludeKind → List ℕ → IncludeFault
-fault_at origin kind word = record { origin = origin; kind = kind; word = record { items = word_front word } }
+abbrev pub include_fault_at : Origin → IncludeKind → List ℕ → IncludeFault
+include_fault_at origin kind word = record { origin = origin; kind = kind; word = record { items = word_prefix word } }
 
 -- a fault of the words of a file
 abbrev pub words_fault : List ℕ → List ℕ → Fault → IncludeFault
 words_fault path source fault =
-    fault_at (record { path = path; line = fault.line; column = fault.column }) (Words fault.kind) (fault_text source fault)
+    include_fault_at (record { path = path; line = fault.line; column = fault.column }) (Words fault.kind) (fault_text source fault)

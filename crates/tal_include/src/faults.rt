@@ -1,14 +1,14 @@
 //! Where words stand in files, and what can be wrong with includes.
 
 ghost use Rattle.std.specs.Prelude.{◌≡◌, ◌≤◌, length, take};
-ghost use Rattle.tal_include.specs.Includes.{include_kind_name, fault_at, word_front};
+ghost use Rattle.tal_include.specs.Includes.{include_kind_name, include_fault_at, word_prefix};
 ghost use Rattle.tal_include.specs.declared.faults.SpliceStop.TheVariants.{NoMemory};
 
 use arrayvec::ArrayVec;
 use std::alloc::{AllocError, AllocFailed};
 use tal_words::FaultKind;
 use thiserror::Error;
-use tree_io::Path;
+use uxn_io_traits::Path;
 
 /// Where a word stands: in which file, and at which line and column of it.
 #[derive(Clone, Copy, Debug, PartialEq, Eq)]
@@ -65,29 +65,29 @@ pub struct IncludeFault {
 impl IncludeFault {
     /// A fault of a kind at a word.
     pub(crate) fn new(origin: Origin, kind: IncludeKind, word: &[u8]) -> IncludeFault
-        ensures { result ≡ fault_at origin kind word.now }
+        ensures { result ≡ include_fault_at origin kind word.now }
     {
         IncludeFault {
             origin,
             kind,
-            word: copied(word_front(word)),
+            word: copied(word_prefix(word)),
         }
     }
 }
 
 /// The first 255 bytes of a word, or all of them.
-#[tactic(auto, unfolding(crate::specs::Includes::word_front))]
-fn word_front(word: &[u8]) -> &[u8]
-    ensures front { result.now ≡ word_front word.now }
+#[tactic(auto, unfolding(crate::specs::Includes::word_prefix))]
+fn word_prefix(word: &[u8]) -> &[u8]
+    ensures prefix { result.now ≡ word_prefix word.now }
     ensures short { length result.now ≤ 255 }
 {
-    front(word, 255)
+    prefix(word, 255)
 }
 
 /// So many bytes of a text, or all of them.
 #[tactic(auto, using(crate::proofs::WalkLemmas::take_whole))]
-fn front(text: &[u8], most: usize) -> &[u8]
-    ensures front { result.now ≡ take most text.now }
+fn prefix(text: &[u8], most: usize) -> &[u8]
+    ensures prefix { result.now ≡ take most text.now }
     ensures short { length result.now ≤ most }
 {
     if text.len() > most {

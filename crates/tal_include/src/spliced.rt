@@ -1,13 +1,13 @@
 //! A source whose includes are replaced by the words of their files.
 
 ghost use Rattle.std.specs.Prelude.{◌≡◌, IsOk, OnOk, Bool};
-ghost use Rattle.tal_include.specs.Flat.{empty_flat, with_word, with_path, path_of_file, origin_at, origin_of, place_at};
+ghost use Rattle.tal_include.specs.Flat.{empty_flat, flat_with_word, flat_with_path, path_of_file, origin_at, origin_of, place_in_list};
 
 use crate::faults::Origin;
 use std::alloc::{AllocError, Global};
 use std::marker::Model;
 use tal_words::Word;
-use tree_io::Path;
+use uxn_io_traits::Path;
 
 /// A word of the flat text: the offset of its first byte there, its file by its number in the order of
 /// reading, where the main source has 0, and its line and column in that file.
@@ -85,7 +85,7 @@ impl Spliced {
     pub fn origin(&self, at: u32) -> Option<Origin>
         ensures { result ≡ origin_at self.now at }
     {
-        match place_at(&self.places, at as usize) {
+        match place_in_list(&self.places, at as usize) {
             Some(place) => Some(self.origin_of(place)),
             None => None,
         }
@@ -136,7 +136,7 @@ impl Spliced {
         word: &Word,
         text: &[u8],
     ) -> Result<(), AllocError>
-        ensures { OnOk result (self.new ≡ with_word file word.now text.now self.old) }
+        ensures { OnOk result (self.new ≡ flat_with_word file word.now text.now self.old) }
     {
         self.places.push(Place {
             at: self.text.len(),
@@ -151,7 +151,7 @@ impl Spliced {
 
     /// Adds a file that was read.
     pub(crate) fn add_path(&mut self, path: &Path) -> Result<(), AllocError>
-        ensures { OnOk result (self.new ≡ with_path path.now self.old) }
+        ensures { OnOk result (self.new ≡ flat_with_path path.now self.old) }
     {
         self.paths.push(*path)?;
         Ok(())
@@ -159,8 +159,8 @@ impl Spliced {
 }
 
 /// The word that begins at an offset.
-fn place_at(places: &[Place], at: usize) -> Option<Place>
-    ensures { result ≡ place_at at places.now }
+fn place_in_list(places: &[Place], at: usize) -> Option<Place>
+    ensures { result ≡ place_in_list at places.now }
 {
     places.iter().copied().find(|place| place.at == at)
 }

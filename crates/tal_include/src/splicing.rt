@@ -2,20 +2,20 @@
 
 ghost use Rattle.std.specs.Prelude.{◌≡◌, ℕ, ◌+◌, ◌<◌, ◌==◌, ◌&&◌, false, length, nat_lt, IfOk, IfSome, OnOk, if◌then◌else◌};
 ghost use Rattle.std.specs.List.{list_any};
-ghost use Rattle.tree_io.specs.Ended.{TreeLooked};
+ghost use Rattle.uxn_io_traits.specs.Ended.{TreeLooked};
 ghost use Rattle.tal_words.specs.declared.span.Word.{Word};
 ghost use Rattle.tal_words.specs.Source.{word_text};
 ghost use Rattle.tal_include.specs.declared.faults.SpliceStop.TheVariants.{Refused};
-ghost use Rattle.tal_include.specs.Includes.{is_include, included_path, path_or_kind, fault_at};
+ghost use Rattle.tal_include.specs.Includes.{is_include, included_path, path_or_kind, include_fault_at};
 ghost use Rattle.tal_include.specs.Splice.{Reading, is_long_with, at_plain_word, at_include, through_words, is_spliced, spliced};
-ghost use Rattle.tal_include.specs.Answers.{Gives, has_failed, told_reading};
-ghost use Rattle.tal_include.specs.Parts.{Along, IsCut, IsOpened, inner_walk};
+ghost use Rattle.tal_include.specs.Answers.{GivesFlat, has_failed, known_reading};
+ghost use Rattle.tal_include.specs.Parts.{Along, IsCutSource, IsOpened, inner_walk};
 
 use crate::faults::{IncludeFault, IncludeKind, Origin, SpliceStop};
 use crate::spliced::Spliced;
 use std::alloc::{AllocError, Global};
 use tal_words::{AsmStop, SOURCE_LIMIT, Word, fault_word, words};
-use tree_io::{Bytes, FileBytes, Path, ReadStop, Tree, read_file};
+use uxn_io_traits::{Bytes, FileBytes, Path, ReadStop, Tree, read_file};
 
 /// The greatest length of a file, in bytes.
 const FILE_LIMIT: u32 = 4_194_304;
@@ -35,8 +35,8 @@ pub fn splice<T: Tree>(
     main: &Path,
     source: &[u8],
 ) -> Result<Spliced, SpliceStop>
-    ensures told { IfSome (T.state tree.old).told (λ nodes. Gives (λ flat. flat) result (spliced (told_reading nodes) main.now source.now)) }
-    ensures read { (reading : Reading) × Gives (λ flat. flat) result (spliced reading main.now source.now) }
+    ensures contents { IfSome (T.state tree.old).contents (λ nodes. GivesFlat (λ flat. flat) result (spliced (known_reading nodes) main.now source.now)) }
+    ensures read { (reading : Reading) × GivesFlat (λ flat. flat) result (spliced reading main.now source.now) }
     ensures looked { TreeLooked (has_failed result) (T.state tree.old) (T.state tree.new) }
 {
     let file = cut_file(alloc, main, source)?;
@@ -70,7 +70,7 @@ struct Cut<'a> {
 
 /// Cuts a file into its words. Refused with its first fault of words.
 fn cut_file<'a>(alloc: Global, path: &'a Path, source: &'a [u8]) -> Result<Cut<'a>, SpliceStop>
-    ensures cuts { IsCut path.now source.now result }
+    ensures cuts { IsCutSource path.now source.now result }
     ensures tree { has_failed result ≡ false }
 {
     match words(alloc, source) {
@@ -97,7 +97,7 @@ fn cut_file<'a>(alloc: Global, path: &'a Path, source: &'a [u8]) -> Result<Cut<'
 
 /// A refusal at a word.
 fn refused(origin: Origin, kind: IncludeKind, word: &[u8]) -> SpliceStop
-    ensures { result ≡ Refused (fault_at origin kind word.now) }
+    ensures { result ≡ Refused (include_fault_at origin kind word.now) }
 {
     SpliceStop::Refused(IncludeFault::new(origin, kind, word))
 }
@@ -150,9 +150,9 @@ impl Spliced {
         file: &Cut<'_>,
         deeper: u32,
     ) -> Result<(), SpliceStop>
-        ensures walk { Along (T.state tree.old).told (length self.old.paths)
+        ensures walk { Along (T.state tree.old).contents (length self.old.paths)
             (λ count. OnOk result (length self.new.paths ≡ length self.old.paths + count))
-            (λ reading. Gives (λ _. self.new) result
+            (λ reading. GivesFlat (λ _. self.new) result
             (through_words reading deeper (inner_walk reading deeper) file.now.path.now file.now.source.now file.now.words.items self.old)) }
         ensures looked { TreeLooked (has_failed result) (T.state tree.old) (T.state tree.new) }
     {
@@ -184,9 +184,9 @@ impl Spliced {
         deeper: u32,
     ) -> Result<(), SpliceStop>
         requires { 0 < length text.now }
-        ensures walk { Along (T.state tree.old).told (length self.old.paths)
+        ensures walk { Along (T.state tree.old).contents (length self.old.paths)
             (λ count. OnOk result (length self.new.paths ≡ length self.old.paths + count))
-            (λ reading. Gives (λ _. self.new) result (at_include reading deeper (inner_walk reading deeper) origin text.now self.old)) }
+            (λ reading. GivesFlat (λ _. self.new) result (at_include reading deeper (inner_walk reading deeper) origin text.now self.old)) }
         ensures looked { TreeLooked (has_failed result) (T.state tree.old) (T.state tree.new) }
     {
         let opened = self.open(alloc, tree, origin, text, deeper)?;
@@ -225,7 +225,7 @@ impl Spliced {
         deeper: u32,
     ) -> Result<Opened, SpliceStop>
         requires { 0 < length text.now }
-        ensures walk { Along (T.state tree.old).told (length self.now.paths) (λ count. OnOk result (count ≡ 1))
+        ensures walk { Along (T.state tree.old).contents (length self.now.paths) (λ count. OnOk result (count ≡ 1))
             (λ reading. IsOpened reading deeper origin text.now self.now result) }
         ensures deep { OnOk result (0 < deeper) }
         ensures looked { TreeLooked (has_failed result) (T.state tree.old) (T.state tree.new) }
@@ -250,7 +250,7 @@ impl Spliced {
         word: &Word,
         text: &[u8],
     ) -> Result<(), SpliceStop>
-        ensures value { Gives (λ _. self.new) result (at_plain_word file origin word.now text.now self.old) }
+        ensures value { GivesFlat (λ _. self.new) result (at_plain_word file origin word.now text.now self.old) }
         ensures paths { OnOk result (self.new.paths ≡ self.old.paths) }
         ensures tree { has_failed result ≡ false }
     {

@@ -13,10 +13,10 @@ use Rattle.tal_words.specs.Braces.{opens}
 use Rattle.tal_words.specs.Order.{each, collected}
 use Rattle.tal_words.specs.Source.{expanded_text}
 use Rattle.tal_words.proofs.OrderLemmas.{each-step, each-more, no_word}
-use Rattle.tal_words.proofs.PassLemmas.{fault-later, fault-behind, fault-front, fault_or-none}
-use Rattle.tal_labels.specs.Shapes.{shape_kinds, open_count, closing_distance, judged_shape, shape_fault}
-use Rattle.tal_labels.specs.Placing.{judged_place, placing_fault, place_fault}
-use Rattle.tal_labels.specs.Adding.{shape_added, adding_kinds, judged_added, added_fault, open_given, open_ones}
+use Rattle.tal_words.proofs.PassLemmas.{fault-later, fault-behind, fault-prefix, fault_or-none}
+use Rattle.tal_labels.specs.Shapes.{shape_kinds, open_count, closing_distance, validated_shape, shape_fault}
+use Rattle.tal_labels.specs.Placing.{validated_place, placing_fault, place_fault}
+use Rattle.tal_labels.specs.Adding.{shape_added, adding_kinds, validated_added, added_fault, open_given, open_ones}
 use Rattle.tal_labels.specs.Placers.{next_fault}
 use Rattle.tal_labels.proofs.CallerLemmas.{place_fault-none}
 
@@ -52,25 +52,25 @@ open-head b at rest e = grind arith
 
 module _ (source : List ℕ) where
   -- the faults of shapes and places by those of words that are added
-  both_none : (before words : List Expanded) → phase_fault (each (judged_added source) before words) ≡ None → collected (open_given source) before words ≡ []
-      → (phase_fault (each (judged_shape source) before words) ≡ None) × (phase_fault (each (judged_place source) before words) ≡ None)
+  both_none : (before words : List Expanded) → phase_fault (each (validated_added source) before words) ≡ None → collected (open_given source) before words ≡ []
+      → (phase_fault (each (validated_shape source) before words) ≡ None) × (phase_fault (each (validated_place source) before words) ≡ None)
   both_none before [] e h = (refl, refl)
   both_none before (word ∷ words) e h =
-      let here = fault_or-none word.origin (least (adding_kinds source before word)) (phase_fault (each (judged_added source) (before ++ word ∷ []) words)) e in
-      let kinds = append-none (shape_added source before word) (judged_place source before word []).kinds here.0 in
+      let here = fault_or-none word.origin (least (adding_kinds source before word)) (phase_fault (each (validated_added source) (before ++ word ∷ []) words)) e in
+      let kinds = append-none (shape_added source before word) (validated_place source before word []).kinds here.0 in
       let opener = open-head (opens (expanded_text source word) && not (is_some (closing_distance source words))) (length before) _ h in
       let rest = both_none (before ++ word ∷ []) words here.1 opener.1 in
       (fault_or-both word.origin _ _ (shape_closed (form (expanded_text source word)) _ _ _ kinds.0 opener.0) rest.0, fault_or-both word.origin _ _ kinds.1 rest.1)
 
-  added_none : (before words : List Expanded) → phase_fault (each (judged_shape source) before words) ≡ None → phase_fault (each (judged_place source) before words) ≡ None
-      → (phase_fault (each (judged_added source) before words) ≡ None) × (collected (open_given source) before words ≡ [])
+  added_none : (before words : List Expanded) → phase_fault (each (validated_shape source) before words) ≡ None → phase_fault (each (validated_place source) before words) ≡ None
+      → (phase_fault (each (validated_added source) before words) ≡ None) × (collected (open_given source) before words ≡ [])
   added_none before [] e h = (refl, refl)
   added_none before (word ∷ words) e h =
-      let shape = fault_or-none word.origin (least (judged_shape source before word words).kinds) (phase_fault (each (judged_shape source) (before ++ word ∷ []) words)) e in
-      let place = fault_or-none word.origin (least (judged_place source before word words).kinds) (phase_fault (each (judged_place source) (before ++ word ∷ []) words)) h in
+      let shape = fault_or-none word.origin (least (validated_shape source before word words).kinds) (phase_fault (each (validated_shape source) (before ++ word ∷ []) words)) e in
+      let place = fault_or-none word.origin (least (validated_place source before word words).kinds) (phase_fault (each (validated_place source) (before ++ word ∷ []) words)) h in
       let opener = shape_open (form (expanded_text source word)) (expanded_text source word) (open_count source before) (is_some (closing_distance source words)) (least-none _ shape.0) in
       let rest = added_none (before ++ word ∷ []) words shape.1 place.1 in
-      (fault_or-both word.origin _ _ (ap (λ ks. ks ++ (judged_place source before word []).kinds) opener.0 ∙ least-none _ place.0) rest.0, rw opener.1 rest.1)
+      (fault_or-both word.origin _ _ (ap (λ ks. ks ++ (validated_place source before word []).kinds) opener.0 ∙ least-none _ place.0) rest.0, rw opener.1 rest.1)
 
   pub place-none : (words : List Expanded) → added_fault source words ≡ None → open_ones source words ≡ [] → place_fault source words ≡ None
   unfolding added_fault open_ones place_fault shape_fault placing_fault
@@ -81,43 +81,43 @@ module _ (source : List ℕ) where
   added-none words e = (let parts = place_fault-none source words e in added_none [] words parts.0 parts.1)
 
   -- one word more
-  added-step : (words : List Expanded) (word : Expanded) → each (judged_added source) [] (words ++ word ∷ []) ≡ each (judged_added source) [] words ++ judged_added source words word [] ∷ []
-  added-step words word = each-more (judged_added source) (λ b w a c. refl) [] words word
+  added-step : (words : List Expanded) (word : Expanded) → each (validated_added source) [] (words ++ word ∷ []) ≡ each (validated_added source) [] words ++ validated_added source words word [] ∷ []
+  added-step words word = each-more (validated_added source) (λ b w a c. refl) [] words word
 
   pub added-still : (words : List Expanded) (word : Expanded) → added_fault source words ≡ None → next_fault source words word ≡ None → added_fault source (words ++ word ∷ []) ≡ None
   unfolding added_fault
   added-still words word e h =
-      rw (added-step words word, fault-behind (each (judged_added source) [] words) (judged_added source words word [] ∷ []) e, either_none word.origin _ _ h) refl
+      rw (added-step words word, fault-behind (each (validated_added source) [] words) (validated_added source words word [] ∷ []) e, either_none word.origin _ _ h) refl
 
   pub added-faulty : (words : List Expanded) (word : Expanded) (fault : Fault) → added_fault source words ≡ None → next_fault source words word ≡ Some fault → is_some (added_fault source (words ++ word ∷ [])) ≡ true
   unfolding added_fault
   added-faulty words word fault e h =
-      rw (added-step words word, fault-behind (each (judged_added source) [] words) (judged_added source words word [] ∷ []) e) (either_some word.origin _ _ fault h)
+      rw (added-step words word, fault-behind (each (validated_added source) [] words) (validated_added source words word [] ∷ []) e) (either_some word.origin _ _ fault h)
 
-  pub added-front : (words : List Expanded) (word : Expanded) → is_some (added_fault source words) ≡ true → is_some (added_fault source (words ++ word ∷ [])) ≡ true
+  pub added-prefix : (words : List Expanded) (word : Expanded) → is_some (added_fault source words) ≡ true → is_some (added_fault source (words ++ word ∷ [])) ≡ true
   unfolding added_fault
-  added-front words word e = rw (added-step words word) (grind (arith, fault-front (each (judged_added source) [] words) (judged_added source words word [] ∷ [])))
+  added-prefix words word e = rw (added-step words word) (grind (arith, fault-prefix (each (validated_added source) [] words) (validated_added source words word [] ∷ [])))
 
   -- words without a fault have a form
   pub formed-added : (words : List Expanded) → added_fault source words ≡ None → (k : ℕ) → k < length words → (shape : Form) × (form (expanded_text source (get_or words k no_word)) ≡ Ok shape)
   unfolding added_fault
-  formed-added words sound k within = has_form _ _ (open_count source (take k words)) true (append-none (shape_added source (take k words) (get_or words k no_word)) _ (each-none (judged_added source) words sound k within)).0
+  formed-added words sound k within = has_form _ _ (open_count source (take k words)) true (append-none (shape_added source (take k words) (get_or words k no_word)) _ (each-none (validated_added source) words sound k within)).0
 
   -- where the shapes of all words have no fault, the fault of a word is that of its place
   placed-fault : (words : List Expanded) (k : ℕ) → shape_fault source words ≡ None → k < length words
-      → next_fault source (take k words) (get_or words k no_word) ≡ fault_or (get_or words k no_word).origin (least (judged_place source (take k words) (get_or words k no_word) (drop (k + 1) words)).kinds) None
+      → next_fault source (take k words) (get_or words k no_word) ≡ fault_or (get_or words k no_word).origin (least (validated_place source (take k words) (get_or words k no_word) (drop (k + 1) words)).kinds) None
   unfolding shape_fault
   placed-fault words k sound within =
-      let opener = shape_open (form (expanded_text source (get_or words k no_word))) _ _ _ (least-none _ (each-none (judged_shape source) words sound k within)) in
+      let opener = shape_open (form (expanded_text source (get_or words k no_word))) _ _ _ (least-none _ (each-none (validated_shape source) words sound k within)) in
       rw opener.0 refl
 
   pub place-later : (words : List Expanded) (k : ℕ) → shape_fault source words ≡ None → k < length words → next_fault source (take k words) (get_or words k no_word) ≡ None
-      → phase_fault (each (judged_place source) (take (k + 1) words) (drop (k + 1) words)) ≡ phase_fault (each (judged_place source) (take k words) (drop k words))
+      → phase_fault (each (validated_place source) (take (k + 1) words) (drop (k + 1) words)) ≡ phase_fault (each (validated_place source) (take k words) (drop k words))
   place-later words k sound within e =
-      fault-later (judged_place source) words k no_word within (fault_or-none (get_or words k no_word).origin (least (judged_place source (take k words) (get_or words k no_word) (drop (k + 1) words)).kinds) None (sym (placed-fault words k sound within) ∙ e)).0
+      fault-later (validated_place source) words k no_word within (fault_or-none (get_or words k no_word).origin (least (validated_place source (take k words) (get_or words k no_word) (drop (k + 1) words)).kinds) None (sym (placed-fault words k sound within) ∙ e)).0
 
   pub place-here : (words : List Expanded) (k : ℕ) (fault : Fault) → shape_fault source words ≡ None → k < length words → next_fault source (take k words) (get_or words k no_word) ≡ Some fault
-      → phase_fault (each (judged_place source) (take k words) (drop k words)) ≡ Some fault
+      → phase_fault (each (validated_place source) (take k words) (drop k words)) ≡ Some fault
   place-here words k fault sound within e =
-      ap phase_fault (each-step (judged_place source) words k no_word within)
+      ap phase_fault (each-step (validated_place source) words k no_word within)
       ∙ fault_or-still (get_or words k no_word).origin _ _ fault (sym (placed-fault words k sound within) ∙ e)

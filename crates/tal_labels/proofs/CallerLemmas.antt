@@ -13,8 +13,8 @@ use Rattle.tal_words.specs.Order.{collected}
 use Rattle.tal_words.specs.Source.{expanded_text}
 use Rattle.tal_labels.specs.Places.{address_after}
 use Rattle.tal_labels.specs.Labels.{defined_name, scope_after, labels_of}
-use Rattle.tal_labels.specs.Shapes.{open_count, closing_distance, judged_shape, shape_fault}
-use Rattle.tal_labels.specs.Placing.{is_mark_form, is_defined, ends_above, judged_place, placing_fault, place_fault, lambda_address, placed_given, placed_of, ends_given, ends_of, LieApart}
+use Rattle.tal_labels.specs.Shapes.{open_count, closing_distance, validated_shape, shape_fault}
+use Rattle.tal_labels.specs.Placing.{is_mark_form, is_defined, ends_above, validated_place, placing_fault, place_fault, lambda_address, placed_given, placed_of, ends_given, ends_of, LieApart}
 use Rattle.tal_labels.specs.Adding.{open_word}
 use Rattle.tal_words.proofs.OrderLemmas.{no_word}
 use Rattle.tal_labels.proofs.LayingLemmas.{IsWellPlaced, well_placed, ends_of-append, or_false, each-none, has_form, least-none}
@@ -29,13 +29,13 @@ pub formed_at : (source : List ℕ) (words : List Expanded) → shape_fault sour
 unfolding shape_fault
 formed_at source words sound k within =
     let word = get_or words k no_word in
-    has_form _ (expanded_text source word) (open_count source (take k words)) (is_some (closing_distance source (drop (k + 1) words))) (least-none _ (each-none (judged_shape source) words sound k within))
+    has_form _ (expanded_text source word) (open_count source (take k words)) (is_some (closing_distance source (drop (k + 1) words))) (least-none _ (each-none (validated_shape source) words sound k within))
 
 -- what a well placed word of a form is
 placed_well : (source : List ℕ) (words : List Expanded) → placing_fault source words ≡ None → (k : ℕ) → k < length words → (shape : Form) → form (expanded_text source (get_or words k no_word)) ≡ Ok shape
     → IsWellPlaced (is_defined (labels_of source (take k words)) (defined_name (Ok shape) (scope_after source (take k words)) (expanded_text source (get_or words k no_word)))) (address_after source (take k words)) (size shape (expanded_text source (get_or words k no_word))) (is_mark_form shape) (ends_above source (take k words) (address_after source (take k words)))
 unfolding placing_fault
-placed_well source words sound k within shape e = well_placed _ _ _ _ _ (rw e at (each-none (judged_place source) words sound k within))
+placed_well source words sound k within shape e = well_placed _ _ _ _ _ (rw e at (each-none (validated_place source) words sound k within))
 
 -- a word that is laid out
 abbrev pub placed_word : List ℕ → List Expanded → Expanded → List Expanded → Form → PlacedWord

@@ -15,10 +15,10 @@ use Rattle.tal_labels.specs.Answers.{next_address, next_scope, label_of}
 use Rattle.tal_labels.specs.Places.{address_after}
 use Rattle.tal_labels.specs.Labels.{defined_name}
 use Rattle.tal_labels.specs.Shapes.{shape_kinds}
-use Rattle.tal_labels.specs.Placing.{is_mark_form, is_defined, place_kinds, judged_place, placed_of}
+use Rattle.tal_labels.specs.Placing.{is_mark_form, is_defined, place_kinds, validated_place, placed_of}
 use Rattle.tal_labels.specs.Adding.{shape_added, added_fault, open_word, open_ones}
 use Rattle.tal_labels.specs.Scopes.{scope_text}
-use Rattle.tal_labels.specs.Placers.{Kept, IsKept, next_fault, closed_by, closed_opener, openers_step}
+use Rattle.tal_labels.specs.Placers.{PlacerModel, PlacerIsMaintained, next_fault, closed_labels, closed_opener, openers_step}
 use Rattle.tal_labels.proofs.ClosingLemmas.{opens-closes}
 use Rattle.tal_labels.proofs.CallerLemmas.{length-placed_of}
 use Rattle.tal_labels.proofs.LayingLemmas.{address_after-more, scope_after-append, labels_of-append, top-append}
@@ -30,13 +30,13 @@ pub record IsNext (source : List ℕ) (word : Expanded) (shape : Form) (text : L
   pub read : text ≡ expanded_text source word
   pub formed : form text ≡ Ok shape
 
-module _ (source : List ℕ) (words : List Expanded) (word : Expanded) (kept : Kept) (so : IsKept source words kept) where
+module _ (source : List ℕ) (words : List Expanded) (word : Expanded) (kept : PlacerModel) (so : PlacerIsMaintained source words kept) where
   shape_read : (text : List ℕ) (depth : ℕ) → depth ≡ length kept.openers → text ≡ expanded_text source word
       → shape_kinds (form text) text depth true ≡ shape_added source words word
   shape_read text depth deep read = rw (deep, read, so.openers, ← length-open_ones source words) refl
 
   place_read : (shape : Form) (text : List ℕ) → IsNext source word shape text
-      → place_kinds (is_defined kept.labels (defined_name (Ok shape) (scope_text source kept.scope) text)) kept.address (size shape text) (is_mark_form shape) (ltb kept.address kept.top) ≡ (judged_place source words word []).kinds
+      → place_kinds (is_defined kept.labels (defined_name (Ok shape) (scope_text source kept.scope) text)) kept.address (size shape text) (is_mark_form shape) (ltb kept.address kept.top) ≡ (validated_place source words word []).kinds
   place_read shape text next =
       let shaped = rw next.read at next.formed in
       rw (← so.top kept.address, so.labels, so.scope, so.address, next.read, shaped) refl
@@ -45,16 +45,16 @@ module _ (source : List ℕ) (words : List Expanded) (word : Expanded) (kept : K
       → least (shape_kinds (form text) text depth true) ≡ Some kind → next_fault source words word ≡ Some (fault_at word.origin kind)
   refused_shape text depth kind deep read e = rw (← shape_read text depth deep read, e) refl
 
-  pub judged_next : (shape : Form) (text : List ℕ) (depth : ℕ) (name : Option (List ℕ)) (o : Option FaultKind) → IsNext source word shape text
+  pub validated_next : (shape : Form) (text : List ℕ) (depth : ℕ) (name : Option (List ℕ)) (o : Option FaultKind) → IsNext source word shape text
       → depth ≡ length kept.openers → name ≡ defined_name (Ok shape) (scope_text source kept.scope) text → least (shape_kinds (form text) text depth true) ≡ None
       → least (place_kinds (is_defined kept.labels name) kept.address (size shape text) (is_mark_form shape) (ltb kept.address kept.top)) ≡ o
       → next_fault source words word ≡ fault_or word.origin o None
-  judged_next shape text depth name o next deep named e f =
+  validated_next shape text depth name o next deep named e f =
       rw (← shape_read text depth deep next.read, e, ← place_read shape text next, ← named, f) refl
 
 -- the last opener is closed, where there is one
 closes_by : (address at : ℕ) (old new : List PlacedWord) (before after : List ℕ) → ClosesLast 0 address old new before after
-    → (closed_by (closed_opener false true before) address old ≡ new) × (openers_step false true at before ≡ after)
+    → (closed_labels (closed_opener false true before) address old ≡ new) × (openers_step false true at before ≡ after)
 closes_by address at old new before after (inl none) = (rw (none.0, none.2) refl, rw (none.0, none.1) refl)
 closes_by address at old new before after (inr some) =
     let start : 0 + some.1 ≡ some.1 = omega arith in
@@ -64,7 +64,7 @@ closes_by address at old new before after (inr some) =
 -- the places and the open lambdas with one word more
 module _ (source : List ℕ) (words : List Expanded) (word : Expanded) (shape : Form) (shaped : form (expanded_text source word) ≡ Ok shape) (formed : added_fault source words ≡ None) where
   next_ones : (opening closing : Bool) → opens (expanded_text source word) ≡ opening → closes (expanded_text source word) ≡ closing
-      → (closed_by (closed_opener opening closing (open_ones source words)) (address_after source words) (placed_of source words ++ open_word source words word shape ∷ []) ≡ placed_of source (words ++ word ∷ []))
+      → (closed_labels (closed_opener opening closing (open_ones source words)) (address_after source words) (placed_of source words ++ open_word source words word shape ∷ []) ≡ placed_of source (words ++ word ∷ []))
       × (openers_step opening closing (length words) (open_ones source words) ≡ open_ones source (words ++ word ∷ []))
   unfolding placed_of open_ones
   next_ones true true e f = (let never : true ≡ false = sym f ∙ opens-closes (expanded_text source word) e in cc)
@@ -72,13 +72,13 @@ module _ (source : List ℕ) (words : List Expanded) (word : Expanded) (shape : 
   next_ones false false e f = (let more = still-more source word shape shaped f [] words in (sym more.0, sym (rw (e, append-nil (opened source [] words)) at more.1)))
   next_ones false true e f = closes_by _ (length words) _ _ _ _ (closes_last source word shape shaped f [] words (formed-added source words formed))
 
-  pub placed_next : closed_by (closed_opener (opens (expanded_text source word)) (closes (expanded_text source word)) (open_ones source words)) (address_after source words)
+  pub placed_next : closed_labels (closed_opener (opens (expanded_text source word)) (closes (expanded_text source word)) (open_ones source words)) (address_after source words)
       (placed_of source words ++ open_word source words word shape ∷ []) ≡ placed_of source (words ++ word ∷ [])
   placed_next = (next_ones _ _ refl refl).0
 
 -- what is done with the next word
-pub record IsStep (source : List ℕ) (word : Expanded) (shape : Form) (text : List ℕ) (name : Option (List ℕ)) (placed : PlacedWord) (old new : Kept) : Type 0 where
-  pub words : new.words ≡ closed_by (closed_opener (opens text) (closes text) old.openers) old.address (old.words ++ placed ∷ [])
+pub record IsStep (source : List ℕ) (word : Expanded) (shape : Form) (text : List ℕ) (name : Option (List ℕ)) (placed : PlacedWord) (old new : PlacerModel) : Type 0 where
+  pub words : new.words ≡ closed_labels (closed_opener (opens text) (closes text) old.openers) old.address (old.words ++ placed ∷ [])
   pub labels : new.labels ≡ old.labels ++ label_of name old.address
   pub openers : new.openers ≡ openers_step (opens text) (closes text) (length old.words) old.openers
   pub scope : scope_text source new.scope ≡ next_scope shape (scope_text source old.scope) text
@@ -86,14 +86,14 @@ pub record IsStep (source : List ℕ) (word : Expanded) (shape : Form) (text : L
   pub small : length text < 2 ^ 32 → new.address < old.address + 2 ^ 32
   pub top : new.top ≡ cond (ltb 0 placed.size) (old.address + placed.size) old.top
 
-pub next_kept : (source : List ℕ) (words : List Expanded) (word : Expanded) (shape : Form) (text : List ℕ) (name : Option (List ℕ)) (placed : PlacedWord) (old new : Kept)
-    → IsKept source words old → IsNext source word shape text → length words < 2 ^ 31 - 1 → length text < 2 ^ 32
+pub next_kept : (source : List ℕ) (words : List Expanded) (word : Expanded) (shape : Form) (text : List ℕ) (name : Option (List ℕ)) (placed : PlacedWord) (old new : PlacerModel)
+    → PlacerIsMaintained source words old → IsNext source word shape text → length words < 2 ^ 31 - 1 → length text < 2 ^ 32
     → name ≡ defined_name (Ok shape) (scope_text source old.scope) text
     → placed ≡ record { word = word; form = shape; address = old.address; size = size shape text; lambda = None }
     → next_fault source words word ≡ None
     → (0 < size shape text → ltb old.address old.top ≡ false)
     → IsStep source word shape text name placed old new
-    → (placed ≡ open_word source words word shape) × IsKept source (words ++ word ∷ []) new
+    → (placed ≡ open_word source words word shape) × PlacerIsMaintained source (words ++ word ∷ []) new
 next_kept source words word shape text name placed old new so next few short named here sound above step =
     let shaped = rw next.read at next.formed in
     let fresh : placed ≡ open_word source words word shape = rw (here, next.read, so.address) refl in

@@ -10,7 +10,7 @@ use Rattle.std.proofs.lemmas.List.Folds.{list_any-append}
 use Rattle.tal_words.specs.declared.span.Expanded.{Expanded}
 use Rattle.tal_words.specs.declared.form.Form.{Form}
 use Rattle.tal_words.specs.declared.form.Form.TheVariants.{LabelDef, Pad}
-use Rattle.tal_words.specs.Faults.{least, Judged, phase_fault}
+use Rattle.tal_words.specs.Faults.{least, Validated, phase_fault}
 use Rattle.tal_words.specs.Forms.{form, size}
 use Rattle.tal_words.specs.Order.{each}
 use Rattle.tal_words.specs.Source.{expanded_text}
@@ -21,11 +21,11 @@ use Rattle.tal_labels.specs.Answers.{next_address, next_scope, label_of}
 use Rattle.tal_words.proofs.OrderLemmas.{collected-more, last_of-more, no_word, get_or-each, length-each}
 
 -- where no word has a fault of a phase, a word has none
-pub each-none : (judge : List Expanded → Expanded → List Expanded → Judged) (words : List Expanded) → phase_fault (each judge [] words) ≡ None → (k : ℕ) → k < length words
-    → least (judge (take k words) (get_or words k no_word) (drop (k + 1) words)).kinds ≡ None
-each-none judge words sound k within =
-    let nothing : Judged = record { origin = record { span = record { start = 0; end = 0 }; line = 0; column = 0 }; kinds = [] } in
-    rw (← get_or-each judge [] words k no_word nothing within) (none-at (each judge [] words) k nothing sound (omega (arith, length-each judge [] words)))
+pub each-none : (validate : List Expanded → Expanded → List Expanded → Validated) (words : List Expanded) → phase_fault (each validate [] words) ≡ None → (k : ℕ) → k < length words
+    → least (validate (take k words) (get_or words k no_word) (drop (k + 1) words)).kinds ≡ None
+each-none validate words sound k within =
+    let nothing : Validated = record { origin = record { span = record { start = 0; end = 0 }; line = 0; column = 0 }; kinds = [] } in
+    rw (← get_or-each validate [] words k no_word nothing within) (none-at (each validate [] words) k nothing sound (omega (arith, length-each validate [] words)))
 
 pub least-none : (kinds : List FaultKind) → least kinds ≡ None → kinds ≡ []
 least-none [] e = refl

@@ -76,21 +76,21 @@ none_waits (first ∷ waiting) e = cc
 -- the word that closes the last of the openers that are open, and the words before and after
 abbrev pub ClosesLast : ℕ → ℕ → List PlacedWord → List PlacedWord → List ℕ → List ℕ → Type 0
 ClosesLast first address old new before after = ((before ≡ []) × (after ≡ []) × (new ≡ old))
-    ⊎ ((front : List ℕ) × (at : ℕ) × (before ≡ front ++ (first + at) ∷ []) × (after ≡ front) × (new ≡ closed_at at address old))
+    ⊎ ((prefix : List ℕ) × (at : ℕ) × (before ≡ prefix ++ (first + at) ∷ []) × (after ≡ prefix) × (new ≡ closed_at at address old))
 
--- with one word more in front, which stays as it is, or which is the last that is open
-closes_front : (first address : ℕ) (given given' : PlacedWord) (own own' : List ℕ) (old new : List PlacedWord) (before after : List ℕ) → ClosesLast (first + 1) address old new before after
+-- with one word more before it, which stays as it is, or which is the last that is open
+closes_prefix : (first address : ℕ) (given given' : PlacedWord) (own own' : List ℕ) (old new : List PlacedWord) (before after : List ℕ) → ClosesLast (first + 1) address old new before after
     → ((given' ≡ given) × (own' ≡ own) × (before ≡ [] → own ≡ [])) ⊎ ((before ≡ []) × (own ≡ first ∷ []) × (own' ≡ []) × (given' ≡ record given { lambda = Some address }))
     → ClosesLast first address (given ∷ old) (given' ∷ new) (own ++ before) (own' ++ after)
-closes_front first address given given' own own' old new before after (inl none) (inl kept) =
+closes_prefix first address given given' own own' old new before after (inl none) (inl kept) =
     inl (rw (kept.2 none.0, none.0) refl, rw (kept.1, kept.2 none.0, none.1) refl, rw (kept.0, none.2) refl)
-closes_front first address given given' own own' old new before after (inl none) (inr closed) =
+closes_prefix first address given given' own own' old new before after (inl none) (inr closed) =
     let here : first + 0 ≡ first = omega arith in
     inr ([], 0, rw (closed.1, none.0, here) refl, rw (closed.2, none.1) refl, rw (closed.3, none.2) refl)
-closes_front first address given given' own own' old new before after (inr some) (inl kept) =
+closes_prefix first address given given' own own' old new before after (inr some) (inl kept) =
     let next : first + suc some.1 ≡ first + 1 + some.1 = omega arith in
     inr (own ++ some.0, suc some.1, rw (some.2, next) (sym (append_assoc own some.0 ((first + 1 + some.1) ∷ []))), rw (kept.1, some.3) refl, rw (kept.0, some.4) refl)
-closes_front first address given given' own own' old new before after (inr some) (inr closed) =
+closes_prefix first address given given' own own' old new before after (inr some) (inr closed) =
     absurd (omega (arith, ap length (sym closed.0 ∙ some.2), length-append some.0 ((first + 1 + some.1) ∷ [])))
 
 module _ (source : List ℕ) where
@@ -213,7 +213,7 @@ module _ (source : List ℕ) where
             let formed = all 0 (omega arith) in
             let first : length (before ++ word ∷ []) ≡ length before + 1 = length-append before (word ∷ []) in
             let rest = rw (first, append_assoc before (word ∷ []) words) at (closes_last (before ++ word ∷ []) words (λ k within. all (suc k) (omega arith))) in
-            let step = closes_front (length before) (address_after source (before ++ word ∷ words)) (laid before word formed.0 (lambda_address source before word words))
+            let step = closes_prefix (length before) (address_after source (before ++ word ∷ words)) (laid before word formed.0 (lambda_address source before word words))
             (laid before word formed.0 (lambda_address source before word (words ++ last ∷ []))) _ _ _ _ _ _ rest (chooses before word words formed.0 _ _ _ refl refl refl) in
             rw (formed.1) step
 

@@ -14,9 +14,9 @@ use Rattle.tal_words.specs.Braces.{opens, closes}
 use Rattle.tal_words.specs.Order.{each}
 use Rattle.tal_labels.specs.Places.{pad_value, form_moves, moves, address_after, addresses_of}
 use Rattle.tal_labels.specs.Labels.{defined_name, scope_after}
-use Rattle.tal_labels.specs.Shapes.{judged_shape, shape_fault}
-use Rattle.tal_labels.specs.PlainWords.{Coded, texts_of_coded, bytes_of_coded, pad_text, is_bare_form, StandsFor, addresses_from}
-use Rattle.tal_labels.specs.Placing.{is_mark_form, formed_size, place_kinds, ends_of, ends_above, judged_place, placing_fault, place_fault}
+use Rattle.tal_labels.specs.Shapes.{validated_shape, shape_fault}
+use Rattle.tal_labels.specs.PlainWords.{Coded, texts_of_coded, bytes_of_coded, pad_text, is_bare_form, RepresentsWord, addresses_from}
+use Rattle.tal_labels.specs.Placing.{is_mark_form, formed_size, place_kinds, ends_of, ends_above, validated_place, placing_fault, place_fault}
 
 -- what is known of an opcode, a byte or a short
 pub record IsCoded (word : Coded) : Type 0 where
@@ -38,8 +38,8 @@ bare_form : (shape : Form) (text : List ℕ) → is_bare_form shape ≡ true →
     × ((scope : List ℕ) → defined_name (Ok shape) scope text ≡ None) × (0 < length (encoded shape text 0 0))
 bare_form shape text bare = grind arith
 
--- what is known of a word that stands for bytes, by its form
-coded_is : (word : Coded) → StandsFor word → IsCoded word
+-- what is known of a word that represents bytes, by its form
+coded_is : (word : Coded) → RepresentsWord word → IsCoded word
 coded_is word is =
     let known = bare_form is.shape word.text is.bare in
     let count = ap length is.encodes in
@@ -58,7 +58,7 @@ coded_is word is =
       unclosed = is.plain.unclosed;
     }
 
-pub all_coded : (words : List Coded) → AllByRecursion StandsFor words → AllByRecursion IsCoded words
+pub all_coded : (words : List Coded) → AllByRecursion RepresentsWord words → AllByRecursion IsCoded words
 all_coded [] all = tt
 all_coded (word ∷ words) all = (coded_is word all.0, all_coded words all.1)
 
@@ -94,13 +94,13 @@ module _ (source : List ℕ) where
   shaped word coded e is = ap form e ∙ is.formed
 
   -- nothing is wrong with the shapes of the words
-  shapes_sound : (words : List Expanded) (coded : List Coded) (before : List Expanded) → Spells words coded → phase_fault (each (judged_shape source) before words) ≡ None
+  shapes_sound : (words : List Expanded) (coded : List Coded) (before : List Expanded) → Spells words coded → phase_fault (each (validated_shape source) before words) ≡ None
   shapes_sound [] [] before spells = refl
   shapes_sound (word ∷ words) (coded ∷ codeds) before spells =
       rw (spells.0, spells.1.formed, spells.1.unclosed, spells.1.unopened) (shapes_sound words codeds (before ++ word ∷ []) spells.2)
   shapes_sound words coded before spells = absurd spells
 
-  -- the words so far stand for so many bytes, one behind the other
+  -- the words so far represent so many bytes, one behind the other
   pub record Reaches (before : List Expanded) (count : ℕ) : Type 0 where
     pub address : address_after source before ≡ 256 + count
     pub ends : (place : ℕ) → 256 + count ≤ place → ends_above source before place ≡ false
@@ -128,7 +128,7 @@ module _ (source : List ℕ) where
 
   -- nothing is wrong with their places
   places_sound : (words : List Expanded) (coded : List Coded) (before : List Expanded) (count : ℕ) → Spells words coded → Reaches before count
-      → count + length (bytes_of_coded coded) ≤ 65280 → phase_fault (each (judged_place source) before words) ≡ None
+      → count + length (bytes_of_coded coded) ≤ 65280 → phase_fault (each (validated_place source) before words) ≡ None
   places_sound [] [] before count spells reaches within = refl
   places_sound (word ∷ words) (coded ∷ codeds) before count spells reaches within =
       let is = spells.1 in
@@ -161,7 +161,7 @@ module _ (source : List ℕ) where
     addresses_pad = rw (addresses_are words coded (first ∷ []) 0 spells reaches_pad) refl
 
 -- the same of any words with these texts
-pub plain_laid : (source : List ℕ) (words : List Expanded) (coded : List Coded) → map (expanded_text source) words ≡ pad_text ∷ texts_of_coded coded → AllByRecursion StandsFor coded
+pub plain_laid : (source : List ℕ) (words : List Expanded) (coded : List Coded) → map (expanded_text source) words ≡ pad_text ∷ texts_of_coded coded → AllByRecursion RepresentsWord coded
     → (length (bytes_of_coded coded) ≤ 65280 → place_fault source words ≡ None) × (addresses_of source words ≡ 256 ∷ addresses_from 0 coded)
 unfolding place_fault
 plain_laid source [] coded are all = cc
@@ -170,6 +170,6 @@ plain_laid source (first ∷ rest) coded are all =
     let spells = spells_from source rest coded (cc) (all_coded coded all) in
     (λ within. rw (no_shape_fault source first rest coded padded spells, no_placing_fault source first rest coded padded spells within) refl, addresses_pad source first rest coded padded spells)
 
-pub plain_faultless : (source : List ℕ) (words : List Expanded) (coded : List Coded) → map (expanded_text source) words ≡ pad_text ∷ texts_of_coded coded → AllByRecursion StandsFor coded
+pub plain_faultless : (source : List ℕ) (words : List Expanded) (coded : List Coded) → map (expanded_text source) words ≡ pad_text ∷ texts_of_coded coded → AllByRecursion RepresentsWord coded
     → length (bytes_of_coded coded) ≤ 65280 → place_fault source words ≡ None
 plain_faultless source words coded are all = (plain_laid source words coded are all).0

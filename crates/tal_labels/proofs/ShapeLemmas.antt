@@ -7,7 +7,7 @@ use Rattle.tal_words.specs.Faults.{least, fault_at, phase_fault}
 use Rattle.tal_words.specs.Forms.{form}
 use Rattle.tal_words.specs.Order.{each}
 use Rattle.tal_words.specs.Source.{expanded_text}
-use Rattle.tal_labels.specs.Shapes.{shape_kinds, open_after, open_count, closer_of, closers_of, judged_shape, shape_fault}
+use Rattle.tal_labels.specs.Shapes.{shape_kinds, open_after, open_count, closer_of, closers_of, validated_shape, shape_fault}
 use Rattle.std.proofs.lemmas.List.Sums.{fold-append}
 use Rattle.tal_words.proofs.PassLemmas.{fault-here, fault-later}
 use Rattle.tal_words.proofs.OrderLemmas.{each-end, get_or-each, length-each, no_word}
@@ -22,7 +22,7 @@ length-closers_of source words = length-each (closer_of source) [] words
 
 -- what the loop over the words keeps
 pub record IsShapedSo (source : List ℕ) (words : List Expanded) (k : ℕ) (open_ones : ℕ) : Type 0 where
-  pub sound : phase_fault (each (judged_shape source) (take k words) (drop k words)) ≡ shape_fault source words
+  pub sound : phase_fault (each (validated_shape source) (take k words) (drop k words)) ≡ shape_fault source words
   pub depth : open_ones ≡ open_count source (take k words)
   pub small : open_ones ≤ k
 
@@ -33,19 +33,19 @@ nothing_shaped source words = record { sound = refl; depth = refl; small = omega
 -- what is answered for a word whose shape has no fault, or has one
 module _ (source : List ℕ) (words : List Expanded) (k : ℕ) (text : List ℕ) (depth : ℕ) (closed : Bool) (e : Option ℕ) (closers : List (Option ℕ)) (within : k < length words)
     (all : closers ≡ closers_of source words) (read : text ≡ expanded_text source (get_or words k no_word)) (shut : closed ≡ is_some (get_or closers k e)) (so : IsShapedSo source words k depth) where
-  read_kinds : shape_kinds (form text) text depth closed ≡ (judged_shape source (take k words) (get_or words k no_word) (drop (k + 1) words)).kinds
+  read_kinds : shape_kinds (form text) text depth closed ≡ (validated_shape source (take k words) (get_or words k no_word) (drop (k + 1) words)).kinds
   unfolding closers_of
   read_kinds = rw (shut, all, get_or-each (closer_of source) [] words k no_word e within, read, so.depth) (grind arith)
 
   pub next_shaped : (next : ℕ) → least (shape_kinds (form text) text depth closed) ≡ None → next ≡ open_after depth text → next ≤ depth + 1 → IsShapedSo source words (k + 1) next
   next_shaped next none deeper bound = record {
-    sound = fault-later (judged_shape source) words k no_word within (rw read_kinds at none) ∙ so.sound;
+    sound = fault-later (validated_shape source) words k no_word within (rw read_kinds at none) ∙ so.sound;
     depth = rw (deeper, read, so.depth) (sym (open_count-more source words k no_word within));
     small = omega (arith, so.small);
   }
 
   pub faulty_shape : (kind : FaultKind) → least (shape_kinds (form text) text depth closed) ≡ Some kind → shape_fault source words ≡ Some (fault_at (get_or words k no_word).origin kind)
-  faulty_shape kind some = sym so.sound ∙ fault-here (judged_shape source) words k no_word within kind (rw read_kinds at some)
+  faulty_shape kind some = sym so.sound ∙ fault-here (validated_shape source) words k no_word within kind (rw read_kinds at some)
 
 pub all_shaped : (source : List ℕ) (words : List Expanded) (k : ℕ) (depth : ℕ) → k ≡ length words → IsShapedSo source words k depth → shape_fault source words ≡ None
-all_shaped source words k depth whole so = sym so.sound ∙ ap phase_fault (each-end (judged_shape source) words k (omega arith))
+all_shaped source words k depth whole so = sym so.sound ∙ ap phase_fault (each-end (validated_shape source) words k (omega arith))

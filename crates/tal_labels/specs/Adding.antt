@@ -5,7 +5,7 @@ use Rattle.tal_words.specs.declared.span.Expanded.{Expanded}
 use Rattle.tal_words.specs.declared.fault.Fault.{Fault}
 use Rattle.tal_words.specs.declared.fault.FaultKind.{FaultKind}
 use Rattle.tal_words.specs.declared.form.Form.{Form}
-use Rattle.tal_words.specs.Faults.{Judged, phase_fault}
+use Rattle.tal_words.specs.Faults.{Validated, phase_fault}
 use Rattle.tal_words.specs.Forms.{form, size}
 use Rattle.tal_words.specs.Braces.{opens}
 use Rattle.tal_words.specs.Order.{collected, each}
@@ -13,7 +13,7 @@ use Rattle.tal_words.specs.Source.{expanded_text}
 use Rattle.tal_labels.specs.declared.placed.PlacedWord.{PlacedWord}
 use Rattle.tal_labels.specs.Places.{address_after}
 use Rattle.tal_labels.specs.Shapes.{shape_kinds, open_count, closing_distance}
-use Rattle.tal_labels.specs.Placing.{judged_place}
+use Rattle.tal_labels.specs.Placing.{validated_place}
 
 module _ (source : List ℕ) where
   -- what is wrong with the shape of a word behind others, but that no word closes its lambda
@@ -22,14 +22,14 @@ module _ (source : List ℕ) where
 
   -- what is wrong with a word behind others, whatever follows it: its shape and its place
   abbrev pub adding_kinds : List Expanded → Expanded → List FaultKind
-  adding_kinds before word = shape_added before word ++ (judged_place source before word []).kinds
+  adding_kinds before word = shape_added before word ++ (validated_place source before word []).kinds
 
-  abbrev pub judged_added : List Expanded → Expanded → List Expanded → Judged
-  judged_added before word after = record { origin = word.origin; kinds = adding_kinds before word }
+  abbrev pub validated_added : List Expanded → Expanded → List Expanded → Validated
+  validated_added before word after = record { origin = word.origin; kinds = adding_kinds before word }
 
   -- the first such fault among words
   unfoldable pub added_fault : List Expanded → Option Fault
-  added_fault words = phase_fault (each judged_added [] words)
+  added_fault words = phase_fault (each validated_added [] words)
 
   -- a word of a form behind others, which no later word is known of
   abbrev pub open_word : List Expanded → Expanded → Form → PlacedWord

@@ -1,4 +1,4 @@
--- What an index of labels by their names stands for.
+-- What an index of labels by their names represents.
 use Rattle.std.specs.Prelude.{ℕ, List, map}
 use Rattle.std.specs.Global.{Vec}
 use Rattle.std.specs.declared.hash.FoldHasher.{FoldHasher}

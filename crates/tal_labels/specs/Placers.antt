@@ -1,4 +1,4 @@
--- What a placer stands for.
+-- What a placer represents.
 use Rattle.std.specs.Prelude.{◌≡◌, ◌≤◌, ℕ, ◌+◌, ◌*◌, ◌-◌, nat_lt, Bool, true, false, List, []}
 use Rattle.std.specs.Prelude.{◌∷◌, ◌++◌, length, take}
 use Rattle.std.specs.Prelude.{zero, suc, Option, Some, None, is_some, Result, Ok, Err}
@@ -16,12 +16,12 @@ use Rattle.tal_labels.specs.declared.placer.Placer.{Placer}
 use Rattle.tal_labels.specs.declared.scope.Scope.{Scope}
 use Rattle.tal_labels.specs.Places.{address_after}
 use Rattle.tal_labels.specs.Labels.{scope_after, labels_of}
-use Rattle.tal_labels.specs.Placing.{ends_above, placed_of, judged_place}
+use Rattle.tal_labels.specs.Placing.{ends_above, placed_of, validated_place}
 use Rattle.tal_labels.specs.Adding.{shape_added, added_fault, open_word, open_ones}
 use Rattle.tal_labels.specs.Scopes.{scope_text}
 
 -- what is kept of words
-pub record Kept : Type 0 where
+pub record PlacerModel : Type 0 where
   pub words : List PlacedWord
   pub labels : List Label
   pub openers : List ℕ
@@ -29,7 +29,7 @@ pub record Kept : Type 0 where
   pub address : ℕ
   pub top : ℕ
 
-abbrev pub kept_by : Placer → Kept
+abbrev pub kept_by : Placer → PlacerModel
 kept_by placer = record {
   words = placer.words.items;
   labels = placer.labels;
@@ -41,7 +41,7 @@ kept_by placer = record {
 
 -- of words without a fault the places, each lambda that is closed so far with its end; the labels; the words whose lambdas are
 -- open; the scope, the address and the greatest end behind the words
-pub record IsKept (source : List ℕ) (words : List Expanded) (kept : Kept) : Type 0 where
+pub record PlacerIsMaintained (source : List ℕ) (words : List Expanded) (kept : PlacerModel) : Type 0 where
   pub sound : added_fault source words ≡ None
   pub placed : kept.words ≡ placed_of source words
   pub labels : kept.labels ≡ labels_of source words
@@ -54,21 +54,21 @@ pub record IsKept (source : List ℕ) (words : List Expanded) (kept : Kept) : Ty
 -- these words were added to a placer
 pub record WereAdded (source : List ℕ) (words : List Expanded) (placer : Placer) : Type 0 where
   pub faulty : placer.is_faulty ≡ is_some (added_fault source words)
-  pub kept : added_fault source words ≡ None → IsKept source words (kept_by placer)
+  pub kept : added_fault source words ≡ None → PlacerIsMaintained source words (kept_by placer)
 
 -- the fault of a word behind others: of its shape, or else of its place
 abbrev pub next_fault : List ℕ → List Expanded → Expanded → Option Fault
 next_fault source words word =
     or_later (fault_or word.origin (least (shape_added source words word)) None)
-    (fault_or word.origin (least (judged_place source words word []).kinds) None)
+    (fault_or word.origin (least (validated_place source words word []).kinds) None)
 
 -- what one word more does: it is placed, and what is kept becomes that of all, or it is refused with its fault, or memory runs out
-abbrev pub PlacesNext : List ℕ → List Expanded → Expanded → Result PlacedWord AsmStop → Kept → Type 0
+abbrev pub PlacesNext : List ℕ → List Expanded → Expanded → Result PlacedWord AsmStop → PlacerModel → Type 0
 PlacesNext source words word (Ok placed) new =
     (next_fault source words word ≡ None)
     × (form (expanded_text source word) ≡ Ok placed.form)
     × (placed ≡ open_word source words word placed.form)
-    × IsKept source (words ++ word ∷ []) new
+    × PlacerIsMaintained source (words ++ word ∷ []) new
 PlacesNext source words word (Err (Refused fault)) new = next_fault source words word ≡ Some fault
 PlacesNext source words word (Err NoMemory) new = Unit {0}
 
@@ -78,9 +78,9 @@ closed_at at address [] = []
 closed_at zero address (word ∷ words) = record word { lambda = Some address } ∷ words
 closed_at (suc at) address (word ∷ words) = word ∷ closed_at at address words
 
-abbrev pub closed_by : Option ℕ → ℕ → List PlacedWord → List PlacedWord
-closed_by (Some at) address words = closed_at at address words
-closed_by None address words = words
+abbrev pub closed_labels : Option ℕ → ℕ → List PlacedWord → List PlacedWord
+closed_labels (Some at) address words = closed_at at address words
+closed_labels None address words = words
 
 -- the index of the opener that a word closes: the last of those that are open
 abbrev pub closed_opener : Bool → Bool → List ℕ → Option ℕ

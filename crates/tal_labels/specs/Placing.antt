@@ -12,7 +12,7 @@ use Rattle.tal_words.specs.declared.fault.FaultKind.{FaultKind}
 use Rattle.tal_words.specs.declared.fault.FaultKind.TheVariants.{LabelTwice, ZeroPage, Outside, Rewind}
 use Rattle.tal_words.specs.declared.form.Form.{Form}
 use Rattle.tal_words.specs.declared.form.Form.TheVariants.{LabelDef, SubDef, LambdaEnd}
-use Rattle.tal_words.specs.Faults.{Judged, when, phase_fault, or_later}
+use Rattle.tal_words.specs.Faults.{Validated, when, phase_fault, or_later}
 use Rattle.tal_words.specs.Forms.{form, size}
 use Rattle.tal_words.specs.Braces.{opens}
 use Rattle.tal_labels.specs.declared.placed.PlacedWord.{PlacedWord}
@@ -68,8 +68,8 @@ module _ (source : List ℕ) where
   ends_above words place = list_any (λ end. nat_lt place end) (ends_of words)
 
   -- a word with what is wrong with its place
-  abbrev pub judged_place : List Expanded → Expanded → List Expanded → Judged
-  judged_place before word after =
+  abbrev pub validated_place : List Expanded → Expanded → List Expanded → Validated
+  validated_place before word after =
       let text = expanded_text source word in
       let place = address_after source before in
       record {
@@ -81,7 +81,7 @@ module _ (source : List ℕ) where
 
   -- the first fault of the places of words
   unfoldable pub placing_fault : List Expanded → Option Fault
-  placing_fault words = phase_fault (each judged_place [] words)
+  placing_fault words = phase_fault (each validated_place [] words)
 
   -- the first fault of shapes and places
   unfoldable pub place_fault : List Expanded → Option Fault

@@ -7,7 +7,7 @@ use Rattle.tal_words.specs.Forms.{form, encoded}
 use Rattle.tal_words.specs.PlainTexts.{IsPlainWord}
 use Rattle.tal_labels.specs.Places.{first_address}
 
--- a word: its text, and the bytes that it stands for
+-- a word: its text, and the bytes that it represents
 pub record Coded : Type 0 where
   pub text : List ℕ
   pub bytes : List ℕ
@@ -29,8 +29,8 @@ is_bare_form (Raw1 byte) = true
 is_bare_form (Raw2 short) = true
 is_bare_form _ = false
 
--- a plain word of such a form stands for the bytes of the form, wherever it stands
-pub record StandsFor (word : Coded) : Type 0 where
+-- a plain word of such a form represents the bytes of the form, wherever it stands
+pub record RepresentsWord (word : Coded) : Type 0 where
   pub plain : IsPlainWord word.text
   pub shape : Form
   pub formed : form word.text ≡ Ok shape

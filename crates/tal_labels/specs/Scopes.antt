@@ -1,4 +1,4 @@
--- What a scope that is kept stands for.
+-- What a scope that is kept represents.
 use Rattle.std.specs.Prelude.{ℕ, List, Option, Some, None}
 use Rattle.tal_words.specs.declared.span.Span.{Span}
 use Rattle.tal_words.specs.Source.{bytes_at}

@@ -8,7 +8,7 @@ use Rattle.tal_words.specs.declared.fault.Fault.{Fault}
 use Rattle.tal_words.specs.declared.fault.FaultKind.{FaultKind}
 use Rattle.tal_words.specs.declared.fault.FaultKind.TheVariants.{StrayBrace, OpenBrace}
 use Rattle.tal_words.specs.declared.form.Form.{Form}
-use Rattle.tal_words.specs.Faults.{Judged, when, phase_fault}
+use Rattle.tal_words.specs.Faults.{Validated, when, phase_fault}
 use Rattle.tal_words.specs.Forms.{form}
 use Rattle.tal_words.specs.Braces.{opens, closes, matching}
 use Rattle.tal_words.specs.Order.{each}
@@ -47,8 +47,8 @@ module _ (source : List ℕ) where
       [] before)
 
   -- a word with what is wrong with its shape
-  abbrev pub judged_shape : List Expanded → Expanded → List Expanded → Judged
-  judged_shape before word after = record {
+  abbrev pub validated_shape : List Expanded → Expanded → List Expanded → Validated
+  validated_shape before word after = record {
     origin = word.origin;
     kinds =
         shape_kinds (form (expanded_text source word)) (expanded_text source word) (open_count before)
@@ -65,4 +65,4 @@ module _ (source : List ℕ) where
 
   -- the first fault of the shapes of words
   unfoldable pub shape_fault : List Expanded → Option Fault
-  shape_fault words = phase_fault (each judged_shape [] words)
+  shape_fault words = phase_fault (each validated_shape [] words)

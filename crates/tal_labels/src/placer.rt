@@ -17,7 +17,7 @@ ghost use Rattle.tal_words.specs.declared.form.Form.{Form as FormValue};
 ghost use Rattle.tal_labels.specs.Places.{address_after};
 ghost use Rattle.tal_labels.specs.Adding.{word_added, added_fault, open_ones, open_word};
 ghost use Rattle.tal_labels.specs.Scopes.{scope_text};
-ghost use Rattle.tal_labels.specs.Placers.{IsKept, WereAdded, PlacesNext, kept_by, closed_by, closed_opener, openers_step};
+ghost use Rattle.tal_labels.specs.Placers.{PlacerIsMaintained, WereAdded, PlacesNext, kept_by, closed_labels, closed_opener, openers_step};
 
 use crate::label_index::LabelIndex;
 use crate::labels::{define, defined_name, is_defined};
@@ -58,7 +58,7 @@ impl Placer {
         }
     }
 
-    /// Adds the next word of a source, and gives it with its place; the end of a lambda is not told. It gives
+    /// Adds the next word of a source, and gives it with its place; the end of a lambda is not known. It gives
     /// None where one of the words added so far is faulty, by its shape (but for lambdas that are open), its label or its
     /// address. The source has fewer than 2^32 bytes, and fewer than 2^31 - 1 words are added. Where memory runs
     /// out the word is not added.
@@ -112,7 +112,7 @@ impl Placer {
         requires source { length source.now < 2 ^ 32 }
         ensures flag { self.new.is_faulty ≡ self.old.is_faulty }
         ensures value { (words : List ExpandedWord) → length words < 2 ^ 31 - 1
-            → IsKept source.now words (kept_by self.old) → PlacesNext source.now words word result (kept_by self.new) }
+            → PlacerIsMaintained source.now words (kept_by self.old) → PlacesNext source.now words word result (kept_by self.new) }
         ensures err { OnErr result (kept_by self.new ≡ kept_by self.old) }
     {
         let text = word.text.text(source);
@@ -154,7 +154,7 @@ impl Placer {
         ensures flag { self.new.is_faulty ≡ self.old.is_faulty }
         ensures err { OnErr result (kept_by self.new ≡ kept_by self.old) }
         ensures words { OnOk result (self.new.words.items
-            ≡ closed_by (closed_opener (opens_brace text.now) (closes_brace text.now) self.old.openers.items) placed.address
+            ≡ closed_labels (closed_opener (opens_brace text.now) (closes_brace text.now) self.old.openers.items) placed.address
             (self.old.words.items ++ placed ∷ [])) }
         ensures labels { OnOk result (self.new.labels
             ≡ self.old.labels ++ label_of (option_map (λ bytes. bytes.items) name) placed.address) }
@@ -216,7 +216,7 @@ fn match_brace(openers: &mut Vec<usize>, text: &[u8], at: usize) -> Option<usize
 /// Tells the word at an index the address of the end of its lambda.
 fn close(words: &mut Vec<PlacedWord>, opener: Option<usize>, address: u64)
     requires { IfSome opener (λ _. address < 2 ^ 16) }
-    ensures { words.new.items ≡ closed_by opener address words.old.items }
+    ensures { words.new.items ≡ closed_labels opener address words.old.items }
 {
     if let Some(at) = opener {
         if at < words.len() {
@@ -233,6 +233,6 @@ pub fn one_word_more_is_placed_behind()
     ensures { (source : List ℕ) (words : List ExpandedWord) (word : ExpandedWord) (form : FormValue)
         → added_fault source words ≡ None → form_of_text (expanded_text source word) ≡ Ok form
         → placed_of source (words ++ word ∷ [])
-        ≡ closed_by (closed_opener (opens_brace (expanded_text source word)) (closes_brace (expanded_text source word)) (open_ones source words))
+        ≡ closed_labels (closed_opener (opens_brace (expanded_text source word)) (closes_brace (expanded_text source word)) (open_ones source words))
         (address_after source words) (placed_of source words ++ open_word source words word form ∷ []) }
 {}

@@ -14,17 +14,17 @@ use Rattle.tal_words.specs.Opcodes.{name_of_op}
 use Rattle.tal_words.specs.PlainTexts.{Item, Comment, PlainWord, chunk_text, chunks_of_item, words_of_item, words_of_items, text_of_items, IsItem, IsComment, AreItems, IsPlainWord}
 use Rattle.tal_words.proofs.BlankFree.{all_joined}
 use Rattle.tal_words.proofs.PlainNames.{name_plain, form-name}
-use Rattle.tal_labels.specs.PlainWords.{Coded, texts_of_coded, bytes_of_coded, pad_text, StandsFor}
+use Rattle.tal_labels.specs.PlainWords.{Coded, texts_of_coded, bytes_of_coded, pad_text, RepresentsWord}
 use Rattle.tal_symbols.specs.SymbolFile.{are_readable}
 use Rattle.tal_rom.specs.PlainWords.{AssemblesTo}
 use Rattle.tal_rom.proofs.PlainLemmas.{plain_assembles}
-use Rattle.tree_io.specs.NumberText.{hex_of_short, hex_digit, hex_of_byte}
+use Rattle.uxn_io_traits.specs.NumberText.{hex_of_short, hex_digit, hex_of_byte}
 use Rattle.tal_listing.specs.Texts.{hex_of_bytes, behind_name}
 use Rattle.tal_listing.specs.LabelChains.{labels_of_address}
-use Rattle.tal_listing.specs.Disassembly.{Instruction, immediate_length, instructions_from, immediate_items, instruction_items, label_item, label_items, items_of, rom_start, disassembly_items, disassembly}
+use Rattle.tal_listing.specs.Disassembly.{ListedInstruction, immediate_length, instructions_from, immediate_items, instruction_items, label_item, label_items, items_of_instruction, rom_start, disassembly_items, disassembly}
 use Rattle.std.proofs.lemmas.Bool.Decides.{nat_tests}
 use Rattle.tal_words.specs.Forms.{form, bare, short_bytes}
-use Rattle.tal_words.specs.Digits.{is_digit, digit_value, number_of}
+use Rattle.tal_words.specs.Digits.{is_digit, digit_value, number_of_digits}
 use Rattle.tal_words.specs.Names.{rune_of}
 
 -- what the texts of digits are as words
@@ -68,13 +68,13 @@ digits_plain first second rest is_first is_second plain short = record {
 
 -- a byte as two digits
 byte_digits : (byte : ℕ) → byte < 256
-    → (is_digit (hex_digit (byte / 16)) ≡ true) × (is_digit (hex_digit (byte % 16)) ≡ true) × (number_of (hex_of_byte byte) ≡ byte)
+    → (is_digit (hex_digit (byte / 16)) ≡ true) × (is_digit (hex_digit (byte % 16)) ≡ true) × (number_of_digits (hex_of_byte byte) ≡ byte)
 byte_digits byte below =
     let high = digit_known (byte / 16) (omega arith) in
     let low = digit_known (byte % 16) (omega arith) in
     (high.0, low.0, omega (arith, high.1, low.1))
 
-byte_stands : (byte : ℕ) → byte < 256 → StandsFor (record { text = hex_of_byte byte; bytes = byte ∷ [] })
+byte_stands : (byte : ℕ) → byte < 256 → RepresentsWord (record { text = hex_of_byte byte; bytes = byte ∷ [] })
 byte_stands byte below =
     let digits = byte_digits byte below in
     let plain = digits_plain (hex_digit (byte / 16)) (hex_digit (byte % 16)) [] digits.0 digits.1 refl (omega arith) in
@@ -90,11 +90,11 @@ module _ (high low : ℕ) (high_below : high < 256) (low_below : low < 256) wher
       digits_plain (hex_digit (high / 16)) (hex_digit (high % 16)) (hex_of_byte low) (byte_digits high high_below).0 (byte_digits high high_below).1
       (rw (digit_plain _ digits.0, digit_plain _ digits.1) refl) (omega arith)
 
-  short_stands : StandsFor (record { text = hex_of_byte high ++ hex_of_byte low; bytes = high ∷ low ∷ [] })
+  short_stands : RepresentsWord (record { text = hex_of_byte high ++ hex_of_byte low; bytes = high ∷ low ∷ [] })
   short_stands =
       let first = byte_digits high high_below in
       let second = byte_digits low low_below in
-      let value : number_of (hex_of_byte high ++ hex_of_byte low) ≡ 256 * high + low = omega (arith, first.2, second.2) in
+      let value : number_of_digits (hex_of_byte high ++ hex_of_byte low) ≡ 256 * high + low = omega (arith, first.2, second.2) in
       let top : (256 * high + low) / 256 % 256 ≡ high = omega arith in
       let rest : (256 * high + low) % 256 ≡ low = omega arith in
       let again : short_bytes (256 * high + low) ≡ high ∷ low ∷ [] = rw (top, rest) refl in
@@ -107,10 +107,10 @@ abbrev coded_immediate : List ℕ → List Coded
 coded_immediate [] = []
 coded_immediate (byte ∷ bytes) = record { text = hex_of_bytes (byte ∷ bytes); bytes = byte ∷ bytes } ∷ []
 
-abbrev coded_of : Instruction → List Coded
+abbrev coded_of : ListedInstruction → List Coded
 coded_of i = record { text = name_of_op i.opcode; bytes = i.opcode ∷ [] } ∷ coded_immediate i.immediate
 
-immediate_stands : (bytes : List ℕ) → length bytes ≤ 2 → ((k : ℕ) → k < length bytes → get_or bytes k 0 < 256) → AllByRecursion StandsFor (coded_immediate bytes)
+immediate_stands : (bytes : List ℕ) → length bytes ≤ 2 → ((k : ℕ) → k < length bytes → get_or bytes k 0 < 256) → AllByRecursion RepresentsWord (coded_immediate bytes)
 immediate_stands [] short small = tt
 immediate_stands (byte ∷ []) short small = (byte_stands byte (small 0 (omega arith)), tt)
 immediate_stands (byte ∷ next ∷ []) short small = (short_stands byte next (small 0 (omega arith)) (small 1 (omega arith)), tt)
@@ -135,18 +135,18 @@ no_label_words [] = refl
 no_label_words (label ∷ labels) = no_label_words labels
 
 -- the items behind the name of an instruction, their words and their bytes
-immediate_known : (name address immediate : List ℕ) → AllByRecursion StandsFor (coded_immediate immediate) → IsComment address
+immediate_known : (name address immediate : List ℕ) → AllByRecursion RepresentsWord (coded_immediate immediate) → IsComment address
     → AreItems (immediate_items immediate ++ Comment address 10 ∷ [])
     × (name ∷ words_of_items (immediate_items immediate ++ Comment address 10 ∷ []) ≡ name ∷ texts_of_coded (coded_immediate immediate))
     × (bytes_of_coded (coded_immediate immediate) ≡ immediate)
 immediate_known name address [] stand comment = (((comment, refl), tt), refl, refl)
 immediate_known name address (byte ∷ bytes) stand comment = (((stand.0.plain, refl), ((comment, refl), tt)), refl, append-nil (byte ∷ bytes))
 
--- the items of instructions are sound, and have the words that stand for their bytes
-record AreSound (labels : List Label) (is : List Instruction) (whole : List ℕ) : Type 0 where
-  pub items : AreItems (flat_map (items_of labels) is)
-  pub stand : AllByRecursion StandsFor (flat_map coded_of is)
-  pub words : words_of_items (flat_map (items_of labels) is) ≡ texts_of_coded (flat_map coded_of is)
+-- the items of instructions are sound, and have the words that represent their bytes
+record AreSound (labels : List Label) (is : List ListedInstruction) (whole : List ℕ) : Type 0 where
+  pub items : AreItems (flat_map (items_of_instruction labels) is)
+  pub stand : AllByRecursion RepresentsWord (flat_map coded_of is)
+  pub words : words_of_items (flat_map (items_of_instruction labels) is) ≡ texts_of_coded (flat_map coded_of is)
   pub bytes : bytes_of_coded (flat_map coded_of is) ≡ whole
 
 none-from : (n address : ℕ) → instructions_from n address [] ≡ []
@@ -155,8 +155,8 @@ none-from zero address = refl
 none-from (suc n) address = refl
 
 module _ (labels : List Label) (readable : are_readable labels ≡ true) where
-  sound_more : (i : Instruction) (is : List Instruction) (rest : List ℕ) → i.address < 65536 → i.opcode < 256
-      → AllByRecursion StandsFor (coded_immediate i.immediate) → AreSound labels is rest → AreSound labels (i ∷ is) (i.opcode ∷ (i.immediate ++ rest))
+  sound_more : (i : ListedInstruction) (is : List ListedInstruction) (rest : List ℕ) → i.address < 65536 → i.opcode < 256
+      → AllByRecursion RepresentsWord (coded_immediate i.immediate) → AreSound labels is rest → AreSound labels (i ∷ is) (i.opcode ∷ (i.immediate ++ rest))
   sound_more i is rest place byte stands up =
       let digits = short_plain (i.address / 256) (i.address % 256) (omega arith) (omega arith) in
       let comment : IsComment (hex_of_short i.address) = record { some = omega arith; blank_free = digits.blank_free; unopened = refl; unclosed = refl } in
@@ -165,14 +165,14 @@ module _ (labels : List Label) (readable : are_readable labels ≡ true) where
       let items : AreItems (instruction_items i) = ((name, refl), known.0) in
       record {
         items =
-            all_joined IsItem (items_of labels i) (flat_map (items_of labels) is)
+            all_joined IsItem (items_of_instruction labels i) (flat_map (items_of_instruction labels) is)
             (all_joined IsItem (label_items labels i.address) (instruction_items i) (label_comments labels i.address readable) items) up.items;
         stand = (
           record { plain = name; shape = Op i.opcode; formed = form-name i.opcode byte; bare = refl; encodes = refl },
-          all_joined StandsFor (coded_immediate i.immediate) (flat_map coded_of is) stands up.stand,
+          all_joined RepresentsWord (coded_immediate i.immediate) (flat_map coded_of is) stands up.stand,
         );
         words =
-            flat_map-append words_of_item (items_of labels i) (flat_map (items_of labels) is)
+            flat_map-append words_of_item (items_of_instruction labels i) (flat_map (items_of_instruction labels) is)
             ∙ rw (flat_map-append words_of_item (label_items labels i.address) (instruction_items i), no_label_words (labels_of_address i.address labels), up.words, map-append)
             (ap (λ (texts : List (List ℕ)). texts ++ texts_of_coded (flat_map coded_of is)) known.1);
         bytes =
@@ -186,16 +186,16 @@ module _ (labels : List Label) (readable : are_readable labels ≡ true) where
   all_sound more address [] small enough room = rw (none-from more address) (record { items = tt; stand = tt; words = refl; bytes = refl })
   all_sound zero address (opcode ∷ bytes) small enough room = absurd (omega arith)
   all_sound (suc more) address (opcode ∷ bytes) small enough room =
-      let front = take (immediate_length opcode) bytes in
+      let prefix = take (immediate_length opcode) bytes in
       let most : immediate_length opcode ≤ 2 = grind arith in
       let size = length-take (immediate_length opcode) bytes in
-      let left = length-drop (length front) bytes in
-      let stands = immediate_stands front (omega (arith, size))
+      let left = length-drop (length prefix) bytes in
+      let stands = immediate_stands prefix (omega (arith, size))
       (λ k within. rw (get_or-take (immediate_length opcode) bytes k 0 (omega (arith, size))) (small (suc k) (omega (arith, size)))) in
-      let rest = all_sound more (address + 1 + length front) (drop (length front) bytes)
-      (λ k within. rw (get_or-drop (length front) bytes k 0) (small (suc (length front + k)) (omega (arith, left)))) (omega (arith, left)) (omega (arith, left, size)) in
-      let whole = rw (take-append-drop (immediate_length opcode) bytes) at (ap (λ (all : List ℕ). front ++ all) (drop-append_seam front (drop (immediate_length opcode) bytes))) in
-      rw whole at (sound_more (record { address = address; opcode = opcode; immediate = front }) _ _ (omega arith) (small 0 (omega arith)) stands rest)
+      let rest = all_sound more (address + 1 + length prefix) (drop (length prefix) bytes)
+      (λ k within. rw (get_or-drop (length prefix) bytes k 0) (small (suc (length prefix + k)) (omega (arith, left)))) (omega (arith, left)) (omega (arith, left, size)) in
+      let whole = rw (take-append-drop (immediate_length opcode) bytes) at (ap (λ (all : List ℕ). prefix ++ all) (drop-append_seam prefix (drop (immediate_length opcode) bytes))) in
+      rw whole at (sound_more (record { address = address; opcode = opcode; immediate = prefix }) _ _ (omega arith) (small 0 (omega arith)) stands rest)
 
 pub disassembly_assembles : (rom : List ℕ) (labels : List Label) → ((i : ℕ) → i < length rom → slice_index rom i < 256) → length rom ≤ 65280 → are_readable labels ≡ true
     → length (disassembly rom labels) ≤ source_limit → AssemblesTo (disassembly rom labels) rom
@@ -234,7 +234,7 @@ text_more text labelled more labels line rest whole is_labelled is_more so =
 pub record DisassembledTo (rom : List ℕ) (labels : List Label) (text : List ℕ) (offset : ℕ) : Type 0 where
   pub most : ℕ
   pub enough : length rom ≤ offset + most
-  pub rest : text ++ text_of_items (flat_map (items_of labels) (instructions_from most (rom_start + offset) (drop offset rom))) ≡ disassembly rom labels
+  pub rest : text ++ text_of_items (flat_map (items_of_instruction labels) (instructions_from most (rom_start + offset) (drop offset rom))) ≡ disassembly rom labels
 
 pub disassembled_start : (rom : List ℕ) (labels : List Label) (text : List ℕ) → text ≡ pad_text ++ 10 ∷ [] → DisassembledTo rom labels text 0
 unfolding disassembly
@@ -244,7 +244,7 @@ pub disassembled_end : (rom : List ℕ) (labels : List Label) (text : List ℕ) 
 disassembled_end rom labels text offset past up = sym (append-nil text) ∙ rw (drop_all offset rom past, none-from) at up.rest
 
 module _ (rom : List ℕ) (labels : List Label) (text : List ℕ) (offset : ℕ) (within : offset < length rom) (up : DisassembledTo rom labels text offset) where
-  abbrev pub instruction_at : Instruction
+  abbrev pub instruction_at : ListedInstruction
   instruction_at = record {
     address = rom_start + offset;
     opcode = get_or rom offset 0;

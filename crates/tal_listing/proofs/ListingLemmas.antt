@@ -8,7 +8,7 @@ use Rattle.tal_labels.specs.Placing.{LiesInMemory, LieApart}
 use Rattle.tal_labels.proofs.CallerLemmas.{place_fault-none, lie_apart}
 use Rattle.tal_rom.specs.Program.{Program}
 use Rattle.tal_rom.specs.Assembly.{first_fault, layout, IsAssembled, rom_of}
-use Rattle.tree_io.specs.NumberText.{hex_of_byte}
+use Rattle.uxn_io_traits.specs.NumberText.{hex_of_byte}
 use Rattle.tal_listing.specs.Listing.{memory_bytes, spaced_bytes, HoldsItsWords}
 use Rattle.std.proofs.lemmas.Bool.Decides.{nat_tests}
 use Rattle.std.specs.List.{range_with_len}

@@ -6,7 +6,7 @@ use Rattle.tal_words.specs.declared.name.Label.{Label}
 use Rattle.tal_words.specs.Opcodes.{name_of_op}
 use Rattle.tal_words.specs.PlainTexts.{Item, Comment, PlainWord, text_of_items}
 use Rattle.tal_labels.specs.PlainWords.{pad_text}
-use Rattle.tree_io.specs.NumberText.{hex_of_short}
+use Rattle.uxn_io_traits.specs.NumberText.{hex_of_short}
 use Rattle.tal_listing.specs.LabelChains.{labels_of_address}
 use Rattle.tal_listing.specs.Texts.{hex_of_bytes}
 
@@ -22,13 +22,13 @@ immediate_length opcode =
     else 0
 
 -- an instruction: its address, its opcode, and the bytes behind this that belong to it, as far as the ROM has them
-pub record Instruction : Type 0 where
+pub record ListedInstruction : Type 0 where
   pub address : ℕ
   pub opcode : ℕ
   pub immediate : List ℕ
 
 -- the instructions of bytes from an address on, at most so many of them
-unfoldable pub instructions_from : ℕ → ℕ → List ℕ → List Instruction
+unfoldable pub instructions_from : ℕ → ℕ → List ℕ → List ListedInstruction
 instructions_from zero address bytes = []
 instructions_from (suc more) address [] = []
 instructions_from (suc more) address (opcode ∷ bytes) =
@@ -46,7 +46,7 @@ immediate_items [] = []
 immediate_items (byte ∷ bytes) = PlainWord (hex_of_bytes (byte ∷ bytes)) 32 ∷ []
 
 -- the line of an instruction: its name, its immediate, and the comment with its address
-abbrev pub instruction_items : Instruction → List Item
+abbrev pub instruction_items : ListedInstruction → List Item
 instruction_items instruction =
     PlainWord (name_of_op instruction.opcode) 32
     ∷ (immediate_items instruction.immediate ++ Comment (hex_of_short instruction.address) 10 ∷ [])
@@ -56,12 +56,12 @@ abbrev pub label_items : List Label → ℕ → List Item
 label_items labels address = map label_item (labels_of_address address labels)
 
 -- an instruction behind the labels of its address
-abbrev pub items_of : List Label → Instruction → List Item
-items_of labels instruction = label_items labels instruction.address ++ instruction_items instruction
+abbrev pub items_of_instruction : List Label → ListedInstruction → List Item
+items_of_instruction labels instruction = label_items labels instruction.address ++ instruction_items instruction
 
 -- the items of a disassembly: `|0100`, and the instructions with their labels
 abbrev pub disassembly_items : List ℕ → List Label → List Item
-disassembly_items rom labels = PlainWord pad_text 10 ∷ flat_map (items_of labels) (instructions_from (length rom) rom_start rom)
+disassembly_items rom labels = PlainWord pad_text 10 ∷ flat_map (items_of_instruction labels) (instructions_from (length rom) rom_start rom)
 
 -- the disassembly of a ROM with labels
 unfoldable pub disassembly : List ℕ → List Label → List ℕ

@@ -4,7 +4,7 @@ use Rattle.std.specs.Prelude.{filter, slice_index, slice_index_or, decimal}
 use Rattle.std.specs.List.{flat_map, range_with_len}
 use Rattle.tal_words.specs.declared.span.Word.{Word}
 use Rattle.tal_words.specs.Source.{bytes_at}
-use Rattle.tree_io.specs.NumberText.{hex_of_byte, hex_of_short}
+use Rattle.uxn_io_traits.specs.NumberText.{hex_of_byte, hex_of_short}
 use Rattle.tal_labels.specs.declared.placed.PlacedWord.{PlacedWord}
 use Rattle.tal_rom.specs.Program.{Program}
 use Rattle.tal_rom.specs.Rom.{Piece, pieces_of}
@@ -37,7 +37,7 @@ words_with_bytes words = filter (λ placed. nat_lt 0 placed.size) words
 unfoldable pub listing_of : List ℕ → Program → List ℕ
 listing_of source program = text_of_lines (map (word_line source program.rom) (words_with_bytes program.places))
 
--- each word of a source has in memory, as its ROM has it, the bytes that it stands for
+-- each word of a source has in memory, as its ROM has it, the bytes that it represents
 pub record HoldsItsWords (source : List ℕ) : Type 0 where
   pub each : (k : ℕ) (word : PlacedWord) (piece : Piece) → k < length (layout source).words
       → memory_bytes (rom_of source) (slice_index_or (layout source).words k word).address

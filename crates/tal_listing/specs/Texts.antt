@@ -1,7 +1,7 @@
 -- Lines of text.
 use Rattle.std.specs.Prelude.{ℕ, List, [], ◌∷◌, ◌++◌}
 use Rattle.std.specs.List.{flat_map}
-use Rattle.tree_io.specs.NumberText.{hex_of_byte}
+use Rattle.uxn_io_traits.specs.NumberText.{hex_of_byte}
 
 -- lines, each with a newline behind it
 abbrev pub text_of_lines : List (List ℕ) → List ℕ

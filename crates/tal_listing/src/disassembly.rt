@@ -14,7 +14,7 @@ ghost use Rattle.tal_listing.specs.Disassembly.{disassembly, immediate_length, i
 use crate::chains::LabelChains;
 use std::alloc::{AllocError, Global};
 use tal_words::{Label, op_name};
-use tree_io::{hex_byte, hex_short};
+use uxn_io_traits::{hex_byte, hex_short};
 
 /// The address of the first byte of a ROM.
 const ROM_START: usize = 0x0100;

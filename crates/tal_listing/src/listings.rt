@@ -8,7 +8,7 @@ use std::alloc::{AllocError, Global};
 use tal_labels::PlacedWord;
 use tal_rom::Assembly;
 use tal_words::Word;
-use tree_io::{decimal, hex_byte, hex_short};
+use uxn_io_traits::{decimal, hex_byte, hex_short};
 
 /// The address of the first byte of a ROM.
 const ROM_START: u64 = 0x0100;
@@ -29,7 +29,7 @@ pub fn listing(alloc: Global, source: &[u8], assembly: &Assembly) -> Result<Vec<
     Ok(text)
 }
 
-/// The bytes that a listing shows beside a word are those that the word stands for.
+/// The bytes that a listing shows beside a word are those that the word represents.
 #[tactic(auto, using(crate::proofs::ListingLemmas::holds_words))]
 pub fn listed_bytes_are_the_words()
     ensures { (source : List ℕ) → first_fault source ≡ None → HoldsItsWords source }

@@ -19,7 +19,7 @@ only-no_head byte [] only other = refl
 only-no_head byte (first ∷ []) only other = ne_eqb first 37 (λ is. other (sym (eqb-true first byte only) ∙ is))
 only-no_head byte (first ∷ second ∷ more) only other = cc
 
--- an index counted from further in front
+-- an index counted from further ahead
 abbrev shifted : ℕ → Option ℕ → Option ℕ
 shifted count index = option_map (λ k. count + k) index
 

@@ -13,7 +13,7 @@ use Rattle.tal_words.specs.Source.{word_text}
 use Rattle.tal_macros.specs.declared.body.Body.{Body}
 use Rattle.tal_macros.specs.Expansion.{Macro, Head, body_after, head_faults, head_length, parts_from}
 use Rattle.tal_macros.specs.Bodies.{body_words, word_at}
-use Rattle.tal_macros.specs.Passing.{Continues, Refuses, rest}
+use Rattle.tal_macros.specs.Passing.{Continues, RefusesInSteps, rest}
 use Rattle.tal_macros.specs.Heads.{is_head, IsBody}
 use Rattle.tal_macros.proofs.Known.{drop-word}
 use Rattle.tal_macros.proofs.PassLemmas.{continues-along, refuses-at}
@@ -39,7 +39,7 @@ module _ (source : List ℕ) (known : List Macro) (count : ℕ) where
   inside-continues (suc inside) (word ∷ words) none = grind (arith, inside-continues inside words)
 
   inside-refuses : (inside : ℕ) (words : List Word) (nested : Word) → find (is_head source) (take inside words) ≡ Some nested
-      → Refuses (rest source known count (parts_from source inside words)) (fault_at nested MacroBody)
+      → RefusesInSteps (rest source known count (parts_from source inside words)) (fault_at nested MacroBody)
   unfolding rest
   inside-refuses zero words nested found = cc
   inside-refuses (suc inside) [] nested found = cc
@@ -57,7 +57,7 @@ module _ (source : List ℕ) (words : List Word) (at : ℕ) (known : List Macro)
 
   -- a head with a fault
   pub head-refuses : (kind : FaultKind) → least (head_faults source word known (body_after source next)) ≡ Some kind → (count : ℕ)
-      → Refuses (rest source known count (parts_from source 0 (drop at words))) (fault_at word kind)
+      → RefusesInSteps (rest source known count (parts_from source 0 (drop at words))) (fault_at word kind)
   unfolding rest
   head-refuses kind some count =
       refuses-at (record { origin = word; kinds = head_faults source word known (body_after source next) }) None _ _ kind (ap (rest source known count) head-parts) some
@@ -86,7 +86,7 @@ module _ (source : List ℕ) (words : List Word) (at : ℕ) (known : List Macro)
         let further = inside-continues source after count inside next (sym is_body.heads ∙ none) in
         rw (← behind) (record { visits = into_body.visits ∙ further.visits; faults = into_body.faults ∙ further.faults })
 
-    pub body-refuses : (inner : Word) → nested ≡ Some inner → Refuses (rest source known count (parts_from source 0 (drop at words))) (fault_at inner MacroBody)
+    pub body-refuses : (inner : Word) → nested ≡ Some inner → RefusesInSteps (rest source known count (parts_from source 0 (drop at words))) (fault_at inner MacroBody)
     body-refuses inner some =
         let stop = inside-refuses source after count inside next inner (sym is_body.heads ∙ some) in
         record { visits = into_body.visits ∙ stop.visits; faulty = into_body.faults ∙ stop.faulty }

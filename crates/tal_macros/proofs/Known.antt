@@ -10,7 +10,7 @@ use Rattle.indexmap.specs.IndexMap.{insert_entry}
 use Rattle.tal_words.specs.declared.span.Word.{Word}
 use Rattle.tal_macros.specs.Expansion.{body_named}
 use Rattle.tal_macros.specs.declared.body.Body.{Body}
-use Rattle.tal_macros.specs.Bodies.{body_words, known_of, word_at}
+use Rattle.tal_macros.specs.Bodies.{body_words, known_macros, word_at}
 
 -- the words from an index on begin with the word at it
 pub drop-word : (words : List Word) (at : ℕ) → at < length words → drop at words ≡ word_at words at ∷ drop (at + 1) words
@@ -18,14 +18,14 @@ drop-word words at within = drop_more words at (record { span = record { start =
 
 -- the body that a map finds is that of the macro
 pub known-lookup : (words : List Word) (entries : List (Vec ℕ Global × Body)) (name : List ℕ)
-    → option_map (body_words words) (lookup (λ key. bytes_eq name key.items) entries) ≡ body_named (known_of words entries) name
+    → option_map (body_words words) (lookup (λ key. bytes_eq name key.items) entries) ≡ body_named (known_macros words entries) name
 known-lookup words [] name = refl
 known-lookup words (entry ∷ entries) name = grind (arith, known-lookup words entries name)
 
 -- a new macro is known after the others
 pub known-insert : (words : List Word) (eq : Vec ℕ Global → Vec ℕ Global → Bool) (entries : List (Vec ℕ Global × Body)) (key : Vec ℕ Global) (body : Body)
     → ((one other : Vec ℕ Global) → eq one other ≡ bytes_eq one.items other.items)
-    → body_named (known_of words entries) key.items ≡ None
-    → known_of words (insert_entry eq entries key body) ≡ known_of words entries ++ record { name = key.items; body = body_words words body } ∷ []
+    → body_named (known_macros words entries) key.items ≡ None
+    → known_macros words (insert_entry eq entries key body) ≡ known_macros words entries ++ record { name = key.items; body = body_words words body } ∷ []
 known-insert words eq [] key body same none = refl
 known-insert words eq (entry ∷ entries) key body same none = grind (arith, same, known-insert words eq entries key body same)

@@ -7,24 +7,24 @@ use Rattle.std.proofs.lemmas.List.{drop_all}
 use Rattle.tal_words.specs.declared.span.Word.{Word}
 use Rattle.tal_words.specs.declared.fault.FaultKind.{FaultKind}
 use Rattle.tal_words.specs.Source.{begins, word_text}
-use Rattle.tal_words.specs.Faults.{Judged, least, fault_at}
+use Rattle.tal_words.specs.Faults.{Validated, least, fault_at}
 use Rattle.tal_macros.specs.declared.body.Body.{Body}
 use Rattle.tal_macros.specs.Expansion.{Macro, Visited, body_named, parts_from, visit_kinds, visited, visits, depth_limit}
 use Rattle.tal_macros.specs.Bodies.{body_words, word_at}
-use Rattle.tal_macros.specs.Steps.{Step, reached}
-use Rattle.tal_macros.specs.Passing.{Continues, Refuses, fault_of, rest, open_visits, steps_from}
+use Rattle.tal_macros.specs.Steps.{ExpansionStep, reached}
+use Rattle.tal_macros.specs.Passing.{Continues, RefusesInSteps, fault_of, rest, open_visits, steps_from}
 use Rattle.tal_macros.proofs.Known.{drop-word}
 
 -- steps that begin with one that has no fault, or with one that has
-pub continues-along : (judged : Judged) (visit : Option Visited) (old new : List Step) → old ≡ record { judged = judged; visit = visit } ∷ new
-    → least judged.kinds ≡ None → Continues old new (option_to_list visit)
-continues-along judged visit old new parts none = record { visits = rw (parts, none) refl; faults = rw (parts, none) refl }
+pub continues-along : (validated : Validated) (visit : Option Visited) (old new : List ExpansionStep) → old ≡ record { validated = validated; visit = visit } ∷ new
+    → least validated.kinds ≡ None → Continues old new (option_to_list visit)
+continues-along validated visit old new parts none = record { visits = rw (parts, none) refl; faults = rw (parts, none) refl }
 
-pub refuses-at : (judged : Judged) (visit : Option Visited) (old new : List Step) (kind : FaultKind) → old ≡ record { judged = judged; visit = visit } ∷ new
-    → least judged.kinds ≡ Some kind → Refuses old (fault_at judged.origin kind)
-refuses-at judged visit old new kind parts some = record { visits = rw (parts, some) refl; faulty = rw (parts, some) refl }
+pub refuses-at : (validated : Validated) (visit : Option Visited) (old new : List ExpansionStep) (kind : FaultKind) → old ≡ record { validated = validated; visit = visit } ∷ new
+    → least validated.kinds ≡ Some kind → RefusesInSteps old (fault_at validated.origin kind)
+refuses-at validated visit old new kind parts some = record { visits = rw (parts, some) refl; faulty = rw (parts, some) refl }
 
-pub continues-same : (old new : List Step) → old ≡ new → Continues old new []
+pub continues-same : (old new : List ExpansionStep) → old ≡ new → Continues old new []
 continues-same old new same = record { visits = ap reached same; faults = ap fault_of same }
 
 module _ (source : List ℕ) (words : List Word) (known : List Macro) (origin : Word) where
@@ -44,7 +44,7 @@ module _ (source : List ℕ) (words : List Word) (known : List Macro) (origin : 
   -- the first of the words that are visited
   steps-first : (count at : ℕ) (word : Visited) (pending : List Visited)
       → steps_from source words known count (word ∷ pending) at
-      ≡ record { judged = record { origin = word.origin; kinds = visit_kinds count word }; visit = Some word } ∷ steps_from source words known (count + 1) pending at
+      ≡ record { validated = record { origin = word.origin; kinds = visit_kinds count word }; visit = Some word } ∷ steps_from source words known (count + 1) pending at
   steps-first count at word pending = let same : count + suc (length pending) ≡ count + 1 + length pending = omega arith in rw same refl
 
   -- a use that is opened leaves the rest of the body around it
@@ -72,8 +72,8 @@ module _ (source : List ℕ) (words : List Word) (known : List Macro) (origin : 
     abbrev pub here : Visited
     here = visited source known origin (depth_limit - length bodies) word
 
-    pub steps-word : (more : List Step) × (steps_from source words known count (pending bodies body) at
-        ≡ record { judged = record { origin = origin; kinds = visit_kinds count here }; visit = Some here } ∷ more)
+    pub steps-word : (more : List ExpansionStep) × (steps_from source words known count (pending bodies body) at
+        ≡ record { validated = record { origin = origin; kinds = visit_kinds count here }; visit = Some here } ∷ more)
     steps-word =
         let inner = visits-first (depth_limit - length bodies) word in (
           steps_from source words known (count + 1)
@@ -83,7 +83,7 @@ module _ (source : List ℕ) (words : List Word) (known : List Macro) (origin : 
 
     pub steps-inside : (used : Option (List Word)) → body_named known (word_text source word) ≡ used → (is_some used ≡ true → length bodies < depth_limit)
         → steps_from source words known count (pending bodies body) at
-        ≡ record { judged = record { origin = origin; kinds = visit_kinds count here }; visit = Some here }
+        ≡ record { validated = record { origin = origin; kinds = visit_kinds count here }; visit = Some here }
         ∷ steps_from source words known (count + 1) (flat_map (visits source known origin (depth_limit - length bodies - 1)) (unwrap_or used []) ++ pending bodies next) at
     steps-inside used named roomy =
         let inner = flat_map (visits source known origin (depth_limit - length bodies - 1)) (unwrap_or used []) in

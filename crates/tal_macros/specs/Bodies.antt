@@ -13,7 +13,7 @@ word_at words at = slice_index_or words at (record { span = record { start = 0; 
 abbrev pub body_words : List Word → Body → List Word
 body_words words body = take (body.to - body.from) (drop body.from words)
 
--- the macros that the entries of a map stand for
-abbrev pub known_of : List Word → List (Vec ℕ Global × Body) → List Macro
-known_of words [] = []
-known_of words (entry ∷ entries) = record { name = entry.0.items; body = body_words words entry.1 } ∷ known_of words entries
+-- the macros that the entries of a map represent
+abbrev pub known_macros : List Word → List (Vec ℕ Global × Body) → List Macro
+known_macros words [] = []
+known_macros words (entry ∷ entries) = record { name = entry.0.items; body = body_words words entry.1 } ∷ known_macros words entries

@@ -13,7 +13,7 @@ use Rattle.tal_words.specs.declared.fault.FaultKind.{FaultKind}
 use Rattle.tal_words.specs.declared.fault.FaultKind.TheVariants.{MacroTwice, MacroBody, MacroDeep, ManyWords}
 use Rattle.tal_words.specs.Order.{collected}
 use Rattle.tal_words.specs.Source.{begins, is_only, word_text}
-use Rattle.tal_words.specs.Faults.{Judged, when, phase_fault}
+use Rattle.tal_words.specs.Faults.{Validated, when, phase_fault}
 use Rattle.tal_words.specs.Comments.{words_of}
 use Rattle.tal_words.specs.Names.{name_fault}
 use Rattle.tal_words.specs.Braces.{matching}
@@ -61,9 +61,9 @@ abbrev pub visit_kinds : ℕ → Visited → List FaultKind
 visit_kinds before word = when (word.is_use && word.room == 0) MacroDeep ++ when (nat_le visit_limit before) ManyWords
 
 -- words of the visit list with what is wrong with them, so many of the list before the first
-abbrev pub judged_visits : ℕ → List Visited → List Judged
-judged_visits before [] = []
-judged_visits before (word ∷ words) = record { origin = word.origin; kinds = visit_kinds before word } ∷ judged_visits (before + 1) words
+abbrev pub validated_visits : ℕ → List Visited → List Validated
+validated_visits before [] = []
+validated_visits before (word ∷ words) = record { origin = word.origin; kinds = visit_kinds before word } ∷ validated_visits (before + 1) words
 
 -- the words that are no uses, each with its origin
 abbrev pub without_uses : List Visited → List Expanded
@@ -131,10 +131,10 @@ module _ (source : List ℕ) where
       option_to_list (name_fault name) ++ when (is_some (body_named known name)) MacroTwice ++ when (is_none body) MacroBody
 
   -- the words visited for a part, a head, or a further word of a head, with what is wrong with each
-  abbrev pub judged_part : List Part → Part → List Part → List Judged
-  judged_part before (Plain word) after = judged_visits (length (visit_list before)) (visits (known_at before) word depth_limit word)
-  judged_part before (Head word body) after = record { origin = word; kinds = head_faults word (known_at before) body } ∷ []
-  judged_part before (Inside word) after = record { origin = word; kinds = when (begins 37 (word_text source word)) MacroBody } ∷ []
+  abbrev pub validated_part : List Part → Part → List Part → List Validated
+  validated_part before (Plain word) after = validated_visits (length (visit_list before)) (visits (known_at before) word depth_limit word)
+  validated_part before (Head word body) after = record { origin = word; kinds = head_faults word (known_at before) body } ∷ []
+  validated_part before (Inside word) after = record { origin = word; kinds = when (begins 37 (word_text source word)) MacroBody } ∷ []
 
 -- what each word of a source is
 unfoldable pub parts_of : List ℕ → List Part
@@ -146,4 +146,4 @@ expanded_of source = without_uses (visit_list source (parts_of source))
 
 -- the first fault of the macros of a source
 unfoldable pub expansion_fault : List ℕ → Option Fault
-expansion_fault source = phase_fault (collected (judged_part source) [] (parts_of source))
+expansion_fault source = phase_fault (collected (validated_part source) [] (parts_of source))

@@ -8,7 +8,7 @@ use Rattle.tal_words.specs.Source.{begins, word_text}
 use Rattle.tal_macros.specs.Expansion.{Macro, body_after, body_named, head_faults, parts_from}
 use Rattle.tal_macros.specs.declared.body.Body.{Body}
 use Rattle.tal_macros.specs.Bodies.{body_words, word_at}
-use Rattle.tal_macros.specs.Passing.{Continues, Stops, rest}
+use Rattle.tal_macros.specs.Passing.{Continues, StopsInSteps, rest}
 
 -- a word begins a head; 37 is `%`
 abbrev pub is_head : List ℕ → Word → Bool
@@ -38,7 +38,7 @@ pub record Defines (source : List ℕ) (words : List Word) (at : ℕ) (old new :
 
 -- a head at which the pass stops, after which nothing is known anew
 pub record StopsHead (source : List ℕ) (words : List Word) (at : ℕ) (old new : List Macro) (stop : AsmStop) : Type 0 where
-  pub stops : (count : ℕ) → Stops (rest source old count (parts_from source 0 (drop at words))) stop
+  pub stops : (count : ℕ) → StopsInSteps (rest source old count (parts_from source 0 (drop at words))) stop
   pub known : new ≡ old
 
 -- what the reading of a head answers: its body, or what stops the pass, as the first of its faults

@@ -16,31 +16,31 @@ use Rattle.tal_macros.specs.declared.pass.Turn.{Turn}
 use Rattle.tal_macros.specs.declared.pass.Turn.TheVariants.{Passed, Word as Given, End}
 use Rattle.tal_macros.specs.Expansion.{Macro, Part, Plain, Head, Inside, Visited, parts_from, macro_given, visits, depth_limit}
 use Rattle.tal_macros.specs.Expansion.{visit_limit, head_faults, expansion_fault}
-use Rattle.tal_macros.specs.Bodies.{body_words, known_of}
-use Rattle.tal_macros.specs.Steps.{Step, visit_steps, head_steps, reached, next_word, count_to_next, visits_before_fault}
+use Rattle.tal_macros.specs.Bodies.{body_words, known_macros}
+use Rattle.tal_macros.specs.Steps.{ExpansionStep, visit_steps, head_steps, reached, next_word, count_to_next, visits_before_fault}
 
 -- the first fault of steps
-abbrev pub fault_of : List Step → Option Fault
-fault_of steps = phase_fault (map (λ (step : Step). step.judged) steps)
+abbrev pub fault_of : List ExpansionStep → Option Fault
+fault_of steps = phase_fault (map (λ (step : ExpansionStep). step.validated) steps)
 
 -- steps that go on as others do, once these words are visited
-pub record Continues (old new : List Step) (words : List Visited) : Type 0 where
+pub record Continues (old new : List ExpansionStep) (words : List Visited) : Type 0 where
   pub visits : reached old ≡ words ++ reached new
   pub faults : fault_of old ≡ fault_of new
 
--- steps of which the first that is judged has this fault
-pub record Refuses (steps : List Step) (fault : Fault) : Type 0 where
+-- steps of which the first that is validated has this fault
+pub record RefusesInSteps (steps : List ExpansionStep) (fault : Fault) : Type 0 where
   pub visits : reached steps ≡ []
   pub faulty : fault_of steps ≡ Some fault
 
 -- steps at which a stop ends the pass
-abbrev pub Stops : List Step → AsmStop → Type 0
-Stops steps (Refused fault) = Refuses steps fault
-Stops steps NoMemory = Unit {0}
+abbrev pub StopsInSteps : List ExpansionStep → AsmStop → Type 0
+StopsInSteps steps (Refused fault) = RefusesInSteps steps fault
+StopsInSteps steps NoMemory = Unit {0}
 
 module _ (source : List ℕ) where
   -- the steps of parts, where these macros are known and so many words were visited before them
-  unfoldable pub rest : List Macro → ℕ → List Part → List Step
+  unfoldable pub rest : List Macro → ℕ → List Part → List ExpansionStep
   rest known count [] = []
   rest known count (Plain word ∷ parts) =
       visit_steps count (visits source known word depth_limit word)
@@ -59,14 +59,14 @@ module _ (source : List ℕ) where
         open_visits known origin (room - 1) bodies ++ flat_map (visits source known origin room) (body_words words body)
 
     -- the steps of these words and then of the words of the source from an index on
-    abbrev pub steps_from : List Macro → ℕ → List Visited → ℕ → List Step
+    abbrev pub steps_from : List Macro → ℕ → List Visited → ℕ → List ExpansionStep
     steps_from known count pending at =
         visit_steps count pending ++ rest known (count + length pending) (parts_from source 0 (drop at words))
 
     -- the steps that are left for a pass
-    unfoldable pub left : Pass → List Step
+    unfoldable pub left : Pass → List ExpansionStep
     left pass =
-        let known = known_of words pass.macros.entries in
+        let known = known_macros words pass.macros.entries in
         steps_from known pass.count
         (flat_map (visits source known pass.origin (depth_limit - length pass.outer.items)) (body_words words pass.body)
         ++ open_visits known pass.origin depth_limit pass.outer.items)
@@ -94,7 +94,7 @@ module _ (source : List ℕ) where
     TurnGives old new (Ok (Given given)) =
         (word : Visited) × (word.is_use ≡ false) × (given ≡ record { text = word.text; origin = word.origin }) × Visits old new word
     TurnGives old new (Ok End) = (left old ≡ []) × Passes old new
-    TurnGives old new (Err stop) = Stops (left old) stop × Passes old new
+    TurnGives old new (Err stop) = StopsInSteps (left old) stop × Passes old new
 
     -- a pass that has visited so many words goes on as the expansion of the source does from so many on, behind uses alone
     pub record Follows (visited : ℕ) (pass : Pass) : Type 0 where

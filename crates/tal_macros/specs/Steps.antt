@@ -6,36 +6,36 @@ use Rattle.tal_words.specs.declared.span.Expanded.{Expanded}
 use Rattle.tal_words.specs.declared.fault.AsmStop.{AsmStop}
 use Rattle.tal_words.specs.declared.fault.AsmStop.TheVariants.{Refused, NoMemory}
 use Rattle.tal_words.specs.Order.{collected}
-use Rattle.tal_words.specs.Faults.{Judged, least}
+use Rattle.tal_words.specs.Faults.{Validated, least}
 use Rattle.tal_macros.specs.Expansion.{Part, Plain, Head, Inside, Visited, depth_limit, visit_kinds, known_at, visits, visit_list}
-use Rattle.tal_macros.specs.Expansion.{judged_part, parts_of, expansion_fault, without_uses}
+use Rattle.tal_macros.specs.Expansion.{validated_part, parts_of, expansion_fault, without_uses}
 
--- a step of the expansion: what is judged there, and the word of the visit list that it visits, unless it is of a head
-pub record Step : Type 0 where
-  pub judged : Judged
+-- a step of the expansion: what is validated there, and the word of the visit list that it visits, unless it is of a head
+pub record ExpansionStep : Type 0 where
+  pub validated : Validated
   pub visit : Option Visited
 
 -- the steps that visit words, with so many of the visit list before the first
-abbrev pub visit_steps : ℕ → List Visited → List Step
+abbrev pub visit_steps : ℕ → List Visited → List ExpansionStep
 visit_steps before [] = []
 visit_steps before (word ∷ words) =
-    record { judged = record { origin = word.origin; kinds = visit_kinds before word }; visit = Some word } ∷ visit_steps (before + 1) words
+    record { validated = record { origin = word.origin; kinds = visit_kinds before word }; visit = Some word } ∷ visit_steps (before + 1) words
 
 -- the steps of what belongs to a head
-abbrev pub head_steps : List Judged → List Step
-head_steps words = map (λ word. record { judged = word; visit = None }) words
+abbrev pub head_steps : List Validated → List ExpansionStep
+head_steps words = map (λ word. record { validated = word; visit = None }) words
 
 -- the steps of a part, by the parts before it
-abbrev pub steps_given : List ℕ → List Part → Part → List Part → List Step
+abbrev pub steps_given : List ℕ → List Part → Part → List Part → List ExpansionStep
 steps_given source before (Plain word) after =
     visit_steps (length (visit_list source before)) (visits source (known_at source before) word depth_limit word)
-steps_given source before (Head word body) after = head_steps (judged_part source before (Head word body) after)
-steps_given source before (Inside word) after = head_steps (judged_part source before (Inside word) after)
+steps_given source before (Head word body) after = head_steps (validated_part source before (Head word body) after)
+steps_given source before (Inside word) after = head_steps (validated_part source before (Inside word) after)
 
 -- the words that are visited before the first step with a fault
-abbrev pub reached : List Step → List Visited
+abbrev pub reached : List ExpansionStep → List Visited
 reached [] = []
-reached (step ∷ steps) = if is_none (least step.judged.kinds) then option_to_list step.visit ++ reached steps else []
+reached (step ∷ steps) = if is_none (least step.validated.kinds) then option_to_list step.visit ++ reached steps else []
 
 -- the words of the visit list of a source that stand before its first fault
 unfoldable pub visits_before_fault : List ℕ → List Visited

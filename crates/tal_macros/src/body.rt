@@ -4,7 +4,7 @@ ghost use Rattle.std.specs.Prelude.{◌≡◌, ◌+◌, ◌<◌, List, [], ◌�
 ghost use Rattle.std.specs.Option.{option_map};
 ghost use Rattle.tal_words.specs.declared.span.Word.{Word as SourceWord};
 ghost use Rattle.tal_macros.specs.Expansion.{body_named};
-ghost use Rattle.tal_macros.specs.Bodies.{body_words, known_of};
+ghost use Rattle.tal_macros.specs.Bodies.{body_words, known_macros};
 
 use indexmap::IndexMap;
 use tal_words::Word;
@@ -38,7 +38,7 @@ impl Body {
 /// The body of the macro of a name.
 pub fn body_named(macros: &Macros, name: &[u8]) -> Option<Body>
     ensures { (words : List SourceWord)
-        → option_map (body_words words) result ≡ body_named (known_of words macros.now.entries) name.now }
+        → option_map (body_words words) result ≡ body_named (known_macros words macros.now.entries) name.now }
 {
     macros.get(name).copied()
 }

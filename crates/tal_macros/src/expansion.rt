@@ -5,7 +5,7 @@ ghost use Rattle.tal_words.specs.declared.span.Expanded.{Expanded as ExpandedWor
 ghost use Rattle.tal_words.specs.Order.{collected};
 ghost use Rattle.tal_words.specs.Faults.{Gives};
 ghost use Rattle.tal_words.specs.Comments.{words_of};
-ghost use Rattle.tal_macros.specs.Expansion.{Visited, expanded_of, expansion_fault, judged_part, visit_list, parts_of};
+ghost use Rattle.tal_macros.specs.Expansion.{Visited, expanded_of, expansion_fault, validated_part, visit_list, parts_of};
 ghost use Rattle.tal_macros.specs.Expansion.{without_uses, visit_limit};
 ghost use Rattle.tal_macros.specs.Steps.{Progress, steps_given, given, next_word, words_left, visits_before_fault, advanced};
 ghost use Rattle.tal_macros.specs.Steps.{NextGives, progress_after};
@@ -92,7 +92,7 @@ impl<'a> Expander<'a> {
 
 /// What an Expander gives is the expanded list. A word that it gives stands behind those given so far; where
 /// it gives none, all words that the visit list has before the first fault were given, and none is given
-/// later. These are a front of the visit list, and without a fault all of it. Its steps are judged as
+/// later. These are a prefix of the visit list, and without a fault all of it. Its steps are validated as
 /// the words of the source and those visited for them are.
 pub fn expanders_give_the_list()
     ensures more { (progress : Progress) (word : ExpandedWord) → next_word (words_left progress) ≡ Some word
@@ -101,12 +101,12 @@ pub fn expanders_give_the_list()
         → given progress ≡ without_uses (visits_before_fault progress.source) }
     ensures again { (progress : Progress) → next_word (words_left progress) ≡ None
         → next_word (words_left (advanced progress)) ≡ None }
-    ensures front { (source : List ℕ) → (behind : List Visited)
+    ensures prefix { (source : List ℕ) → (behind : List Visited)
         × (visit_list source (parts_of source) ≡ visits_before_fault source ++ behind) }
     ensures whole { (source : List ℕ) → expansion_fault source ≡ None
         → visits_before_fault source ≡ visit_list source (parts_of source) }
-    ensures judged { (source : List ℕ) → map (λ step. step.judged) (collected (steps_given source) [] (parts_of source))
-        ≡ collected (judged_part source) [] (parts_of source) }
+    ensures validated { (source : List ℕ) → map (λ step. step.validated) (collected (steps_given source) [] (parts_of source))
+        ≡ collected (validated_part source) [] (parts_of source) }
 {}
 
 /// The expanded list of a source, which has these words: the words outside the heads of macros, with

@@ -7,7 +7,7 @@ ghost use Rattle.tal_words.specs.Braces.{closes, one_if};
 ghost use Rattle.tal_words.specs.Faults.{least};
 ghost use Rattle.tal_words.specs.Source.{begins, is_only, word_text};
 ghost use Rattle.tal_macros.specs.Expansion.{body_after, head_faults};
-ghost use Rattle.tal_macros.specs.Bodies.{known_of, word_at};
+ghost use Rattle.tal_macros.specs.Bodies.{known_macros, word_at};
 ghost use Rattle.tal_macros.specs.Heads.{is_head, IsBody, IsClosedHead, HeadGives};
 
 use crate::body::{Body, Macros, body_named};
@@ -33,7 +33,7 @@ pub fn define(
     requires within { at < length words.now }
     requires head { is_head source.now (word_at words.now at) ≡ true }
     ensures { HeadGives source.now words.now at
-        (known_of words.now macros.old.entries) (known_of words.now macros.new.entries) result }
+        (known_macros words.now macros.old.entries) (known_macros words.now macros.new.entries) result }
 {
     let word = &words[at];
     let name = name_of(word.span.text(source));
@@ -60,8 +60,8 @@ fn closed_head(
     requires within { at < length words.now }
     requires name { name.now ≡ drop 1 (word_text source.now (word_at words.now at)) }
     ensures { MatchResult result
-        (λ closed. IsClosedHead source.now words.now at (known_of words.now macros.now.entries) closed.body closed.nested)
-        (λ kind. least (head_faults source.now (word_at words.now at) (known_of words.now macros.now.entries)
+        (λ closed. IsClosedHead source.now words.now at (known_macros words.now macros.now.entries) closed.body closed.nested)
+        (λ kind. least (head_faults source.now (word_at words.now at) (known_macros words.now macros.now.entries)
         (body_after source.now (drop (at + 1) words.now))) ≡ Some kind) }
 {
     if let Some(kind) = name_fault(name) {

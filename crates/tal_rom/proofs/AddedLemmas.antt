@@ -32,11 +32,11 @@ use Rattle.tal_labels.specs.Places.{address_after}
 use Rattle.tal_labels.specs.Answers.{next_scope, label_of}
 use Rattle.tal_labels.specs.Labels.{defined_name, labels_of, scope_after}
 use Rattle.tal_labels.specs.Shapes.{closing_distance}
-use Rattle.tal_labels.specs.Placing.{is_mark_form, formed_size, is_defined, ends_given, ends_of, ends_above, judged_place}
+use Rattle.tal_labels.specs.Placing.{is_mark_form, formed_size, is_defined, ends_given, ends_of, ends_above, validated_place}
 use Rattle.tal_labels.specs.Placing.{placed_with, placed_given, placed_of}
-use Rattle.tal_labels.specs.Adding.{shape_added, adding_kinds, judged_added, added_fault, open_word, given_word, word_added, open_given, open_ones}
-use Rattle.tal_labels.specs.Placers.{closed_at, closed_by, closed_opener}
-use Rattle.tal_labels.proofs.AddingLemmas.{formed-added, added-front}
+use Rattle.tal_labels.specs.Adding.{shape_added, adding_kinds, validated_added, added_fault, open_word, given_word, word_added, open_given, open_ones}
+use Rattle.tal_labels.specs.Placers.{closed_at, closed_labels, closed_opener}
+use Rattle.tal_labels.proofs.AddingLemmas.{formed-added, added-prefix}
 use Rattle.tal_labels.proofs.CallerLemmas.{length-collected}
 use Rattle.tal_labels.proofs.ClosingLemmas.{opens-closes}
 use Rattle.tal_labels.proofs.IndexLemmas.{none_since}
@@ -48,8 +48,8 @@ use Rattle.tal_rom.specs.declared.patch.Patch.{Patch}
 use Rattle.tal_rom.specs.Filling.{is_definition, is_reference}
 use Rattle.tal_rom.specs.References.{scope_behind}
 use Rattle.tal_rom.specs.Patching.{added_given, added_of}
-use Rattle.tal_rom.specs.Patchers.{Entry, Holds, HoldsAll, ComesNext, WasGiven, new_entry, added_by, brace_hole, span_of_entry, IsBelow}
-use Rattle.tal_rom.specs.Patchers.{closed_or, closed_last, entry_in, entries_from, scope_from}
+use Rattle.tal_rom.specs.Patchers.{PatchEntry, PatchHolds, HoldsAll, ComesNext, WasGiven, new_entry, added_by, brace_hole, span_of_entry, IsBelow}
+use Rattle.tal_rom.specs.Patchers.{closed_or, closed_last, patch_entry, entries_from, scope_from}
 use Rattle.tal_rom.proofs.Laying.{some_bytes, behind_more}
 use Rattle.tal_rom.proofs.Holding.{holds_more, IsPut, put_more, no_hole, nothing_left, both_nil}
 
@@ -100,7 +100,7 @@ lambda_open b o end = grind arith
 opener_none : (opening : Bool) (openers : List ℕ) → closed_opener opening false openers ≡ None
 opener_none opening openers = grind arith
 
-closed_later : (address : ℕ) (entry : Entry) (entries closed : List Entry) (holes own : List Hole) → 0 < length holes
+closed_later : (address : ℕ) (entry : PatchEntry) (entries closed : List PatchEntry) (holes own : List Hole) → 0 < length holes
     → closed_or address entry entries closed holes own ≡ entry ∷ closed
 closed_later address entry entries closed holes own some = grind arith
 
@@ -147,7 +147,7 @@ module _ (source : List ℕ) where
   -- one word more
   entries_more : (scope : List ℕ) (words : List PlacedWord) (placed : PlacedWord)
       → entries_from source scope (words ++ placed ∷ [])
-      ≡ entries_from source scope words ++ entry_in source (scope_from source scope words) placed ∷ []
+      ≡ entries_from source scope words ++ patch_entry source (scope_from source scope words) placed ∷ []
   entries_more scope [] placed = refl
   entries_more scope (first ∷ words) placed = rw (entries_more (scoped scope first) words placed) refl
 
@@ -157,7 +157,7 @@ module _ (source : List ℕ) where
 
   -- the end of a lambda changes no scope
   scope_closed : (o : Option ℕ) (address : ℕ) (scope : List ℕ) (words : List PlacedWord)
-      → scope_from source scope (closed_by o address words) ≡ scope_from source scope words
+      → scope_from source scope (closed_labels o address words) ≡ scope_from source scope words
   scope_closed None address scope words = refl
   scope_closed (Some at) address scope [] = refl
   scope_closed (Some zero) address scope (word ∷ words) = refl
@@ -190,12 +190,12 @@ module _ (source : List ℕ) where
   abbrev ClosesSo : ℕ → ℕ → List ℕ → List PlacedWord → Type 0
   ClosesSo first address scope words =
       ((spots first words ≡ []) × (flat_map brace_hole (entries_from source scope words) ≡ []))
-      ⊎ ((front : List ℕ) × (at : ℕ) × (spots first words ≡ front ++ (first + at) ∷ [])
+      ⊎ ((prefix : List ℕ) × (at : ℕ) × (spots first words ≡ prefix ++ (first + at) ∷ [])
       × (0 < length (flat_map brace_hole (entries_from source scope words)))
       × (entries_from source scope (closed_at at address words) ≡ closed_last address (entries_from source scope words)))
 
   open_hole : (scope : List ℕ) (placed : PlacedWord) → HasForm placed → is_open placed ≡ true
-      → (hole : Hole) × (brace_hole (entry_in source scope placed) ≡ hole ∷ [])
+      → (hole : Hole) × (brace_hole (patch_entry source scope placed) ≡ hole ∷ [])
   open_hole scope placed formed e =
       let found = opener (text placed) (and_parts _ _ e).0 in
       let shape : placed.form ≡ Refer found.0 = (let both : Ok placed.form ≡ Ok (Refer found.0) = sym formed ∙ found.1 in cc) in
@@ -205,8 +205,8 @@ module _ (source : List ℕ) where
   closes_so address [] first scope all = inl (refl, refl)
   closes_so address (placed ∷ words) first scope all = by (is_open placed) refl (closes_so address words (first + 1) (scoped scope placed) all.1)
     where
-      entry : Entry
-      entry = entry_in source scope placed
+      entry : PatchEntry
+      entry = patch_entry source scope placed
 
       by : (b : Bool) → is_open placed ≡ b → ClosesSo (first + 1) address (scoped scope placed) words → ClosesSo first address scope (placed ∷ words)
       by b e (inr some) =
@@ -226,7 +226,7 @@ module _ (source : List ℕ) where
       by false e (inl none) = inl (rw (e, none.0) refl, rw (e, no_hole placed.form placed.address) none.1)
 
   closes_by : (address : ℕ) (words : List PlacedWord) → ClosesSo 0 address first_scope words
-      → entries_from source first_scope (closed_by (last_of (λ at. Some at) (spots 0 words)) address words)
+      → entries_from source first_scope (closed_labels (last_of (λ at. Some at) (spots 0 words)) address words)
       ≡ closed_last address (entries_from source first_scope words)
   closes_by address words (inl none) = rw (none.0) (sym (nothing_left address _ none.1))
   closes_by address words (inr some) = (let start : 0 + some.1 ≡ some.1 = omega arith in rw (some.2, last_of-more, start) some.4)
@@ -240,11 +240,11 @@ module _ (source : List ℕ) where
     abbrev all_placed : List PlacedWord
     all_placed = placed_of source words ++ placed ∷ []
 
-    abbrev next_entries : List Entry
+    abbrev next_entries : List PatchEntry
     next_entries = entries_from source first_scope (placed_of source (words ++ word ∷ []))
 
-    abbrev more_entries : List Entry
-    more_entries = entries_from source first_scope (placed_of source words) ++ entry_in source (scope_after source words) placed ∷ []
+    abbrev more_entries : List PatchEntry
+    more_entries = entries_from source first_scope (placed_of source words) ++ patch_entry source (scope_after source words) placed ∷ []
 
     all_entries : entries_from source first_scope all_placed ≡ more_entries
     all_entries = rw (← behind) (entries_more first_scope (placed_of source words) placed)
@@ -304,14 +304,14 @@ pub record IsNextWord (source : List ℕ) (words : List Expanded) (placed : Plac
       (ends_above source words (address_after source words))
 
 module _ (source : List ℕ) (words : List Expanded) where
-  front_sound : (word : Expanded) → added_fault source (words ++ word ∷ []) ≡ None → added_fault source words ≡ None
-  front_sound word e = grind (arith, added-front source words word)
+  prefix_sound : (word : Expanded) → added_fault source (words ++ word ∷ []) ≡ None → added_fault source words ≡ None
+  prefix_sound word e = grind (arith, added-prefix source words word)
 
-  next_kinds : (word : Expanded) → added_fault source (words ++ word ∷ []) ≡ None → least (judged_place source words word []).kinds ≡ None
+  next_kinds : (word : Expanded) → added_fault source (words ++ word ∷ []) ≡ None → least (validated_place source words word []).kinds ≡ None
   unfolding added_fault
   next_kinds word e =
-      let behind = fault-behind (each (judged_added source) [] words) (judged_added source words word [] ∷ []) (front_sound word e) in
-      let last = rw (each-more (judged_added source) (λ b w a c. refl) [] words word, behind) at e in
+      let behind = fault-behind (each (validated_added source) [] words) (validated_added source words word [] ∷ []) (prefix_sound word e) in
+      let last = rw (each-more (validated_added source) (λ b w a c. refl) [] words word, behind) at e in
       let none = fault_or-none word.origin (least (adding_kinds source words word)) None last in
       ap least (both_nil (shape_added source words word) _ (least-none _ none.0)).1
 
@@ -325,7 +325,7 @@ module _ (source : List ℕ) (words : List Expanded) where
       let sound = none_since (added_fault source (words ++ placed.word ∷ [])) parts.0 in
       record {
         sound_all = sound;
-        sound = front_sound placed.word sound;
+        sound = prefix_sound placed.word sound;
         formed = parts.1;
         address = parts.2;
         well = well_placed _ _ _ _ _ (rw parts.1 at (next_kinds placed.word sound));
@@ -365,7 +365,7 @@ module _ (source : List ℕ) (words : List Expanded) (placed : PlacedWord) (give
   next : IsNextWord source words placed
   next = given_next source words placed given
 
-  abbrev pub held : List Entry
+  abbrev pub held : List PatchEntry
   held = entries_from source first_scope (placed_of source words)
 
   abbrev labels : List Label
@@ -384,7 +384,7 @@ module _ (source : List ℕ) (words : List Expanded) (placed : PlacedWord) (give
   module _ (behind : scope_from source first_scope (placed_of source words) ≡ scope_after source words) where
     module _ (text' full : List ℕ) (read : text' ≡ text source placed)
         (named : full ≡ full_name (scope_after source words) (name_after_rune (text source placed))) where
-      abbrev entry : Entry
+      abbrev entry : PatchEntry
       entry = new_entry placed.form text' placed.address full
 
       comes_next : ComesNext held entry
@@ -396,18 +396,18 @@ module _ (source : List ℕ) (words : List Expanded) (placed : PlacedWord) (give
             omega (arith, length-entries source first_scope (placed_of source words), count, few);
       }
 
-      same_entry : entry_in source (scope_after source words) (open_word source words placed.word placed.form) ≡ entry
+      same_entry : patch_entry source (scope_after source words) (open_word source words placed.word placed.form) ≡ entry
       same_entry = rw (read, named, next.address) refl
 
       pub put_all : (old new : Patch) → is_definition placed.form ≡ false → closes text' ≡ false
-          → (ComesNext held entry → Holds labels held old → Holds labels (held ++ entry ∷ []) new) → Holds labels held old → HoldsAll source all new
+          → (ComesNext held entry → PatchHolds labels held old → PatchHolds labels (held ++ entry ∷ []) new) → PatchHolds labels held old → HoldsAll source all new
       put_all old new bare e ok so =
           rw (same_labels bare, entries_next source words placed.word placed.form next.formed next.sound behind (rw read at e), same_entry)
           (ok comes_next so)
 
       pub close_all : (old put new : Patch) → is_definition placed.form ≡ false → closes text' ≡ true
-          → (ComesNext held entry → Holds labels held old → Holds labels (held ++ entry ∷ []) put)
-          → ((entries : List Entry) → Holds labels entries put → Holds labels (closed_last placed.address entries) new) → Holds labels held old
+          → (ComesNext held entry → PatchHolds labels held old → PatchHolds labels (held ++ entry ∷ []) put)
+          → ((entries : List PatchEntry) → PatchHolds labels entries put → PatchHolds labels (closed_last placed.address entries) new) → PatchHolds labels held old
           → HoldsAll source all new
       close_all old put new bare e ok close so =
           let closing = rw read at e in
@@ -416,17 +416,17 @@ module _ (source : List ℕ) (words : List Expanded) (placed : PlacedWord) (give
           rw (same_labels bare, closed, same_entry, ← next.address) (close (held ++ entry ∷ []) (ok comes_next so))
 
       pub refer_all : (rune : Rune) (old new : Patch) → placed.form ≡ Refer rune → (ComesNext held (new_entry (Refer rune) text' placed.address full)
-          → Holds labels held old
-          → Holds labels (held ++ new_entry (Refer rune) text' placed.address full ∷ []) new) → Holds labels held old → HoldsAll source all new
+          → PatchHolds labels held old
+          → PatchHolds labels (held ++ new_entry (Refer rune) text' placed.address full ∷ []) new) → PatchHolds labels held old → HoldsAll source all new
       refer_all rune old new same ok so =
           let still = not_closing source placed (words, given) (λ e. (let never : Refer rune ≡ LambdaEnd = sym same ∙ e in cc)) in
           put_all old new (rw same refl) (rw read still) (rw (← same) at ok) so
 
     pub define_all : (name : List ℕ) (old new : Patch) → is_definition placed.form ≡ true
         → Some name ≡ defined_name (Ok placed.form) (scope_after source words) (text source placed)
-        → (address_named labels name ≡ None → Holds labels held old
-        → Holds (labels ++ record { name = name; address = placed.address } ∷ []) held new)
-        → Holds labels held old → HoldsAll source all new
+        → (address_named labels name ≡ None → PatchHolds labels held old
+        → PatchHolds (labels ++ record { name = name; address = placed.address } ∷ []) held new)
+        → PatchHolds labels held old → HoldsAll source all new
     define_all name old new label named ok so =
         let marks = definition placed.form (text source placed) label in
         let fresh = none_named labels name (ap (is_defined labels) named ∙ next.well.new) in

@@ -25,17 +25,17 @@ use Rattle.tal_rom.specs.Holes.{known_in, wanted_in}
 use Rattle.tal_rom.specs.Rom.{byte_at}
 use Rattle.tal_rom.specs.Filling.{overlaid, filled_hole, is_reference}
 use Rattle.tal_rom.specs.Patching.{Added, waits, is_far, known_piece}
-use Rattle.tal_rom.specs.Patchers.{Entry, Holds, ComesNext, new_entry, added_by, holes_by, name_hole, brace_hole, span_of, span_of_entry}
+use Rattle.tal_rom.specs.Patchers.{PatchEntry, PatchHolds, ComesNext, new_entry, added_by, holes_by, name_hole, brace_hole, added_span, span_of_entry}
 use Rattle.tal_rom.specs.Patchers.{AreAscending, closed_or, closed_last}
 use Rattle.tal_rom.proofs.Moving.{length-overlaid, Settles, nothing, stays, fills, fewer_wait, fit_too, hole_filled, filled_read}
 use Rattle.tal_rom.proofs.Moving.{ascending_push, pushed_read}
 
-spans_of : (labels : List Label) (entries : List Entry) → map span_of (map (added_by labels) entries) ≡ map span_of_entry entries
+spans_of : (labels : List Label) (entries : List PatchEntry) → map added_span (map (added_by labels) entries) ≡ map span_of_entry entries
 spans_of labels [] = refl
 spans_of labels (entry ∷ entries) = rw (spans_of labels entries) refl
 
 -- one word more
-pub record IsMore (labels : List Label) (entry : Entry) (old new : Patch) : Type 0 where
+pub record IsMore (labels : List Label) (entry : PatchEntry) (old new : Patch) : Type 0 where
   pub memory : new.memory.items ≡ overlaid old.memory.items entry.address (known_piece (added_by labels entry)).bytes
   pub waiting : new.waiting ≡ old.waiting + length (filter waits (added_by labels entry ∷ []))
   pub fits : new.fits ≡ (old.fits && not (is_far (added_by labels entry)))
@@ -46,9 +46,9 @@ pub record IsMore (labels : List Label) (entry : Entry) (old new : Patch) : Type
 not_either : (a b : Bool) → (not a && not b) ≡ not (a || (b || false))
 not_either a b = grind arith
 
-module _ (labels : List Label) (entries : List Entry) (entry : Entry) where
-  pub holds_more : (old new : Patch) → ComesNext entries entry → IsMore labels entry old new → Holds labels entries old
-      → Holds labels (entries ++ entry ∷ []) new
+module _ (labels : List Label) (entries : List PatchEntry) (entry : PatchEntry) where
+  pub holds_more : (old new : Patch) → ComesNext entries entry → IsMore labels entry old new → PatchHolds labels entries old
+      → PatchHolds labels (entries ++ entry ∷ []) new
   unfolding byte_at
   holds_more old new next more so =
       let word : Added = added_by labels entry in
@@ -67,12 +67,12 @@ module _ (labels : List Label) (entries : List Entry) (entry : Entry) where
       }
 
   -- how many wait stays a number of 32 bits
-  pub waiting_small : (patch : Patch) → Holds labels entries patch → ComesNext entries entry → patch.waiting < 4294967295
+  pub waiting_small : (patch : Patch) → PatchHolds labels entries patch → ComesNext entries entry → patch.waiting < 4294967295
   waiting_small patch so next =
       let words = map (added_by labels) entries in
       omega (arith, so.waiting, length-filter waits words, count_by-le-length waits words, length-map entries (added_by labels), next.few)
 
--- the bytes of a word that is no reference do not hang on its text, unless it is one
+-- the bytes of a word that is no reference do not depend on its text, unless it is one
 pub few_are : (form : Form) (text : List ℕ) → (form ≡ Text → ⊥) → is_reference form ≡ false → encoded form [] 0 0 ≡ encoded form text 0 0
 few_are form text other e = grind arith
 
@@ -98,7 +98,7 @@ put_more labels form text address full old new bare memory fits put = record {
 
 -- a reference
 module _ (labels : List Label) (hole : Hole) (text full : List ℕ) (old new : Patch) where
-  abbrev entry : Entry
+  abbrev entry : PatchEntry
   entry = new_entry (Refer hole.rune) text hole.address full
 
   pub open_more : opens text ≡ true → new.memory.items ≡ old.memory.items → new.fits ≡ old.fits → new.waiting ≡ old.waiting + 1
@@ -151,16 +151,16 @@ length-filled : (target : ℕ) (holes : List Hole) (memory : List ℕ) → lengt
 length-filled target [] memory = refl
 length-filled target (hole ∷ holes) memory = grind (arith, length-filled target holes (filled_hole target memory hole), length-overlaid)
 
-pub holds_settled : (target : ℕ) (labels labels' : List Label) (entries entries' : List Entry) (holes : List Hole) (old new : Patch)
+pub holds_settled : (target : ℕ) (labels labels' : List Label) (entries entries' : List PatchEntry) (holes : List Hole) (old new : Patch)
     → Settles target (map (added_by labels) entries) (map (added_by labels') entries') holes → IsSettled target holes old new
-    → map span_of_entry entries' ≡ map span_of_entry entries → Holds labels entries old
+    → map span_of_entry entries' ≡ map span_of_entry entries → PatchHolds labels entries old
     → ((name : List ℕ) → known_in new.names name ≡ address_named labels' name)
     → ((name : List ℕ) → wanted_in new.names name ≡ flat_map (name_hole labels' name) entries')
     → new.openers.items ≡ flat_map brace_hole entries'
-    → Holds labels' entries' new
+    → PatchHolds labels' entries' new
 unfolding byte_at
 holds_settled target labels labels' entries entries' holes old new settles settled spans so known wanted openers =
-    let above : AreAscending (map span_of (map (added_by labels) entries)) = rw (spans_of labels entries) so.ascending in
+    let above : AreAscending (map added_span (map (added_by labels) entries)) = rw (spans_of labels entries) so.ascending in
     record {
       ascending = rw spans so.ascending;
       size = rw (settled.memory, length-filled) so.size;
@@ -215,7 +215,7 @@ module _ (labels : List Label) (label : Label) where
     -- the entries by the labels and by one more
     abbrev SettlesOne : Form → List ℕ → ℕ → List ℕ → Option ℕ → Type 0
     SettlesOne form text address full lambda =
-        let entry : Entry = record { form = form; text = text; address = address; full = full; lambda = lambda } in
+        let entry : PatchEntry = record { form = form; text = text; address = address; full = full; lambda = lambda } in
         (old new : List Added) (holes : List Hole) → Settles label.address old new holes
         → Settles label.address (added_by labels entry ∷ old) (added_by more entry ∷ new) (name_hole labels label.name entry ++ holes)
 
@@ -233,7 +233,7 @@ module _ (labels : List Label) (label : Label) where
     settle_one (Refer rune) text address full lambda = refer_one rune text address full lambda _ _ refl refl
     settle_one form text address full lambda = λ old new holes rest. stays _ rest
 
-    pub settle_label : (entries : List Entry)
+    pub settle_label : (entries : List PatchEntry)
         → Settles label.address (map (added_by labels) entries) (map (added_by more) entries) (flat_map (name_hole labels label.name) entries)
     settle_label [] = nothing
     settle_label (entry ∷ entries) = settle_one entry.form entry.text entry.address entry.full entry.lambda _ _ _ (settle_label entries)
@@ -243,25 +243,25 @@ module _ (labels : List Label) (label : Label) where
         → (not named && (not opening && here && not (is_some o))) ≡ (not opening && here && not (is_some (option_or o (address_if same))))
     waits_by_label opening here named same o e = grind arith
 
-    wanted_one : (name : List ℕ) (entry : Entry) → cond (bytes_eq name label.name) [] (name_hole labels name entry) ≡ name_hole more name entry
+    wanted_one : (name : List ℕ) (entry : PatchEntry) → cond (bytes_eq name label.name) [] (name_hole labels name entry) ≡ name_hole more name entry
     wanted_one name entry =
         hole_if entry.form entry.address (bytes_eq name label.name) _
         ∙ ap (holes_by entry.form entry.address) (rw (address_more entry.full)
         (waits_by_label (opens entry.text) (bytes_eq name entry.full) _ _ _ (λ same. rw (same_text name entry.full same) refl)))
 
-    wanted_all : (b : Bool) (old new : Entry → List Hole) → ((entry : Entry) → cond b [] (old entry) ≡ new entry)
-        → (entries : List Entry) → cond b [] (flat_map old entries) ≡ flat_map new entries
+    wanted_all : (b : Bool) (old new : PatchEntry → List Hole) → ((entry : PatchEntry) → cond b [] (old entry) ≡ new entry)
+        → (entries : List PatchEntry) → cond b [] (flat_map old entries) ≡ flat_map new entries
     wanted_all b old new one [] = grind arith
     wanted_all b old new one (entry ∷ entries) = grind (arith, one entry, wanted_all b old new one entries)
 
-    pub wanted_more : (name : List ℕ) (entries : List Entry)
+    pub wanted_more : (name : List ℕ) (entries : List PatchEntry)
         → cond (bytes_eq name label.name) [] (flat_map (name_hole labels name) entries) ≡ flat_map (name_hole more name) entries
     wanted_more name entries = wanted_all (bytes_eq name label.name) _ _ (wanted_one name) entries
 
 -- entries of which the last open lambda gets its end
-pub record Closes (labels : List Label) (address : ℕ) (entries closed : List Entry) (front : List Hole) (hole : Hole) : Type 0 where
+pub record Closes (labels : List Label) (address : ℕ) (entries closed : List PatchEntry) (prefix : List Hole) (hole : Hole) : Type 0 where
   pub settles : Settles address (map (added_by labels) entries) (map (added_by labels) closed) (hole ∷ [])
-  pub openers : flat_map brace_hole closed ≡ front
+  pub openers : flat_map brace_hole closed ≡ prefix
   pub spans : map span_of_entry closed ≡ map span_of_entry entries
   pub wanted : (name : List ℕ) → flat_map (name_hole labels name) closed ≡ flat_map (name_hole labels name) entries
 
@@ -269,25 +269,25 @@ pub both_nil : {X : Type 0} (a b : List X) → a ++ b ≡ [] → (a ≡ []) × (
 both_nil [] b e = (refl, e)
 both_nil (x ∷ a) b e = cc
 
-pub nothing_left : (address : ℕ) (entries : List Entry) → flat_map brace_hole entries ≡ [] → closed_last address entries ≡ entries
+pub nothing_left : (address : ℕ) (entries : List PatchEntry) → flat_map brace_hole entries ≡ [] → closed_last address entries ≡ entries
 nothing_left address [] e = refl
 nothing_left address (entry ∷ entries) e = (let parts = both_nil (brace_hole entry) (flat_map brace_hole entries) e in rw (parts.1, parts.0) refl)
 
 -- the last of some holes is the last of all
-last_part : (own : List Hole) (first : Hole) (rest front : List Hole) (last : Hole) → own ++ first ∷ rest ≡ front ++ last ∷ []
-    → (inner : List Hole) × (first ∷ rest ≡ inner ++ last ∷ []) × (own ++ inner ≡ front)
-last_part [] first rest front last e = (front, e, refl)
+last_part : (own : List Hole) (first : Hole) (rest prefix : List Hole) (last : Hole) → own ++ first ∷ rest ≡ prefix ++ last ∷ []
+    → (inner : List Hole) × (first ∷ rest ≡ inner ++ last ∷ []) × (own ++ inner ≡ prefix)
+last_part [] first rest prefix last e = (prefix, e, refl)
 last_part (hole ∷ own) first rest [] last e = absurd (omega (arith, ap length e, length-append own (first ∷ rest)))
-last_part (hole ∷ own) first rest (other ∷ front) last e =
+last_part (hole ∷ own) first rest (other ∷ prefix) last e =
     let same : hole ≡ other = cc in
-    let inner = last_part own first rest front last (let tails : own ++ first ∷ rest ≡ front ++ last ∷ [] = cc in tails) in
+    let inner = last_part own first rest prefix last (let tails : own ++ first ∷ rest ≡ prefix ++ last ∷ [] = cc in tails) in
     (inner.0, inner.1, rw (same, inner.2) refl)
 
 module _ (labels : List Label) (address : ℕ) where
-  -- an entry in front of the one that is closed
-  stays_closing : (entry : Entry) (entries closed : List Entry) (front : List Hole) (hole : Hole) → Closes labels address entries closed front hole
-      → Closes labels address (entry ∷ entries) (entry ∷ closed) (brace_hole entry ++ front) hole
-  stays_closing entry entries closed front hole so = record {
+  -- an entry before the one that is closed
+  stays_closing : (entry : PatchEntry) (entries closed : List PatchEntry) (prefix : List Hole) (hole : Hole) → Closes labels address entries closed prefix hole
+      → Closes labels address (entry ∷ entries) (entry ∷ closed) (brace_hole entry ++ prefix) hole
+  stays_closing entry entries closed prefix hole so = record {
     settles = stays (added_by labels entry) so.settles;
     openers = rw so.openers refl;
     spans = rw so.spans refl;
@@ -298,13 +298,13 @@ module _ (labels : List Label) (address : ℕ) where
   opens_alone : (opening : Bool) (lambda : Option ℕ) → (opening && not (is_some lambda)) ≡ true → (opening ≡ true) × (lambda ≡ None)
   opens_alone opening lambda e = grind arith
 
-  abbrev entry_by : Form → List ℕ → ℕ → List ℕ → Option ℕ → Entry
+  abbrev entry_by : Form → List ℕ → ℕ → List ℕ → Option ℕ → PatchEntry
   entry_by form text at full lambda = record { form = form; text = text; address = at; full = full; lambda = lambda }
 
-  one_closing : (form : Form) (text : List ℕ) (at : ℕ) (full : List ℕ) (lambda : Option ℕ) (opened : Bool) (front : List Hole)
-      → (opens text && not (is_some lambda)) ≡ opened → (entries : List Entry) → flat_map brace_hole entries ≡ []
-      → (hole : Hole) → holes_by form at opened ≡ front ++ hole ∷ []
-      → Closes labels address (entry_by form text at full lambda ∷ entries) (entry_by form text at full (Some address) ∷ entries) front hole
+  one_closing : (form : Form) (text : List ℕ) (at : ℕ) (full : List ℕ) (lambda : Option ℕ) (opened : Bool) (prefix : List Hole)
+      → (opens text && not (is_some lambda)) ≡ opened → (entries : List PatchEntry) → flat_map brace_hole entries ≡ []
+      → (hole : Hole) → holes_by form at opened ≡ prefix ++ hole ∷ []
+      → Closes labels address (entry_by form text at full lambda ∷ entries) (entry_by form text at full (Some address) ∷ entries) prefix hole
   one_closing (Refer rune) text at full lambda true [] e entries none hole own =
       let parts = opens_alone (opens text) lambda e in
       record {
@@ -313,24 +313,24 @@ module _ (labels : List Label) (address : ℕ) where
         spans = refl;
         wanted = λ name. refl;
       }
-  one_closing form text at full lambda opened front e entries none hole own =
-      absurd (omega (arith, ap length own, length-append front (hole ∷ [])))
+  one_closing form text at full lambda opened prefix e entries none hole own =
+      absurd (omega (arith, ap length own, length-append prefix (hole ∷ [])))
 
-  abbrev ClosesLast : List Entry → Type 0
-  ClosesLast entries = (front : List Hole) (hole : Hole) → flat_map brace_hole entries ≡ front ++ hole ∷ []
-      → Closes labels address entries (closed_last address entries) front hole
+  abbrev ClosesLast : List PatchEntry → Type 0
+  ClosesLast entries = (prefix : List Hole) (hole : Hole) → flat_map brace_hole entries ≡ prefix ++ hole ∷ []
+      → Closes labels address entries (closed_last address entries) prefix hole
 
-  pub closes_last : (entries : List Entry) → ClosesLast entries
-  closes_last [] front hole e = absurd (omega (arith, ap length e, length-append front (hole ∷ [])))
-  closes_last (entry ∷ entries) front hole e = by (flat_map brace_hole entries) (brace_hole entry) refl refl e (closes_last entries)
+  pub closes_last : (entries : List PatchEntry) → ClosesLast entries
+  closes_last [] prefix hole e = absurd (omega (arith, ap length e, length-append prefix (hole ∷ [])))
+  closes_last (entry ∷ entries) prefix hole e = by (flat_map brace_hole entries) (brace_hole entry) refl refl e (closes_last entries)
     where
-      by : (holes own : List Hole) → flat_map brace_hole entries ≡ holes → brace_hole entry ≡ own → own ++ holes ≡ front ++ hole ∷ []
+      by : (holes own : List Hole) → flat_map brace_hole entries ≡ holes → brace_hole entry ≡ own → own ++ holes ≡ prefix ++ hole ∷ []
           → ClosesLast entries
-          → Closes labels address (entry ∷ entries) (closed_or address entry entries (closed_last address entries) holes own) front hole
+          → Closes labels address (entry ∷ entries) (closed_or address entry entries (closed_last address entries) holes own) prefix hole
       by (first ∷ rest) own f g e later =
-          let last = last_part own first rest front hole e in
-          let whole : brace_hole entry ++ last.0 ≡ front = rw g last.2 in
+          let last = last_part own first rest prefix hole e in
+          let whole : brace_hole entry ++ last.0 ≡ prefix = rw g last.2 in
           rw (← whole) (stays_closing entry entries (closed_last address entries) last.0 hole (later last.0 hole (f ∙ last.1)))
-      by [] [] f g e later = absurd (omega (arith, ap length e, length-append front (hole ∷ [])))
+      by [] [] f g e later = absurd (omega (arith, ap length e, length-append prefix (hole ∷ [])))
       by [] (first ∷ own) f g e later =
-          one_closing entry.form entry.text entry.address entry.full entry.lambda _ front refl entries f hole (g ∙ sym (append-nil (first ∷ own)) ∙ e)
+          one_closing entry.form entry.text entry.address entry.full entry.lambda _ prefix refl entries f hole (g ∙ sym (append-nil (first ∷ own)) ∙ e)

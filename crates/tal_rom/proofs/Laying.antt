@@ -22,7 +22,7 @@ use Rattle.tal_labels.specs.Labels.{scope_after}
 use Rattle.tal_labels.specs.Placing.{LiesInMemory, LieApart}
 use Rattle.tal_labels.proofs.LayingLemmas.{scope_after-append}
 use Rattle.tal_rom.specs.Answers.{filled, HasAddress, AreBytesOf}
-use Rattle.tal_rom.specs.References.{target_in, reference_kinds, scope_behind, target_of, judged_reference, reference_fault}
+use Rattle.tal_rom.specs.References.{target_in, reference_kinds, scope_behind, target_of, validated_reference, reference_fault}
 use Rattle.tal_rom.specs.Rom.{Piece, byte_at, piece_given, pieces_of, rom_image, trimmed}
 use Rattle.tal_rom.proofs.Trimming.{trimmed-image}
 use Rattle.tal_rom.proofs.Covering.{IsLaid, length-filled, next_laid, nothing_laid}
@@ -48,7 +48,7 @@ behind_more source before placed e =
 
 -- what the loop over the words keeps
 pub record IsLaidSo (source : List ℕ) (labels : List Label) (words : List PlacedWord) (k : ℕ) (rom scope : List ℕ) : Type 0 where
-  pub sound : phase_fault (each (judged_reference source labels) (take k words) (drop k words)) ≡ reference_fault source labels words
+  pub sound : phase_fault (each (validated_reference source labels) (take k words) (drop k words)) ≡ reference_fault source labels words
   pub scoped : scope ≡ scope_behind source (take k words)
   pub laid : IsLaid (pieces_of source labels (take k words)) rom
   pub apart : LieApart source words
@@ -84,7 +84,7 @@ module _ (source : List ℕ) (labels : List Label) (words : List PlacedWord) (k 
 
     pub faulty_next : (kind : FaultKind) → least (reference_kinds word.form word.address target) ≡ Some kind
         → reference_fault source labels words ≡ Some (fault_at word.word.origin kind)
-    faulty_next kind some = sym so.sound ∙ fault-here (judged_reference source labels) words k no_placed_word within kind (rw same at some)
+    faulty_next kind some = sym so.sound ∙ fault-here (validated_reference source labels) words k no_placed_word within kind (rw same at some)
 
     pub next_laid_so : (more next : List ℕ) → least (reference_kinds word.form word.address target) ≡ None
         → more ≡ filled rom word.address (encoded word.form text word.address (unwrap_or target 0)) → next ≡ next_scope word.form scope text
@@ -98,7 +98,7 @@ module _ (source : List ℕ) (labels : List Label) (words : List PlacedWord) (k 
         let behind : 0 < length bytes → 256 + length rom ≤ word.address = λ some. so.above k (omega arith) within (omega (arith, long)) in
         let size = length-filled rom word.address bytes behind in
         record {
-          sound = fault-later (judged_reference source labels) words k no_placed_word within (rw same at none) ∙ so.sound;
+          sound = fault-later (validated_reference source labels) words k no_placed_word within (rw same at none) ∙ so.sound;
           scoped = rw (after, read, so.scoped, take_more words k no_placed_word within) (sym (behind_more source (take k words) word lies.shape));
           laid = rw (all, take_more words k no_placed_word within, each-more (piece_given source labels) (λ b w a c. refl) [] (take k words) word)
               (next_laid _ rom word.address bytes so.laid behind (λ some. omega (arith, long, lies.end (omega (arith, long)))));
@@ -113,7 +113,7 @@ pub all_laid : (source : List ℕ) (labels : List Label) (words : List PlacedWor
     → IsLaidSo source labels words k rom scope → (reference_fault source labels words ≡ None) × AreBytesOf (pieces_of source labels words) rom
 all_laid source labels words k rom scope past so =
     let whole = rw (take_all k words past) at so.laid in (
-      sym so.sound ∙ ap phase_fault (each-end (judged_reference source labels) words k past),
+      sym so.sound ∙ ap phase_fault (each-end (validated_reference source labels) words k past),
       record { each = whole.each; within = whole.within },
     )
 

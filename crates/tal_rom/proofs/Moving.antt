@@ -15,7 +15,7 @@ use Rattle.tal_rom.specs.declared.hole.Hole.{Hole}
 use Rattle.tal_rom.specs.Rom.{Piece, covers, byte_of_piece}
 use Rattle.tal_rom.specs.Filling.{overlaid, filled_hole}
 use Rattle.tal_rom.specs.Patching.{Added, waits, is_far, known_piece}
-use Rattle.tal_rom.specs.Patchers.{span_of, IsAbove, IsBelow, AreAscending}
+use Rattle.tal_rom.specs.Patchers.{added_span, IsAbove, IsBelow, AreAscending}
 use Rattle.tal_rom.proofs.Covering.{covers-true, covers-past, covers-before, read_over, read_of, read_first, more_over}
 use Rattle.tal_rom.proofs.Laying.{some_bytes}
 
@@ -90,7 +90,7 @@ module _ (target : ℕ) where
   -- words above it leave it
   stays_filled : (at low : ℕ) {old new : List Added} {holes : List Hole} → Settles target old new holes → (memory : List ℕ) → at < low
       → at < length memory
-      → AllByRecursion (IsAbove low) (map span_of old) → filled holes memory at ≡ get_or memory at 0
+      → AllByRecursion (IsAbove low) (map added_span old) → filled holes memory at ≡ get_or memory at 0
   stays_filled at low nothing memory below within above = refl
   stays_filled at low (stays word rest) memory below within above = stays_filled at low rest memory below within above.1
   stays_filled at low (fills rune text address rest) memory below within above =
@@ -104,7 +104,7 @@ module _ (target : ℕ) where
   -- it is read from the first word, which covers it, or from the others
   first_filled : (at : ℕ) {old new : List Added} {holes : List Hole} → Settles target old new holes
       → (word : Added) (memory : List ℕ) (covered : Bool)
-      → (0 < size word.form word.text → AllByRecursion (IsAbove (word.address + size word.form word.text)) (map span_of old))
+      → (0 < size word.form word.text → AllByRecursion (IsAbove (word.address + size word.form word.text)) (map added_span old))
       → at < length memory → covers at (known_piece word) ≡ covered → (get_or memory at 0 ≡ read_at old at → filled holes memory at ≡ read_at new at)
       → get_or memory at 0 ≡ cond covered (byte_of_piece at (Some (known_piece word))) (read_at old at)
       → filled holes memory at ≡ cond covered (byte_of_piece at (Some (known_piece word))) (read_at new at)
@@ -115,7 +115,7 @@ module _ (target : ℕ) where
   first_filled at rest word memory false above within c later e = later e
 
   pub filled_read : (at : ℕ) {old new : List Added} {holes : List Hole} → Settles target old new holes → (memory : List ℕ)
-      → AreAscending (map span_of old)
+      → AreAscending (map added_span old)
       → at < length memory → get_or memory at 0 ≡ read_at old at → filled holes memory at ≡ read_at new at
   filled_read at nothing memory above within e = e
   filled_read at (stays word rest) memory above within e =
@@ -139,7 +139,7 @@ ascending_push (first ∷ spans) span above below = (
   ascending_push spans span above.1 (λ more. (below more).1),
 )
 
-none_below : (at place : ℕ) (words : List Added) → place ≤ at → AllByRecursion (IsBelow place) (map span_of words)
+none_below : (at place : ℕ) (words : List Added) → place ≤ at → AllByRecursion (IsBelow place) (map added_span words)
     → find (covers at) (map known_piece words) ≡ None
 none_below at place [] h below = refl
 none_below at place (word ∷ words) h below =
@@ -148,7 +148,7 @@ none_below at place (word ∷ words) h below =
     rw none (none_below at place words h below.1)
 
 pub pushed_read : (at : ℕ) (words : List Added) (word : Added) (memory : List ℕ)
-    → (0 < size word.form word.text → AllByRecursion (IsBelow word.address) (map span_of words)) → at < length memory
+    → (0 < size word.form word.text → AllByRecursion (IsBelow word.address) (map added_span words)) → at < length memory
     → get_or memory at 0 ≡ read_at words at
     → get_or (overlaid memory word.address (known_piece word).bytes) at 0 ≡ read_at (words ++ word ∷ []) at
 pushed_read at words word memory below within e =

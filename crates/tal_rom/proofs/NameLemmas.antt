@@ -7,7 +7,7 @@ use Rattle.indexmap.specs.IndexMap.{insert_entry}
 use Rattle.tal_labels.proofs.IndexLemmas.{vec_eq}
 use Rattle.tal_rom.specs.declared.hole.Hole.{Hole}
 use Rattle.tal_rom.specs.declared.hole.Named.{Named}
-use Rattle.tal_rom.specs.Holes.{known_of, wanted_of}
+use Rattle.tal_rom.specs.Holes.{known_address, wanted_of}
 use Rattle.tal_rom.proofs.Holding.{same_text}
 
 abbrev pub Entries : Type 0
@@ -60,8 +60,8 @@ module _ (old new : Entries) (name : List ℕ) (named : Named) (changes : Change
       → wanted_of (put find name named other) ≡ wanted_of (find other) ++ cond (bytes_eq other name) more []
   more_part more find e = grind (arith, same_text other name, append-nil)
 
-  pub known_same : named.address ≡ known_of (found old name) → known_of (found new other) ≡ known_of (found old other)
-  known_same e = rw (changes.at other) (same_part known_of (found old) e)
+  pub known_same : named.address ≡ known_address (found old name) → known_address (found new other) ≡ known_address (found old other)
+  known_same e = rw (changes.at other) (same_part known_address (found old) e)
 
   pub wanted_same : named.holes.items ≡ wanted_of (found old name) → wanted_of (found new other) ≡ wanted_of (found old other)
   wanted_same e = rw (changes.at other) (same_part wanted_of (found old) e)
@@ -71,7 +71,7 @@ module _ (old new : Entries) (name : List ℕ) (named : Named) (changes : Change
   wanted_more more e = rw (changes.at other) (more_part more (found old) e)
 
   pub known_defined : (address : ℕ) → named.address ≡ Some address
-      → known_of (found new other) ≡ cond (bytes_eq other name) (Some address) (known_of (found old other))
+      → known_address (found new other) ≡ cond (bytes_eq other name) (Some address) (known_address (found old other))
   known_defined address e = rw (changes.at other) (grind arith)
 
   pub wanted_defined : named.holes.items ≡ [] → wanted_of (found new other) ≡ cond (bytes_eq other name) [] (wanted_of (found old other))

@@ -37,12 +37,12 @@ module _ (source : List ℕ) (progress : Progress) (placer : Placer) (patcher : 
   few = omega (arith, given-few progress, so.bound)
 
   module _ (word : Expanded) (next : next_word (words_left progress) ≡ Some word) (placed : PlacedWord)
-      (told : (words : List Expanded) → length words < 2147483647 → WereAdded source words placer → Some placed ≡ word_added source words word) where
+      (contents : (words : List Expanded) → length words < 2147483647 → WereAdded source words placer → Some placed ≡ word_added source words word) where
     same : placed.word ≡ word
-    same = word_given source (given progress) word placed (sym (told (given progress) few so.added))
+    same = word_given source (given progress) word placed (sym (contents (given progress) few so.added))
 
     pub was_given : word_added source (given progress) placed.word ≡ Some placed
-    was_given = ap (word_added source (given progress)) same ∙ sym (told (given progress) few so.added)
+    was_given = ap (word_added source (given progress)) same ∙ sym (contents (given progress) few so.added)
 
     -- one word further on
     pub further : (placer_new : Placer) (patcher_new : Patcher) → (advanced progress).visited ≤ visit_limit
@@ -57,9 +57,9 @@ module _ (source : List ℕ) (progress : Progress) (placer : Placer) (patcher : 
     }
 
 -- what is laid out where a placer ends without a fault
-pub told : (fault : Option Fault) (placed layout : Layout) → Some placed ≡ cond (is_some fault) None (Some layout) → (fault ≡ None) × (placed ≡ layout)
-told None placed layout e = (refl, cc)
-told (Some fault) placed layout e = cc
+pub contents : (fault : Option Fault) (placed layout : Layout) → Some placed ≡ cond (is_some fault) None (Some layout) → (fault ≡ None) × (placed ≡ layout)
+contents None placed layout e = (refl, cc)
+contents (Some fault) placed layout e = cc
 
 -- where no word waits and all fit, the references have no fault and the image is the ROM
 pub patched : (source : List ℕ) (words : List Expanded) (placed : Layout) (rom : List ℕ) → placed ≡ layout_of source words → waiting_count source words ≡ 0 → all_fit source words ≡ true

@@ -11,7 +11,7 @@ use Rattle.tal_words.proofs.PassLemmas.{fault_or-none}
 use Rattle.tal_labels.specs.declared.placed.PlacedWord.{PlacedWord}
 use Rattle.tal_labels.specs.Labels.{labels_of}
 use Rattle.tal_labels.specs.Placing.{placed_of}
-use Rattle.tal_rom.specs.References.{target_of, reference_kinds, judged_reference, reference_fault}
+use Rattle.tal_rom.specs.References.{target_of, reference_kinds, validated_reference, reference_fault}
 use Rattle.tal_rom.specs.Rom.{byte_at, piece_given, pieces_of, rom_image, trimmed}
 use Rattle.tal_rom.specs.Patching.{Added, waits_by, waits, is_far_by, is_far, known_piece, added_given, added_of, waiting_count, all_fit, image_of}
 
@@ -36,7 +36,7 @@ module _ (source : List ℕ) (labels : List Label) where
   added before words = each (added_given source labels) before words
 
   abbrev fault_among : List PlacedWord → List PlacedWord → Option Fault
-  fault_among before words = phase_fault (each (judged_reference source labels) before words)
+  fault_among before words = phase_fault (each (validated_reference source labels) before words)
 
   -- where no word has a fault of its reference, all are known, and their bytes are those of the words
   all_known : (before words : List PlacedWord) → fault_among before words ≡ None

@@ -18,7 +18,7 @@ use Rattle.tal_labels.specs.declared.placed.PlacedWord.{PlacedWord}
 use Rattle.tal_labels.specs.Places.{address_after}
 use Rattle.tal_labels.specs.Labels.{labels_of}
 use Rattle.tal_labels.specs.Placing.{lambda_address, placed_given, placed_of}
-use Rattle.tal_rom.specs.References.{target_of, reference_kinds, judged_reference, reference_fault}
+use Rattle.tal_rom.specs.References.{target_of, reference_kinds, validated_reference, reference_fault}
 use Rattle.tal_rom.specs.Rom.{Piece, byte_at, piece_given, pieces_of, rom_image, trimmed}
 use Rattle.tal_rom.specs.Assembly.{layout, first_fault, rom_of}
 use Rattle.tal_rom.proofs.Covering.{covers-past, read_over, read_of, read_first}
@@ -26,7 +26,7 @@ use Rattle.tal_rom.proofs.Trimming.{trimmed-image}
 use Rattle.tal_words.specs.PlainTexts.{Item, AreItems, text_of_items, words_of_items}
 use Rattle.tal_words.proofs.PlainTexts.{words_are, no_word_fault, words_plain}
 use Rattle.tal_macros.proofs.PlainLemmas.{expanded_texts, no_expansion_fault}
-use Rattle.tal_labels.specs.PlainWords.{Coded, texts_of_coded, bytes_of_coded, pad_text, is_bare_form, StandsFor}
+use Rattle.tal_labels.specs.PlainWords.{Coded, texts_of_coded, bytes_of_coded, pad_text, is_bare_form, RepresentsWord}
 use Rattle.tal_labels.proofs.PlainLemmas.{all_coded, no_more, Spells, spells_from, shaped, Reaches, reaches_more, reaches_pad}
 use Rattle.tal_labels.proofs.PlainLemmas.{formed_pad, plain_faultless}
 use Rattle.tal_rom.specs.PlainWords.{AssemblesTo}
@@ -66,7 +66,7 @@ module _ (source : List ℕ) (labels : List Label) where
 
   -- none of them is a reference
   no_references : (words : List Expanded) (coded : List Coded) (before : List Expanded) (behind : List PlacedWord) → Spells source words coded
-      → phase_fault (each (judged_reference source labels) behind (collected (placed_given source) before words)) ≡ None
+      → phase_fault (each (validated_reference source labels) behind (collected (placed_given source) before words)) ≡ None
   no_references [] [] before behind spells = refl
   no_references (word ∷ words) (coded ∷ codeds) before behind spells =
       let placed = placed_as source before word words spells.1.shape in
@@ -100,7 +100,7 @@ image_is coded within =
 
 -- a text of `|0100` and of such words assembles to their bytes
 module _ (items : List Item) (coded : List Coded) (sound : AreItems items) (are : words_of_items items ≡ pad_text ∷ texts_of_coded coded)
-    (stand : AllByRecursion StandsFor coded) (short : length (text_of_items items) ≤ source_limit)
+    (stand : AllByRecursion RepresentsWord coded) (short : length (text_of_items items) ≤ source_limit)
     (within : length (bytes_of_coded coded) ≤ 65280) where
   abbrev source : List ℕ
   source = text_of_items items

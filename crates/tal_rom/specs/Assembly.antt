@@ -30,7 +30,7 @@ unfoldable pub rom_of : List ℕ → List ℕ
 rom_of source = rom_image (pieces_of source (layout source).labels (layout source).words)
 
 -- the answer is the assembly of a source that has no fault, which is its ROM, its words with their places and its labels, or the
--- first fault; want of memory is free
+-- first fault; running out of memory is free
 abbrev pub IsAssembled : List ℕ → Result Program AsmStop → Type 0
 IsAssembled source (Ok program) =
     (first_fault source ≡ None)

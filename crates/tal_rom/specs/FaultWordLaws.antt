@@ -8,17 +8,17 @@ use Rattle.tal_words.specs.declared.fault.Fault.{Fault}
 use Rattle.tal_words.specs.declared.fault.FaultKind.{FaultKind}
 use Rattle.tal_words.specs.declared.form.Form.{Form}
 use Rattle.tal_words.specs.Comments.{words_of, word_fault}
-use Rattle.tal_words.specs.Faults.{Judged, fault_or, least, phase_fault, or_later}
+use Rattle.tal_words.specs.Faults.{Validated, fault_or, least, phase_fault, or_later}
 use Rattle.tal_words.specs.Order.{each, collected}
 use Rattle.tal_words.specs.Source.{word_text, expanded_text}
 use Rattle.tal_words.specs.Forms.{form}
 use Rattle.tal_macros.specs.Expansion.{Macro, Part, Plain, Head, Inside, Visited, depth_limit, body_named, body_defined}
 use Rattle.tal_macros.specs.Expansion.{part_of, parts_from, head_length, known_at, visits, visits_given, visit_list}
-use Rattle.tal_macros.specs.Expansion.{without_uses, judged_visits, judged_part, parts_of, expanded_of, expansion_fault}
+use Rattle.tal_macros.specs.Expansion.{without_uses, validated_visits, validated_part, parts_of, expanded_of, expansion_fault}
 use Rattle.tal_labels.specs.declared.placed.PlacedWord.{PlacedWord}
-use Rattle.tal_labels.specs.Shapes.{shape_fault, judged_shape}
-use Rattle.tal_labels.specs.Placing.{placing_fault, judged_place, place_fault, placed_of, placed_with, placed_given}
-use Rattle.tal_rom.specs.References.{reference_fault, judged_reference}
+use Rattle.tal_labels.specs.Shapes.{shape_fault, validated_shape}
+use Rattle.tal_labels.specs.Placing.{placing_fault, validated_place, place_fault, placed_of, placed_with, placed_given}
+use Rattle.tal_rom.specs.References.{reference_fault, validated_reference}
 use Rattle.tal_rom.specs.Assembly.{first_fault, layout}
 
 -- what holds of each of two lists
@@ -54,14 +54,14 @@ module _ (P : Word → Type 0) where
     pub holds : P word
     pub start : word.span.start ≡ fault.at
 
-  abbrev IsJudged : Judged → Type 0
-  IsJudged judged = P judged.origin
+  abbrev IsValidated : Validated → Type 0
+  IsValidated validated = P validated.origin
 
   or_at : (word : Word) (kind : Option FaultKind) (later : Option Fault) → P word → IfSome later IsAt → IfSome (fault_or word kind later) IsAt
   or_at word None later holds rest = rest
   or_at word (Some kind) later holds rest = record { word = word; holds = holds; start = refl }
 
-  first_at : (words : List Judged) → AllByRecursion IsJudged words → IfSome (phase_fault words) IsAt
+  first_at : (words : List Validated) → AllByRecursion IsValidated words → IfSome (phase_fault words) IsAt
   first_at [] all = tt
   first_at (word ∷ words) all = or_at word.origin (least word.kinds) (phase_fault words) all.0 (first_at words all.1)
 
@@ -84,9 +84,9 @@ module _ (P : Word → Type 0) where
   abbrev IsOfPlaced : PlacedWord → Type 0
   IsOfPlaced placed = P placed.word.origin
 
-  visits_judged : (before : ℕ) (words : List Visited) → AllByRecursion IsOfVisit words → AllByRecursion IsJudged (judged_visits before words)
-  visits_judged before [] all = tt
-  visits_judged before (word ∷ words) all = (all.0, visits_judged (before + 1) words all.1)
+  visits_validated : (before : ℕ) (words : List Visited) → AllByRecursion IsOfVisit words → AllByRecursion IsValidated (validated_visits before words)
+  visits_validated before [] all = tt
+  visits_validated before (word ∷ words) all = (all.0, visits_validated (before + 1) words all.1)
 
   kept_of : (visited : List Visited) → AllByRecursion IsOfVisit visited → AllByRecursion IsOfExpanded (without_uses visited)
   kept_of [] all = tt
@@ -114,11 +114,11 @@ module _ (P : Word → Type 0) where
     given_of before (Head word body) after holds = tt
     given_of before (Inside word) after holds = tt
 
-    part_judged : (before : List Part) (part : Part) (after : List Part) → IsOfPart part
-        → AllByRecursion IsJudged (judged_part source before part after)
-    part_judged before (Plain word) after holds = visits_judged _ _ (visits_of (known_at source before) word depth_limit word holds)
-    part_judged before (Head word body) after holds = (holds, tt)
-    part_judged before (Inside word) after holds = (holds, tt)
+    part_validated : (before : List Part) (part : Part) (after : List Part) → IsOfPart part
+        → AllByRecursion IsValidated (validated_part source before part after)
+    part_validated before (Plain word) after holds = visits_validated _ _ (visits_of (known_at source before) word depth_limit word holds)
+    part_validated before (Head word body) after holds = (holds, tt)
+    part_validated before (Inside word) after holds = (holds, tt)
 
     placed_is : (before : List Expanded) (word : Expanded) (after : List Expanded) (answer : Result Form FaultKind) → IsOfExpanded word
         → AllByRecursion IsOfPlaced (placed_with source before word after answer)
@@ -138,19 +138,19 @@ module _ (P : Word → Type 0) where
 
       expansion_at : IfSome (expansion_fault source) IsAt
       unfolding expansion_fault parts_of
-      expansion_at = first_at _ (all_collected IsOfPart IsJudged (judged_part source) part_judged [] _ (parts_are 0 (words_of source) all))
+      expansion_at = first_at _ (all_collected IsOfPart IsValidated (validated_part source) part_validated [] _ (parts_are 0 (words_of source) all))
 
       place_at : IfSome (place_fault source (expanded_of source)) IsAt
       unfolding place_fault shape_fault placing_fault
       place_at =
-          later_at _ _ (first_at _ (all_each IsOfExpanded IsJudged (judged_shape source) (λ before word after holds. holds) [] _ expanded_are))
-          (first_at _ (all_each IsOfExpanded IsJudged (judged_place source) (λ before word after holds. holds) [] _ expanded_are))
+          later_at _ _ (first_at _ (all_each IsOfExpanded IsValidated (validated_shape source) (λ before word after holds. holds) [] _ expanded_are))
+          (first_at _ (all_each IsOfExpanded IsValidated (validated_place source) (λ before word after holds. holds) [] _ expanded_are))
 
       reference_at : IfSome (reference_fault source (layout source).labels (layout source).words) IsAt
       unfolding reference_fault
       reference_at =
           first_at _
-          (all_each IsOfPlaced IsJudged (judged_reference source (layout source).labels) (λ before placed after holds. holds) [] _ placed_are)
+          (all_each IsOfPlaced IsValidated (validated_reference source (layout source).labels) (λ before placed after holds. holds) [] _ placed_are)
 
       -- the first fault of a source without a fault of words
       pub fault_at_word : word_fault source ≡ None → IfSome (first_fault source) IsAt

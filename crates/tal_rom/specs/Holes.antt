@@ -11,9 +11,9 @@ abbrev pub found_in : Names → List ℕ → Option Named
 found_in names name = lookup (λ key. bytes_eq name key.items) names.entries.entries
 
 -- the address, where it is defined
-abbrev pub known_of : Option Named → Option ℕ
-known_of (Some named) = named.address
-known_of None = None
+abbrev pub known_address : Option Named → Option ℕ
+known_address (Some named) = named.address
+known_address None = None
 
 -- the references that wait for it, in order
 abbrev pub wanted_of : Option Named → List Hole
@@ -21,7 +21,7 @@ wanted_of (Some named) = named.holes.items
 wanted_of None = []
 
 abbrev pub known_in : Names → List ℕ → Option ℕ
-known_in names name = known_of (found_in names name)
+known_in names name = known_address (found_in names name)
 
 abbrev pub wanted_in : Names → List ℕ → List Hole
 wanted_in names name = wanted_of (found_in names name)

@@ -23,7 +23,7 @@ pub record AreAdded (source : List ℕ) (placer : Placer) (patcher : Patcher) : 
   pub patched : WerePatched source (expanded_of source) patcher
 
 -- what a turn of the pass comes to, from a progress on
-abbrev pub GoesOn : List ℕ → Progress → Turn → Progress → Placer → Patcher → Type 0
-GoesOn source before Added progress placer patcher = (before.visited < progress.visited) × IsOnItsWay source progress placer patcher
-GoesOn source before Ended progress placer patcher = AreAdded source placer patcher
-GoesOn source before Faulty progress placer patcher = Unit {0}
+abbrev pub PassGoesOn : List ℕ → Progress → Turn → Progress → Placer → Patcher → Type 0
+PassGoesOn source before Added progress placer patcher = (before.visited < progress.visited) × IsOnItsWay source progress placer patcher
+PassGoesOn source before Ended progress placer patcher = AreAdded source placer patcher
+PassGoesOn source before Faulty progress placer patcher = Unit {0}

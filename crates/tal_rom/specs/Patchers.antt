@@ -1,4 +1,4 @@
--- What a patcher stands for.
+-- What a patcher represents.
 use Rattle.std.specs.Prelude.{◌≡◌, ◌<◌, ◌≤◌, ℕ, ◌+◌, zero, suc, Bool, true, false, not}
 use Rattle.std.specs.Prelude.{◌&&◌, if◌then◌else◌, List, [], ◌∷◌, ◌++◌, length, map, slice_index, slice_set, fold}
 use Rattle.std.specs.Prelude.{Option, Some, None, is_some}
@@ -33,18 +33,18 @@ abbrev pub WasGiven : List ℕ → PlacedWord → Type 0
 WasGiven source placed = (words : List Expanded) × (word_added source words placed.word ≡ Some placed)
 
 -- a word that was added, with the full name that it looks up if it is a reference
-pub record Entry : Type 0 where
+pub record PatchEntry : Type 0 where
   pub form : Form
   pub text : List ℕ
   pub address : ℕ
   pub full : List ℕ
   pub lambda : Option ℕ
 
-abbrev pub new_entry : Form → List ℕ → ℕ → List ℕ → Entry
+abbrev pub new_entry : Form → List ℕ → ℕ → List ℕ → PatchEntry
 new_entry form text address full = record { form = form; text = text; address = address; full = full; lambda = None }
 
 -- its target by these labels
-abbrev pub added_by : List Label → Entry → Added
+abbrev pub added_by : List Label → PatchEntry → Added
 added_by labels entry = record {
   form = entry.form;
   text = entry.text;
@@ -58,20 +58,20 @@ holes_by (Refer rune) address true = record { rune = rune; address = address } �
 holes_by _ address is_hole = []
 
 -- the hole of an entry that waits for a full name
-abbrev pub name_hole : List Label → List ℕ → Entry → List Hole
+abbrev pub name_hole : List Label → List ℕ → PatchEntry → List Hole
 name_hole labels name entry =
     holes_by entry.form entry.address
     (not (opens entry.text) && bytes_eq name entry.full && not (is_some (address_named labels entry.full)))
 
 -- the hole of an entry whose lambda is open
-abbrev pub brace_hole : Entry → List Hole
+abbrev pub brace_hole : PatchEntry → List Hole
 brace_hole entry = holes_by entry.form entry.address (opens entry.text && not (is_some entry.lambda))
 
 -- the addresses from its own on, as many as its size says
-abbrev pub span_of : Added → ℕ × ℕ
-span_of word = (word.address, size word.form word.text)
+abbrev pub added_span : Added → ℕ × ℕ
+added_span word = (word.address, size word.form word.text)
 
-abbrev pub span_of_entry : Entry → ℕ × ℕ
+abbrev pub span_of_entry : PatchEntry → ℕ × ℕ
 span_of_entry entry = (entry.address, size entry.form entry.text)
 
 -- a span with bytes begins at or above an address; it ends at or below one
@@ -91,7 +91,7 @@ memory_size = 65536
 
 -- what is kept of entries and labels: memory with what is known of it, how many wait, whether all fit, the names, and the
 -- lambdas that are open
-pub record Holds (labels : List Label) (entries : List Entry) (patch : Patch) : Type 0 where
+pub record PatchHolds (labels : List Label) (entries : List PatchEntry) (patch : Patch) : Type 0 where
   pub ascending : AreAscending (map span_of_entry entries)
   pub size : length patch.memory.items ≡ memory_size
   pub each : (at : ℕ) → at < memory_size → slice_index patch.memory.items at ≡ byte_at (map known_piece (map (added_by labels) entries)) at
@@ -102,25 +102,25 @@ pub record Holds (labels : List Label) (entries : List Entry) (patch : Patch) : 
   pub openers : patch.openers.items ≡ flat_map brace_hole entries
 
 -- an entry behind others, of which there are few
-pub record ComesNext (entries : List Entry) (entry : Entry) : Type 0 where
+pub record ComesNext (entries : List PatchEntry) (entry : PatchEntry) : Type 0 where
   pub behind : 0 < size entry.form entry.text → AllByRecursion (IsBelow entry.address) (map span_of_entry entries)
   pub few : length entries < 4294967295
 
 -- the last of them whose lambda is open, with the end of this lambda
-abbrev pub closed_or : ℕ → Entry → List Entry → List Entry → List Hole → List Hole → List Entry
+abbrev pub closed_or : ℕ → PatchEntry → List PatchEntry → List PatchEntry → List Hole → List Hole → List PatchEntry
 closed_or address entry entries closed (hole ∷ holes) own = entry ∷ closed
 closed_or address entry entries closed [] (hole ∷ holes) = record entry { lambda = Some address } ∷ entries
 closed_or address entry entries closed [] [] = entry ∷ entries
 
-abbrev pub closed_last : ℕ → List Entry → List Entry
+abbrev pub closed_last : ℕ → List PatchEntry → List PatchEntry
 closed_last address [] = []
 closed_last address (entry ∷ entries) =
     closed_or address entry entries (closed_last address entries) (flat_map brace_hole entries) (brace_hole entry)
 
 module _ (source : List ℕ) where
   -- a placed word in a scope
-  abbrev pub entry_in : List ℕ → PlacedWord → Entry
-  entry_in scope placed = record {
+  abbrev pub patch_entry : List ℕ → PlacedWord → PatchEntry
+  patch_entry scope placed = record {
     form = placed.form;
     text = expanded_text source placed.word;
     address = placed.address;
@@ -128,17 +128,17 @@ module _ (source : List ℕ) where
     lambda = placed.lambda;
   }
 
-  abbrev pub entries_from : List ℕ → List PlacedWord → List Entry
+  abbrev pub entries_from : List ℕ → List PlacedWord → List PatchEntry
   entries_from scope [] = []
   entries_from scope (placed ∷ words) =
-      entry_in scope placed ∷ entries_from (next_scope placed.form scope (expanded_text source placed.word)) words
+      patch_entry scope placed ∷ entries_from (next_scope placed.form scope (expanded_text source placed.word)) words
 
   -- the scope behind them
   abbrev pub scope_from : List ℕ → List PlacedWord → List ℕ
   scope_from scope words = fold (λ s placed. next_scope placed.form s (expanded_text source placed.word)) scope words
 
   abbrev pub HoldsAll : List Expanded → Patch → Type 0
-  HoldsAll words patch = Holds (labels_of source words) (entries_from first_scope (placed_of source words)) patch
+  HoldsAll words patch = PatchHolds (labels_of source words) (entries_from first_scope (placed_of source words)) patch
 
   -- these words were added to a patcher
   pub record WerePatched (words : List Expanded) (patcher : Patcher) : Type 0 where

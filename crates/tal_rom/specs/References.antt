@@ -7,7 +7,7 @@ use Rattle.tal_words.specs.declared.form.Form.{Form}
 use Rattle.tal_words.specs.declared.form.Form.TheVariants.{Refer}
 use Rattle.tal_words.specs.declared.form.Rune.{Rune}
 use Rattle.tal_words.specs.declared.name.Label.{Label}
-use Rattle.tal_words.specs.Faults.{Judged, when, phase_fault}
+use Rattle.tal_words.specs.Faults.{Validated, when, phase_fault}
 use Rattle.tal_words.specs.Forms.{reaches}
 use Rattle.tal_words.specs.Names.{full_name, name_after_rune}
 use Rattle.tal_words.specs.Braces.{opens}
@@ -53,12 +53,12 @@ module _ (source : List ℕ) where
     target_of before placed = target_in labels (scope_behind before) (expanded_text source placed.word) placed
 
     -- a word with what is wrong with it as a reference
-    abbrev pub judged_reference : List PlacedWord → PlacedWord → List PlacedWord → Judged
-    judged_reference before placed after = record {
+    abbrev pub validated_reference : List PlacedWord → PlacedWord → List PlacedWord → Validated
+    validated_reference before placed after = record {
       origin = placed.word.origin;
       kinds = reference_kinds placed.form placed.address (target_of before placed);
     }
 
     -- the first fault of the references among words
     unfoldable pub reference_fault : List PlacedWord → Option Fault
-    reference_fault words = phase_fault (each judged_reference [] words)
+    reference_fault words = phase_fault (each validated_reference [] words)

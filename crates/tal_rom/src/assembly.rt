@@ -6,7 +6,7 @@ ghost use Rattle.tal_rom.specs.Rom.{rom_limit};
 ghost use Rattle.tal_rom.specs.Assembly.{IsAssembled, first_fault, layout};
 ghost use Rattle.tal_rom.specs.Answers.{CoverOnce};
 ghost use Rattle.tal_rom.specs.Patchers.{WerePatched};
-ghost use Rattle.tal_rom.specs.Passing.{AreAdded, GoesOn, IsOnItsWay};
+ghost use Rattle.tal_rom.specs.Passing.{AreAdded, PassGoesOn, IsOnItsWay};
 
 use crate::patcher::Patcher;
 use crate::rom::rom_of;
@@ -108,7 +108,7 @@ fn add_next(
 ) -> Result<Turn, AllocError>
     requires short { length source.now ≤ source_limit }
     requires so { IsOnItsWay source.now expander.old placer.old patcher.old }
-    ensures { IfOk result (λ turn. GoesOn source.now expander.old turn expander.new placer.new patcher.new) }
+    ensures { IfOk result (λ turn. PassGoesOn source.now expander.old turn expander.new placer.new patcher.new) }
 {
     match expander.next() {
         Ok(Some(word)) => match placer.add(source, word)? {

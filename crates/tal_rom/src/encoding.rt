@@ -1,4 +1,4 @@
-//! The bytes that words stand for.
+//! The bytes that words represent.
 
 ghost use Rattle.std.specs.Prelude.{◌≡◌, ◌∷◌, [], ◌++◌, ◌≤◌, OnOk, false, length};
 ghost use Rattle.tal_words.specs.Forms.{encoded, encoded_reference, distance as distance_between, short_bytes as bytes_of_short, low_byte as byte_of_short};

@@ -5,7 +5,7 @@ use tal_words::Rune;
 /// A reference that waits for its target.
 #[derive(Clone, Copy)]
 pub struct Hole {
-    /// What the reference stands for.
+    /// What the reference represents.
     pub rune: Rune,
     /// The address of its first byte.
     pub address: u16,

@@ -8,7 +8,7 @@ ghost use Rattle.tal_words.specs.Labels.{address_named};
 ghost use Rattle.tal_words.specs.declared.name.Label.{Label as LabelValue};
 ghost use Rattle.tal_words.specs.declared.form.Form.TheVariants.{Refer};
 ghost use Rattle.tal_rom.specs.Filling.{overlaid, filled_hole, is_reference};
-ghost use Rattle.tal_rom.specs.Patchers.{Entry, Holds, ComesNext, new_entry, closed_last, memory_size};
+ghost use Rattle.tal_rom.specs.Patchers.{PatchEntry, PatchHolds, ComesNext, new_entry, closed_last, memory_size};
 
 use crate::encoding::{few_bytes, reference_bytes};
 use crate::hole::Hole;
@@ -58,7 +58,7 @@ fn zeros(alloc: Global) -> Result<Vec<u8>, AllocError>
 impl Patch {
     /// Memory of zeros, to which no word was added.
     pub fn new(alloc: Global) -> Result<Patch, AllocError>
-        ensures { IfOk result (λ patch. Holds [] [] patch) }
+        ensures { IfOk result (λ patch. PatchHolds [] [] patch) }
     {
         Ok(Patch {
             memory: zeros(alloc)?,
@@ -124,9 +124,9 @@ impl Patch {
     pub fn put_word(&mut self, form: Form, text: &[u8], address: u64)
         requires bare { is_reference form ≡ false }
         requires at { 0 < size form text.now → address ≤ 65536 }
-        ensures { (labels : List LabelValue) (entries : List Entry) (full : List ℕ)
+        ensures { (labels : List LabelValue) (entries : List PatchEntry) (full : List ℕ)
             → ComesNext entries (new_entry form text.now address full)
-            → Holds labels entries self.old → Holds labels (entries ++ new_entry form text.now address full ∷ []) self.new }
+            → PatchHolds labels entries self.old → PatchHolds labels (entries ++ new_entry form text.now address full ∷ []) self.new }
     {
         match form {
             Form::Text => {
@@ -139,11 +139,11 @@ impl Patch {
 
     /// Adds a reference that opens a lambda.
     pub fn open(&mut self, hole: Hole) -> Result<(), AllocError>
-        ensures ok { OnOk result ((labels : List LabelValue) (entries : List Entry) (text full : List ℕ) → opens text ≡ true
+        ensures ok { OnOk result ((labels : List LabelValue) (entries : List PatchEntry) (text full : List ℕ) → opens text ≡ true
             → ComesNext entries (new_entry (Refer hole.rune) text hole.address full)
-            → Holds labels entries self.old → Holds labels (entries ++ new_entry (Refer hole.rune) text hole.address full ∷ []) self.new) }
-        ensures err { OnErr result ((labels : List LabelValue) (entries : List Entry) → Holds labels entries self.old
-            → Holds labels entries self.new) }
+            → PatchHolds labels entries self.old → PatchHolds labels (entries ++ new_entry (Refer hole.rune) text hole.address full ∷ []) self.new) }
+        ensures err { OnErr result ((labels : List LabelValue) (entries : List PatchEntry) → PatchHolds labels entries self.old
+            → PatchHolds labels entries self.new) }
     {
         self.openers.push(hole)?;
         self.waiting = self.waiting.saturating_add(1);
@@ -152,12 +152,12 @@ impl Patch {
 
     /// Adds a reference to a full name.
     pub fn refer(&mut self, alloc: Global, name: Vec<u8>, hole: Hole) -> Result<(), AllocError>
-        ensures ok { OnOk result ((labels : List LabelValue) (entries : List Entry) (text : List ℕ) → opens text ≡ false
+        ensures ok { OnOk result ((labels : List LabelValue) (entries : List PatchEntry) (text : List ℕ) → opens text ≡ false
             → ComesNext entries (new_entry (Refer hole.rune) text hole.address name.items)
-            → Holds labels entries self.old
-            → Holds labels (entries ++ new_entry (Refer hole.rune) text hole.address name.items ∷ []) self.new) }
-        ensures err { OnErr result ((labels : List LabelValue) (entries : List Entry) → Holds labels entries self.old
-            → Holds labels entries self.new) }
+            → PatchHolds labels entries self.old
+            → PatchHolds labels (entries ++ new_entry (Refer hole.rune) text hole.address name.items ∷ []) self.new) }
+        ensures err { OnErr result ((labels : List LabelValue) (entries : List PatchEntry) → PatchHolds labels entries self.old
+            → PatchHolds labels entries self.new) }
     {
         match self.names.address_of(name.as_slice()) {
             Some(target) => {
@@ -174,10 +174,10 @@ impl Patch {
 
     /// Defines a full name that is new, and fills the references that waited for it.
     pub fn define(&mut self, alloc: Global, name: Vec<u8>, address: u16) -> Result<(), AllocError>
-        ensures ok { OnOk result ((labels : List LabelValue) (entries : List Entry) → address_named labels name.items ≡ None
-            → Holds labels entries self.old → Holds (labels ++ record { name = name.items; address = address } ∷ []) entries self.new) }
-        ensures err { OnErr result ((labels : List LabelValue) (entries : List Entry) → Holds labels entries self.old
-            → Holds labels entries self.new) }
+        ensures ok { OnOk result ((labels : List LabelValue) (entries : List PatchEntry) → address_named labels name.items ≡ None
+            → PatchHolds labels entries self.old → PatchHolds (labels ++ record { name = name.items; address = address } ∷ []) entries self.new) }
+        ensures err { OnErr result ((labels : List LabelValue) (entries : List PatchEntry) → PatchHolds labels entries self.old
+            → PatchHolds labels entries self.new) }
     {
         let holes = self.names.define(alloc, name, address)?;
         self.fill_all(&holes, address);
@@ -186,8 +186,8 @@ impl Patch {
 
     /// Closes the last lambda that is open, and fills the reference that opened it.
     pub fn close(&mut self, address: u16)
-        ensures { (labels : List LabelValue) (entries : List Entry) → Holds labels entries self.old
-            → Holds labels (closed_last address entries) self.new }
+        ensures { (labels : List LabelValue) (entries : List PatchEntry) → PatchHolds labels entries self.old
+            → PatchHolds labels (closed_last address entries) self.new }
     {
         match self.openers.pop() {
             Some(hole) => self.fill_all(&[hole], address),

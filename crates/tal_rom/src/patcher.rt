@@ -12,7 +12,7 @@ ghost use Rattle.tal_rom.specs.Assembly.{layout, rom_of};
 ghost use Rattle.tal_rom.specs.References.{reference_fault};
 ghost use Rattle.tal_rom.specs.Rom.{trimmed, rom_limit};
 ghost use Rattle.tal_rom.specs.Filling.{is_definition};
-ghost use Rattle.tal_rom.specs.Patchers.{Entry, Holds, HoldsAll, WasGiven, WerePatched};
+ghost use Rattle.tal_rom.specs.Patchers.{PatchEntry, PatchHolds, HoldsAll, WasGiven, WerePatched};
 ghost use Rattle.tal_rom.specs.Patching.{waiting_count, all_fit, image_of};
 
 use crate::hole::Hole;
@@ -83,8 +83,8 @@ impl Patcher {
         ensures added { OnOk result ((words : List ExpandedWord) → length words < 2 ^ 31 - 1 → WerePatched source.now words self.old
             → word_added source.now words word.now.word ≡ Some word.now
             → HoldsAll source.now (words ++ word.now.word ∷ []) self.new.patch) }
-        ensures err { OnErr result ((labels : List LabelValue) (entries : List Entry) → Holds labels entries self.old.patch
-            → Holds labels entries self.new.patch) }
+        ensures err { OnErr result ((labels : List LabelValue) (entries : List PatchEntry) → PatchHolds labels entries self.old.patch
+            → PatchHolds labels entries self.new.patch) }
     {
         match word.form {
             Form::Refer(rune) => {

@@ -22,7 +22,7 @@ pub fn name_after_rune(text: &[u8]) -> &[u8]
     }
 }
 
-/// The address of the label that a name stands for in a scope.
+/// The address of the label that a name represents in a scope.
 fn address_in(
     alloc: Global,
     placed: &Placed,

@@ -15,7 +15,7 @@ use std::alloc::{AllocError, Global};
 use tal_labels::{FIRST_ADDRESS, FIRST_SCOPE, Placed, PlacedWord, next_scope};
 use tal_words::{AsmStop, Fault};
 
-/// Zeros that are put or passed over at once.
+/// Zeros that are put or ignored at once.
 pub static ZEROS: [u8; 256] = [0; 256];
 
 /// The number of bytes up to the last one that is not 0.
@@ -32,14 +32,14 @@ fn written_len(bytes: &[u8]) -> usize
     written
 }
 
-/// The bytes without the zeros at their end, which are passed over many at a time.
+/// The bytes without the zeros at their end, which are ignored many at a time.
 pub fn without_last_zeros(bytes: &[u8]) -> &[u8]
     ensures value { result.now ≡ trimmed bytes.now }
     ensures shorter { length result.now ≤ length bytes.now }
 {
     let mut rest = bytes;
-    while let Some(front) = rest.strip_suffix(&ZEROS) {
-        rest = front;
+    while let Some(prefix) = rest.strip_suffix(&ZEROS) {
+        rest = prefix;
     }
     let (written, _) = rest.split_at(written_len(rest));
     written

@@ -91,7 +91,7 @@ nearer labels label (Some found) e = elim (cases_Bool (nat_lt found.address labe
 ]
 
 module _ (labels : List Label) (label : Label) (address : ℕ) (known : Option Label) (so_far : known ≡ nearest_label labels address) where
-  -- a label that lies above the address is passed over
+  -- a label that lies above the address is ignored
   pub passed_over : address < label.address → known ≡ nearest_label (labels ++ label ∷ []) address
   passed_over above =
       let out = lt-leb label.address address above in

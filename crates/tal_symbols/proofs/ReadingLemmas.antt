@@ -12,7 +12,7 @@ use Rattle.tal_symbols.specs.declared.stop.SymbolKind.{SymbolKind}
 use Rattle.tal_symbols.specs.declared.stop.SymbolKind.TheVariants.{Torn, NoName, BadByte, Long}
 use Rattle.tal_symbols.specs.SymbolFile.{entry, symbol_file, symbols_limit, is_readable, are_readable}
 use Rattle.tal_symbols.specs.Reading.{Refusal, entries, entry_fault, bad_name, name_before_zero, label_of_entry, first_refusal, refused_at, symbols_in}
-use Rattle.tal_symbols.specs.Answers.{entry_length, StopsAt, IsRefused}
+use Rattle.tal_symbols.specs.Answers.{entry_length, StopsAtEntry, IsRefusedAtEntry}
 use Rattle.tal_symbols.proofs.Cutting.{whole_entry, cut_entry, entry_length-some, entry_length-within, same_fault}
 
 -- what is known before an entry: the labels so far are those of the entries before, and nothing is wrong with these
@@ -46,13 +46,13 @@ pub reads_more : (bytes rest : List ℕ) (labels : List Label) (label : Label) �
     → ReadsOn bytes (drop (entry_length rest) rest) (labels ++ label ∷ [])
 reads_more bytes rest labels label small reads some sound is_label =
     let whole = whole_entry rest (sym (same_fault rest) ∙ sound) in
-    let front = take (entry_length rest) rest in
+    let prefix = take (entry_length rest) rest in
     let back = drop (entry_length rest) rest in
     let cut = cut_entry rest some in
     let name = name_before_zero whole.text in
     let is_read : label ≡ record { name = name; address = 256 * whole.high + whole.low } = is_label ∙ whole.labelled in
     let low_small : whole.low < 256 = low_of whole.high whole.low whole.text whole.parts in
-    let again : entry label ≡ front = ap entry is_read ∙ entry_again whole.high whole.low name low_small ∙ sym whole.cut in
+    let again : entry label ≡ prefix = ap entry is_read ∙ entry_again whole.high whole.low name low_small ∙ sym whole.cut in
     let counted : length (labels ++ label ∷ []) ≡ length labels + 1 = length_push labels label in
     record {
       refusal =
@@ -76,23 +76,23 @@ reads_more bytes rest labels label small reads some sound is_label =
   where
     low_of : (high low : ℕ) (text : List ℕ) → rest ≡ high ∷ low ∷ text → low < 256
     low_of high low text e =
-        let front = symbol_file labels in
-        let size = length-append front rest in
-        let read : get_or bytes (length front + 1) 0 ≡ low =
-        ap (λ (all : List ℕ). get_or all (length front + 1) 0) reads.parts ∙ get_or-append-add front rest 1 0 ∙ ap (λ (all : List ℕ). get_or all 1 0) e in
-        let inside : length front + 1 < length bytes = omega (arith, size, ap length reads.parts, ap length e) in
-        let below = small (length front + 1) inside in
+        let prefix = symbol_file labels in
+        let size = length-append prefix rest in
+        let read : get_or bytes (length prefix + 1) 0 ≡ low =
+        ap (λ (all : List ℕ). get_or all (length prefix + 1) 0) reads.parts ∙ get_or-append-add prefix rest 1 0 ∙ ap (λ (all : List ℕ). get_or all 1 0) e in
+        let inside : length prefix + 1 < length bytes = omega (arith, size, ap length reads.parts, ap length e) in
+        let below = small (length prefix + 1) inside in
         omega (arith, read)
 
 -- a faulty entry
 pub reads_stop : (bytes rest : List ℕ) (labels : List Label) (kind : SymbolKind) → ReadsOn bytes rest labels → 0 < length rest
     → entry_fault (take (entry_length rest) rest) ≡ Some kind
-    → (first_refusal 0 (entries bytes) ≡ Some (record { entry = length labels; kind = kind })) × StopsAt bytes (length labels) kind
+    → (first_refusal 0 (entries bytes) ≡ Some (record { entry = length labels; kind = kind })) × StopsAtEntry bytes (length labels) kind
 reads_stop bytes rest labels kind reads some fault = (
   reads.refusal ∙ ap (first_refusal (length labels)) (cut_entry rest some)
       ∙ ap (λ (found : Option SymbolKind). refused_at (length labels) found (first_refusal (length labels + 1) (entries (drop (entry_length rest) rest)))) fault,
   record {
-    front = labels;
+    prefix = labels;
     rest = rest;
     parts = reads.parts;
     readable = reads.readable;
@@ -118,7 +118,7 @@ not_long (a ∷ b ∷ text) e = elim (cases_Bool (list_any (λ byte. byte == 0) 
       | inr plain ↦ (let never : None ≡ Some Long = rw plain at e in cc)
     ]
 
-pub stops_refused : (bytes : List ℕ) (entry : ℕ) (kind : SymbolKind) → length bytes ≤ symbols_limit → StopsAt bytes entry kind → IsRefused bytes entry kind
+pub stops_refused : (bytes : List ℕ) (entry : ℕ) (kind : SymbolKind) → length bytes ≤ symbols_limit → StopsAtEntry bytes entry kind → IsRefusedAtEntry bytes entry kind
 stops_refused bytes entry Torn short stops = (short, stops)
 stops_refused bytes entry NoName short stops = (short, stops)
 stops_refused bytes entry BadByte short stops = (short, stops)

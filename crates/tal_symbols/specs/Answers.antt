@@ -18,26 +18,26 @@ symbol_kind_name NoName = codes "NoName"
 symbol_kind_name BadByte = codes "BadByte"
 symbol_kind_name Long = codes "Long"
 
--- the answer is what is found in a file, labels or why it is refused; want of memory is free
-abbrev pub Reads : Result (List Label) Refusal → Result (Vec Label) SymbolStop → Type 0
-Reads found (Ok labels) = found ≡ Ok labels.items
-Reads found (Err (Refused entry kind)) = found ≡ Err (record { entry = entry; kind = kind })
-Reads found (Err NoMemory) = Unit {0}
+-- the answer is what is found in a file, labels or why it is refused; running out of memory is free
+abbrev pub ReadsSymbols : Result (List Label) Refusal → Result (Vec Label) SymbolStop → Type 0
+ReadsSymbols found (Ok labels) = found ≡ Ok labels.items
+ReadsSymbols found (Err (Refused entry kind)) = found ≡ Err (record { entry = entry; kind = kind })
+ReadsSymbols found (Err NoMemory) = Unit {0}
 
 -- bytes are the entries of so many labels that can be read back, and behind them begins an entry with this fault
-pub record StopsAt (bytes : List ℕ) (entry : ℕ) (kind : SymbolKind) : Type 0 where
-  pub front : List Label
+pub record StopsAtEntry (bytes : List ℕ) (entry : ℕ) (kind : SymbolKind) : Type 0 where
+  pub prefix : List Label
   pub rest : List ℕ
-  pub parts : bytes ≡ symbol_file front ++ rest
-  pub readable : are_readable front ≡ true
-  pub number : entry ≡ length front
+  pub parts : bytes ≡ symbol_file prefix ++ rest
+  pub readable : are_readable prefix ≡ true
+  pub number : entry ≡ length prefix
   pub begins : 0 < length rest
   pub fault : entry_fault rest ≡ Some kind
 
 -- why a file is refused: as a whole where it is over the limit, and else at its first entry that no such label has
-abbrev pub IsRefused : List ℕ → ℕ → SymbolKind → Type 0
-IsRefused bytes entry Long = (symbols_limit < length bytes) × (entry ≡ 0)
-IsRefused bytes entry kind = (length bytes ≤ symbols_limit) × StopsAt bytes entry kind
+abbrev pub IsRefusedAtEntry : List ℕ → ℕ → SymbolKind → Type 0
+IsRefusedAtEntry bytes entry Long = (symbols_limit < length bytes) × (entry ≡ 0)
+IsRefusedAtEntry bytes entry kind = (length bytes ≤ symbols_limit) × StopsAtEntry bytes entry kind
 
 -- labels that can be read back and whose symbol file the bytes are
 pub record AreLabelsOf (bytes : List ℕ) (labels : List Label) : Type 0 where
@@ -45,11 +45,11 @@ pub record AreLabelsOf (bytes : List ℕ) (labels : List Label) : Type 0 where
   pub readable : are_readable labels ≡ true
   pub written : symbol_file labels ≡ bytes
 
--- the answer is such labels, or why the file is refused; want of memory is free
-abbrev pub IsRead : List ℕ → Result (Vec Label) SymbolStop → Type 0
-IsRead bytes (Ok labels) = AreLabelsOf bytes labels.items
-IsRead bytes (Err (Refused entry kind)) = IsRefused bytes entry kind
-IsRead bytes (Err NoMemory) = Unit {0}
+-- the answer is such labels, or why the file is refused; running out of memory is free
+abbrev pub AreLabelsRead : List ℕ → Result (Vec Label) SymbolStop → Type 0
+AreLabelsRead bytes (Ok labels) = AreLabelsOf bytes labels.items
+AreLabelsRead bytes (Err (Refused entry kind)) = IsRefusedAtEntry bytes entry kind
+AreLabelsRead bytes (Err NoMemory) = Unit {0}
 
 -- how many bytes the first entry of a file has
 abbrev pub entry_length : List ℕ → ℕ

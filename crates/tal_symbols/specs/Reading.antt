@@ -8,7 +8,7 @@ use Rattle.tal_symbols.specs.declared.stop.SymbolKind.{SymbolKind}
 use Rattle.tal_symbols.specs.declared.stop.SymbolKind.TheVariants.{Torn, NoName, BadByte, Long}
 use Rattle.tal_symbols.specs.SymbolFile.{symbols_limit}
 
--- a byte at the front of the first of some entries
+-- a byte at the start of the first of some entries
 abbrev pub onto_first : ℕ → List (List ℕ) → List (List ℕ)
 onto_first byte [] = (byte ∷ []) ∷ []
 onto_first byte (first ∷ others) = (byte ∷ first) ∷ others

@@ -6,7 +6,7 @@ ghost use Rattle.tal_words.specs.declared.name.Label.{Label};
 ghost use Rattle.tal_words.specs.Source.{is_blank};
 ghost use Rattle.tal_symbols.specs.SymbolFile.{symbol_file, symbols_limit, are_readable};
 ghost use Rattle.tal_symbols.specs.Reading.{symbols_in, bad_name, entry_fault, label_of_entry, name_before_zero};
-ghost use Rattle.tal_symbols.specs.Answers.{Reads, IsRead, entry_length};
+ghost use Rattle.tal_symbols.specs.Answers.{ReadsSymbols, AreLabelsRead, entry_length};
 
 use crate::stop::{SymbolKind, SymbolStop};
 use std::alloc::{AllocError, Global};
@@ -20,8 +20,8 @@ const SYMBOLS_LIMIT: usize = 16_777_216;
 /// least kind of what is wrong with it, or as `Long` at entry 0.
 #[tactic(auto, unfolding(crate::specs::Reading::symbols_in))]
 pub fn read_symbols(alloc: Global, bytes: &[u8]) -> Result<Vec<Label>, SymbolStop>
-    ensures found { Reads (symbols_in bytes.now) result }
-    ensures means { IsRead bytes.now result }
+    ensures found { ReadsSymbols (symbols_in bytes.now) result }
+    ensures means { AreLabelsRead bytes.now result }
 {
     if bytes.len() > SYMBOLS_LIMIT {
         return Err(SymbolStop::Refused {

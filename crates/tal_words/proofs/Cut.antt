@@ -9,7 +9,7 @@ use Rattle.tal_words.specs.declared.fault.FaultKind.TheVariants.{OpenComment, Lo
 use Rattle.tal_words.specs.Order.{each, collected}
 use Rattle.tal_words.specs.Source.{begins, word_text}
 use Rattle.tal_words.specs.Faults.{phase_fault, fault_at}
-use Rattle.tal_words.specs.Comments.{depth_after, comment_depth, closed_by, judged_token, word_given}
+use Rattle.tal_words.specs.Comments.{depth_after, comment_depth, closed_comment, validated_token, word_given}
 use Rattle.tal_words.proofs.PassLemmas.{given-more, given-all}
 
 fold-more : {X Y : Type 0} (step : Y → X → Y) (start : Y) (items : List X) (last : X) → fold step start (items ++ last ∷ []) ≡ step (fold step start items) last
@@ -24,7 +24,7 @@ module _ (source : List ℕ) where
   -- the first fault of what is left, where a token has opened the comment around it, if there is one
   unfoldable pub fault_left : Word → List Word → List Word → Option Fault
   fault_left opener before left =
-      if comment_depth source before == 0 || closed_by source before left then phase_fault (each (judged_token source) before left)
+      if comment_depth source before == 0 || closed_comment source before left then phase_fault (each (validated_token source) before left)
       else Some (fault_at opener OpenComment)
 
   module _ (before : List Word) (token : Word) (after : List Word) (opener : Word) where
@@ -36,7 +36,7 @@ module _ (source : List ℕ) where
     module _ (outside : (comment_depth source before == 0) ≡ true) where
       -- one that opens a comment
       opener_left : begins 40 (word_text source token) ≡ true → (comment_depth source (before ++ token ∷ []) == 0) ≡ false
-          → (closed : Bool) → closed_by source (before ++ token ∷ []) after ≡ closed
+          → (closed : Bool) → closed_comment source (before ++ token ∷ []) after ≡ closed
           → fault_left opener before (token ∷ after) ≡ fault_left token (before ++ token ∷ []) after
       unfolding fault_left
       opener_left opens inside true closed = rw (outside, opens, inside, closed) refl
@@ -62,14 +62,14 @@ module _ (source : List ℕ) where
         unfolding fault_left
         stray_left short stray = rw (outside, plain, short, stray) refl
 
--- what stands for the token past the end
+-- what represents the token past the end
 abbrev pub no_token : Word
 no_token = record { span = record { start = 0; end = 0 }; line = 0; column = 0 }
 
 -- the state of the pass: the words so far, the comments that are open, and the token that opened the outermost
 pub record Passes (source : List ℕ) (all : List Word) (k : ℕ) (words : List Word) (depth : ℕ) (opener : Word) : Type 0 where
   pub so_far : words ++ collected (word_given source) (take k all) (drop k all) ≡ collected (word_given source) [] all
-  pub first : phase_fault (each (judged_token source) [] all) ≡ fault_left source opener (take k all) (drop k all)
+  pub first : phase_fault (each (validated_token source) [] all) ≡ fault_left source opener (take k all) (drop k all)
   pub depth_now : depth ≡ comment_depth source (take k all)
   pub bound : depth ≤ k
 
@@ -80,7 +80,7 @@ pass_start source all opener = record { so_far = refl; first = refl; depth_now =
 module _ (source : List ℕ) (all : List Word) (k : ℕ) (words : List Word) (depth : ℕ) (opener : Word) (text : List ℕ) (token : Word)
     (within : k < length all) (is_token : get_or all k no_token ≡ token) (is_text : text ≡ word_text source token)
     (pass : Passes source all k words depth opener) where
-  left : phase_fault (each (judged_token source) [] all) ≡ fault_left source opener (take k all) (token ∷ drop (k + 1) all)
+  left : phase_fault (each (validated_token source) [] all) ≡ fault_left source opener (take k all) (token ∷ drop (k + 1) all)
   left =
       pass.first
       ∙ ap (fault_left source opener (take k all)) (drop_more all k no_token within ∙ ap (λ first. first ∷ drop (k + 1) all) is_token)
@@ -130,7 +130,7 @@ module _ (source : List ℕ) (all : List Word) (k : ℕ) (words : List Word) (de
         let one : 1 ≡ depth_after depth text = rw (none, sym ensured ∙ tested) refl in
         next words [] token 1 here (sym (append-nil words))
         (opener_left source (take k all) token (drop (k + 1) all) opener (outside low) opens
-        (ne_eqb _ 0 (λ never. omega (arith, one, next_depth))) (closed_by source (take k all ++ token ∷ []) (drop (k + 1) all)) refl)
+        (ne_eqb _ 0 (λ never. omega (arith, one, next_depth))) (closed_comment source (take k all ++ token ∷ []) (drop (k + 1) all)) refl)
         one (omega arith)
 
     module _ (tested : result ≡ false) where
@@ -145,13 +145,13 @@ module _ (source : List ℕ) (all : List Word) (k : ℕ) (words : List Word) (de
           (word_left source (take k all) token (drop (k + 1) all) opener (outside low) plain (eq-eqb _ 0 (omega (arith, same, next_depth)))
           (le-ltb 255 _ (rw is_text at short)) (read 41 false closes ensured_closes tested_closes)) same (omega arith)
 
-      pub step_long : 255 < length text → phase_fault (each (judged_token source) [] all) ≡ Some (fault_at token LongWord)
+      pub step_long : 255 < length text → phase_fault (each (validated_token source) [] all) ≡ Some (fault_at token LongWord)
       step_long long =
           left ∙ long_left source (take k all) token (drop (k + 1) all) opener (outside low) plain (begins 41 (word_text source token)) refl
           (lt-ltb 255 _ (rw is_text at long))
 
       pub step_stray : (closes : Bool) → length text ≤ 255 → closes ≡ begins 41 text → closes ≡ true
-          → phase_fault (each (judged_token source) [] all) ≡ Some (fault_at token StrayParen)
+          → phase_fault (each (validated_token source) [] all) ≡ Some (fault_at token StrayParen)
       step_stray closes short ensured_closes tested_closes =
           left ∙ stray_left source (take k all) token (drop (k + 1) all) opener (outside low) plain
           (le-ltb 255 _ (rw is_text at short)) (read 41 true closes ensured_closes tested_closes)
@@ -159,14 +159,14 @@ module _ (source : List ℕ) (all : List Word) (k : ℕ) (words : List Word) (de
 -- all tokens have passed: the open comment is the fault, or there is none
 module _ (source : List ℕ) (all : List Word) (k : ℕ) (words : List Word) (depth : ℕ) (opener : Word) (past : length all ≤ k)
     (pass : Passes source all k words depth opener) where
-  pub step_open : 0 < depth → phase_fault (each (judged_token source) [] all) ≡ Some (fault_at opener OpenComment)
+  pub step_open : 0 < depth → phase_fault (each (validated_token source) [] all) ≡ Some (fault_at opener OpenComment)
   unfolding fault_left
   step_open above =
       let inside : (comment_depth source (take k all) == 0) ≡ false = ne_eqb _ 0 (λ none. omega (arith, pass.depth_now)) in
       let first = pass.first in
       rw (drop_all k all past, inside) at first
 
-  pub step_end : depth ≤ 0 → (phase_fault (each (judged_token source) [] all) ≡ None) × (words ≡ collected (word_given source) [] all)
+  pub step_end : depth ≤ 0 → (phase_fault (each (validated_token source) [] all) ≡ None) × (words ≡ collected (word_given source) [] all)
   unfolding fault_left
   step_end low =
       let outside : (comment_depth source (take k all) == 0) ≡ true = eq-eqb _ 0 (omega (arith, pass.depth_now)) in

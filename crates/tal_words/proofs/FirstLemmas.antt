@@ -5,7 +5,7 @@ use Rattle.std.specs.List.{AllByRecursion}
 use Rattle.std.proofs.lemmas.Bool.{leb-true, leb-false}
 use Rattle.tal_words.specs.declared.fault.Fault.{Fault}
 use Rattle.tal_words.specs.declared.fault.FaultKind.{FaultKind}
-use Rattle.tal_words.specs.Faults.{Judged, kind_number, lesser, least, fault_or, phase_fault}
+use Rattle.tal_words.specs.Faults.{Validated, kind_number, lesser, least, fault_or, phase_fault}
 use Rattle.tal_words.specs.FirstFault.{IsLeastKind, NoneFaulty, IsFirstFault, IsFirst}
 
 no_kind : (kinds : List FaultKind) → least kinds ≡ None → kinds ≡ []
@@ -38,12 +38,12 @@ least_is (first ∷ kinds) kind found =
     let same : lesser first (least kinds) ≡ kind = cc in
     rw same at (least_all first kinds)
 
-first_step : (word : Judged) (words : List Judged) (kind : Option FaultKind) → least word.kinds ≡ kind → (found : Option Fault)
+first_step : (word : Validated) (words : List Validated) (kind : Option FaultKind) → least word.kinds ≡ kind → (found : Option Fault)
     → MatchOption found (NoneFaulty words) (IsFirstFault words)
     → MatchOption (fault_or word.origin kind found) (NoneFaulty (word ∷ words)) (IsFirstFault (word ∷ words))
 first_step word words None none None rest = (no_kind word.kinds none, rest)
 first_step word words None none (Some fault) rest = record {
-  front = word ∷ rest.front;
+  prefix = word ∷ rest.prefix;
   word = rest.word;
   back = rest.back;
   parts = ap (λ others. word ∷ others) rest.parts;
@@ -52,7 +52,7 @@ first_step word words None none (Some fault) rest = record {
   least_kind = rest.least_kind;
 }
 first_step word words (Some kind) some found rest = record {
-  front = [];
+  prefix = [];
   word = word;
   back = words;
   parts = refl;
@@ -61,6 +61,6 @@ first_step word words (Some kind) some found rest = record {
   least_kind = least_is word.kinds kind some;
 }
 
-pub first_is : (words : List Judged) → IsFirst words
+pub first_is : (words : List Validated) → IsFirst words
 first_is [] = tt
 first_is (word ∷ words) = first_step word words (least word.kinds) refl (phase_fault words) (first_is words)

@@ -3,7 +3,7 @@ use Rattle.std.proofs.Common.{◌≡◌, ℕ, ◌+◌, ◌*◌, true, ◌&&◌, 
 use Rattle.std.proofs.lemmas.Bool.{and_parts, eqb-true}
 use Rattle.std.proofs.lemmas.Bool.Decides.{nat_tests}
 use Rattle.hex.specs.Hex.{decode_sized, decode_pairs, digit_or_error, hex_digit_value, pair_value, value_at}
-use Rattle.tal_words.specs.Digits.{is_digit, digit_value, are_digits, number_of, is_byte_number, is_short_number}
+use Rattle.tal_words.specs.Digits.{is_digit, digit_value, are_digits, number_of_digits, is_byte_number, is_short_number}
 
 -- a lowercase digit has the value that hexadecimal text gives it
 pub digit_read : (digit : ℕ) → is_digit digit ≡ true → hex_digit_value digit ≡ Some (digit_value digit)
@@ -16,7 +16,7 @@ pair_read : (high low i : ℕ) → is_digit high ≡ true → is_digit low ≡ t
 pair_read high low i h l = let first = value_read high i h in let second = value_read low (i + 1) l in rw (first, second) refl
 
 -- two digits
-pub byte_read : (text : List ℕ) → is_byte_number text ≡ true → decode_sized text 1 ≡ Ok (number_of text ∷ [])
+pub byte_read : (text : List ℕ) → is_byte_number text ≡ true → decode_sized text 1 ≡ Ok (number_of_digits text ∷ [])
 unfolding decode_pairs
 byte_read [] h = cc
 byte_read (a ∷ []) h = cc
@@ -24,7 +24,7 @@ byte_read (a ∷ b ∷ []) h =
     let digits = and_parts (is_digit a) (is_digit b && true) h in
     let last = and_parts (is_digit b) true digits.1 in
     let pair = pair_read a b 0 digits.0 last.0 in
-    let same : digit_value a * 16 + digit_value b ≡ number_of (a ∷ b ∷ []) = omega arith in
+    let same : digit_value a * 16 + digit_value b ≡ number_of_digits (a ∷ b ∷ []) = omega arith in
     rw pair (ap (λ (n : ℕ). Ok (n ∷ [])) same)
 byte_read (a ∷ b ∷ c ∷ rest) h =
     let n = eqb-true (length (a ∷ b ∷ c ∷ rest)) 2 (and_parts (length (a ∷ b ∷ c ∷ rest) == 2) (are_digits (a ∷ b ∷ c ∷ rest)) h).0 in
@@ -35,7 +35,7 @@ pub record Short (text : List ℕ) : Type 0 where
   pub high : ℕ
   pub low : ℕ
   pub read : decode_sized text 2 ≡ Ok (high ∷ low ∷ [])
-  pub value : high * 256 + low ≡ number_of text
+  pub value : high * 256 + low ≡ number_of_digits text
 
 -- four digits
 pub short_read : (text : List ℕ) → is_short_number text ≡ true → Short text

@@ -52,6 +52,6 @@ pub moded-cut : (names : List (List ℕ)) (word name modes : List ℕ) (cut : �
     → answer ≡ moded_byte (position_from (bytes_eq (take 3 word)) 0 names) (drop 3 word)
 moded-cut names word name modes cut found answer is_cut is_name are_modes is_found is_answer =
     let is_three : cut ≡ min 3 (length word) = omega (arith, is_cut) in
-    let front : name ≡ take 3 word = is_name ∙ ap (λ n. take n word) is_three ∙ take_min 3 word in
+    let prefix : name ≡ take 3 word = is_name ∙ ap (λ n. take n word) is_three ∙ take_min 3 word in
     let back : modes ≡ drop 3 word = are_modes ∙ ap (λ n. drop n word) is_three ∙ drop_min 3 word in
-    is_answer ∙ ap₂ moded_byte (is_found ∙ ap (λ n. position_from (bytes_eq n) 0 names) front) back
+    is_answer ∙ ap₂ moded_byte (is_found ∙ ap (λ n. position_from (bytes_eq n) 0 names) prefix) back

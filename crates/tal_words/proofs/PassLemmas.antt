@@ -3,7 +3,7 @@ use Rattle.std.proofs.Common.{◌≡◌, ℕ, zero, suc, ◌+◌, ◌<◌, ◌�
 use Rattle.tal_words.specs.declared.span.Word.{Word}
 use Rattle.tal_words.specs.declared.fault.Fault.{Fault}
 use Rattle.tal_words.specs.declared.fault.FaultKind.{FaultKind}
-use Rattle.tal_words.specs.Faults.{Judged, least, fault_at, fault_or, phase_fault}
+use Rattle.tal_words.specs.Faults.{Validated, least, fault_at, fault_or, phase_fault}
 use Rattle.tal_words.specs.Order.{each, collected}
 use Rattle.tal_words.proofs.OrderLemmas.{each-step, collected-step, collected-end}
 
@@ -21,20 +21,20 @@ module _ {X Y : Type 0} (give : List X → X → List X → List Y) (items : Lis
   pub given-all : length items ≤ k → given ++ collected give (take k items) (drop k items) ≡ whole → given ≡ whole
   given-all past so_far = sym (append-nil given) ∙ ap (λ ys. given ++ ys) (sym (collected-end give items k past)) ∙ so_far
 
-module _ {X : Type 0} (judge : List X → X → List X → Judged) (items : List X) (k : ℕ) (d : X) (within : k < length items) where
+module _ {X : Type 0} (validate : List X → X → List X → Validated) (items : List X) (k : ℕ) (d : X) (within : k < length items) where
   -- the first fault from an item on is at this item, where it has one
-  pub fault-here : (kind : FaultKind) → least (judge (take k items) (get_or items k d) (drop (k + 1) items)).kinds ≡ Some kind
-      → phase_fault (each judge (take k items) (drop k items)) ≡ Some (fault_at (judge (take k items) (get_or items k d) (drop (k + 1) items)).origin kind)
+  pub fault-here : (kind : FaultKind) → least (validate (take k items) (get_or items k d) (drop (k + 1) items)).kinds ≡ Some kind
+      → phase_fault (each validate (take k items) (drop k items)) ≡ Some (fault_at (validate (take k items) (get_or items k d) (drop (k + 1) items)).origin kind)
   fault-here kind e =
-      ap phase_fault (each-step judge items k d within)
-      ∙ ap (λ o. fault_or (judge (take k items) (get_or items k d) (drop (k + 1) items)).origin o (phase_fault (each judge (take (k + 1) items) (drop (k + 1) items)))) e
+      ap phase_fault (each-step validate items k d within)
+      ∙ ap (λ o. fault_or (validate (take k items) (get_or items k d) (drop (k + 1) items)).origin o (phase_fault (each validate (take (k + 1) items) (drop (k + 1) items)))) e
 
   -- and further on where this item has none
-  pub fault-later : least (judge (take k items) (get_or items k d) (drop (k + 1) items)).kinds ≡ None
-      → phase_fault (each judge (take (k + 1) items) (drop (k + 1) items)) ≡ phase_fault (each judge (take k items) (drop k items))
+  pub fault-later : least (validate (take k items) (get_or items k d) (drop (k + 1) items)).kinds ≡ None
+      → phase_fault (each validate (take (k + 1) items) (drop (k + 1) items)) ≡ phase_fault (each validate (take k items) (drop k items))
   fault-later e = sym (
-      ap phase_fault (each-step judge items k d within)
-      ∙ ap (λ o. fault_or (judge (take k items) (get_or items k d) (drop (k + 1) items)).origin o (phase_fault (each judge (take (k + 1) items) (drop (k + 1) items)))) e)
+      ap phase_fault (each-step validate items k d within)
+      ∙ ap (λ o. fault_or (validate (take k items) (get_or items k d) (drop (k + 1) items)).origin o (phase_fault (each validate (take (k + 1) items) (drop (k + 1) items)))) e)
 
 -- no fault at a word and none further on
 pub fault_or-none : (word : Word) (o : Option FaultKind) (later : Option Fault) → fault_or word o later ≡ None → (o ≡ None) × (later ≡ None)
@@ -42,21 +42,21 @@ fault_or-none word None later e = (refl, e)
 fault_or-none word (Some kind) later e = cc
 
 -- where a phase has no fault none of its words has one
-pub none-at : (words : List Judged) (k : ℕ) (d : Judged) → phase_fault words ≡ None → k < length words → least (get_or words k d).kinds ≡ None
+pub none-at : (words : List Validated) (k : ℕ) (d : Validated) → phase_fault words ≡ None → k < length words → least (get_or words k d).kinds ≡ None
 none-at [] k d e h = absurd (omega arith)
 none-at (word ∷ words) zero d e h = (fault_or-none word.origin (least word.kinds) (phase_fault words) e).0
 none-at (word ∷ words) (suc k) d e h = none-at words k d (fault_or-none word.origin (least word.kinds) (phase_fault words) e).1 (omega arith)
 
 -- the first fault of words without a fault and of those behind them
-pub fault-behind : (xs ys : List Judged) → phase_fault xs ≡ None → phase_fault (xs ++ ys) ≡ phase_fault ys
+pub fault-behind : (xs ys : List Validated) → phase_fault xs ≡ None → phase_fault (xs ++ ys) ≡ phase_fault ys
 fault-behind [] ys e = refl
 fault-behind (x ∷ xs) ys e =
     let parts = fault_or-none x.origin (least x.kinds) (phase_fault xs) e in
     ap (λ o. fault_or x.origin o (phase_fault (xs ++ ys))) parts.0 ∙ fault-behind xs ys parts.1
 
-pub fault-front : (xs ys : List Judged) (fault : Fault) → phase_fault xs ≡ Some fault → phase_fault (xs ++ ys) ≡ Some fault
-fault-front [] ys fault e = cc
-fault-front (x ∷ xs) ys fault e = by (least x.kinds) (λ later. fault-front xs ys fault later) e
+pub fault-prefix : (xs ys : List Validated) (fault : Fault) → phase_fault xs ≡ Some fault → phase_fault (xs ++ ys) ≡ Some fault
+fault-prefix [] ys fault e = cc
+fault-prefix (x ∷ xs) ys fault e = by (least x.kinds) (λ later. fault-prefix xs ys fault later) e
   where
     by : (o : Option FaultKind) → (phase_fault xs ≡ Some fault → phase_fault (xs ++ ys) ≡ Some fault)
         → fault_or x.origin o (phase_fault xs) ≡ Some fault → fault_or x.origin o (phase_fault (xs ++ ys)) ≡ Some fault

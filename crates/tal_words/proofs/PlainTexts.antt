@@ -10,7 +10,7 @@ use Rattle.tal_words.specs.declared.fault.FaultKind.{FaultKind}
 use Rattle.tal_words.specs.declared.fault.FaultKind.TheVariants.{OpenComment, LongWord, StrayParen}
 use Rattle.tal_words.specs.Source.{begins, word_text, tokens_of}
 use Rattle.tal_words.specs.Faults.{when, least, phase_fault, fault_or}
-use Rattle.tal_words.specs.Comments.{depth_after, comment_depth, is_word, opens_comment, closed_by, judged_token, word_given, words_of, word_fault, source_limit}
+use Rattle.tal_words.specs.Comments.{depth_after, comment_depth, is_word, opens_comment, closed_comment, validated_token, word_given, words_of, word_fault, source_limit}
 use Rattle.tal_words.specs.Order.{each, collected}
 use Rattle.tal_words.specs.PlainTexts.{Chunk, Item, Comment, PlainWord, chunks_of_item, text_of_items, words_of_item, IsPlainWord, AreItems}
 use Rattle.tal_words.proofs.PlainTokens.{AreChunks, texts_of_tokens}
@@ -67,27 +67,27 @@ module _ (source : List ℕ) where
       either false = refl
 
   closed_same : (tokens before : List Word) (depth : ℕ) → comment_depth source before ≡ depth
-      → closed_by source before tokens ≡ closes_within depth (map (word_text source) tokens)
+      → closed_comment source before tokens ≡ closes_within depth (map (word_text source) tokens)
   closed_same [] before depth e = refl
   closed_same (token ∷ tokens) before depth e =
       let next = depth_more before token depth e in
-      ap (λ (n : ℕ). n == 0 || closed_by source (before ++ token ∷ []) tokens) next
+      ap (λ (n : ℕ). n == 0 || closed_comment source (before ++ token ∷ []) tokens) next
       ∙ ap (λ (b : Bool). depth_after depth (word_text source token) == 0 || b) (closed_same tokens (before ++ token ∷ []) (depth_after depth (word_text source token)) next)
 
   sound_same : (tokens before : List Word) (depth : ℕ) → comment_depth source before ≡ depth → AreSound depth (map (word_text source) tokens)
-      → phase_fault (each (judged_token source) before tokens) ≡ None
+      → phase_fault (each (validated_token source) before tokens) ≡ None
   sound_same [] before depth e sound = refl
   sound_same (token ∷ tokens) before depth e sound =
       let text = word_text source token in
       let next = depth_more before token depth e in
-      let kinds : (judged_token source before token tokens).kinds ≡ [] =
+      let kinds : (validated_token source before token tokens).kinds ≡ [] =
       ap (λ (b : Bool). when (opens_comment source before token && not b) OpenComment
       ++ when (is_word source before token && nat_lt 255 (length text)) LongWord ++ when (is_word source before token && begins 41 text) StrayParen)
       (closed_same tokens (before ++ token ∷ []) (depth_after depth text) next)
       ∙ ap (λ (n : ℕ). when (opens_one n text && not (closes_within (depth_after depth text) (map (word_text source) tokens))) OpenComment
       ++ when (speaks n text && nat_lt 255 (length text)) LongWord ++ when (speaks n text && begins 41 text) StrayParen) e
       ∙ sound.0 in
-      ap (λ (found : List FaultKind). fault_or token (least found) (phase_fault (each (judged_token source) (before ++ token ∷ []) tokens))) kinds
+      ap (λ (found : List FaultKind). fault_or token (least found) (phase_fault (each (validated_token source) (before ++ token ∷ []) tokens))) kinds
       ∙ sound_same tokens (before ++ token ∷ []) (depth_after depth text) next sound.1
 
 abbrev texts_of : List Chunk → List (List ℕ)

@@ -58,68 +58,68 @@ module _ (source : List ℕ) where
       let same : p + suc n ≡ p + n + 1 = omega arith in
       none_begins (p + suc n) (omega arith) last ∙ ap (tokens_below source) same ∙ none_within n p (λ j h. plain j (omega arith))
 
-  module _ (front : List ℕ) (chunk : Chunk) (rest : List ℕ) (is : IsChunk chunk) (split : source ≡ front ++ (chunk_text chunk ++ rest)) where
+  module _ (prefix : List ℕ) (chunk : Chunk) (rest : List ℕ) (is : IsChunk chunk) (split : source ≡ prefix ++ (chunk_text chunk ++ rest)) where
     p : ℕ
-    p = length front
+    p = length prefix
 
-    read_word : (j : ℕ) → j < length chunk.text → get_or source (length front + j) 0 ≡ get_or chunk.text j 0
+    read_word : (j : ℕ) → j < length chunk.text → get_or source (length prefix + j) 0 ≡ get_or chunk.text j 0
     read_word j within =
-        ap (λ (s : List ℕ). get_or s (length front + j) 0) split ∙ get_or-append-add front (chunk_text chunk ++ rest) j 0
+        ap (λ (s : List ℕ). get_or s (length prefix + j) 0) split ∙ get_or-append-add prefix (chunk_text chunk ++ rest) j 0
         ∙ get_or_append_left (chunk_text chunk) rest 0 j (omega (arith, length-append chunk.text (chunk.blank ∷ [])))
         ∙ get_or_append_left chunk.text (chunk.blank ∷ []) 0 j within
 
-    read_blank : get_or source (length front + length chunk.text) 0 ≡ chunk.blank
+    read_blank : get_or source (length prefix + length chunk.text) 0 ≡ chunk.blank
     read_blank =
-        ap (λ (s : List ℕ). get_or s (length front + length chunk.text) 0) split ∙ get_or-append-add front (chunk_text chunk ++ rest) (length chunk.text) 0
+        ap (λ (s : List ℕ). get_or s (length prefix + length chunk.text) 0) split ∙ get_or-append-add prefix (chunk_text chunk ++ rest) (length chunk.text) 0
         ∙ ap (λ (s : List ℕ). get_or s (length chunk.text) 0) (append_assoc chunk.text (chunk.blank ∷ []) rest)
         ∙ get_or_at chunk.text chunk.blank rest 0 (length chunk.text) refl
 
-    plain_at : (j : ℕ) → j < length chunk.text → is_blank (get_or source (length front + j) 0) ≡ false
+    plain_at : (j : ℕ) → j < length chunk.text → is_blank (get_or source (length prefix + j) 0) ≡ false
     plain_at j within = ap is_blank (read_word j within) ∙ any_none is_blank chunk.text j is.plain within
 
     -- the token of the chunk comes next
-    next_token : is_after_blank source (length front) ≡ true
-        → tokens_below source (length front + length chunk.text + 1) ≡ tokens_below source (length front) ++ token_at source (length front) ∷ []
+    next_token : is_after_blank source (length prefix) ≡ true
+        → tokens_below source (length prefix + length chunk.text + 1) ≡ tokens_below source (length prefix) ++ token_at source (length prefix) ∷ []
     next_token after =
-        let first : length front + 0 ≡ length front = omega arith in
-        let here : is_blank (get_or source (length front) 0) ≡ false = ap (λ (k : ℕ). is_blank (get_or source k 0)) (sym first) ∙ plain_at 0 is.some in
-        none_within (length chunk.text) (length front) plain_at ∙ tokens_more (length front) ∙ rw (after, here) refl
+        let first : length prefix + 0 ≡ length prefix = omega arith in
+        let here : is_blank (get_or source (length prefix) 0) ≡ false = ap (λ (k : ℕ). is_blank (get_or source k 0)) (sym first) ∙ plain_at 0 is.some in
+        none_within (length chunk.text) (length prefix) plain_at ∙ tokens_more (length prefix) ∙ rw (after, here) refl
 
     -- and a blank stands behind it
-    behind_token : is_after_blank source (length front + length chunk.text + 1) ≡ true
+    behind_token : is_after_blank source (length prefix + length chunk.text + 1) ≡ true
     behind_token =
-        let before : length front + length chunk.text + 1 - 1 ≡ length front + length chunk.text = omega arith in
-        after_blank-suc source (length front + length chunk.text + 1) (omega arith)
+        let before : length prefix + length chunk.text + 1 - 1 ≡ length prefix + length chunk.text = omega arith in
+        after_blank-suc source (length prefix + length chunk.text + 1) (omega arith)
         ∙ ap (λ (k : ℕ). is_blank (get_or source k 0)) before ∙ ap is_blank read_blank ∙ is.parted
 
     -- its text is that of the chunk
-    token_text : word_text source (token_at source (length front)) ≡ chunk.text
+    token_text : word_text source (token_at source (length prefix)) ≡ chunk.text
     unfolding token_at
     token_text =
-        let dropped : drop (length front) source ≡ chunk_text chunk ++ rest = ap (drop (length front)) split ∙ drop_at front (chunk_text chunk ++ rest) (length front) refl in
-        let run : run_length source (length front) ≡ length chunk.text = ap (prefix_len (λ byte. not (is_blank byte))) dropped ∙ run_of chunk.text chunk.blank rest is.plain is.parted in
-        let size : length front + run_length source (length front) - length front ≡ length chunk.text = omega (arith, run) in
-        ap (λ (n : ℕ). take n (drop (length front) source)) size ∙ ap (take (length chunk.text)) dropped
+        let dropped : drop (length prefix) source ≡ chunk_text chunk ++ rest = ap (drop (length prefix)) split ∙ drop_at prefix (chunk_text chunk ++ rest) (length prefix) refl in
+        let run : run_length source (length prefix) ≡ length chunk.text = ap (prefix_len (λ byte. not (is_blank byte))) dropped ∙ run_of chunk.text chunk.blank rest is.plain is.parted in
+        let size : length prefix + run_length source (length prefix) - length prefix ≡ length chunk.text = omega (arith, run) in
+        ap (λ (n : ℕ). take n (drop (length prefix) source)) size ∙ ap (take (length chunk.text)) dropped
         ∙ ap (take (length chunk.text)) (append_assoc chunk.text (chunk.blank ∷ []) rest)
         ∙ take_at chunk.text ((chunk.blank ∷ []) ++ rest) (length chunk.text) refl
 
   -- the texts of the tokens from a place on
-  texts_from : (chunks : List Chunk) (front : List ℕ) → AreChunks chunks → source ≡ front ++ text_of_chunks chunks → is_after_blank source (length front) ≡ true
-      → map (word_text source) (tokens_below source (length source)) ≡ map (word_text source) (tokens_below source (length front)) ++ map (λ chunk. chunk.text) chunks
-  texts_from [] front are split after =
-      let same : length source ≡ length front = ap length (split ∙ append-nil front) in
-      ap (λ (n : ℕ). map (word_text source) (tokens_below source n)) same ∙ sym (append-nil (map (word_text source) (tokens_below source (length front))))
-  texts_from (chunk ∷ chunks) front are split after =
+  texts_from : (chunks : List Chunk) (prefix : List ℕ) → AreChunks chunks → source ≡ prefix ++ text_of_chunks chunks → is_after_blank source (length prefix) ≡ true
+      → map (word_text source) (tokens_below source (length source)) ≡ map (word_text source) (tokens_below source (length prefix)) ++ map (λ chunk. chunk.text) chunks
+  texts_from [] prefix are split after =
+      let same : length source ≡ length prefix = ap length (split ∙ append-nil prefix) in
+      ap (λ (n : ℕ). map (word_text source) (tokens_below source n)) same ∙ sym (append-nil (map (word_text source) (tokens_below source (length prefix))))
+  texts_from (chunk ∷ chunks) prefix are split after =
       let rest = text_of_chunks chunks in
-      let size : length (front ++ chunk_text chunk) ≡ length front + length chunk.text + 1 = omega (arith, length-append front (chunk_text chunk), length-append chunk.text (chunk.blank ∷ [])) in
-      let again : source ≡ (front ++ chunk_text chunk) ++ rest = split ∙ sym (append_assoc front (chunk_text chunk) rest) in
-      let later : is_after_blank source (length (front ++ chunk_text chunk)) ≡ true = ap (is_after_blank source) size ∙ behind_token front chunk rest are.0 split in
-      texts_from chunks (front ++ chunk_text chunk) are.1 again later
+      let size : length (prefix ++ chunk_text chunk) ≡ length prefix + length chunk.text + 1 = omega (arith, length-append prefix (chunk_text chunk), length-append chunk.text (chunk.blank ∷ [])) in
+      let again : source ≡ (prefix ++ chunk_text chunk) ++ rest = split ∙ sym (append_assoc prefix (chunk_text chunk) rest) in
+      let later : is_after_blank source (length (prefix ++ chunk_text chunk)) ≡ true = ap (is_after_blank source) size ∙ behind_token prefix chunk rest are.0 split in
+      texts_from chunks (prefix ++ chunk_text chunk) are.1 again later
       ∙ ap (λ (n : ℕ). map (word_text source) (tokens_below source n) ++ map (λ (c : Chunk). c.text) chunks) size
-      ∙ ap (λ (tokens : List Word). map (word_text source) tokens ++ map (λ (c : Chunk). c.text) chunks) (next_token front chunk rest are.0 split after)
-      ∙ ap (λ (texts : List (List ℕ)). texts ++ map (λ (c : Chunk). c.text) chunks) (map-append (word_text source) (tokens_below source (length front)) (token_at source (length front) ∷ []))
-      ∙ ap (λ (text : List ℕ). (map (word_text source) (tokens_below source (length front)) ++ text ∷ []) ++ map (λ (c : Chunk). c.text) chunks) (token_text front chunk rest are.0 split)
-      ∙ append_assoc (map (word_text source) (tokens_below source (length front))) (chunk.text ∷ []) (map (λ (c : Chunk). c.text) chunks)
+      ∙ ap (λ (tokens : List Word). map (word_text source) tokens ++ map (λ (c : Chunk). c.text) chunks) (next_token prefix chunk rest are.0 split after)
+      ∙ ap (λ (texts : List (List ℕ)). texts ++ map (λ (c : Chunk). c.text) chunks) (map-append (word_text source) (tokens_below source (length prefix)) (token_at source (length prefix) ∷ []))
+      ∙ ap (λ (text : List ℕ). (map (word_text source) (tokens_below source (length prefix)) ++ text ∷ []) ++ map (λ (c : Chunk). c.text) chunks) (token_text prefix chunk rest are.0 split)
+      ∙ append_assoc (map (word_text source) (tokens_below source (length prefix))) (chunk.text ∷ []) (map (λ (c : Chunk). c.text) chunks)
 
 -- the texts of the tokens of chunks
 pub texts_of_tokens : (chunks : List Chunk) → AreChunks chunks

@@ -197,13 +197,13 @@ tokens_bound source (suc at) = by (begins_token source at) (tokens_bound source 
     by false low = omega (arith, low, length-append (tokens_below source at) [])
 
 -- the tokens below an offset come first among all
-front : (source : List ℕ) (at count : ℕ) → (more : List Word) × (tokens_below source (at + count) ≡ tokens_below source at ++ more)
-front source at zero = ([], rw at_zero (sym (append-nil _)))
+prefix : (source : List ℕ) (at count : ℕ) → (more : List Word) × (tokens_below source (at + count) ≡ tokens_below source at ++ more)
+prefix source at zero = ([], rw at_zero (sym (append-nil _)))
   where
     at_zero : at + 0 ≡ at
     at_zero = omega arith
-front source at (suc count) =
-    let before = front source at count in
+prefix source at (suc count) =
+    let before = prefix source at count in
     let last = if begins_token source (at + count) then token_at source (at + count) ∷ [] else [] in
     let step : at + suc count ≡ at + count + 1 = omega arith in (
       before.0 ++ last,
@@ -217,7 +217,7 @@ pub token_there : (source : List ℕ) (at : ℕ) (none : Word) → at < length s
     × (get_or (tokens_of source) (length (tokens_below source at)) none ≡ token_at source at)
 unfolding tokens_of
 token_there source at none within starts =
-    let later = front source (at + 1) (length source - (at + 1)) in
+    let later = prefix source (at + 1) (length source - (at + 1)) in
     let end : at + 1 + (length source - (at + 1)) ≡ length source = omega arith in
     let token : tokens_below source (at + 1) ≡ tokens_below source at ++ (token_at source at ∷ []) =
     tokens_more source at ∙ ap (λ new. tokens_below source at ++ (if new then token_at source at ∷ [] else [])) starts in

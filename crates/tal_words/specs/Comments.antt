@@ -7,7 +7,7 @@ use Rattle.tal_words.specs.declared.fault.Fault.{Fault}
 use Rattle.tal_words.specs.declared.fault.FaultKind.TheVariants.{OpenComment, LongWord, StrayParen, LongSource}
 use Rattle.tal_words.specs.Order.{each, collected}
 use Rattle.tal_words.specs.Source.{begins, is_only, word_text, tokens_of}
-use Rattle.tal_words.specs.Faults.{Judged, when, phase_fault}
+use Rattle.tal_words.specs.Faults.{Validated, when, phase_fault}
 
 -- how many comments are open after a token, where so many are before it: outside comments a token that begins with `(` opens
 -- one, and inside one only the tokens `(` and `)` count
@@ -32,15 +32,15 @@ module _ (source : List ℕ) where
   is_word before token = is_outside before && not (begins 40 (word_text source token))
 
   -- behind one of the tokens after these no comment is open
-  abbrev pub closed_by : List Word → List Word → Bool
-  closed_by before after = list_any (λ closed. closed) (each (λ earlier token later. is_outside (earlier ++ token ∷ [])) before after)
+  abbrev pub closed_comment : List Word → List Word → Bool
+  closed_comment before after = list_any (λ closed. closed) (each (λ earlier token later. is_outside (earlier ++ token ∷ [])) before after)
 
   -- a token with what is wrong with it
-  abbrev pub judged_token : List Word → Word → List Word → Judged
-  judged_token before token after = record {
+  abbrev pub validated_token : List Word → Word → List Word → Validated
+  validated_token before token after = record {
     origin = token;
     kinds =
-        when (opens_comment before token && not (closed_by (before ++ token ∷ []) after)) OpenComment
+        when (opens_comment before token && not (closed_comment (before ++ token ∷ []) after)) OpenComment
         ++ when (is_word before token && nat_lt 255 (length (word_text source token))) LongWord
         ++ when (is_word before token && begins 41 (word_text source token)) StrayParen;
   }
@@ -65,4 +65,4 @@ words_of source = collected (word_given source) [] (tokens_of source)
 unfoldable pub word_fault : List ℕ → Option Fault
 word_fault source =
     if nat_lt source_limit (length source) then Some long_source
-    else phase_fault (each (judged_token source) [] (tokens_of source))
+    else phase_fault (each (validated_token source) [] (tokens_of source))

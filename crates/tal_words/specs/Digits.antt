@@ -15,8 +15,8 @@ abbrev pub are_digits : List ℕ → Bool
 are_digits text = list_all is_digit text
 
 -- the number that the digits spell
-abbrev pub number_of : List ℕ → ℕ
-number_of text = fold (λ number digit. 16 * number + digit_value digit) 0 text
+abbrev pub number_of_digits : List ℕ → ℕ
+number_of_digits text = fold (λ number digit. 16 * number + digit_value digit) 0 text
 
 -- the text is two digits, or four
 abbrev pub is_byte_number : List ℕ → Bool

@@ -10,7 +10,7 @@ use Rattle.tal_words.specs.declared.fault.FaultKind.TheVariants.{ManyWords, Stra
 use Rattle.tal_words.specs.declared.fault.FaultKind.TheVariants.{Rewind, UnknownName, TooFar}
 use Rattle.tal_words.specs.declared.fault.AsmStop.{AsmStop}
 use Rattle.tal_words.specs.declared.fault.AsmStop.TheVariants.{Refused, NoMemory}
-use Rattle.tal_words.specs.Source.{run_at}
+use Rattle.tal_words.specs.Source.{bytes_run_at}
 
 -- the number of a kind
 abbrev pub kind_number : FaultKind → ℕ
@@ -59,7 +59,7 @@ kind_name UnknownName = codes "UnknownName"
 kind_name TooFar = codes "TooFar"
 
 -- a word of a phase: where its faults are reported, and each kind of fault that it has
-pub record Judged : Type 0 where
+pub record Validated : Type 0 where
   pub origin : Word
   pub kinds : List FaultKind
 
@@ -87,7 +87,7 @@ fault_or word None later = later
 fault_or word (Some kind) later = Some (fault_at word kind)
 
 -- the first fault of a phase: at its first word that has a fault, of the least kind there
-abbrev pub phase_fault : List Judged → Option Fault
+abbrev pub phase_fault : List Validated → Option Fault
 phase_fault [] = None
 phase_fault (word ∷ words) = fault_or word.origin (least word.kinds) (phase_fault words)
 
@@ -108,4 +108,4 @@ text_of_kind LongSource text = []
 text_of_kind _ text = text
 
 abbrev pub fault_text : List ℕ → Fault → List ℕ
-fault_text source fault = text_of_kind fault.kind (run_at source fault.at)
+fault_text source fault = text_of_kind fault.kind (bytes_run_at source fault.at)

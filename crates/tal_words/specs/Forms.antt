@@ -1,4 +1,4 @@
--- What each word means, and the bytes that it stands for (Uxntal syntax reference).
+-- What each word means, and the bytes that it represents (Uxntal syntax reference).
 use Rattle.std.specs.Prelude.{ℕ, ◌+◌, ◌-◌, ◌/◌, ◌%◌, Bool, true, ◌&&◌, ◌||◌, ◌==◌, nat_le}
 use Rattle.std.specs.Prelude.{if◌then◌else◌, List, [], ◌∷◌, length, drop, Option, Some, None, Result, Ok, Err}
 use Rattle.tal_words.specs.declared.fault.FaultKind.{FaultKind}
@@ -9,7 +9,7 @@ use Rattle.tal_words.specs.declared.form.Form.TheVariants.{LambdaEnd, Ignored}
 use Rattle.tal_words.specs.declared.form.Rune.{Rune}
 use Rattle.tal_words.specs.declared.form.Rune.TheVariants.{LitRel, RawRel, LitZero, RawZero, LitAbs, RawAbs, Jmi, Jci, Jsi}
 use Rattle.tal_words.specs.Opcodes.{byte_of_op}
-use Rattle.tal_words.specs.Digits.{number_of, is_byte_number, is_short_number, is_address_number}
+use Rattle.tal_words.specs.Digits.{number_of_digits, is_byte_number, is_short_number, is_address_number}
 use Rattle.tal_words.specs.Names.{name_fault, rune_of, slash}
 
 -- the form, unless something is wrong with the name
@@ -32,10 +32,10 @@ abbrev pub address_number : List ℕ → Form → Result Form FaultKind
 address_number digits form = if is_address_number digits then Ok form else Err BadNumber
 
 -- `#hh` and `#hhhh`
-abbrev pub literal : List ℕ → Result Form FaultKind
-literal digits =
-    if is_byte_number digits then Ok (Lit1 (number_of digits))
-    else if is_short_number digits then Ok (Lit2 (number_of digits))
+abbrev pub literal_form : List ℕ → Result Form FaultKind
+literal_form digits =
+    if is_byte_number digits then Ok (Lit1 (number_of_digits digits))
+    else if is_short_number digits then Ok (Lit2 (number_of_digits digits))
     else Err BadNumber
 
 -- what stands after the rune of a reference: `&c`, `/c`, `{` alone, or a name
@@ -54,8 +54,8 @@ op_or_call None = Refer Jsi
 -- a word without a rune: a number, an opcode word or the name of a subroutine
 abbrev pub bare : List ℕ → Form
 bare word =
-    if is_byte_number word then Raw1 (number_of word)
-    else if is_short_number word then Raw2 (number_of word)
+    if is_byte_number word then Raw1 (number_of_digits word)
+    else if is_short_number word then Raw2 (number_of_digits word)
     else op_or_call (byte_of_op word)
 
 -- a word with the rune of a reference, or without one
@@ -67,9 +67,9 @@ rune_or_bare None rest word = Ok (bare word)
 unfoldable pub form : List ℕ → Result Form FaultKind
 form [] = Ok (Refer Jsi)
 form (first ∷ rest) =
-    if first == 124 then address_number rest (Pad (number_of rest))
-    else if first == 36 then address_number rest (Skip (number_of rest))
-    else if first == 35 then literal rest
+    if first == 124 then address_number rest (Pad (number_of_digits rest))
+    else if first == 36 then address_number rest (Skip (number_of_digits rest))
+    else if first == 35 then literal_form rest
     else if first == 34 then Ok Text
     else if first == 64 then named (name_fault rest) LabelDef
     else if first == 38 then unless_empty rest (Ok SubDef)
@@ -93,7 +93,7 @@ reference_size Jmi = 3
 reference_size Jci = 3
 reference_size Jsi = 3
 
--- how many bytes a word of a form stands for
+-- how many bytes a word of a form represents
 abbrev pub size : Form → List ℕ → ℕ
 size (Pad n) word = 0
 size (Skip n) word = 0

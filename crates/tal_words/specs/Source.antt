@@ -49,8 +49,8 @@ abbrev pub run_length : List ℕ → ℕ → ℕ
 run_length source at = prefix_len (λ byte. not (is_blank byte)) (drop at source)
 
 -- these bytes
-abbrev pub run_at : List ℕ → ℕ → List ℕ
-run_at source at = take (run_length source at) (drop at source)
+abbrev pub bytes_run_at : List ℕ → ℕ → List ℕ
+bytes_run_at source at = take (run_length source at) (drop at source)
 
 -- an offset is the start of the source, or stands after a blank
 abbrev pub is_after_blank : List ℕ → ℕ → Bool

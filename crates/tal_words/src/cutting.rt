@@ -4,7 +4,7 @@ ghost use Rattle.std.specs.Prelude.{◌≡◌, ◌≤◌, ◌<◌, ◌+◌, ◌+
 ghost use Rattle.tal_words.specs.Source.{is_newline, line_at, column_at, is_between, begins_token, token_at, tokens_below, tokens_of};
 ghost use Rattle.tal_words.specs.Faults.{Gives, phase_fault};
 ghost use Rattle.tal_words.specs.Order.{each, collected};
-ghost use Rattle.tal_words.specs.Comments.{judged_token, word_given, words_of, word_fault, depth_after, source_limit};
+ghost use Rattle.tal_words.specs.Comments.{validated_token, word_given, words_of, word_fault, depth_after, source_limit};
 
 use crate::fault::{AsmStop, Fault, FaultKind};
 use crate::span::{Span, Word};
@@ -142,7 +142,7 @@ fn past_token(source: &[u8], place: Place, token: Word) -> Place
 /// The words of a source that is not too long: its tokens that are no comments, or the first fault of a token or a comment.
 fn outside_comments(alloc: Global, source: &[u8]) -> Result<Vec<Word>, AsmStop>
     requires short { length source.now ≤ source_limit }
-    ensures { Gives (λ v. v.items) result (phase_fault (each (judged_token source.now) [] (tokens_of source.now)))
+    ensures { Gives (λ v. v.items) result (phase_fault (each (validated_token source.now) [] (tokens_of source.now)))
         (collected (word_given source.now) [] (tokens_of source.now)) }
 {
     let mut words = Vec::new(alloc);

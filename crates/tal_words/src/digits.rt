@@ -1,7 +1,7 @@
 //! Numbers in words.
 
 ghost use Rattle.std.specs.Prelude.{◌≡◌, Some, None, IsTrue, if◌then◌else◌};
-ghost use Rattle.tal_words.specs.Digits.{is_digit, are_digits, number_of, is_byte_number, is_short_number, is_address_number};
+ghost use Rattle.tal_words.specs.Digits.{is_digit, are_digits, number_of_digits, is_byte_number, is_short_number, is_address_number};
 
 /// Whether a byte is a lowercase hexadecimal digit.
 fn is_digit(byte: u8) -> bool
@@ -34,7 +34,7 @@ pub fn is_short_number(text: &[u8]) -> bool
 /// The value of two digits.
 pub fn byte_value(text: &[u8]) -> u8
     requires { IsTrue (is_byte_number text.now) }
-    ensures { result ≡ number_of text.now }
+    ensures { result ≡ number_of_digits text.now }
 {
     let mut value = [0; 1];
     hex::decode_to_slice(text, &mut value).unwrap();
@@ -44,7 +44,7 @@ pub fn byte_value(text: &[u8]) -> u8
 /// The value of four digits.
 pub fn short_value(text: &[u8]) -> u16
     requires { IsTrue (is_short_number text.now) }
-    ensures { result ≡ number_of text.now }
+    ensures { result ≡ number_of_digits text.now }
 {
     let mut value = [0; 2];
     hex::decode_to_slice(text, &mut value).unwrap();
@@ -53,7 +53,7 @@ pub fn short_value(text: &[u8]) -> u16
 
 /// The value of one to four digits, if the text is that.
 pub fn address_value(text: &[u8]) -> Option<u16>
-    ensures { result ≡ (if is_address_number text.now then Some (number_of text.now) else None) }
+    ensures { result ≡ (if is_address_number text.now then Some (number_of_digits text.now) else None) }
 {
     if !are_digits(text) {
         return None;

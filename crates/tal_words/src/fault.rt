@@ -1,7 +1,7 @@
 //! What can be wrong with a source.
 
 ghost use Rattle.std.specs.Prelude.{◌≡◌, List};
-ghost use Rattle.tal_words.specs.Faults.{Judged, kind_name, fault_at, fault_text};
+ghost use Rattle.tal_words.specs.Faults.{Validated, kind_name, fault_at, fault_text};
 ghost use Rattle.tal_words.specs.FirstFault.{IsFirst};
 ghost use Rattle.tal_words.specs.declared.fault.AsmStop.TheVariants.{NoMemory};
 
@@ -124,7 +124,7 @@ pub fn fault_word<'a>(source: &'a [u8], fault: &Fault) -> &'a [u8]
 
 /// The first fault is the first: no word before it has one, and its word has none of a lesser number.
 pub fn first_fault_is_first()
-    ensures { (words : List Judged) → IsFirst words }
+    ensures { (words : List Validated) → IsFirst words }
 {}
 
 /// Why a source is not assembled.

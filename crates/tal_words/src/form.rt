@@ -1,7 +1,7 @@
 //! What a word of Uxntal means.
 
 ghost use Rattle.std.specs.Prelude.{◌≡◌};
-ghost use Rattle.tal_words.specs.Forms.{form, literal, reference, bare, unless_empty, if_alone};
+ghost use Rattle.tal_words.specs.Forms.{form, literal_form, reference, bare, unless_empty, if_alone};
 
 use crate::digits::{address_value, byte_value, is_byte_number, is_short_number, short_value};
 use crate::fault::FaultKind;
@@ -80,7 +80,7 @@ pub fn form_of(word: &[u8]) -> Result<Form, FaultKind>
             Some(length) => Ok(Form::Skip(length)),
             None => Err(FaultKind::BadNumber),
         },
-        b'#' => literal(rest),
+        b'#' => literal_form(rest),
         b'"' => Ok(Form::Text),
         b'@' => match name_fault(rest) {
             None => Ok(Form::LabelDef),
@@ -123,8 +123,8 @@ fn if_alone(rest: &[u8], form: Form) -> Result<Form, FaultKind>
 }
 
 /// What follows `#`: two or four digits.
-fn literal(digits: &[u8]) -> Result<Form, FaultKind>
-    ensures { result ≡ literal digits.now }
+fn literal_form(digits: &[u8]) -> Result<Form, FaultKind>
+    ensures { result ≡ literal_form digits.now }
 {
     if is_byte_number(digits) {
         Ok(Form::Lit1(byte_value(digits)))

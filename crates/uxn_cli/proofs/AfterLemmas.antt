@@ -1,7 +1,7 @@
 -- What stands at a path after changes depends on what stood there before, and on nothing else.
 use Rattle.uxn_cli.proofs.Common.{◌≡◌, ℕ, Bool, true, false, cond, List, [], ◌∷◌, ◌++◌, refl, ap, sym, ◌∙◌, Option, Some, None, option_map, IfSome}
-use Rattle.uxn_cli.proofs.Common.{Nodes, Node, File, bytes_of, bytes_at, unwrap_or, is_in, below, below-same, get_in, extended, Change, ToOut, ToErr}
-use Rattle.uxn_cli.proofs.Common.{Creates, ToFile, Removes, World, changed_files, changed, changed_by, files_by, Each, told_at, files-told, same_path}
+use Rattle.uxn_cli.proofs.Common.{Nodes, Node, File, bytes_of, file_bytes_at, unwrap_or, is_in, below, below-same, get_in, extended, Change, ToOut, ToErr}
+use Rattle.uxn_cli.proofs.Common.{Creates, ToFile, Removes, World, changed_files, changed, changed_by, files_by, Each, contents_at, files-contents, same_path}
 use Rattle.uxn_cli.proofs.Common.{IsOfTree, changed_by-files, IfSome_then}
 use Rattle.std.specs.Ordering.{nat_cmp, eq_by_cmp}
 use Rattle.std.specs.Cmp.Lexicographic.{slice_cmp, nat_list_cmp_total}
@@ -24,7 +24,7 @@ same-one path m n (ToOut byte) e = e
 same-one path m n (ToErr byte) e = e
 same-one path m n (Creates other) e = put-same path other m n (File []) (File []) (λ same. refl) e
 same-one path m n (ToFile other byte) e =
-    put-same path other m n (File (bytes_at m other ++ byte ∷ [])) (File (bytes_at n other ++ byte ∷ []))
+    put-same path other m n (File (file_bytes_at m other ++ byte ∷ [])) (File (file_bytes_at n other ++ byte ∷ []))
     (λ same. ap (λ o. File (unwrap_or (bytes_of o) [] ++ byte ∷ [])) (rw same at e)) e
 same-one path m n (Removes other) e =
     fin.get-remove nat_list_cmp_total m other path ∙ ap (cond (eq_by_cmp (slice_cmp nat_cmp) path other) None) e
@@ -48,16 +48,16 @@ same-part (Some root) m n changes e =
 
 -- ---- worlds
 
-pub files-after : (path : List ℕ) (a b : World) (changes : List Change) → told_at path a.files ≡ told_at path b.files → told_at path (changed_by a changes).files ≡ told_at path (changed_by b changes).files
-files-after path a b changes e = ap (told_at path) (files-told a changes) ∙ go a.files b.files e ∙ sym (ap (told_at path) (files-told b changes))
+pub files-after : (path : List ℕ) (a b : World) (changes : List Change) → contents_at path a.files ≡ contents_at path b.files → contents_at path (changed_by a changes).files ≡ contents_at path (changed_by b changes).files
+files-after path a b changes e = ap (contents_at path) (files-contents a changes) ∙ go a.files b.files e ∙ sym (ap (contents_at path) (files-contents b changes))
   where
-    go : (m n : Option Nodes) → told_at path m ≡ told_at path n → told_at path (option_map (λ nodes. files_by nodes changes) m) ≡ told_at path (option_map (λ nodes. files_by nodes changes) n)
+    go : (m n : Option Nodes) → contents_at path m ≡ contents_at path n → contents_at path (option_map (λ nodes. files_by nodes changes) m) ≡ contents_at path (option_map (λ nodes. files_by nodes changes) n)
     go None None e = refl
     go (Some m) None e = absurd cc
     go None (Some n) e = absurd cc
     go (Some m) (Some n) e = (let same : fin.get m path ≡ fin.get n path = cc in ap Some (same-node path m n changes same))
 
--- worlds whose outputs tell the same
+-- worlds with the same known outputs
 abbrev pub HaveSameOutputs : World → World → Type 0
 HaveSameOutputs a b = (a.out ≡ b.out) × (a.err ≡ b.err)
 
@@ -76,10 +76,10 @@ quiet world changes all = let is = changed_by-files world changes (are-of-tree c
 
 -- ---- root parts
 
-pub parts-same : (told : Option Nodes) (root : Option (List ℕ)) (xs ys : List Change)
-    → IfSome root (λ r. (path : List ℕ) → is_in r path ≡ true → told_at path (option_map (λ n. files_by n xs) told) ≡ told_at path (option_map (λ n. files_by n ys) told))
-    → option_map (below root) (option_map (λ n. files_by n xs) told) ≡ option_map (below root) (option_map (λ n. files_by n ys) told)
+pub parts-same : (contents : Option Nodes) (root : Option (List ℕ)) (xs ys : List Change)
+    → IfSome root (λ r. (path : List ℕ) → is_in r path ≡ true → contents_at path (option_map (λ n. files_by n xs) contents) ≡ contents_at path (option_map (λ n. files_by n ys) contents))
+    → option_map (below root) (option_map (λ n. files_by n xs) contents) ≡ option_map (below root) (option_map (λ n. files_by n ys) contents)
 parts-same None root xs ys all = refl
 parts-same (Some nodes) root xs ys all =
     ap Some (same-below root (files_by nodes xs) (files_by nodes ys)
-    (IfSome_then root all (λ r h path inside. (let told = h path inside in let same : fin.get (files_by nodes xs) path ≡ fin.get (files_by nodes ys) path = cc in same))))
+    (IfSome_then root all (λ r h path inside. (let contents = h path inside in let same : fin.get (files_by nodes xs) path ≡ fin.get (files_by nodes ys) path = cc in same))))

@@ -1,19 +1,19 @@
 -- Which status a verdict has, and who is to blame for one.
 use Rattle.uxn_cli.proofs.Common.{◌≡◌, ℕ, true, false, ◌≤◌, ◌⊎◌, nat_le, ◌==◌, if◌then◌else◌, refl, ap, sym, ◌∙◌, inl, inr, arith, le-leb, Some}
 use Rattle.uxn_cli.proofs.Common.{Result, Ok, Err, Counts, Rose, Ledger, AllCounted, Nodes, Stop, TreeFault, SinkFault, NoMemory, Task, Refusal}
-use Rattle.uxn_cli.proofs.Common.{IsViewOf, Judges, blame_of, status_blame, tree_verdict, EndsWith, outcome_of, Reason, Illegal, Pathless}
+use Rattle.uxn_cli.proofs.Common.{IsViewOf, Validates, stop_blame, status_blame, tree_verdict, EndsWith, outcome_of, Reason, Illegal, Pathless}
 use Rattle.uxn_cli.proofs.Common.{NoInput, FaultySource, FaultyScript, FaultyCommands, Unfit, FaultySetup, Status, Exits, Refuses, EndsBy, number}
-use Rattle.uxn_cli.proofs.Common.{reason_of, early_status, IsRefusedFor, View, view_of, Work, judged}
-use Rattle.task_files.specs.Statuses.{Blocked}
+use Rattle.uxn_cli.proofs.Common.{reason_of, early_status, IsRefusedFor, InputsView, view_of, Work, validated}
+use Rattle.uxn_task_files.specs.Statuses.{Blocked}
 
--- ---- the verdict on what stands in a tree that tells its contents
+-- ---- the verdict on what stands in a tree of known contents
 
-same_view : (nodes : Nodes) (task : Task) (view : View) → IsViewOf (Some nodes) task view → view ≡ view_of nodes task
-same_view nodes task view seen = rw (← seen.file, ← seen.symbols, ← seen.script, ← seen.commands, ← seen.part, ← seen.parent, ← seen.named, ← seen.blocked) refl
+same_view : (nodes : Nodes) (task : Task) (view : InputsView) → IsViewOf (Some nodes) task view → view ≡ view_of nodes task
+same_view nodes task view observed = rw (← observed.file, ← observed.symbols, ← observed.script, ← observed.commands, ← observed.part, ← observed.parent, ← observed.named, ← observed.blocked) refl
 
-pub told_verdict : (nodes : Nodes) (asked : Result Task Refusal) (found : Result Work Refusal) → Judges asked (Some nodes) found → found ≡ tree_verdict nodes asked
-told_verdict nodes (Err refusal) found j = sym j.judged
-told_verdict nodes (Ok task) found j = sym j.judged ∙ ap (judged task) (same_view nodes task j.view j.seen)
+pub known_verdict : (nodes : Nodes) (requested : Result Task Refusal) (found : Result Work Refusal) → Validates requested (Some nodes) found → found ≡ tree_verdict nodes requested
+known_verdict nodes (Err refusal) found j = sym j.validated
+known_verdict nodes (Ok task) found j = sym j.validated ∙ ap (validated task) (same_view nodes task j.view j.observed)
 
 -- ---- statuses and their numbers
 
@@ -35,7 +35,7 @@ pub is_status : (found : Result Work Refusal) → IsStatus (status_in found)
 is_status (Ok work) = (let small : (outcome_of (Ok work)).status ≤ 127 = grind arith in small)
 is_status (Err refusal) = tt
 
--- the status that a number stands for
+-- the status that a number represents
 abbrev large_said : ℕ → Status
 large_said n =
     if n == 128 then Refuses Illegal else if n == 129 then Refuses Pathless else if n == 130 then Refuses NoInput
@@ -78,7 +78,7 @@ only_exit code (Err refusal) is = absurd cc
 
 -- ---- who is to blame
 
-pub blame_early : (stop : Stop) → status_blame (early_status stop) ≡ blame_of stop
+pub blame_early : (stop : Stop) → status_blame (early_status stop) ≡ stop_blame stop
 blame_early stop = grind arith
 
 -- which counts rose with a status

@@ -14,20 +14,20 @@ pub use Rattle.std.specs.Result.{result_and, result_or}
 pub use Rattle.std.specs.Prelude.{Option, None, option_map, IfSome, Result, Ok, Err, IfOk, ◌||◌, option_to_list, is_err, find, slice_get, OnOk}
 pub use Rattle.std.specs.Prelude.{IsSome, fold}
 pub use Rattle.std.specs.Str.{bytes_eq}
-pub use Rattle.tree_io.specs.ChangeLaws.{files-told, changed_by-err, changed_by-append, changed_by-out, files_by-append, extended-nothing}
-pub use Rattle.tree_io.specs.ChangeLaws.{extended-extended, cut-first}
-pub use Rattle.tree_io.specs.Changes.{can_create, with_appended}
-pub use Rattle.tree_io.specs.Ended.{IsOfTree, AreOfTree, TreeLooked, SinkEnded, Done, CutShort, Ended, blame_of_tree, to_err}
-pub use Rattle.tree_io.specs.EndedLaws.{outside-of-tree, outside-of-out, outside-of-err, changed_by-files, ended-then, ended-first, looked-ended}
-pub use Rattle.tree_io.specs.EndedLaws.{looked-nothing}
-pub use Rattle.tree_io.specs.FaultLaws.{ledger-then, counted-same, ledger-same}
-pub use Rattle.tree_io.specs.Faults.{Ledger, AllCounted, Nobody, TheTree, ASink, counts, Counts, Rose, Blame}
-pub use Rattle.tree_io.specs.Files.{Nodes, Node, File, bytes_of, bytes_at, is_folder, is_folder_at}
-pub use Rattle.tree_io.specs.NodeLaws.{get_put, same_path}
-pub use Rattle.tree_io.specs.Outside.{Change, ToOut, ToErr, Creates, ToFile, Removes, World, changed_files, changed, changed_by, files_by, IsCutOff}
-pub use Rattle.tree_io.specs.State.{Outside, SinkState, TreeState, outside}
-pub use Rattle.tree_io.specs.Told.{extended, HasTakenFront}
-pub use Rattle.tree_io.specs.declared.sinks.Failed.{Failed}
+pub use Rattle.uxn_io_traits.specs.ChangeLaws.{files-contents, changed_by-err, changed_by-append, changed_by-out, files_by-append, extended-nothing}
+pub use Rattle.uxn_io_traits.specs.ChangeLaws.{extended-extended, cut-first}
+pub use Rattle.uxn_io_traits.specs.Changes.{can_create, with_appended}
+pub use Rattle.uxn_io_traits.specs.Ended.{IsOfTree, AreOfTree, TreeLooked, SinkEnded, Done, CutShort, Ended, blame_of_tree, to_err}
+pub use Rattle.uxn_io_traits.specs.EndedLaws.{outside-of-tree, outside-of-out, outside-of-err, changed_by-files, ended-then, ended-first, looked-ended}
+pub use Rattle.uxn_io_traits.specs.EndedLaws.{looked-nothing}
+pub use Rattle.uxn_io_traits.specs.FaultLaws.{ledger-then, counted-same, ledger-same}
+pub use Rattle.uxn_io_traits.specs.Faults.{Ledger, AllCounted, Nobody, TheTree, ASink, counts, Counts, Rose, Blame}
+pub use Rattle.uxn_io_traits.specs.Files.{Nodes, Node, File, bytes_of, file_bytes_at, is_folder, is_folder_at}
+pub use Rattle.uxn_io_traits.specs.NodeLaws.{get_put, same_path}
+pub use Rattle.uxn_io_traits.specs.Outside.{Change, ToOut, ToErr, Creates, ToFile, Removes, World, changed_files, changed, changed_by, files_by, IsCutOff}
+pub use Rattle.uxn_io_traits.specs.State.{Outside, SinkState, TreeState, outside}
+pub use Rattle.uxn_io_traits.specs.Known.{extended, HasTakenPrefix}
+pub use Rattle.uxn_io_traits.specs.declared.sinks.Failed.{Failed}
 pub use Rattle.uxn_opcodes.specs.Rule.{new_core}
 pub use Rattle.uxn_opcodes.specs.declared.Core.{Core}
 pub use Rattle.uxn_opcodes.specs.declared.Stop.{Stop}
@@ -39,66 +39,66 @@ pub use Rattle.file_ports.specs.Device.{suits}
 pub use Rattle.file_ports.specs.PartLaws.{below-same, get_in}
 pub use Rattle.file_ports.specs.RootPart.{below, parent_is_folder}
 unfoldable pub use Rattle.file_ports.specs.RootPart.{is_in}
-pub use Rattle.varvara_bus.specs.Bus.{IsOutside, BusStandsFor, FilesStay, IsFileWhereTold, told_on}
-pub use Rattle.varvara_bus.specs.Touching.{Each, each-append, each-map, told_at, Spares, inserted-other, spared, each-front, removed-other}
-pub use Rattle.varvara_bus.specs.Touching.{StandsApart, spared-front, kept-node}
+pub use Rattle.varvara_bus.specs.Bus.{IsOutside, BusRepresents, FilesStay, IsFileWhereKnown, contents_on}
+pub use Rattle.varvara_bus.specs.Touching.{Each, each-append, each-map, contents_at, Spares, inserted-other, spared, each-prefix, removed-other}
+pub use Rattle.varvara_bus.specs.Touching.{IsSeparateFrom, spared-prefix, kept-node}
 pub use Rattle.play_script.specs.Scripts.{ScriptView, version_number}
 pub use Rattle.uxn_line.specs.Moves.{IsUnderWay}
 pub use Rattle.vector_loop.specs.Counted.{CountingLaw, AreCounted}
 pub use Rattle.vector_loop.specs.State.{State}
-pub use Rattle.vector_loop.specs.Trail.{Trail}
+pub use Rattle.vector_loop.specs.Trace.{Trace}
 pub use Rattle.vector_loop.specs.declared.output.Outputs.{Outputs}
 pub use Rattle.uxn_undo.specs.Row.{IsMachine}
 pub use Rattle.uxn_undo.specs.Runs.{RunLaw, given_at}
-pub use Rattle.uxn_words.specs.Places.{first_clash, HasApartOutputs, command_outputs, outputs_of, command_root, paths_used, command_inputs, meets, clashes}
-pub use Rattle.uxn_words.specs.Roles.{run_files}
-pub use Rattle.uxn_words.specs.Tasks.{role_path}
-pub use Rattle.uxn_words.specs.declared.task.Task.{Task}
-pub use Rattle.uxn_words.specs.declared.words.Command.{Command}
-pub use Rattle.uxn_words.specs.declared.words.Command.TheVariants.{Play, Debug, Assemble, Disassemble, Generate, Line}
-pub use Rattle.task_files.proofs.GivesLemmas.{Gives, gives-then, read-then, IsRead, source-judged, script-judged, given-to-run, disassembly-read}
-pub use Rattle.task_files.proofs.GivesLemmas.{machines-given, files-given}
-pub use Rattle.task_files.proofs.PlaceLemmas.{clash_parts, none_last, none_each, count-parts, clash_from, one_if, none_among, count-first}
-pub use Rattle.task_files.proofs.PlaceLemmas.{meets_parts, meets_one}
-pub use Rattle.task_files.proofs.ReadingLemmas.{inputs_or, reads-ended, reads-on, reads-none, reads-through, no_view}
-pub use Rattle.task_files.specs.Accepted.{source_files, run_given, Loaded, accepted_program, accepted_symbols, accepted_script, accepted_commands, debug_labels, Given}
-pub use Rattle.task_files.specs.Accepted.{machines_given}
-pub use Rattle.task_files.specs.Blame.{blame_of, status_blame, as_step, tree_failed, result_blame, OnRefused}
-pub use Rattle.task_files.specs.Follows.{Follows}
-pub use Rattle.task_files.specs.Held.{held_program, held_machines, held_inputs}
-pub use Rattle.task_files.specs.Lines.{line_of, text_of}
-pub use Rattle.task_files.specs.Made.{first_unmade, MakesOutputs, WritesOutputs, Made, HalfMade, AreFree}
-pub use Rattle.task_files.specs.Puts.{Puts}
-pub use Rattle.task_files.specs.Request.{apart, judged_clash, and_then, refused}
-unfoldable pub use Rattle.task_files.specs.Request.{request}
-pub use Rattle.task_files.specs.Statuses.{Reason, Status, Exits, Refuses, EndsBy, number, early_status, IsRefusedFor, IsEarly, status_of, Illegal}
-pub use Rattle.task_files.specs.Statuses.{Pathless, NoInput, FaultySource, FaultyScript, FaultyCommands, Unfit, FaultySetup, reason_of, IsRefusing}
-pub use Rattle.task_files.specs.Statuses.{IsOfWords}
-pub use Rattle.task_files.specs.Views.{View, view_of, blocked_seen, ReadsInputs, inputs_seen, RunsMachine}
-pub use Rattle.task_files.specs.World.{Text, world, asked_output, text_paths}
-pub use Rattle.task_files.specs.Writing.{creating, filling, filling_all}
-unfoldable pub use Rattle.task_files.specs.Writing.{writing}
-pub use Rattle.task_files.specs.declared.refusal.Halt.{Halt}
-pub use Rattle.task_files.specs.declared.refusal.Halt.TheVariants.{Refused, Stopped}
-pub use Rattle.task_files.specs.declared.refusal.Refusal.{Refusal}
-pub use Rattle.uxn_cli.specs.Answer.{IsViewOf, Judges, IsUntold, HasOutcome, HasCut, MayStop, Answers, Performs, HasEnded, EndsEarly, HasFront, IsCut}
+pub use Rattle.uxn_arguments.specs.Places.{first_clash, HasApartOutputs, command_outputs, outputs_of, command_root, paths_used, command_inputs, meets, clashes}
+pub use Rattle.uxn_arguments.specs.Roles.{run_files}
+pub use Rattle.uxn_arguments.specs.Tasks.{role_path}
+pub use Rattle.uxn_arguments.specs.declared.task.Task.{Task}
+pub use Rattle.uxn_arguments.specs.declared.words.Command.{Command}
+pub use Rattle.uxn_arguments.specs.declared.words.Command.TheVariants.{Play, Debug, Assemble, Disassemble, Generate, Line}
+pub use Rattle.uxn_task_files.proofs.GivesLemmas.{Gives, gives-then, read-then, IsRead, source-validated, script-validated, given-to-run, disassembly-read}
+pub use Rattle.uxn_task_files.proofs.GivesLemmas.{machines-given, files-given}
+pub use Rattle.uxn_task_files.proofs.PlaceLemmas.{clash_parts, none_last, none_each, count-parts, clash_from, one_if, none_among, count-first}
+pub use Rattle.uxn_task_files.proofs.PlaceLemmas.{meets_parts, meets_one}
+pub use Rattle.uxn_task_files.proofs.ReadingLemmas.{inputs_or, reads-ended, reads-on, reads-none, reads-through, no_view}
+pub use Rattle.uxn_task_files.specs.Accepted.{source_files, run_given, Loaded, accepted_program, accepted_symbols, accepted_script, accepted_commands, debug_labels, GivenInputs}
+pub use Rattle.uxn_task_files.specs.Accepted.{machines_given}
+pub use Rattle.uxn_task_files.specs.Blame.{stop_blame, status_blame, as_step, halted_by_tree, result_blame, OnRefused}
+pub use Rattle.uxn_task_files.specs.FollowsDefinition.{FollowsDefinition}
+pub use Rattle.uxn_task_files.specs.Held.{model_of_program, model_of_machines, model_of_inputs}
+pub use Rattle.uxn_task_files.specs.Lines.{refusal_line, refusal_text}
+pub use Rattle.uxn_task_files.specs.Made.{first_unmade, MakesOutputs, WritesOutputs, Made, HalfMade, AreFree}
+pub use Rattle.uxn_task_files.specs.Puts.{Puts}
+pub use Rattle.uxn_task_files.specs.Request.{apart, validated_clash, then_requests, refused}
+unfoldable pub use Rattle.uxn_task_files.specs.Request.{request}
+pub use Rattle.uxn_task_files.specs.Statuses.{Reason, Status, Exits, Refuses, EndsBy, number, early_status, IsRefusedFor, IsEarly, status_of, Illegal}
+pub use Rattle.uxn_task_files.specs.Statuses.{Pathless, NoInput, FaultySource, FaultyScript, FaultyCommands, Unfit, FaultySetup, reason_of, IsRefusing}
+pub use Rattle.uxn_task_files.specs.Statuses.{IsOfWords}
+pub use Rattle.uxn_task_files.specs.Views.{InputsView, view_of, blocked_observed, ReadsInputs, inputs_observed, RunsMachine}
+pub use Rattle.uxn_task_files.specs.World.{Text, world, requested_output, text_paths}
+pub use Rattle.uxn_task_files.specs.Writing.{creating_all, filling, filling_all}
+unfoldable pub use Rattle.uxn_task_files.specs.Writing.{writing}
+pub use Rattle.uxn_task_files.specs.declared.refusal.Halt.{Halt}
+pub use Rattle.uxn_task_files.specs.declared.refusal.Halt.TheVariants.{Refused, Stopped}
+pub use Rattle.uxn_task_files.specs.declared.refusal.Refusal.{Refusal}
+pub use Rattle.uxn_cli.specs.Answer.{IsViewOf, Validates, HasUnknownContents, HasOutcome, HasCut, MayStop, AnswersCall, Performs, CallHasEnded, EndsEarly, HasPrefix, CallIsCut}
 pub use Rattle.uxn_cli.specs.Answer.{ListsFolder}
 pub use Rattle.uxn_cli.specs.Call.{Call, call_request, step_status}
 pub use Rattle.uxn_cli.specs.Causes.{tree_verdict, EndsWith, IsExactly, PutsLine, IsAside, KeepsOthers}
-pub use Rattle.uxn_cli.specs.Clauses.{HasStatuses, EndsEarlyByFaults, ComesOut, IsOutputOf, HoldsFileFront, IsFrontOf, StandsCutOff, IsCutShort}
+pub use Rattle.uxn_cli.specs.Clauses.{HasStatuses, EndsEarlyByFaults, ComesOut, IsOutputOf, HoldsFilePrefix, IsPrefixOf, HoldsTruncated, IsCutShort}
 pub use Rattle.uxn_cli.specs.Clauses.{LeavesTheRest, GivesTheSame}
 pub use Rattle.uxn_cli.specs.Console.{console_script, is_of_console}
-pub use Rattle.uxn_cli.specs.Job.{trail_of, Job, job_outputs, first_state, log_texts, Home, Debugging, log_paths, first_devices, job_home, shown_of, no_home}
-pub use Rattle.uxn_cli.specs.Job.{report_of, bus_clock, common_lines, further_lines, state_exit}
-unfoldable pub use Rattle.uxn_cli.specs.Job.{reference_trail, log_text, report_text}
-pub use Rattle.uxn_cli.specs.Joined.{GoesOn, job_of_joined, HasDone, joined_plan}
+pub use Rattle.uxn_cli.specs.RunJob.{trace_of, RunJob, job_outputs, first_state, log_texts, RootView, Debugging, log_paths, first_devices, job_root_view, state_shown, no_root_view}
+pub use Rattle.uxn_cli.specs.RunJob.{report_of, bus_clock, common_lines, further_lines, state_exit}
+unfoldable pub use Rattle.uxn_cli.specs.RunJob.{reference_trace, log_text, report_text}
+pub use Rattle.uxn_cli.specs.Joined.{LineGoesOn, job_of_joined, LineHasDone, joined_plan}
 pub use Rattle.uxn_cli.specs.Outcome.{line_exit, Outcome, outcome_of, reporting, line_bytes, printing}
 unfoldable pub use Rattle.uxn_cli.specs.Outcome.{running}
-pub use Rattle.uxn_cli.specs.Outside.{DoesWork, HostState, host_state, seen_outside}
-pub use Rattle.uxn_cli.specs.Prepared.{work_paths, IsPlanned, ReadsPlan, SeesWork, IsHomeOf, AreNew, IsReady, IsReadyRun, prepared_debugging, Unready}
+pub use Rattle.uxn_cli.specs.Outside.{DoesWork, HostState, host_state, observed_outside}
+pub use Rattle.uxn_cli.specs.Prepared.{work_paths, IsPlanned, ReadsPlan, SeesWork, IsRootViewOf, AreNew, IsReady, IsReadyRun, prepared_debugging, Unready}
 pub use Rattle.uxn_cli.specs.Refused.{RunsNone, AtMostOne, CountsRefusals, PassesNoneOver}
 pub use Rattle.uxn_cli.specs.Room.{TreeSuffices, SinksSuffice, TakesFor}
-pub use Rattle.uxn_cli.specs.Verdict.{Work, Run, Write, Print, RunLine, judged, accepted_summary, seen_home, Plan, work_of, unblocked, judged_outputs, accepted_line}
-pub use Rattle.uxn_cli.specs.Verdict.{run_plan, accepted_run, write_plan, text_plan, job_of, debugging, planned, verdict, line_plan}
-pub use Rattle.uxn_cli.specs.Workload.{empty_world, lone_trail, console_of, HasRunAlone, workload_trail, run_summary, trail_summary}
+pub use Rattle.uxn_cli.specs.Verdict.{Work, Run, Write, Print, RunLine, validated, accepted_summary, observed_root_view, Plan, work_of, unblocked, validated_outputs, accepted_line}
+pub use Rattle.uxn_cli.specs.Verdict.{run_plan, accepted_run, write_plan, text_plan, run_job, debugging, planned, verdict, line_plan}
+pub use Rattle.uxn_cli.specs.Workload.{empty_world, lone_trace, console_text, HasRunAlone, workload_trace, run_summary, trace_summary}
 unfoldable pub use Rattle.uxn_cli.specs.Workload.{workload_text}

@@ -11,10 +11,10 @@ pub mod RegularLemmas
 pub mod CauseLemmas
 pub mod GivesLemmas
 pub mod ClauseLemmas
-pub mod SureLemmas
+pub mod GuaranteedLemmas
 pub mod OpcodeLemmas
 pub mod OthersLemmas
-pub mod FrontLemmas
+pub mod PrefixLemmas
 pub mod AfterLemmas
 pub mod RootLemmas
 pub mod ObservationLemmas

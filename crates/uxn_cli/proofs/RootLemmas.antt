@@ -1,11 +1,11 @@
 -- Outputs that do not clash lie outside the root, and the root is not beneath them.
 use Rattle.uxn_cli.proofs.Common.{◌≡◌, ℕ, true, false, true≢false, List, [], ◌∷◌, ◌++◌, refl, ap, sym, ◌∙◌, arith, Option, Some, None, IfSome}
 use Rattle.uxn_cli.proofs.Common.{option_to_list, find, list_any, bytes_eq, or_parts, false_from_ne_true, is_in, below, parent_is_folder, below-same}
-use Rattle.uxn_cli.proofs.Common.{suits, Nodes, File, is_folder, is_folder_at, Creates, changed_files, files_by, inserted-other, job_home, creating}
+use Rattle.uxn_cli.proofs.Common.{suits, Nodes, File, is_folder, is_folder_at, Creates, changed_files, files_by, inserted-other, job_root_view, creating_all}
 use Rattle.uxn_cli.proofs.Common.{Task, command_inputs, outputs_of, command_root, meets, clashes, HasApartOutputs, one_if, none_among, count-first, meets_parts}
 use Rattle.uxn_cli.proofs.Common.{meets_one, clash_parts}
-use Rattle.tree_io.specs.PathText.{parent_of}
-use Rattle.tree_io.specs.PathLaws.{parent_under}
+use Rattle.uxn_io_traits.specs.PathText.{parent_of}
+use Rattle.uxn_io_traits.specs.PathLaws.{parent_under}
 use Rattle.std.specs.FinMap as fin
 
 -- an output does not meet the root
@@ -38,28 +38,28 @@ outputs-outside task path apart among = go (command_root task.command task) (all
 
 -- ---- making the outputs changes nothing beneath the root, and its parent stays what it is
 
-spared-node : (path : List ℕ) (nodes : Nodes) (paths : List (List ℕ)) → (list_any (bytes_eq path) paths ≡ true → ⊥) → fin.get (files_by nodes (creating paths)) path ≡ fin.get nodes path
+spared-node : (path : List ℕ) (nodes : Nodes) (paths : List (List ℕ)) → (list_any (bytes_eq path) paths ≡ true → ⊥) → fin.get (files_by nodes (creating_all paths)) path ≡ fin.get nodes path
 spared-node path nodes [] none = refl
 spared-node path nodes (other ∷ paths) none =
     let apart = or_parts (bytes_eq path other) (list_any (bytes_eq path) paths) (false_from_ne_true _ none) in
     spared-node path (changed_files (Creates other) nodes) paths (λ among. true≢false (sym among ∙ apart.1)) ∙ inserted-other nodes path other (File []) apart.0
 
 below-made : (root : List ℕ) (paths : List (List ℕ)) (nodes : Nodes) → ((path : List ℕ) → list_any (bytes_eq path) paths ≡ true → meets path root ≡ false)
-    → below (Some root) (files_by nodes (creating paths)) ≡ below (Some root) nodes
+    → below (Some root) (files_by nodes (creating_all paths)) ≡ below (Some root) nodes
 below-made root paths nodes apart =
-    below-same root (files_by nodes (creating paths)) nodes
+    below-same root (files_by nodes (creating_all paths)) nodes
     (λ path inside. spared-node path nodes paths (λ among. true≢false (sym inside ∙ apart-outside root path (apart path among))))
 
 parent-made : (root : List ℕ) (paths : List (List ℕ)) (nodes : Nodes) → ((path : List ℕ) → list_any (bytes_eq path) paths ≡ true → meets path root ≡ false)
-    → parent_is_folder (Some root) (files_by nodes (creating paths)) ≡ parent_is_folder (Some root) nodes
+    → parent_is_folder (Some root) (files_by nodes (creating_all paths)) ≡ parent_is_folder (Some root) nodes
 parent-made root paths nodes apart = go (parent_of root) refl
   where
-    go : (parent : Option (List ℕ)) → parent_of root ≡ parent → is_folder_at (files_by nodes (creating paths)) parent ≡ is_folder_at nodes parent
+    go : (parent : Option (List ℕ)) → parent_of root ≡ parent → is_folder_at (files_by nodes (creating_all paths)) parent ≡ is_folder_at nodes parent
     go None is = refl
     go (Some parent) is =
         ap is_folder (spared-node parent nodes paths (λ among. true≢false (sym (parent_under root parent is) ∙ (meets_parts parent root (apart parent among)).2)))
 
-pub home-made : (root : Option (List ℕ)) (paths : List (List ℕ)) (nodes : Nodes) → IfSome root (λ r. (path : List ℕ) → list_any (bytes_eq path) paths ≡ true → meets path r ≡ false)
-    → job_home root (files_by nodes (creating paths)) ≡ job_home root nodes
-home-made None paths nodes apart = refl
-home-made (Some root) paths nodes apart = λ i. record { root = Some root; part = below-made root paths nodes apart i; parent = parent-made root paths nodes apart i }
+pub root_view-made : (root : Option (List ℕ)) (paths : List (List ℕ)) (nodes : Nodes) → IfSome root (λ r. (path : List ℕ) → list_any (bytes_eq path) paths ≡ true → meets path r ≡ false)
+    → job_root_view root (files_by nodes (creating_all paths)) ≡ job_root_view root nodes
+root_view-made None paths nodes apart = refl
+root_view-made (Some root) paths nodes apart = λ i. record { root = Some root; part = below-made root paths nodes apart i; parent = parent-made root paths nodes apart i }

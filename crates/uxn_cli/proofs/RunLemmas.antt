@@ -2,71 +2,71 @@
 use Rattle.uxn_cli.proofs.Common.{◌≡◌, ℕ, true, false, List, [], ◌∷◌, ◌++◌, map, append-nil, refl, ap, sym, ◌∙◌, subst, inl, inr, Option, Some, None}
 use Rattle.uxn_cli.proofs.Common.{Result, Ok, Err, OnOk, IfSome, is_err, IsSome, option_map, option_to_list, ◌||◌, ◌⊎◌, fold, list_any, bytes_eq}
 use Rattle.uxn_cli.proofs.Common.{bytes_eq-Decides, Failed, Label, with_appended, Nodes, Change, ToFile, World, changed_by, files_by, cut-first}
-use Rattle.uxn_cli.proofs.Common.{files-told, Done, Ended, blame_of_tree, ended-then, ended-first, outside-of-tree, ledger-then, Blame, Nobody}
-use Rattle.uxn_cli.proofs.Common.{TheTree, ASink, TreeState, SinkState, Outside, outside, Stop, TreeFault, SinkFault, NoMemory, BusStandsFor}
-use Rattle.uxn_cli.proofs.Common.{FilesStay, IsFileWhereTold, ScriptView, State, Trail, CountingLaw, DebugCommand, IsMachine, RunLaw, Task, Debug}
+use Rattle.uxn_cli.proofs.Common.{files-contents, Done, Ended, blame_of_tree, ended-then, ended-first, outside-of-tree, ledger-then, Blame, Nobody}
+use Rattle.uxn_cli.proofs.Common.{TheTree, ASink, TreeState, SinkState, Outside, outside, Stop, TreeFault, SinkFault, NoMemory, BusRepresents}
+use Rattle.uxn_cli.proofs.Common.{FilesStay, IsFileWhereKnown, ScriptView, State, Trace, CountingLaw, DebugCommand, IsMachine, RunLaw, Task, Debug}
 use Rattle.uxn_cli.proofs.Common.{outputs_of, command_root, paths_used, HasApartOutputs, run_files, role_path, Halt, Refused, Stopped, world, result_blame}
-use Rattle.uxn_cli.proofs.Common.{Debugging, Job, Home, no_home, job_home, first_devices, log_paths, job_outputs, reference_trail, trail_of, shown_of, log_text}
-use Rattle.uxn_cli.proofs.Common.{log_texts, asked_output, creating, filling_all, reporting, running, TreeSuffices, SinksSuffice, Run, job_of, debugging}
-use Rattle.uxn_cli.proofs.Common.{Judges, IsUntold, ListsFolder, MayStop, Performs, DoesWork, AreNew, IsHomeOf, IsPlanned, IsReady, IsReadyRun}
-use Rattle.uxn_cli.proofs.Common.{prepared_debugging, Made, HalfMade, MakesOutputs, held_program, blame_of, IfSome_then, CutShort, arith, result_and, result_or}
-use Rattle.uxn_cli.proofs.Common.{Each, HostState, host_state, seen_outside, Exits, EndsBy, CountsRefusals, OnRefused}
+use Rattle.uxn_cli.proofs.Common.{Debugging, RunJob, RootView, no_root_view, job_root_view, first_devices, log_paths, job_outputs, reference_trace, trace_of, state_shown, log_text}
+use Rattle.uxn_cli.proofs.Common.{log_texts, requested_output, creating_all, filling_all, reporting, running, TreeSuffices, SinksSuffice, Run, run_job, debugging}
+use Rattle.uxn_cli.proofs.Common.{Validates, HasUnknownContents, ListsFolder, MayStop, Performs, DoesWork, AreNew, IsRootViewOf, IsPlanned, IsReady, IsReadyRun}
+use Rattle.uxn_cli.proofs.Common.{prepared_debugging, Made, HalfMade, MakesOutputs, model_of_program, stop_blame, IfSome_then, CutShort, arith, result_and, result_or}
+use Rattle.uxn_cli.proofs.Common.{Each, HostState, host_state, observed_outside, Exits, EndsBy, CountsRefusals, OnRefused}
 use Rattle.std.proofs.Math.Bool.{or-true}
-use Rattle.tree_io.specs.AppendingLaws.{changed_by-file}
-use Rattle.tree_io.specs.TakingLaws.{takes-first}
-use Rattle.uxn_opcodes.specs.Ports.{blame_of as blame_of_result}
+use Rattle.uxn_io_traits.specs.AppendingLaws.{changed_by-file}
+use Rattle.uxn_io_traits.specs.TakingLaws.{takes-first}
+use Rattle.uxn_opcodes.specs.Ports.{result_blame as blame_of_result}
 use Rattle.varvara_bus.specs.declared.bus.Bus.{Bus}
 use Rattle.varvara_bus.specs.declared.devices.Devices.{Devices}
 use Rattle.varvara_bus.specs.State.{HasFiles}
 use Rattle.varvara_bus.proofs.Appends.{appended-stays}
 use Rattle.vector_loop.specs.Outputs.{IsOutput}
 use Rattle.vector_loop.specs.Watch.{shown_all}
-use Rattle.vector_loop.specs.Folders.{TakesNames}
+use Rattle.vector_loop.specs.Folders.{TraceTakesNames}
 use Rattle.uxn_debugger.specs.Watching.{Watching, new_watching, shown as shown_to, ended as ended_by, after_moment, after_end, KeepsTheLog}
 use Rattle.uxn_cli.specs.declared.machine.Machine.{Machine}
 use Rattle.uxn_cli.specs.declared.running.RunEnd.{RunEnd}
 use Rattle.uxn_cli.specs.declared.playing.Prepared.{Prepared}
-use Rattle.uxn_cli.specs.Runs.{AtHome, RunFiles, Runs, RunsOn, WasShown, blame_if, task_settings, task_trail, logged_changes}
+use Rattle.uxn_cli.specs.RunsFromRoot.{AtRootView, RunFiles, RunsFromRoot, RunsOverOutside, WasShown, blame_if, task_settings, task_trace, logged_changes}
 use Rattle.std.specs.Prelude.{IfErr}
-use Rattle.uxn_words.specs.declared.role.Access.TheVariants as access
-use Rattle.uxn_words.specs.declared.role.Role.TheVariants as role
+use Rattle.uxn_arguments.specs.declared.role.Access.TheVariants as access
+use Rattle.uxn_arguments.specs.declared.role.Role.TheVariants as role
 use Rattle.uxn_cli.proofs.JobLemmas.{run-job}
 use Rattle.uxn_cli.proofs.RegularLemmas.{is-regular}
-use Rattle.uxn_cli.proofs.RootLemmas.{outputs-outside, home-made, all-apart}
-use Rattle.uxn_cli.proofs.SureLemmas.{always}
+use Rattle.uxn_cli.proofs.RootLemmas.{outputs-outside, root_view-made, all-apart}
+use Rattle.uxn_cli.proofs.GuaranteedLemmas.{always}
 use Rattle.uxn_cli.proofs.ChangeLemmas.{made-of-tree}
-use Rattle.uxn_cli.proofs.WorkLemmas.{judges_work, halted-looked, does-all, does-front, is-cut}
+use Rattle.uxn_cli.proofs.WorkLemmas.{validates_work, halted-looked, does-all, does-prefix, is-cut}
 use Rattle.uxn_cli.proofs.WriteLemmas.{does-refuse}
 use Rattle.uxn_cli.proofs.RefusalLemmas.{counts-run}
 
 -- ---- texts that are written after a run
 
-pub one-text : (path text : List ℕ) → filling_all (asked_output (Some path) text) ≡ map (λ byte. ToFile path byte) text
+pub one-text : (path text : List ℕ) → filling_all (requested_output (Some path) text) ≡ map (λ byte. ToFile path byte) text
 one-text path text = append-nil (map (λ byte. ToFile path byte) text)
 
-pub stays-if : (root file : Option (List ℕ)) (before now : Option Nodes) → FilesStay root before now → IfSome file (IsOutput root before) → IfSome file (IsFileWhereTold now)
+pub stays-if : (root file : Option (List ℕ)) (before now : Option Nodes) → FilesStay root before now → IfSome file (IsOutput root before) → IfSome file (IsFileWhereKnown now)
 stays-if root None before now f there = tt
 stays-if root (Some path) before now f there = f.stays path there.outside there.file
 
 -- what a debugger held in the end has the log of the whole run
-shown-fold : (states : List State) (held : Watching) → shown_all after_moment held states ≡ fold shown_to held (map shown_of states)
+shown-fold : (states : List State) (held : Watching) → shown_all after_moment held states ≡ fold shown_to held (map state_shown states)
 shown-fold [] held = refl
-shown-fold (state ∷ states) held = shown-fold states (shown_to held (shown_of state))
+shown-fold (state ∷ states) held = shown-fold states (shown_to held (state_shown state))
 
 module _ (keeps : KeepsTheLog) (counting : CountingLaw) (in_row : RunLaw) (task : Task) (machine : Machine) (is : IsMachine machine.core) where
-  pub kept-log : (commands : List DebugCommand) (labels : List Label) (before now : Watching) → before ≡ new_watching commands labels → (home : Home)
-      → WasShown after_moment after_end before (task_trail task machine home) now → now.log ≡ log_text (debugging task commands labels) (task_trail task machine home)
+  pub kept-log : (commands : List DebugCommand) (labels : List Label) (before now : Watching) → before ≡ new_watching commands labels → (root_view : RootView)
+      → WasShown after_moment after_end before (task_trace task machine root_view) now → now.log ≡ log_text (debugging task commands labels) (task_trace task machine root_view)
   unfolding log_text
-  kept-log commands labels before now new home was =
-      let trail = task_trail task machine home in
-      ap (λ w. w.log) was ∙ ap (λ held. (ended_by (shown_all after_moment held trail.moments) (shown_of trail.last)).log) new
-      ∙ ap (λ held. (ended_by held (shown_of trail.last)).log) (shown-fold trail.moments (new_watching commands labels))
-      ∙ keeps commands labels (map shown_of trail.moments) (shown_of trail.last) (is-regular counting in_row task.budget (task_settings task).outputs machine.script home machine.core is)
+  kept-log commands labels before now new root_view was =
+      let trace = task_trace task machine root_view in
+      ap (λ w. w.log) was ∙ ap (λ held. (ended_by (shown_all after_moment held trace.moments) (state_shown trace.last)).log) new
+      ∙ ap (λ held. (ended_by held (state_shown trace.last)).log) (shown-fold trace.moments (new_watching commands labels))
+      ∙ keeps commands labels (map state_shown trace.moments) (state_shown trace.last) (is-regular counting in_row task.budget (task_settings task).outputs machine.script root_view machine.core is)
 
 -- ---- a run, and what is done behind it
 
 -- files that got a text stay
-texts-stay : (file : Option (List ℕ)) (text : List ℕ) (before now : Outside) → Done (filling_all (asked_output file text)) before now
+texts-stay : (file : Option (List ℕ)) (text : List ℕ) (before now : Outside) → Done (filling_all (requested_output file text)) before now
     → (root : Option (List ℕ)) → FilesStay root before.world.files now.world.files
 texts-stay None text before now done root = rw (ap (λ (w : World). w.files) done.world) (record { stays = λ other outside there. there })
 texts-stay (Some path) text before now done root =
@@ -75,9 +75,9 @@ texts-stay (Some path) text before now done root =
     rw files (appended-stays root before.world.files path text)
 
 -- the same of a root by another name
-pub runs-at : (root same : Option (List ℕ)) (trail : Home → Trail) (changes : Trail → List Change) (watched : Type 0) (before now : Outside) (result : Result RunEnd Stop)
-    → root ≡ same → Runs root trail changes watched before now result → Runs same trail changes watched before now result
-runs-at root same trail changes watched before now result is runs = subst (λ r. Runs r trail changes watched before now result) is runs
+pub runs-at : (root same : Option (List ℕ)) (trace : RootView → Trace) (changes : Trace → List Change) (watched : Type 0) (before now : Outside) (result : Result RunEnd Stop)
+    → root ≡ same → RunsFromRoot root trace changes watched before now result → RunsFromRoot same trace changes watched before now result
+runs-at root same trace changes watched before now result is runs = subst (λ r. RunsFromRoot r trace changes watched before now result) is runs
 
 -- how a run ended behind which a text was to be written
 abbrev pub run_then : Result (Unit {0}) Failed → RunEnd → Result RunEnd Stop
@@ -87,14 +87,14 @@ pub shown-then : (P : Type 0) (written : Result (Unit {0}) Failed) (end : RunEnd
 shown-then P (Ok x) end p = p
 shown-then P (Err failed) end p = tt
 
-module _ (root : Option (List ℕ)) (trail : Home → Trail) (first : Trail → List Change) (watched : Type 0) (before : Outside) where
+module _ (root : Option (List ℕ)) (trace : RootView → Trace) (first : Trace → List Change) (watched : Type 0) (before : Outside) where
   -- the same changes by another name, and a watcher that may want memory too
-  pub runs-as : (same : Trail → List Change) (wider : Type 0) (now : Outside) (result : Result RunEnd Stop) → ((t : Trail) → first t ≡ same t) → (watched → wider)
-      → Runs root trail first watched before now result → Runs root trail same wider before now result
+  pub runs-as : (same : Trace → List Change) (wider : Type 0) (now : Outside) (result : Result RunEnd Stop) → ((t : Trace) → first t ≡ same t) → (watched → wider)
+      → RunsFromRoot root trace first watched before now result → RunsFromRoot root trace same wider before now result
   runs-as same wider now result is widens runs = record {
-    from = λ home at files.
-        let run = runs.from home at files in
-        record { made = rw (← is (trail home)) run.made; ends = run.ends; names = wide _ result run.names };
+    from = λ root_view at files.
+        let run = runs.from root_view at files in
+        record { made = rw (← is (trace root_view)) run.made; ends = run.ends; names = wide _ result run.names };
     ledger = runs.ledger;
     memory = wide _ result runs.memory;
     files = runs.files;
@@ -106,11 +106,11 @@ module _ (root : Option (List ℕ)) (trail : Home → Trail) (first : Trail → 
       wide A (Err stop) left = λ wanted. elim (left wanted) [ inl there ↦ inl (widens there) | inr other ↦ inr other ]
 
   -- it stopped, and nothing was done behind it
-  pub runs-first : (more : Trail → List Change) (now : Outside) (stop : Stop) → Runs root trail first watched before now (Err stop)
-      → Runs root trail (λ t. first t ++ more t) watched before now (Err stop)
+  pub runs-first : (more : Trace → List Change) (now : Outside) (stop : Stop) → RunsFromRoot root trace first watched before now (Err stop)
+      → RunsFromRoot root trace (λ t. first t ++ more t) watched before now (Err stop)
   runs-first more now stop runs = record {
-    from = λ home at files. let run = runs.from home at files in record {
-      made = ended-first (first (trail home)) (more (trail home)) _ before now run.made;
+    from = λ root_view at files. let run = runs.from root_view at files in record {
+      made = ended-first (first (trace root_view)) (more (trace root_view)) _ before now run.made;
       ends = tt;
       names = run.names;
     };
@@ -121,29 +121,29 @@ module _ (root : Option (List ℕ)) (trail : Home → Trail) (first : Trail → 
   }
 
   -- a text was written behind it, or the tree failed
-  pub runs-then : (file : Option (List ℕ)) (text : List ℕ) (last : Trail → List ℕ) (middle now : Outside) (end : RunEnd) → Runs root trail first watched before middle (Ok end)
-      → AtHome root before.world.files (λ home. text ≡ last (trail home)) → (written : Result (Unit {0}) Failed)
-      → Ended (filling_all (asked_output file text)) (blame_of_tree (is_err written)) middle now
-      → Runs root trail (λ t. first t ++ filling_all (asked_output file (last t))) watched before now (run_then written end)
+  pub runs-then : (file : Option (List ℕ)) (text : List ℕ) (last : Trace → List ℕ) (middle now : Outside) (end : RunEnd) → RunsFromRoot root trace first watched before middle (Ok end)
+      → AtRootView root before.world.files (λ root_view. text ≡ last (trace root_view)) → (written : Result (Unit {0}) Failed)
+      → Ended (filling_all (requested_output file text)) (blame_of_tree (is_err written)) middle now
+      → RunsFromRoot root trace (λ t. first t ++ filling_all (requested_output file (last t))) watched before now (run_then written end)
   runs-then file text last middle now end runs same = go
     where
-      both : (blame : Option Blame) → Ended (filling_all (asked_output file text)) blame middle now
-          → AtHome root before.world.files (λ home. Ended (first (trail home) ++ filling_all (asked_output file (last (trail home)))) blame before now)
-      both blame ended home at files =
-          ended-then (first (trail home)) (filling_all (asked_output file (last (trail home)))) blame before middle now (runs.from home at files).made
-          (subst (λ t. Ended (filling_all (asked_output file t)) blame middle now) (same home at files) ended)
+      both : (blame : Option Blame) → Ended (filling_all (requested_output file text)) blame middle now
+          → AtRootView root before.world.files (λ root_view. Ended (first (trace root_view) ++ filling_all (requested_output file (last (trace root_view)))) blame before now)
+      both blame ended root_view at files =
+          ended-then (first (trace root_view)) (filling_all (requested_output file (last (trace root_view)))) blame before middle now (runs.from root_view at files).made
+          (subst (λ t. Ended (filling_all (requested_output file t)) blame middle now) (same root_view at files) ended)
 
-      go : (written : Result (Unit {0}) Failed) → Ended (filling_all (asked_output file text)) (blame_of_tree (is_err written)) middle now
-          → Runs root trail (λ t. first t ++ filling_all (asked_output file (last t))) watched before now (run_then written end)
+      go : (written : Result (Unit {0}) Failed) → Ended (filling_all (requested_output file text)) (blame_of_tree (is_err written)) middle now
+          → RunsFromRoot root trace (λ t. first t ++ filling_all (requested_output file (last t))) watched before now (run_then written end)
       go (Ok x) ended = record {
-        from = λ home at files. record { made = both None ended home at files; ends = (runs.from home at files).ends; names = tt };
+        from = λ root_view at files. record { made = both None ended root_view at files; ends = (runs.from root_view at files).ends; names = tt };
         ledger = ledger-then before.faults middle.faults now.faults Nobody runs.ledger ended.ledger;
         memory = tt;
         files = record { stays = λ path outside there. (texts-stay file text middle now ended root).stays path outside (runs.files.stays path outside there) };
         code = runs.code;
       }
       go (Err failed) ended = record {
-        from = λ home at files. record { made = both (Some TheTree) ended home at files; ends = tt; names = λ wanted. absurd (cc wanted) };
+        from = λ root_view at files. record { made = both (Some TheTree) ended root_view at files; ends = tt; names = λ wanted. absurd (cc wanted) };
         ledger = ledger-then before.faults middle.faults now.faults TheTree runs.ledger ended.ledger;
         memory = λ wanted. absurd (cc wanted);
         files = tt;
@@ -187,17 +187,17 @@ same-blame result = grind arith
 
 -- ---- what a run does to the outside
 
-module _ (task : Task) (start : TreeState) (job : Job) (included : List (List ℕ)) (plan : IsPlanned start.told task (Run job) included) where
+module _ (task : Task) (start : TreeState) (job : RunJob) (included : List (List ℕ)) (plan : IsPlanned start.contents task (Run job) included) where
   abbrev rest : List Change
-  rest = reporting job.report job.script.version (trail_of job) ++ filling_all (log_texts job.debug (trail_of job))
+  rest = reporting job.report job.script.version (trace_of job) ++ filling_all (log_texts job.debug (trace_of job))
 
   half-made : (now : TreeState) (out err : SinkState) → HalfMade included (outputs_of task) start now → DoesWork (Ok task) (host_state start out err) (host_state now out err) (Err (Stopped TreeFault))
   unfolding running
   half-made now out err half =
-      let short = outside-of-tree (creating (outputs_of task)) true start now out err (made-of-tree (outputs_of task)) half.did in
-      does-front (Ok task) _ _ (Ok (Run job)) (judges_work task start.told (Run job) included plan half.free) TreeFault tt
-      (record { cut = cut-first _ _ (creating (job_outputs job)) rest (rw plan.outputs at short.cut); short = λ text. absurd text }) short.ledger
-      (IfSome_then start.told short.not_sure (λ nodes not suffices is. not (rw plan.outputs (takes-first start.sure nodes (creating (job_outputs job)) rest suffices.takes))))
+      let short = outside-of-tree (creating_all (outputs_of task)) true start now out err (made-of-tree (outputs_of task)) half.did in
+      does-prefix (Ok task) _ _ (Ok (Run job)) (validates_work task start.contents (Run job) included plan half.free) TreeFault tt
+      (record { cut = cut-first _ _ (creating_all (job_outputs job)) rest (rw plan.outputs at short.cut); short = λ text. absurd text }) short.ledger
+      (IfSome_then start.contents short.not_guaranteed (λ nodes not suffices is. not (rw plan.outputs (takes-first start.guaranteed nodes (creating_all (job_outputs job)) rest suffices.takes))))
       (λ s e. cc e) (λ any. inl half.refusals)
 
   -- the outputs were not made
@@ -205,88 +205,88 @@ module _ (task : Task) (start : TreeState) (job : Job) (included : List (List �
       → DoesWork (Ok task) (host_state start out err) (host_state now out err) (Err halt)
   does-unmade now out err (Refused refusal) refuses = does-refuse task start (Run job) included plan now out err refusal refuses
   does-unmade now out err (Stopped NoMemory) looked =
-      halted-looked (Ok task) start now out err (Stopped NoMemory) (inl (ap (λ t. world t out.told err.told) looked.told)) (λ is. cc is) looked
+      halted-looked (Ok task) start now out err (Stopped NoMemory) (inl (ap (λ t. world t out.contents err.contents) looked.contents)) (λ is. cc is) looked
   does-unmade now out err (Stopped TreeFault) (inl looked) =
-      halted-looked (Ok task) start now out err (Stopped TreeFault) (inl (ap (λ t. world t out.told err.told) looked.told)) (λ is. cc is) looked
+      halted-looked (Ok task) start now out err (Stopped TreeFault) (inl (ap (λ t. world t out.contents err.contents) looked.contents)) (λ is. cc is) looked
   does-unmade now out err (Stopped TreeFault) (inr half) = half-made now out err half
   does-unmade now out err (Stopped SinkFault) none = absurd none
 
-may-stop : (job : Job) (stop : Stop) → (stop ≡ NoMemory → IsSome job.debug ⊎ ListsFolder job) → MayStop (Ok (Run job)) stop
+may-stop : (job : RunJob) (stop : Stop) → (stop ≡ NoMemory → IsSome job.debug ⊎ ListsFolder job) → MayStop (Ok (Run job)) stop
 may-stop job TreeFault memory = tt
 may-stop job SinkFault memory = tt
 may-stop job NoMemory memory = memory refl
 
 -- whoever is to blame did not suffice
-tree-spared : (job : Job) (stop : Stop) (before now : Outside) → CutShort (running job) (blame_of stop) before now
-    → IfSome before.world.files (λ nodes. TreeSuffices (Ok (Run job)) before.sure.tree nodes → blame_of stop ≡ TheTree → ⊥)
-tree-spared job TreeFault before now short = IfSome_then before.world.files short.not_sure (λ nodes not suffices e. not suffices.takes)
+tree-spared : (job : RunJob) (stop : Stop) (before now : Outside) → CutShort (running job) (stop_blame stop) before now
+    → IfSome before.world.files (λ nodes. TreeSuffices (Ok (Run job)) before.guaranteed.tree nodes → stop_blame stop ≡ TheTree → ⊥)
+tree-spared job TreeFault before now short = IfSome_then before.world.files short.not_guaranteed (λ nodes not suffices e. not suffices.takes)
 tree-spared job SinkFault before now short = always before.world.files _ _ (λ e. cc e)
 tree-spared job NoMemory before now short = always before.world.files _ _ (λ e. cc e)
 
-sinks-spared : (job : Job) (stop : Stop) (before now : Outside) → CutShort (running job) (blame_of stop) before now
-    → SinksSuffice (Ok (Run job)) before.sure.out before.sure.err → blame_of stop ≡ ASink → ⊥
+sinks-spared : (job : RunJob) (stop : Stop) (before now : Outside) → CutShort (running job) (stop_blame stop) before now
+    → SinksSuffice (Ok (Run job)) before.guaranteed.out before.guaranteed.err → stop_blame stop ≡ ASink → ⊥
 sinks-spared job TreeFault before now short suffices e = cc e
-sinks-spared job SinkFault before now short suffices e = short.not_sure suffices.0 suffices.1
+sinks-spared job SinkFault before now short suffices e = short.not_guaranteed suffices.0 suffices.1
 sinks-spared job NoMemory before now short suffices e = cc e
 
--- a bus over new devices and a tree stands for the start of a run
-pub at-start : {T O E : Type 0} (told_tree : T → Option Nodes) (bus : Bus T O E) (devices : Devices) (tree : T) (script : ScriptView) (home : Home)
-    → bus.devices.now ≡ devices → bus.tree.now ≡ tree → home.root ≡ devices.root → AreNew devices script devices.root
-    → HasFiles (told_tree tree) home.root home.part home.parent → BusStandsFor told_tree bus (first_devices script home)
-at-start told_tree bus devices tree script home held lent root new files = record {
-  devices = rw (held, root) (new home.part home.parent);
-  files = rw lent files;
+-- a bus over new devices and a tree represents the start of a run
+pub at-start : {T O E : Type 0} (contents_of_tree : T → Option Nodes) (bus : Bus T O E) (devices : Devices) (tree : T) (script : ScriptView) (root_view : RootView)
+    → bus.devices.now ≡ devices → bus.tree.now ≡ tree → root_view.root ≡ devices.root → AreNew devices script devices.root
+    → HasFiles (contents_of_tree tree) root_view.root root_view.part root_view.parent → BusRepresents contents_of_tree bus (first_devices script root_view)
+at-start contents_of_tree bus devices tree script root_view held borrowed root new files = record {
+  devices = rw (held, root) (new root_view.part root_view.parent);
+  files = rw borrowed files;
 }
 
--- memory was wanting to the debugger, or where there is a root and a run beneath it takes the names of a folder
-lists : (job : Job) → IsSome job.debug ⊎ IsSome job.home.root → IsSome job.debug ⊎ TakesNames (trail_of job) → IsSome job.debug ⊎ ListsFolder job
+-- memory ran out to the debugger, or where there is a root and a run beneath it takes the names of a folder
+lists : (job : RunJob) → IsSome job.debug ⊎ IsSome job.root_view.root → IsSome job.debug ⊎ TraceTakesNames (trace_of job) → IsSome job.debug ⊎ ListsFolder job
 lists job (inl watched) takes = inl watched
 lists job (inr root) (inl watched) = inl watched
 lists job (inr root) (inr takes) = inr (record { root = root; takes = takes })
 
 -- the folder of a program's own files once the outputs were made
-home-files : (tree made : Option Nodes) (task : Task) (home : Home) (out err : Option (List ℕ)) → IsHomeOf tree task home → HasApartOutputs task → command_root task.command task ≡ (role_path task role.Root)
-    → world made out err ≡ changed_by (world tree out err) (creating (outputs_of task))
-    → HasFiles made home.root home.part home.parent ⊎ ((tree ≡ None) × IsSome home.root)
-home-files None made task home out err at apart same is =
-    let gone : made ≡ None = ap (λ w. w.files) is ∙ files-told (world None out err) (creating (outputs_of task)) in
+root_view-files : (tree made : Option Nodes) (task : Task) (root_view : RootView) (out err : Option (List ℕ)) → IsRootViewOf tree task root_view → HasApartOutputs task → command_root task.command task ≡ (role_path task role.Root)
+    → world made out err ≡ changed_by (world tree out err) (creating_all (outputs_of task))
+    → HasFiles made root_view.root root_view.part root_view.parent ⊎ ((tree ≡ None) × IsSome root_view.root)
+root_view-files None made task root_view out err at apart same is =
+    let gone : made ≡ None = ap (λ w. w.files) is ∙ files-contents (world None out err) (creating_all (outputs_of task)) in
     go (role_path task role.Root) at.root at.none gone
   where
-    go : (root : Option (List ℕ)) → home.root ≡ root → (root ≡ None → home ≡ no_home) → made ≡ None → HasFiles made home.root home.part home.parent ⊎ ((◌≡◌ {A = Option Nodes} None None) × IsSome home.root)
+    go : (root : Option (List ℕ)) → root_view.root ≡ root → (root ≡ None → root_view ≡ no_root_view) → made ≡ None → HasFiles made root_view.root root_view.part root_view.parent ⊎ ((◌≡◌ {A = Option Nodes} None None) × IsSome root_view.root)
     go None is none gone = inl (rw (gone, none refl) (refl, refl, refl))
     go (Some root) is none gone = inr (refl, rw is refl)
-home-files (Some nodes) made task home out err at apart same is =
-    let now : made ≡ Some (files_by nodes (creating (outputs_of task))) = ap (λ w. w.files) is ∙ files-told (world (Some nodes) out err) (creating (outputs_of task)) in
-    let kept : job_home (role_path task role.Root) (files_by nodes (creating (outputs_of task))) ≡ job_home (role_path task role.Root) nodes = home-made (role_path task role.Root) (outputs_of task) nodes (rw same at (all-apart task apart)) in
-    inl (rw (now, at.told) (sym (ap (λ h. h.part) kept), sym (ap (λ h. h.parent) kept)))
+root_view-files (Some nodes) made task root_view out err at apart same is =
+    let now : made ≡ Some (files_by nodes (creating_all (outputs_of task))) = ap (λ w. w.files) is ∙ files-contents (world (Some nodes) out err) (creating_all (outputs_of task)) in
+    let kept : job_root_view (role_path task role.Root) (files_by nodes (creating_all (outputs_of task))) ≡ job_root_view (role_path task role.Root) nodes = root_view-made (role_path task role.Root) (outputs_of task) nodes (rw same at (all-apart task apart)) in
+    inl (rw (now, at.contents) (sym (ap (λ h. h.part) kept), sym (ap (λ h. h.parent) kept)))
 
--- a machine that is ready runs the trail of its job
-module _ (task : Task) (start made : TreeState) (prepared : Prepared) (of : IsReadyRun start.told task prepared) (apart : HasApartOutputs task)
-    (makes : Made (held_program prepared.program).included (outputs_of task) start made) where
+-- a machine that is ready runs the trace of its job
+module _ (task : Task) (start made : TreeState) (prepared : Prepared) (of : IsReadyRun start.contents task prepared) (apart : HasApartOutputs task)
+    (makes : Made (model_of_program prepared.program).included (outputs_of task) start made) where
   abbrev debug : Option Debugging
   debug = prepared_debugging task prepared
 
-  abbrev ready : IsReady start.told task (prepared_debugging task prepared) (held_program prepared.program).included prepared.machine
+  abbrev ready : IsReady start.contents task (prepared_debugging task prepared) (model_of_program prepared.program).included prepared.machine
   ready = of.ready
 
-  abbrev ready_job : Job
-  ready_job = job_of task of.ready.home of.ready.rom prepared.machine.script (prepared_debugging task prepared)
+  abbrev ready_job : RunJob
+  ready_job = run_job task of.ready.root_view of.ready.rom prepared.machine.script (prepared_debugging task prepared)
 
-  ready-trail : task_trail task prepared.machine of.ready.home ≡ trail_of ready_job
-  ready-trail = ap (reference_trail task.budget (task_settings task).outputs prepared.machine.script of.ready.home) of.ready.core
+  ready-trace : task_trace task prepared.machine of.ready.root_view ≡ trace_of ready_job
+  ready-trace = ap (reference_trace task.budget (task_settings task).outputs prepared.machine.script of.ready.root_view) of.ready.core
 
-  output-at : (path : List ℕ) → list_any (bytes_eq path) (log_paths debug ++ run_outputs task) ≡ true → IsOutput (role_path task role.Root) made.told path
+  output-at : (path : List ℕ) → list_any (bytes_eq path) (log_paths debug ++ run_outputs task) ≡ true → IsOutput (role_path task role.Root) made.contents path
   output-at path among =
       let here : list_any (bytes_eq path) (outputs_of task) ≡ true = rw ready.planned.outputs (subst (λ runs. list_any (bytes_eq path) (log_paths debug ++ runs) ≡ true) (run-job task) among) in
       record { file = makes.files path here; outside = rw ready.root at (outputs-outside task path apart here) }
 
   -- its log, and its other files
-  pub ready-outputs : IfSome debug (λ d. IfSome d.log (IsOutput (role_path task role.Root) made.told)) × Each (IsOutput (role_path task role.Root) made.told) (run_outputs task)
+  pub ready-outputs : IfSome debug (λ d. IfSome d.log (IsOutput (role_path task role.Root) made.contents)) × Each (IsOutput (role_path task role.Root) made.contents) (run_outputs task)
   ready-outputs = log-of _ debug (run_outputs task) (each-among _ (log_paths debug ++ run_outputs task) output-at)
 
-  pub ready-files : RunFiles task made.told
+  pub ready-files : RunFiles task made.contents
   ready-files =
-      let P = IsOutput (role_path task role.Root) made.told in
+      let P = IsOutput (role_path task role.Root) made.contents in
       let behind = rest-of P (role_path task role.Frames) _ ready-outputs.1 in
       record {
         frames = first-of P (role_path task role.Frames) _ ready-outputs.1;
@@ -296,57 +296,57 @@ module _ (task : Task) (start made : TreeState) (prepared : Prepared) (of : IsRe
 
   -- the run, behind outputs that were made
   module _ (out err : SinkState) (now : HostState) where
-    begun : Done (creating (outputs_of task)) (outside start out err) (outside made out err)
-    begun = outside-of-tree (creating (outputs_of task)) false start made out err (made-of-tree (outputs_of task)) makes.did
+    begun : Done (creating_all (outputs_of task)) (outside start out err) (outside made out err)
+    begun = outside-of-tree (creating_all (outputs_of task)) false start made out err (made-of-tree (outputs_of task)) makes.did
 
-    home : HasFiles made.told ready.home.root ready.home.part ready.home.parent ⊎ ((start.told ≡ None) × IsSome ready.home.root)
-    home = home-files start.told made.told task ready.home out.told err.told ready.at_home apart ready.root begun.world
+    root_view : HasFiles made.contents ready.root_view.root ready.root_view.part ready.root_view.parent ⊎ ((start.contents ≡ None) × IsSome ready.root_view.root)
+    root_view = root_view-files start.contents made.contents task ready.root_view out.contents err.contents ready.at_root_view apart ready.root begun.world
 
-    judged : Judges (Ok task) start.told (Ok (Run ready_job))
-    judged = judges_work task start.told (Run ready_job) _ ready.planned makes.free
+    validated : Validates (Ok task) start.contents (Ok (Run ready_job))
+    validated = validates_work task start.contents (Run ready_job) _ ready.planned makes.free
 
     abbrev Went : Result RunEnd Stop → Type 0
-    Went result = Runs (role_path task role.Root) (task_trail task prepared.machine) (logged_changes task prepared.machine debug) (IsSome debug) (outside made out err) (seen_outside now) result
+    Went result = RunsFromRoot (role_path task role.Root) (task_trace task prepared.machine) (logged_changes task prepared.machine debug) (IsSome debug) (outside made out err) (observed_outside now) result
 
     abbrev Ran : Result RunEnd Stop → Type 0
-    Ran result = RunsOn (trail_of ready_job) (logged_changes task prepared.machine debug (trail_of ready_job)) (IsSome debug) (outside made out err) (seen_outside now) result
+    Ran result = RunsOverOutside (trace_of ready_job) (logged_changes task prepared.machine debug (trace_of ready_job)) (IsSome debug) (outside made out err) (observed_outside now) result
 
     -- all of it, with the outputs
-    all : (result : Result RunEnd Stop) → Ran result → Ended (running ready_job) (blame_if result) (outside start out err) (seen_outside now)
+    all : (result : Result RunEnd Stop) → Ran result → Ended (running ready_job) (blame_if result) (outside start out err) (observed_outside now)
     unfolding running
     all result ran =
-        rw ready.planned.outputs at (ended-then (creating (outputs_of task)) (logged_changes task prepared.machine debug (trail_of ready_job)) (blame_if result)
-        (outside start out err) (outside made out err) (seen_outside now) begun ran.made)
+        rw ready.planned.outputs at (ended-then (creating_all (outputs_of task)) (logged_changes task prepared.machine debug (trace_of ready_job)) (blame_if result)
+        (outside start out err) (outside made out err) (observed_outside now) begun ran.made)
 
     passes : (result : Result RunEnd Stop) → Went result → CountsRefusals (Ok task) start now.tree (answered result)
     passes (Ok end) runs = counts-run (Ok task) start now.tree (Exits end.exit) runs.code (λ reason no. cc) (λ none. none of.runs)
     passes (Err stop) runs = counts-run (Ok task) start now.tree (EndsBy stop) tt (λ reason no. cc) (λ none. none of.runs)
 
     -- where a tree tells what lies beneath the root
-    does-told : (result : Result RunEnd Stop) → Went result → Ran result → DoesWork (Ok task) (host_state start out err) now (answered result)
-    does-told (Ok end) runs ran =
+    does-contents : (result : Result RunEnd Stop) → Went result → Ran result → DoesWork (Ok task) (host_state start out err) now (answered result)
+    does-contents (Ok end) runs ran =
         let done = all (Ok end) ran in
-        does-all (Ok task) (host_state start out err) now _ judged end.exit (ap (λ (e : RunEnd). e.exit) ran.ends) done.world done.ledger (passes (Ok end) runs)
-    does-told (Err stop) runs ran =
-        let short : CutShort (running ready_job) (blame_of stop) (outside start out err) (seen_outside now) = rw (same-blame (Err stop)) at (all (Err stop) ran) in
-        does-front (Ok task) (host_state start out err) now _ judged stop (may-stop ready_job stop (λ wanted. lists ready_job (rw ready.at_home.root (runs.memory wanted)) (ran.names wanted)))
+        does-all (Ok task) (host_state start out err) now _ validated end.exit (ap (λ (e : RunEnd). e.exit) ran.ends) done.world done.ledger (passes (Ok end) runs)
+    does-contents (Err stop) runs ran =
+        let short : CutShort (running ready_job) (stop_blame stop) (outside start out err) (observed_outside now) = rw (same-blame (Err stop)) at (all (Err stop) ran) in
+        does-prefix (Ok task) (host_state start out err) now _ validated stop (may-stop ready_job stop (λ wanted. lists ready_job (rw ready.at_root_view.root (runs.memory wanted)) (ran.names wanted)))
         (record { cut = short.cut; short = λ text. absurd text }) short.ledger (tree-spared ready_job stop _ _ short) (sinks-spared ready_job stop _ _ short)
         (passes (Err stop) runs)
 
-    -- where it tells nothing
-    performs : IsUntold start.told (Ok (Run ready_job)) → (result : Result RunEnd Stop) → Went result → Performs (Ok task) (world start.told out.told err.told) (seen_outside now).world (answered result)
-    performs untold (Ok end) runs = record { found = Ok (Run ready_job); judges = judged; has = inr (untold, runs.code) }
-    performs untold (Err stop) runs = is-cut _ _ _ stop (record { found = Ok (Run ready_job); judges = judged; may = inr untold; front = inr untold })
+    -- where its contents are unknown
+    performs : HasUnknownContents start.contents (Ok (Run ready_job)) → (result : Result RunEnd Stop) → Went result → Performs (Ok task) (world start.contents out.contents err.contents) (observed_outside now).world (answered result)
+    performs unknown (Ok end) runs = record { found = Ok (Run ready_job); validates = validated; has = inr (unknown, runs.code) }
+    performs unknown (Err stop) runs = is-cut _ _ _ stop (record { found = Ok (Run ready_job); validates = validated; may = inr unknown; prefix = inr unknown })
 
     pub does-run : (result : Result RunEnd Stop) → Went result → DoesWork (Ok task) (host_state start out err) now (answered result)
-    does-run result runs = elim home [
-      | inl files ↦ does-told result runs
-          (subst (λ t. RunsOn t (logged_changes task prepared.machine debug t) (IsSome debug) (outside made out err) (seen_outside now) result) ready-trail (runs.from ready.home ready.at_home.root files))
+    does-run result runs = elim root_view [
+      | inl files ↦ does-contents result runs
+          (subst (λ t. RunsOverOutside t (logged_changes task prepared.machine debug t) (IsSome debug) (outside made out err) (observed_outside now) result) ready-trace (runs.from ready.root_view ready.at_root_view.root files))
       | inr none ↦ record {
         performs = performs (rw none.0 none.1) result runs;
         ledger = ledger-then _ _ _ _ begun.ledger (rw (← same-blame result) runs.ledger);
-        sure_tree = rw none.0 tt;
-        sure_sinks = rw none.0 tt;
+        guaranteed_tree = rw none.0 tt;
+        guaranteed_sinks = rw none.0 tt;
         refusals = passes result runs;
         kept = elim result as (λ r. OnRefused (answered r) (now.err ≡ err)) [ Ok end ↦ tt | Err stop ↦ tt ];
       }

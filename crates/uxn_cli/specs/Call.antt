@@ -1,15 +1,15 @@
 -- A call of the program: its words, what stands outside before it and after it, and the status that it gives.
 use Rattle.std.specs.Prelude.{ℕ, List, map, String, string_bytes, Result, Ok, Err, IfSome}
-use Rattle.tree_io.specs.declared.sinks.Sink as sink
-use Rattle.tree_io.specs.declared.trees.Tree as tree
+use Rattle.uxn_io_traits.specs.declared.sinks.Sink as sink
+use Rattle.uxn_io_traits.specs.declared.trees.Tree as tree
 use Rattle.uxn_opcodes.specs.declared.Stop.{Stop}
-use Rattle.uxn_words.specs.declared.task.Task.{Task}
-use Rattle.task_files.specs.declared.refusal.Refusal.{Refusal}
+use Rattle.uxn_arguments.specs.declared.task.Task.{Task}
+use Rattle.uxn_task_files.specs.declared.refusal.Refusal.{Refusal}
 use Rattle.uxn_cli.specs.Causes.{tree_verdict}
 use Rattle.uxn_cli.specs.declared.host.Host.{Host}
-use Rattle.tree_io.specs.State.{Outside, outside}
-use Rattle.task_files.specs.Request.{request}
-use Rattle.task_files.specs.Statuses.{early_status}
+use Rattle.uxn_io_traits.specs.State.{Outside, outside}
+use Rattle.uxn_task_files.specs.Request.{request}
+use Rattle.uxn_task_files.specs.Statuses.{early_status}
 use Rattle.uxn_cli.specs.Verdict.{Work}
 
 pub record Call : Type 0 where
@@ -38,7 +38,7 @@ call_on of_tree of_out of_err words before now status =
 abbrev pub call_request : Call → Result Task Refusal
 call_request c = request c.words
 
--- this holds of the verdict on its words and on what the tree shows them, where the tree tells its contents
+-- this holds of the verdict on its words and on what the tree shows them, where the contents are known
 abbrev pub OfVerdict : Call → (Result Work Refusal → Type 0) → Type 0
 OfVerdict c P = IfSome c.before.world.files (λ nodes. P (tree_verdict nodes (call_request c)))
 

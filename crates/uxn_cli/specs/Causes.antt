@@ -5,15 +5,15 @@ use Rattle.std.specs.List.{list_any}
 use Rattle.std.specs.Str.{bytes_eq}
 use Rattle.std.specs.FinMap as map
 use Rattle.file_ports.specs.Device.{suits}
-use Rattle.tree_io.specs.Told.{extended}
-use Rattle.tree_io.specs.Files.{Nodes}
-use Rattle.uxn_words.specs.declared.task.Task.{Task}
-use Rattle.task_files.specs.declared.refusal.Refusal.{Refusal}
-use Rattle.uxn_cli.specs.Verdict.{Work, judged}
-use Rattle.uxn_words.specs.Places.{outputs_of, command_root}
-use Rattle.task_files.specs.Request.{and_then}
-use Rattle.task_files.specs.Views.{view_of}
-use Rattle.task_files.specs.Statuses.{Status, number, IsEarly}
+use Rattle.uxn_io_traits.specs.Known.{extended}
+use Rattle.uxn_io_traits.specs.Files.{Nodes}
+use Rattle.uxn_arguments.specs.declared.task.Task.{Task}
+use Rattle.uxn_task_files.specs.declared.refusal.Refusal.{Refusal}
+use Rattle.uxn_cli.specs.Verdict.{Work, validated}
+use Rattle.uxn_arguments.specs.Places.{outputs_of, command_root}
+use Rattle.uxn_task_files.specs.Request.{then_requests}
+use Rattle.uxn_task_files.specs.Views.{view_of}
+use Rattle.uxn_task_files.specs.Statuses.{Status, number, IsEarly}
 use Rattle.uxn_cli.specs.Outcome.{outcome_of}
 
 -- the answer is this status exactly where the fact holds, unless the call ended early
@@ -23,7 +23,7 @@ pub record IsExactly (answer : ℕ) (status : Status) (P : Type 0) : Type 0 wher
 
 -- the verdict on words and on what stands in a tree
 abbrev pub tree_verdict : Nodes → Result Task Refusal → Result Work Refusal
-tree_verdict nodes asked = and_then asked (λ task. judged task (view_of nodes task))
+tree_verdict nodes requested = then_requests requested (λ task. validated task (view_of nodes task))
 
 -- what is accepted ends with this exit code
 abbrev pub EndsWith : ℕ → Result Work Refusal → Type 0
@@ -40,6 +40,6 @@ pub record IsAside (task : Task) (path : List ℕ) : Type 0 where
 
 -- every path but those of the outputs and those beneath the root has its old node
 abbrev pub KeepsOthers : Result Task Refusal → Option Nodes → Option Nodes → Type 0
-KeepsOthers asked before now =
-    (path : List ℕ) → IfOk asked (λ task. IsAside task path)
+KeepsOthers requested before now =
+    (path : List ℕ) → IfOk requested (λ task. IsAside task path)
     → IfSome before (λ old. IfSome now (λ new. map.get new path ≡ map.get old path))

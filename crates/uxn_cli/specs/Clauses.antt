@@ -2,29 +2,29 @@
 use Rattle.std.specs.Prelude.{◌≡◌, ℕ, ◌≤◌, ◌⊎◌, true, List, ◌++◌, map, Option, Some, Result, Ok, IfSome}
 use Rattle.std.specs.List.{list_any}
 use Rattle.std.specs.Str.{bytes_eq}
-use Rattle.tree_io.specs.Faults.{Rose, Ledger}
-use Rattle.tree_io.specs.Files.{Nodes, Node, File}
-use Rattle.tree_io.specs.Outside.{World, changed_by, IsCutOff}
-use Rattle.tree_io.specs.Told.{extended}
+use Rattle.uxn_io_traits.specs.Faults.{Rose, Ledger}
+use Rattle.uxn_io_traits.specs.Files.{Nodes, Node, File}
+use Rattle.uxn_io_traits.specs.Outside.{World, changed_by, IsCutOff}
+use Rattle.uxn_io_traits.specs.Known.{extended}
 use Rattle.uxn_opcodes.specs.declared.Stop.TheVariants.{NoMemory}
-use Rattle.varvara_bus.specs.Touching.{told_at}
-use Rattle.task_files.specs.declared.refusal.Refusal.{Refusal}
-use Rattle.uxn_cli.specs.Answer.{MayStop, Answers}
-use Rattle.task_files.specs.Blame.{status_blame}
+use Rattle.varvara_bus.specs.Touching.{contents_at}
+use Rattle.uxn_task_files.specs.declared.refusal.Refusal.{Refusal}
+use Rattle.uxn_cli.specs.Answer.{MayStop, AnswersCall}
+use Rattle.uxn_task_files.specs.Blame.{status_blame}
 use Rattle.uxn_cli.specs.Call.{Call, call_request, OfVerdict}
 use Rattle.uxn_cli.specs.Causes.{IsExactly, tree_verdict, EndsWith, KeepsOthers, PutsLine}
 use Rattle.uxn_cli.specs.Isolation.{LookSame, GivesAsOn}
-use Rattle.uxn_cli.specs.Job.{job_outputs}
+use Rattle.uxn_cli.specs.RunJob.{job_outputs}
 use Rattle.uxn_cli.specs.Observation.{HaveSameItems, IsOutcomeButLog}
 use Rattle.uxn_cli.specs.Outcome.{outcome_of}
-use Rattle.task_files.specs.Request.{request}
+use Rattle.uxn_task_files.specs.Request.{request}
 use Rattle.uxn_cli.specs.Room.{TreeSuffices, SinksSuffice}
-use Rattle.task_files.specs.Statuses.{Reason, Exits, Refuses, IsEarly, IsRefusing, IsRefusedFor, IsOfWords}
+use Rattle.uxn_task_files.specs.Statuses.{Reason, Exits, Refuses, IsEarly, IsRefusing, IsRefusedFor, IsOfWords}
 use Rattle.uxn_cli.specs.Verdict.{Work, Run, Write}
 
 -- the status, the bytes on both outputs and the files are the outcome of what was asked and seen; or the call ended early
 abbrev pub HasItsOutcome : Call → Type 0
-HasItsOutcome c = Answers (call_request c) c.before.world c.now.world c.status
+HasItsOutcome c = AnswersCall (call_request c) c.before.world c.now.world c.status
 
 -- what stands as before
 pub record LeavesTheRest (c : Call) : Type 0 where
@@ -37,8 +37,8 @@ pub record LeavesTheRest (c : Call) : Type 0 where
 
 -- when each status is given, unless the call ends early
 pub record HasStatuses (c : Call) : Type 0 where
-  -- 128 and 129, which hang on the words alone
-  pub asked : (reason : Reason) → IsOfWords reason → IsExactly c.status (Refuses reason) (IsRefusedFor reason (call_request c))
+  -- 128 and 129, which depend on the words alone
+  pub requested : (reason : Reason) → IsOfWords reason → IsExactly c.status (Refuses reason) (IsRefusedFor reason (call_request c))
   -- every refusal, and every exit code
   pub refused : OfVerdict c (λ verdict. (reason : Reason) → IsExactly c.status (Refuses reason) (IsRefusedFor reason verdict))
   pub accepted : OfVerdict c (λ verdict. (code : ℕ) → code ≤ 127 → IsExactly c.status (Exits code) (EndsWith code verdict))
@@ -50,27 +50,27 @@ pub record EndsEarlyByFaults (c : Call) : Type 0 where
   pub tree_fault : c.status ≡ 136 → Rose c.before.faults.tree.faults c.now.faults.tree.faults
   pub sink_fault : c.status ≡ 137
       → Rose c.before.faults.out.faults c.now.faults.out.faults ⊎ Rose c.before.faults.err.faults c.now.faults.err.faults
-  -- what is accepted ends with its exit code, unless a count rose or memory was wanting
+  -- what is accepted ends with its exit code, unless a count rose or memory ran out
   pub complete : OfVerdict c (λ verdict. (work : Work) → verdict ≡ Ok work
       → (Rose c.before.faults.tree.faults c.now.faults.tree.faults → ⊥)
       → (Rose c.before.faults.out.faults c.now.faults.out.faults → ⊥) → (Rose c.before.faults.err.faults c.now.faults.err.faults → ⊥)
       → (c.status ≡ (outcome_of (Ok work)).status) ⊎ (c.status ≡ 138))
-  -- where memory was wanting all is as it was, but where a debugger watches the run or it takes the names of a folder
+  -- when out of memory all is as it was, but where a debugger watches the run or it takes the names of a folder
   pub wanting : OfVerdict c (λ verdict. c.status ≡ 138 → (c.now.world ≡ c.before.world) ⊎ MayStop verdict NoMemory)
 
--- a cut outcome of a verdict: a front of the changes of its outcome was made, perhaps none of them
+-- a cut outcome of a verdict: a prefix of the changes of its outcome was made, perhaps none of them
 abbrev pub IsCutOutcome : Result Work Refusal → World → World → Type 0
 IsCutOutcome verdict before now = IsCutOff before now (outcome_of verdict).changes
 
--- one text is told to be a front of another
-pub record IsFrontOf (front whole : Option (List ℕ)) : Type 0 where
+-- one text is known to be a prefix of another
+pub record IsPrefixOf (prefix whole : Option (List ℕ)) : Type 0 where
   pub rest : List ℕ
-  pub is : whole ≡ extended front rest
+  pub is : whole ≡ extended prefix rest
 
--- an output holds what it held, and then a front of what it is to get
-pub record HoldsFront (before now whole : Option (List ℕ)) : Type 0 where
-  pub kept : IsFrontOf before now
-  pub front : IsFrontOf now whole
+-- an output holds what it held, and then a prefix of what it is to get
+pub record HoldsPrefix (before now whole : Option (List ℕ)) : Type 0 where
+  pub kept : IsPrefixOf before now
+  pub prefix : IsPrefixOf now whole
 
 -- a file that the work of a verdict writes
 abbrev pub IsOutputOf : Result Work Refusal → List ℕ → Type 0
@@ -78,24 +78,24 @@ IsOutputOf (Ok (Run job)) path = list_any (bytes_eq path) (job_outputs job) ≡ 
 IsOutputOf (Ok (Write texts)) path = list_any (bytes_eq path) (map (λ text. text.path) texts) ≡ true
 IsOutputOf _ path = ⊥
 
--- at a path stands what stood there, or a file with a front of what it is to hold
-abbrev pub HoldsFileFront : Option (Option Node) → Option (Option Node) → Option (Option Node) → Type 0
-HoldsFileFront before now whole = (now ≡ before)
+-- at a path stands what stood there, or a file with a prefix of what it is to hold
+abbrev pub HoldsFilePrefix : Option (Option Node) → Option (Option Node) → Option (Option Node) → Type 0
+HoldsFilePrefix before now whole = (now ≡ before)
     ⊎ ((bytes : List ℕ) × (rest : List ℕ) × (now ≡ Some (Some (File bytes))) × (whole ≡ Some (Some (File (bytes ++ rest)))))
 
 -- what stands after an early end
-pub record StandsCutOff (verdict : Result Work Refusal) (before now : World) : Type 0 where
+pub record HoldsTruncated (verdict : Result Work Refusal) (before now : World) : Type 0 where
   -- one of the cut outcomes
   pub cut : IsCutOutcome verdict before now
-  -- so each output has a front of what the outcome gives it
-  pub out : HoldsFront before.out now.out (changed_by before (outcome_of verdict).changes).out
-  pub err : HoldsFront before.err now.err (changed_by before (outcome_of verdict).changes).err
+  -- so each output has a prefix of what the outcome gives it
+  pub out : HoldsPrefix before.out now.out (changed_by before (outcome_of verdict).changes).out
+  pub err : HoldsPrefix before.err now.err (changed_by before (outcome_of verdict).changes).err
   -- and so has each file that is written, its pictures and its samples too, or it is as it was
   pub files : (path : List ℕ) → IsOutputOf verdict path
-      → HoldsFileFront (told_at path before.files) (told_at path now.files) (told_at path (changed_by before (outcome_of verdict).changes).files)
+      → HoldsFilePrefix (contents_at path before.files) (contents_at path now.files) (contents_at path (changed_by before (outcome_of verdict).changes).files)
 
 abbrev pub IsCutShort : Call → Type 0
-IsCutShort c = OfVerdict c (λ verdict. IsEarly c.status → StandsCutOff verdict c.before.world c.now.world)
+IsCutShort c = OfVerdict c (λ verdict. IsEarly c.status → HoldsTruncated verdict c.before.world c.now.world)
 
 -- what other calls give the same, unless the call ended early
 pub record GivesTheSame (c : Call) : Type 0 where
@@ -107,14 +107,14 @@ pub record GivesTheSame (c : Call) : Type 0 where
   pub isolated : IfSome c.before.world.files (λ nodes. (other : Nodes) → LookSame (call_request c) nodes other
       → GivesAsOn (call_request c) nodes other c.before.world c.now.world c.status)
 
--- where the tree and the sinks surely take what the verdict asks of them, none of them fails
-pub record FailsNotWhereSure (c : Call) : Type 0 where
-  pub tree : IfSome c.before.world.files (λ nodes. TreeSuffices (tree_verdict nodes (call_request c)) c.before.sure.tree nodes
+-- where the tree and the sinks are guaranteed to take what the verdict asks of them, none of them fails
+pub record FailsNotWhereGuaranteed (c : Call) : Type 0 where
+  pub tree : IfSome c.before.world.files (λ nodes. TreeSuffices (tree_verdict nodes (call_request c)) c.before.guaranteed.tree nodes
       → c.status ≡ 136 → ⊥)
-  pub sinks : OfVerdict c (λ verdict. SinksSuffice verdict c.before.sure.out c.before.sure.err → c.status ≡ 137 → ⊥)
+  pub sinks : OfVerdict c (λ verdict. SinksSuffice verdict c.before.guaranteed.out c.before.guaranteed.err → c.status ≡ 137 → ⊥)
 
 -- what a call comes to, from which the rest follows
 pub record ComesOut (c : Call) : Type 0 where
   pub outcome : HasItsOutcome c
   pub ledger : Ledger c.before.faults c.now.faults (status_blame c.status)
-  pub sure : FailsNotWhereSure c
+  pub guaranteed : FailsNotWhereGuaranteed c

@@ -6,9 +6,9 @@ use Rattle.play_script.specs.declared.script.Event.{Event}
 use Rattle.play_script.specs.declared.script.Event.TheVariants.{Input, EndInput}
 use Rattle.play_script.specs.Scripts.{ScriptView}
 use Rattle.setup_lines.specs.Setups.{SetupView}
-use Rattle.uxn_line.specs.Streams.{Job as LineJob}
-use Rattle.task_files.specs.declared.refusal.Refusal.{Refusal}
-use Rattle.task_files.specs.declared.refusal.Refusal.TheVariants.{OtherEvents}
+use Rattle.uxn_line.specs.Streams.{LineJob}
+use Rattle.uxn_task_files.specs.declared.refusal.Refusal.{Refusal}
+use Rattle.uxn_task_files.specs.declared.refusal.Refusal.TheVariants.{OtherEvents}
 
 -- a script for a line has bytes of input and ends of input alone (139)
 abbrev pub is_of_console : Event → Bool

@@ -4,41 +4,41 @@ use Rattle.std.specs.List.{list_any}
 use Rattle.std.specs.Str.{bytes_eq}
 use Rattle.std.specs.FinMap as map
 use Rattle.file_ports.specs.RootPart.{below}
-use Rattle.tree_io.specs.Files.{Nodes}
-use Rattle.tree_io.specs.Outside.{World, changed_by, files_by}
-use Rattle.varvara_bus.specs.Touching.{told_at}
-use Rattle.uxn_words.specs.declared.task.Task.{Task}
-use Rattle.task_files.specs.declared.refusal.Refusal.{Refusal}
+use Rattle.uxn_io_traits.specs.Files.{Nodes}
+use Rattle.uxn_io_traits.specs.Outside.{World, changed_by, files_by}
+use Rattle.varvara_bus.specs.Touching.{contents_at}
+use Rattle.uxn_arguments.specs.declared.task.Task.{Task}
+use Rattle.uxn_task_files.specs.declared.refusal.Refusal.{Refusal}
 use Rattle.uxn_cli.specs.Verdict.{Work}
-use Rattle.uxn_words.specs.Places.{outputs_of, command_root}
-use Rattle.task_files.specs.SameView.{HaveSameView}
+use Rattle.uxn_arguments.specs.Places.{outputs_of, command_root}
+use Rattle.uxn_task_files.specs.SameView.{HaveSameView}
 use Rattle.uxn_cli.specs.Outcome.{outcome_of}
 use Rattle.uxn_cli.specs.Causes.{tree_verdict}
-use Rattle.task_files.specs.Statuses.{IsEarly}
+use Rattle.uxn_task_files.specs.Statuses.{IsEarly}
 
 -- two trees look the same to what is asked
 abbrev pub LookSame : Result Task Refusal → Nodes → Nodes → Type 0
-LookSame asked nodes other = IfOk asked (HaveSameView nodes other)
+LookSame requested nodes other = IfOk requested (HaveSameView nodes other)
 
 -- the files that are there when all is done
 abbrev pub files_after : Result Task Refusal → Nodes → Nodes
-files_after asked nodes = files_by nodes (outcome_of (tree_verdict nodes asked)).changes
+files_after requested nodes = files_by nodes (outcome_of (tree_verdict nodes requested)).changes
 
 -- the path is that of an output
 abbrev pub IsWritten : Result Task Refusal → List ℕ → Type 0
-IsWritten asked path = IfOk asked (λ task. list_any (bytes_eq path) (outputs_of task) ≡ true)
+IsWritten requested path = IfOk requested (λ task. list_any (bytes_eq path) (outputs_of task) ≡ true)
 
 -- what a call gave is the outcome over another tree: the status, the bytes on both outputs, what lies beneath the root, and the outputs
-pub record IsOutcomeOn (asked : Result Task Refusal) (other : Nodes) (before now : World) (answer : ℕ) : Type 0 where
-  pub status : answer ≡ (outcome_of (tree_verdict other asked)).status
-  pub out : now.out ≡ (changed_by before (outcome_of (tree_verdict other asked)).changes).out
-  pub err : now.err ≡ (changed_by before (outcome_of (tree_verdict other asked)).changes).err
-  pub part : IfOk asked (λ task. option_map (below (command_root task.command task)) now.files
-      ≡ Some (below (command_root task.command task) (files_after asked other)))
-  pub outputs : (work : Work) → tree_verdict other asked ≡ Ok work → (path : List ℕ) → IsWritten asked path
-      → told_at path now.files ≡ Some (map.get (files_after asked other) path)
+pub record IsOutcomeOn (requested : Result Task Refusal) (other : Nodes) (before now : World) (answer : ℕ) : Type 0 where
+  pub status : answer ≡ (outcome_of (tree_verdict other requested)).status
+  pub out : now.out ≡ (changed_by before (outcome_of (tree_verdict other requested)).changes).out
+  pub err : now.err ≡ (changed_by before (outcome_of (tree_verdict other requested)).changes).err
+  pub part : IfOk requested (λ task. option_map (below (command_root task.command task)) now.files
+      ≡ Some (below (command_root task.command task) (files_after requested other)))
+  pub outputs : (work : Work) → tree_verdict other requested ≡ Ok work → (path : List ℕ) → IsWritten requested path
+      → contents_at path now.files ≡ Some (map.get (files_after requested other) path)
 
 -- over another tree that looks the same the verdict is the same, and so is what the call gave, unless it ended early
-pub record GivesAsOn (asked : Result Task Refusal) (nodes other : Nodes) (before now : World) (answer : ℕ) : Type 0 where
-  pub verdict : tree_verdict nodes asked ≡ tree_verdict other asked
-  pub given : IsEarly answer ⊎ IsOutcomeOn asked other before now answer
+pub record GivesAsOn (requested : Result Task Refusal) (nodes other : Nodes) (before now : World) (answer : ℕ) : Type 0 where
+  pub verdict : tree_verdict nodes requested ≡ tree_verdict other requested
+  pub given : IsEarly answer ⊎ IsOutcomeOn requested other before now answer

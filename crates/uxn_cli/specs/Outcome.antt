@@ -1,15 +1,15 @@
 -- What a verdict gives: the status, and the changes outside, in order.
 use Rattle.std.specs.Prelude.{ℕ, List, ◌++◌, map, Option, Result, Ok, Err}
-use Rattle.tree_io.specs.Outside.{Change, ToOut, ToErr}
-use Rattle.task_files.specs.declared.refusal.Refusal.{Refusal}
-use Rattle.task_files.specs.Statuses.{status_of}
-use Rattle.task_files.specs.Lines.{line_of}
-use Rattle.vector_loop.specs.Trail.{Trail}
+use Rattle.uxn_io_traits.specs.Outside.{Change, ToOut, ToErr}
+use Rattle.uxn_task_files.specs.declared.refusal.Refusal.{Refusal}
+use Rattle.uxn_task_files.specs.Statuses.{status_of}
+use Rattle.uxn_task_files.specs.Lines.{refusal_line}
+use Rattle.vector_loop.specs.Trace.{Trace}
 use Rattle.play_script.specs.declared.script.Version.{Version}
-use Rattle.task_files.specs.Writing.{creating, filling_all, writing}
-use Rattle.uxn_cli.specs.Job.{Job, job_outputs, trail_of, exit_of, report_of, log_texts}
-use Rattle.uxn_line.specs.Streams.{Job as LineJob, run_at, stream, exit_code_at}
-use Rattle.uxn_line.specs.Moves.{last_of}
+use Rattle.uxn_task_files.specs.Writing.{creating_all, filling_all, writing}
+use Rattle.uxn_cli.specs.RunJob.{RunJob, job_outputs, trace_of, exit_of, report_of, log_texts}
+use Rattle.uxn_line.specs.Streams.{LineJob, run_of_machine, stream, exit_code_at}
+use Rattle.uxn_line.specs.Moves.{last_machine}
 use Rattle.uxn_cli.specs.Verdict.{Work, Run, Write, Print, RunLine}
 
 pub record Outcome : Type 0 where
@@ -21,24 +21,24 @@ abbrev pub printing : List ℕ → List Change
 printing text = map (λ byte. ToOut byte) text
 
 -- a run, and then its report
-abbrev pub reporting : Option (List ℕ) → Version → Trail → List Change
-reporting report version trail = trail.changes ++ filling_all (report_of report version trail.last)
+abbrev pub reporting : Option (List ℕ) → Version → Trace → List Change
+reporting report version trace = trace.changes ++ filling_all (report_of report version trace.last)
 
 -- a run: its files are made, it runs, its report is written, and then the log of a debugger
-unfoldable pub running : Job → List Change
+unfoldable pub running : RunJob → List Change
 running job =
-    creating (job_outputs job)
-    ++ (reporting job.report job.script.version (trail_of job) ++ filling_all (log_texts job.debug (trail_of job)))
+    creating_all (job_outputs job)
+    ++ (reporting job.report job.script.version (trace_of job) ++ filling_all (log_texts job.debug (trace_of job)))
 
 -- of machines in a line: the exit code of the last one's run, and what it writes to port 18
 abbrev pub line_exit : LineJob → ℕ
-line_exit job = exit_code_at (run_at job (last_of job)).last
+line_exit job = exit_code_at (run_of_machine job (last_machine job)).last
 
 abbrev pub line_bytes : LineJob → List ℕ
-line_bytes job = stream job (last_of job)
+line_bytes job = stream job (last_machine job)
 
 abbrev pub outcome_of : Result Work Refusal → Outcome
-outcome_of (Err refusal) = record { status = status_of refusal; changes = map (λ byte. ToErr byte) (line_of refusal) }
+outcome_of (Err refusal) = record { status = status_of refusal; changes = map (λ byte. ToErr byte) (refusal_line refusal) }
 outcome_of (Ok (Run job)) = record { status = exit_of job; changes = running job }
 outcome_of (Ok (Write texts)) = record { status = 0; changes = writing texts }
 outcome_of (Ok (Print text)) = record { status = 0; changes = printing text }

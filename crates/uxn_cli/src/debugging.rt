@@ -5,19 +5,19 @@ ghost use Rattle.uxn_debugger.specs.Watching.{held_by, new_watching};
 ghost use Rattle.uxn_cli.specs.Verdict.{debugging};
 ghost use Rattle.vector_loop.specs.Outputs.{IsOutput};
 ghost use Rattle.uxn_cli.specs.Prepared.{AreNew};
-ghost use Rattle.uxn_cli.specs.Runs.{Runs, RunFiles, task_trail, logged_changes};
-ghost use Rattle.uxn_words.specs.Tasks.{role_path};
+ghost use Rattle.uxn_cli.specs.RunsFromRoot.{RunsFromRoot, RunFiles, task_trace, logged_changes};
+ghost use Rattle.uxn_arguments.specs.Tasks.{role_path};
 
 use super::host::Host;
 use super::machine::{Machine, core_known};
 use super::running::{RunEnd, run_made, write_text};
 use debug_commands::DebugCommand;
 use tal_words::Label;
-use tree_io::{Sink, Tree};
+use uxn_arguments::{Role, Task};
 use uxn_debugger::{Debugger, the_log_is_that_of_the_run};
+use uxn_io_traits::{Sink, Tree};
 use uxn_opcodes::Stop;
 use uxn_undo::{Undo, the_moments_of_a_run_are_in_a_row};
-use uxn_words::{Role, Task};
 use vector_loop::the_moments_of_a_run_are_counted;
 
 /// What a debugger does with a run.
@@ -40,10 +40,10 @@ pub fn debug_made<T: Tree, O: Sink, E: Sink>(
 ) -> Result<RunEnd, Stop>
     requires devices { AreNew machine.devices machine.script (role_path task.now Role.Root) }
     requires budget { 1 ≤ task.now.budget }
-    requires files { RunFiles task.now (T.state host.old.tree.now).told }
-    requires log { IfSome (role_path task.now Role.Log) (IsOutput (role_path task.now Role.Root) (T.state host.old.tree.now).told) }
+    requires files { RunFiles task.now (T.state host.old.tree.now).contents }
+    requires log { IfSome (role_path task.now Role.Log) (IsOutput (role_path task.now Role.Root) (T.state host.old.tree.now).contents) }
     ensures runs { (commands : List DebugCommand) (labels : List Label) → held_by debugger.old ≡ new_watching commands labels
-        → Runs (role_path task.now Role.Root) (task_trail task.now machine) (logged_changes task.now machine (Some (debugging task.now commands labels)))
+        → RunsFromRoot (role_path task.now Role.Root) (task_trace task.now machine) (logged_changes task.now machine (Some (debugging task.now commands labels)))
         (IsSome (Some (debugging task.now commands labels)))
         (outside_of T.Tree O.Sink E.Sink host.old) (outside_of T.Tree O.Sink E.Sink host.new) result }
     ensures same { SameHost host.old host.new }

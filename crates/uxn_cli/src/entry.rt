@@ -1,21 +1,21 @@
 //! The top call, from the words to the status.
 ghost use Rattle.std.specs.Prelude.{◌≡◌, map, string_bytes};
-ghost use Rattle.task_files.specs.Request.{request};
-ghost use Rattle.task_files.specs.Blame.{as_step};
-ghost use Rattle.task_files.specs.Statuses.{early_status};
+ghost use Rattle.uxn_task_files.specs.Request.{request};
+ghost use Rattle.uxn_task_files.specs.Blame.{as_step};
+ghost use Rattle.uxn_task_files.specs.Statuses.{early_status};
 ghost use Rattle.uxn_cli.specs.Call.{call, call_on};
-ghost use Rattle.uxn_cli.specs.Clauses.{HasItsOutcome, LeavesTheRest, HasStatuses, EndsEarlyByFaults, IsCutShort, GivesTheSame, FailsNotWhereSure};
+ghost use Rattle.uxn_cli.specs.Clauses.{HasItsOutcome, LeavesTheRest, HasStatuses, EndsEarlyByFaults, IsCutShort, GivesTheSame, FailsNotWhereGuaranteed};
 ghost use Rattle.uxn_cli.specs.Clauses.{ComesOut};
-ghost use Rattle.uxn_cli.specs.Outside.{DoesWork, SameHost, state_of};
+ghost use Rattle.uxn_cli.specs.Outside.{DoesWork, SameHost, state_of_host};
 ghost use Rattle.uxn_cli.specs.Refused.{PassesNoneOver};
 
 use super::host::Host;
 use super::work::carry_out;
 use std::alloc::Global;
-use tal_sources::a_source_looks_at_its_files_alone;
-use task_files::{Halt, request};
-use tree_io::{Sink, Tree};
+use tal_assembly::a_source_looks_at_its_files_alone;
+use uxn_io_traits::{Sink, Tree};
 use uxn_opcodes::Stop;
+use uxn_task_files::{Halt, request};
 
 /// Does what the words ask for. Where it is refused its line is not put yet.
 fn perform<T: Tree, O: Sink, E: Sink>(
@@ -24,7 +24,7 @@ fn perform<T: Tree, O: Sink, E: Sink>(
     host: &mut Host<'_, '_, '_, T, O, E>,
 ) -> Result<u8, Halt>
     ensures does { DoesWork (request (map string_bytes words.now))
-        (state_of T.Tree O.Sink E.Sink host.old) (state_of T.Tree O.Sink E.Sink host.new) result }
+        (state_of_host T.Tree O.Sink E.Sink host.old) (state_of_host T.Tree O.Sink E.Sink host.new) result }
     ensures same { SameHost host.old host.new }
 {
     let task = request(alloc, words)?;
@@ -38,7 +38,7 @@ fn answer<T: Tree, O: Sink, E: Sink>(
     host: &mut Host<'_, '_, '_, T, O, E>,
 ) -> Result<u8, Stop>
     ensures does { DoesWork (request (map string_bytes words.now))
-        (state_of T.Tree O.Sink E.Sink host.old) (state_of T.Tree O.Sink E.Sink host.new) (as_step result) }
+        (state_of_host T.Tree O.Sink E.Sink host.old) (state_of_host T.Tree O.Sink E.Sink host.new) (as_step result) }
     ensures same { SameHost host.old host.new }
 {
     match perform(alloc, words, host) {
@@ -84,7 +84,7 @@ fn status_of<T: Tree, O: Sink, E: Sink>(
 ///   `out` and `err`; pictures, samples and the report go to the files of `--frames`, `--samples` and `--report`.
 ///   Its file devices see and change what lies at and beneath `--root`, and nothing else.
 /// - `debug SRC --commands C --log P` does the same, follows the commands on the way, and writes the log.
-/// - `asm SRC --out P` writes a ROM, and a symbol file and a listing where they are asked for.
+/// - `asm SRC --out P` writes a ROM, and a symbol file and a listing where they are requested.
 /// - `dis ROM` prints a disassembly.
 /// - `gen N` makes a source of N routines, runs it over 60 frames with a tree and sinks of its own, and prints a summary.
 /// - `line SETUP` runs the machines of a setup in a line: what each writes to port 18 is given to the next one, and the bytes of
@@ -95,7 +95,7 @@ fn status_of<T: Tree, O: Sink, E: Sink>(
 /// for a source with a fault, 132 for a script and 133 for commands with a faulty line, 134 for a ROM of more than
 /// 65,280 bytes or a faulty symbol file, 135 for an output that clashes or cannot be made, 139 for a setup with a faulty line or
 /// the script of one that has other events than input and its end. The call ends early with
-/// 136 where the tree failed, with 137 where a sink failed, and with 138 where memory is wanting: in a `play` only before
+/// 136 where the tree failed, with 137 where a sink failed, and with 138 when out of memory: in a `play` only before
 /// anything was done, or as its program lists a folder.
 pub fn uxn<T: Tree, O: Sink, E: Sink>(
     alloc: Global,
@@ -105,21 +105,21 @@ pub fn uxn<T: Tree, O: Sink, E: Sink>(
     err: &mut E,
 ) -> u8
     // Unless the call ends early, the status, the bytes added to both sinks and the files are the outcome of what
-    // the words ask for and of what stands in the tree; after an early end a front of that was done. Beneath a root in
-    // a tree that tells nothing a run ends with some exit code.
+    // the words ask for and of what stands in the tree; after an early end a prefix of that was done. Beneath a root in
+    // a tree of unknown contents a run ends with some exit code.
     ensures outcome { HasItsOutcome (call T.Tree O.Sink E.Sink words.now tree.old out.old err.old tree.new out.new err.new result) }
 
     // What stands as before: every path that is no output and lies outside the root; after a refusal all but its one line.
     ensures rest { LeavesTheRest (call T.Tree O.Sink E.Sink words.now tree.old out.old err.old tree.new out.new err.new result) }
 
-    // When the call is refused for each reason, of which two hang on the words alone, and when it ends with its exit code.
+    // When the call is refused for each reason, of which two depend on the words alone, and when it ends with its exit code.
     ensures statuses { HasStatuses (call T.Tree O.Sink E.Sink words.now tree.old out.old err.old tree.new out.new err.new result) }
 
-    // When it ends early: a fault is answered exactly where a count rose in this call, and memory is wanting before anything
+    // When it ends early: a fault is answered exactly where a count rose in this call, and memory runs out before anything
     // is done, but where a debugger watches the run or it takes the names of a folder.
     ensures early { EndsEarlyByFaults (call T.Tree O.Sink E.Sink words.now tree.old out.old err.old tree.new out.new err.new result) }
 
-    // What stands after an early end: one of the cut outcomes, so each output, and each file that is written, has a front
+    // What stands after an early end: one of the cut outcomes, so each output, and each file that is written, has a prefix
     // of what the outcome gives it.
     ensures cut_off { IsCutShort (call T.Tree O.Sink E.Sink words.now tree.old out.old err.old tree.new out.new err.new result) }
 
@@ -127,10 +127,10 @@ pub fn uxn<T: Tree, O: Sink, E: Sink>(
     // other tree that looks the same to them.
     ensures same { GivesTheSame (call T.Tree O.Sink E.Sink words.now tree.old out.old err.old tree.new out.new err.new result) }
 
-    // Where the tree and the sinks surely take what the verdict asks of them, none of them fails.
-    ensures sure { FailsNotWhereSure (call T.Tree O.Sink E.Sink words.now tree.old out.old err.old tree.new out.new err.new result) }
+    // Where the tree and the sinks are guaranteed to take what the verdict asks of them, none of them fails.
+    ensures guaranteed { FailsNotWhereGuaranteed (call T.Tree O.Sink E.Sink words.now tree.old out.old err.old tree.new out.new err.new result) }
 
-    // No call of `create` that the tree refused is passed over: a tree that is exact counts none, but for the one for which the call
+    // No call of `create` that the tree refused is ignored: a tree that is exact counts none, but for the one for which the call
     // is refused; where a program runs, its own are not spoken of.
     ensures refusals { PassesNoneOver (request (map string_bytes words.now)) (T.state tree.old) (T.state tree.new) result }
 {

@@ -3,25 +3,25 @@ ghost use Rattle.std.specs.Prelude.{◌≡◌, ◌≤◌, [], None, Ok, length, 
 ghost use Rattle.tal_rom.specs.Rom.{rom_limit};
 ghost use Rattle.uxn_workload.specs.Summary.{summary_text};
 ghost use Rattle.uxn_cli.specs.Prepared.{AreNew};
-ghost use Rattle.uxn_cli.specs.Workload.{HasRunAlone, lone_trail, run_summary, workload_text};
+ghost use Rattle.uxn_cli.specs.Workload.{HasRunAlone, lone_trace, run_summary, workload_text};
 ghost use Rattle.tal_rom.specs.Assembly.{IsAssembled, first_fault};
-ghost use Rattle.tal_sources.specs.Sources.{own_by};
-ghost use Rattle.task_files.specs.Accepted.{judged_source};
+ghost use Rattle.tal_assembly.specs.Sources.{own_by};
+ghost use Rattle.uxn_task_files.specs.Accepted.{validated_source};
 ghost use Rattle.uxn_cli.specs.Verdict.{accepted_summary};
-ghost use Rattle.task_files.specs.Follows.{Follows};
+ghost use Rattle.uxn_task_files.specs.FollowsDefinition.{FollowsDefinition};
 
 use super::host::Host;
 use super::machine::{Machine, new_machine};
 use super::running::{RunEnd, Settings, run_machine};
 use play_script::Script;
 use std::alloc::{AllocError, Global};
+use tal_assembly::SourceFault;
 use tal_rom::{Assembly, assemble};
-use tal_sources::SourceFault;
 use tal_words::AsmStop;
-use task_files::{Halt, Refusal, judge_script};
+use uxn_arguments::Task;
 use uxn_io::MemTree;
 use uxn_opcodes::Stop;
-use uxn_words::Task;
+use uxn_task_files::{Halt, Refusal, validate_script};
 use uxn_workload::{GrowingSink, Ran, source};
 use vector_loop::{NoWatch, Outputs};
 
@@ -31,7 +31,7 @@ const SCRIPT: &[u8] = b"frame 60";
 /// The greatest number of instructions of a vector of a workload.
 const BUDGET: u32 = 4_000_000;
 
-/// What is told of a workload that ran, and of the bytes that it printed.
+/// What is said of a workload that ran, and of the bytes that it printed.
 #[tactic(auto, unfolding(crate::specs::Workload::workload_text))]
 fn sum_up(
     alloc: Global,
@@ -55,7 +55,7 @@ fn sum_up(
     ran.summary(alloc)
 }
 
-/// Runs a new machine with a tree and an error output of its own. A fault of these is want of memory.
+/// Runs a new machine with a tree and an error output of its own. A fault of these is running out of memory.
 fn run_alone(
     alloc: Global,
     machine: &mut Machine,
@@ -63,7 +63,7 @@ fn run_alone(
 ) -> Result<RunEnd, AllocError>
     requires devices { AreNew machine.old.devices machine.old.script None }
     requires empty { out.old.taken ≡ [] }
-    ensures { IfOk result (λ end. HasRunAlone (lone_trail machine.old.core machine.old.script) end out.new.taken) }
+    ensures { IfOk result (λ end. HasRunAlone (lone_trace machine.old.core machine.old.script) end out.new.taken) }
 {
     let settings = Settings {
         outputs: Outputs {
@@ -103,7 +103,7 @@ fn run_workload(
 
 /// The assembly of a workload.
 fn assembly_of(alloc: Global, source: &[u8]) -> Result<Assembly, Halt>
-    ensures follows { Follows (λ _. record { text = source.now; paths = [] }) result (judged_source (own_by source.now (first_fault source.now))) }
+    ensures follows { FollowsDefinition (λ _. record { text = source.now; paths = [] }) result (validated_source (own_by source.now (first_fault source.now))) }
     ensures assembled { IfOk result (λ assembly. IsAssembled source.now (Ok assembly)) }
 {
     match assemble(alloc, source) {
@@ -119,10 +119,10 @@ fn assembly_of(alloc: Global, source: &[u8]) -> Result<Assembly, Halt>
 /// The summary of a workload.
 #[inline(never)]
 pub fn summarize(alloc: Global, task: &Task) -> Result<Vec<u8>, Halt>
-    ensures { Follows (λ text. text.items) result (accepted_summary task.now.count) }
+    ensures { FollowsDefinition (λ text. text.items) result (accepted_summary task.now.count) }
 {
     let text = source(alloc, task.count)?;
     let assembly = assembly_of(alloc, &text)?;
-    let script = judge_script(alloc, SCRIPT)?;
+    let script = validate_script(alloc, SCRIPT)?;
     Ok(run_workload(alloc, &text, assembly.rom(), script)?)
 }

@@ -1,5 +1,5 @@
 //! What is outside of a call.
-use tree_io::{Sink, Tree};
+use uxn_io_traits::{Sink, Tree};
 
 /// What a call sees and changes: a tree of files, the standard output and the error output.
 #[derive(Drop)]

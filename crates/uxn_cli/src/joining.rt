@@ -2,18 +2,18 @@
 ghost use Rattle.std.specs.Prelude.{◌≡◌, length, IfOk, OnOk, is_err};
 ghost use Rattle.std.specs.List.{All};
 ghost use Rattle.setup_lines.specs.Limits.{AreTurns};
-ghost use Rattle.task_files.specs.Puts.{Puts};
-ghost use Rattle.uxn_cli.specs.Joined.{IsRunnable, GoesOn, HasDone, job_of_joined, joined_plan};
+ghost use Rattle.uxn_task_files.specs.Puts.{Puts};
+ghost use Rattle.uxn_cli.specs.Joined.{IsRunnable, LineGoesOn, LineHasDone, job_of_joined, joined_plan};
 ghost use Rattle.uxn_cli.specs.Outcome.{line_bytes, line_exit};
 ghost use Rattle.uxn_cli.specs.Prepared.{ReadsPlan};
 
 use setup_lines::Turns;
 use std::alloc::Global;
-use task_files::{Halt, LineInputs, Refusal, read_machines};
-use tree_io::{Failed, Sink, Tree};
+use uxn_arguments::{Command, Task};
+use uxn_io_traits::{Failed, Sink, Tree};
 use uxn_line::{Line, are_of_console};
 use uxn_opcodes::Stop;
-use uxn_words::{Command, Task};
+use uxn_task_files::{Halt, LineInputs, Refusal, read_machines};
 
 /// The machines of the setup of a task, where they can be run in a line.
 #[inline(never)]
@@ -32,7 +32,7 @@ pub fn join_up<T: Tree>(alloc: Global, task: &Task, tree: &mut T) -> Result<Line
 /// Gives so many turns of one machine.
 fn give_turns<O: Sink>(line: &mut Line<'_>, turns: Turns, out: &mut O) -> Result<(), Failed>
     requires { AreTurns (length line.old.members.items) turns }
-    ensures way { GoesOn line.old (O.state out.old) line.new (O.state out.new) (is_err result) }
+    ensures way { LineGoesOn line.old (O.state out.old) line.new (O.state out.new) (is_err result) }
     ensures machines { OnOk result (length line.new.members.items ≡ length line.old.members.items) }
 {
     for _ in 0..turns.count {
@@ -44,7 +44,7 @@ fn give_turns<O: Sink>(line: &mut Line<'_>, turns: Turns, out: &mut O) -> Result
 /// Gives the turns of a schedule, in order.
 fn follow<O: Sink>(line: &mut Line<'_>, schedule: &[Turns], out: &mut O) -> Result<(), Failed>
     requires { All (AreTurns (length line.old.members.items)) schedule.now }
-    ensures way { GoesOn line.old (O.state out.old) line.new (O.state out.new) (is_err result) }
+    ensures way { LineGoesOn line.old (O.state out.old) line.new (O.state out.new) (is_err result) }
 {
     for turns in schedule {
         give_turns(line, *turns, out)?;
@@ -55,7 +55,7 @@ fn follow<O: Sink>(line: &mut Line<'_>, schedule: &[Turns], out: &mut O) -> Resu
 /// Runs the machines: the turns of the setup first, and then each in turn until all have ended.
 fn run_all<O: Sink>(line: &mut Line<'_>, schedule: &[Turns], out: &mut O) -> Result<u8, Failed>
     requires { All (AreTurns (length line.old.members.items)) schedule.now }
-    ensures done { HasDone line.old (O.state out.old) (O.state out.new) result }
+    ensures done { LineHasDone line.old (O.state out.old) (O.state out.new) result }
 {
     follow(line, schedule, out)?;
     line.finish(out)

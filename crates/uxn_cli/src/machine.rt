@@ -3,12 +3,12 @@ ghost use Rattle.std.specs.Prelude.{◌≡◌, ◌≤◌, length, IfOk};
 ghost use Rattle.uxn_memory.specs.Bytes.{largest_rom};
 ghost use Rattle.uxn_opcodes.specs.Rule.{new_core};
 ghost use Rattle.uxn_undo.specs.Row.{IsMachine};
-ghost use Rattle.uxn_cli.specs.Job.{bus_clock};
+ghost use Rattle.uxn_cli.specs.RunJob.{bus_clock};
 ghost use Rattle.uxn_cli.specs.Prepared.{AreNew};
 
 use play_script::Script;
 use std::alloc::{AllocError, Global};
-use tree_io::Path;
+use uxn_io_traits::Path;
 use uxn_opcodes::Core;
 use varvara_bus::{Clock, Devices};
 

@@ -1,20 +1,20 @@
 //! What `play` and `debug` do: a program is run over a script, and a debugger may watch it.
 ghost use Rattle.std.specs.Prelude.{◌≡◌, ◌≤◌, [], Ok, IfOk, IfSome, IsSome, length};
-ghost use Rattle.tree_io.specs.Ended.{TreeLooked};
+ghost use Rattle.uxn_io_traits.specs.Ended.{TreeLooked};
 ghost use Rattle.uxn_memory.specs.Bytes.{largest_rom};
-ghost use Rattle.uxn_words.specs.Places.{HasApartOutputs};
-ghost use Rattle.uxn_words.specs.Tasks.{role_path};
+ghost use Rattle.uxn_arguments.specs.Places.{HasApartOutputs};
+ghost use Rattle.uxn_arguments.specs.Tasks.{role_path};
 ghost use Rattle.vector_loop.specs.Outputs.{IsOutput};
-ghost use Rattle.task_files.specs.Blame.{tree_failed};
-ghost use Rattle.task_files.specs.Accepted.{Loaded};
+ghost use Rattle.uxn_task_files.specs.Blame.{halted_by_tree};
+ghost use Rattle.uxn_task_files.specs.Accepted.{Loaded};
 ghost use Rattle.uxn_cli.specs.Verdict.{command_debugging, debugging};
-ghost use Rattle.uxn_cli.specs.Outside.{DoesWork, SameHost, outside_of, state_of};
+ghost use Rattle.uxn_cli.specs.Outside.{DoesWork, SameHost, outside_of, state_of_host};
 ghost use Rattle.uxn_cli.specs.Prepared.{Prepares, IsReadyRun, AreNew, session_debugging, prepared_debugging};
-ghost use Rattle.task_files.specs.Views.{ReadsInputs, RunsMachine};
-ghost use Rattle.task_files.specs.Accepted.{run_given};
-ghost use Rattle.tree_io.specs.State.{TreeState};
-ghost use Rattle.task_files.specs.Held.{held_inputs, held_debug_labels, held_program};
-ghost use Rattle.uxn_cli.specs.Runs.{Runs, RunFiles, task_trail, logged_changes};
+ghost use Rattle.uxn_task_files.specs.Views.{ReadsInputs, RunsMachine};
+ghost use Rattle.uxn_task_files.specs.Accepted.{run_given};
+ghost use Rattle.uxn_io_traits.specs.State.{TreeState};
+ghost use Rattle.uxn_task_files.specs.Held.{model_of_inputs, model_of_debug_labels, model_of_program};
+ghost use Rattle.uxn_cli.specs.RunsFromRoot.{RunsFromRoot, RunFiles, task_trace, logged_changes};
 
 use super::debugging::{Session, debug_made};
 use super::host::Host;
@@ -23,14 +23,14 @@ use super::running::{RunEnd, run_made};
 use debug_commands::DebugCommand;
 use std::alloc::{AllocError, Global};
 use tal_words::Label;
-use task_files::{
+use uxn_arguments::{Command, Role, Task};
+use uxn_debugger::Debugger;
+use uxn_io_traits::{Sink, Tree};
+use uxn_opcodes::Stop;
+use uxn_task_files::{
     Halt, Output, Program, RunInputs, empty_outputs, labels_of, make_outputs, read_run,
 };
-use tree_io::{Sink, Tree};
-use uxn_debugger::Debugger;
-use uxn_opcodes::Stop;
 use uxn_undo::Undo;
-use uxn_words::{Command, Role, Task};
 use vector_loop::NoWatch;
 
 /// A machine, the program that it has, and what a debugger does with its run, where one watches it.
@@ -54,7 +54,7 @@ fn open_session(
     given: Option<Vec<Label>>,
 ) -> Result<Option<Session>, AllocError>
     ensures debugger { IfOk result (λ session. (task : Task) (program : Loaded)
-        → session_debugging task program session ≡ command_debugging command (debugging task commands.items (held_debug_labels program given))) }
+        → session_debugging task program session ≡ command_debugging command (debugging task commands.items (model_of_debug_labels program given))) }
     ensures undo { IfOk result (λ session. IfSome session (λ opened. opened.undo ≡ [])) }
 {
     match command {
@@ -77,9 +77,9 @@ fn open_session(
 /// What a run has before it begins, of the inputs that were read.
 fn ready(alloc: Global, task: &Task, inputs: RunInputs) -> Result<Prepared, AllocError>
     requires runs { RunsMachine task.now.command }
-    requires room { length (held_program inputs.program).rom ≤ largest_rom }
-    ensures { (before now : TreeState) → ReadsInputs held_inputs task.now (run_given task.now.command task.now) before now (Ok inputs)
-        → IfOk result (IsReadyRun before.told task.now) }
+    requires room { length (model_of_program inputs.program).rom ≤ largest_rom }
+    ensures { (before now : TreeState) → ReadsInputs model_of_inputs task.now (run_given task.now.command task.now) before now (Ok inputs)
+        → IfOk result (IsReadyRun before.contents task.now) }
 {
     let RunInputs {
         program,
@@ -99,12 +99,12 @@ fn ready(alloc: Global, task: &Task, inputs: RunInputs) -> Result<Prepared, Allo
     })
 }
 
-/// The machine that is asked for, and what a debugger does with its run.
+/// The machine that is requested, and what a debugger does with its run.
 #[inline(never)]
 pub fn prepare<T: Tree>(alloc: Global, task: &Task, tree: &mut T) -> Result<Prepared, Halt>
     requires { RunsMachine task.now.command }
-    ensures prepares { Prepares (T.state tree.old).told task.now result }
-    ensures looked { TreeLooked (tree_failed result) (T.state tree.old) (T.state tree.new) }
+    ensures prepares { Prepares (T.state tree.old).contents task.now result }
+    ensures looked { TreeLooked (halted_by_tree result) (T.state tree.old) (T.state tree.new) }
 {
     let inputs = read_run(alloc, task, tree)?;
     Ok(ready(alloc, task, inputs)?)
@@ -120,10 +120,10 @@ fn run_prepared<T: Tree, O: Sink, E: Sink>(
     requires devices { AreNew prepared.machine.devices prepared.machine.script (role_path task.now Role.Root) }
     requires undo { IfSome prepared.session (λ session. session.undo ≡ []) }
     requires budget { 1 ≤ task.now.budget }
-    requires files { RunFiles task.now (T.state host.old.tree.now).told }
+    requires files { RunFiles task.now (T.state host.old.tree.now).contents }
     requires log { IfSome (prepared_debugging task.now prepared) (λ debug. IfSome debug.log
-        (IsOutput (role_path task.now Role.Root) (T.state host.old.tree.now).told)) }
-    ensures runs { Runs (role_path task.now Role.Root) (task_trail task.now prepared.machine)
+        (IsOutput (role_path task.now Role.Root) (T.state host.old.tree.now).contents)) }
+    ensures runs { RunsFromRoot (role_path task.now Role.Root) (task_trace task.now prepared.machine)
         (logged_changes task.now prepared.machine (prepared_debugging task.now prepared)) (IsSome (prepared_debugging task.now prepared))
         (outside_of T.Tree O.Sink E.Sink host.old) (outside_of T.Tree O.Sink E.Sink host.new) result }
     ensures same { SameHost host.old host.new }
@@ -157,10 +157,10 @@ pub fn run<T: Tree, O: Sink, E: Sink>(
     prepared: Prepared,
     host: &mut Host<'_, '_, '_, T, O, E>,
 ) -> Result<u8, Halt>
-    requires ready { IsReadyRun (T.state host.old.tree.now).told task.now prepared }
+    requires ready { IsReadyRun (T.state host.old.tree.now).contents task.now prepared }
     requires apart { HasApartOutputs task.now }
     requires budget { 1 ≤ task.now.budget }
-    ensures does { DoesWork (Ok task.now) (state_of T.Tree O.Sink E.Sink host.old) (state_of T.Tree O.Sink E.Sink host.new) result }
+    ensures does { DoesWork (Ok task.now) (state_of_host T.Tree O.Sink E.Sink host.old) (state_of_host T.Tree O.Sink E.Sink host.new) result }
     ensures same { SameHost host.old host.new }
 {
     make_outputs(prepared.program.included(), &prepared.outputs, host.tree)?;

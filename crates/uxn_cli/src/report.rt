@@ -4,10 +4,10 @@ ghost use Rattle.arrayvec.specs.ArrayVec.{array_vec_len};
 ghost use Rattle.play_script.specs.declared.script.Version.{Version};
 ghost use Rattle.play_script.specs.Scripts.{version_number};
 ghost use Rattle.play_script.specs.declared.script.Version.TheVariants.{Second as second};
-ghost use Rattle.uxn_cli.specs.Job.{common_lines, further_lines, report_line, report_text};
+ghost use Rattle.uxn_cli.specs.RunJob.{common_lines, further_lines, report_line, report_text};
 
 use arrayvec::ArrayVec;
-use tree_io::decimal;
+use uxn_io_traits::decimal;
 use vector_loop::Tally;
 
 /// Puts a line behind others: a word and a number.
@@ -23,7 +23,7 @@ fn push_line(text: &mut ArrayVec<u8, 256>, name: &[u8], count: u64)
 }
 
 /// The lines of both versions: the exit code and what was counted.
-#[tactic(auto, unfolding(crate::specs::Job::common_lines))]
+#[tactic(auto, unfolding(crate::specs::RunJob::common_lines))]
 fn common_lines(exit: u8, tally: &Tally) -> ArrayVec<u8, 256>
     ensures lines { result.items ≡ common_lines exit tally.now }
     ensures len { array_vec_len result ≤ 198 }
@@ -48,7 +48,7 @@ fn push_further(text: &mut ArrayVec<u8, 256>, tally: &Tally)
     push_line(text, b"misses", tally.misses);
 }
 
-/// What is told of a run: seven lines, its exit code and what was counted, and two more for a script of version 2.
+/// What is said of a run: seven lines, its exit code and what was counted, and two more for a script of version 2.
 pub fn report(version: u8, exit: u8, tally: &Tally) -> ArrayVec<u8, 256>
     ensures { (number : Version) → version ≡ version_number number → result.items ≡ report_text number exit tally.now }
 {

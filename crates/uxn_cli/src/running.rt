@@ -1,23 +1,23 @@
 //! The run of a machine, and what is written after it.
 ghost use Rattle.std.specs.Prelude.{◌≡◌, ◌≤◌, OnOk, IfSome, is_err};
 ghost use Rattle.uxn_cli.specs.Outside.{SameHost, outside_of};
-ghost use Rattle.varvara_bus.specs.Bus.{IsFileWhereTold};
+ghost use Rattle.varvara_bus.specs.Bus.{IsFileWhereKnown};
 ghost use Rattle.vector_loop.specs.Outputs.{OutputsThere};
 ghost use Rattle.vector_loop.specs.Watch.{MayRefuse};
-ghost use Rattle.task_files.specs.World.{asked_output};
-ghost use Rattle.task_files.specs.Writing.{filling_all};
+ghost use Rattle.uxn_task_files.specs.World.{requested_output};
+ghost use Rattle.uxn_task_files.specs.Writing.{filling_all};
 ghost use Rattle.uxn_cli.specs.Prepared.{AreNew};
-ghost use Rattle.tree_io.specs.Ended.{TreeEnded};
-ghost use Rattle.uxn_cli.specs.Runs.{AtHome, Runs, RunFiles, WasShown, task_settings, machine_trail, task_trail, reported_changes};
-ghost use Rattle.uxn_words.specs.Tasks.{role_path};
+ghost use Rattle.uxn_io_traits.specs.Ended.{TreeEnded};
+ghost use Rattle.uxn_cli.specs.RunsFromRoot.{AtRootView, RunsFromRoot, RunFiles, WasShown, task_settings, machine_trace, task_trace, reported_changes};
+ghost use Rattle.uxn_arguments.specs.Tasks.{role_path};
 
 use super::host::Host;
 use super::machine::Machine;
 use super::report::report;
 use system_port::exit_code;
-use tree_io::{Failed, Path, Sink, Tree, append_all};
+use uxn_arguments::{Role, Task};
+use uxn_io_traits::{Failed, Path, Sink, Tree, append_all};
 use uxn_opcodes::Stop;
-use uxn_words::{Role, Task};
 use varvara_bus::Bus;
 use vector_loop::{Outputs, Tally, Watcher, run_script};
 
@@ -42,7 +42,7 @@ pub struct Settings {
     pub budget: u32,
 }
 
-/// Runs a new machine with a script. Memory is wanting only to the watcher, or where the run takes the names of a
+/// Runs a new machine with a script. Memory runs out only to the watcher, or where the run takes the names of a
 /// folder beneath a root.
 pub fn run_machine<T: Tree, O: Sink, E: Sink, W: Watcher>(
     machine: &mut Machine,
@@ -52,12 +52,12 @@ pub fn run_machine<T: Tree, O: Sink, E: Sink, W: Watcher>(
 ) -> Result<RunEnd, Stop>
     requires devices { AreNew machine.old.devices machine.old.script machine.old.devices.root }
     requires budget { 1 ≤ settings.now.budget }
-    requires outputs { OutputsThere settings.now.outputs machine.old.devices.root (T.state host.old.tree.now).told }
-    ensures runs { Runs machine.old.devices.root (machine_trail settings.now machine.old) (λ trail. trail.changes) (MayRefuse W.may_refuse)
+    requires outputs { OutputsThere settings.now.outputs machine.old.devices.root (T.state host.old.tree.now).contents }
+    ensures runs { RunsFromRoot machine.old.devices.root (machine_trace settings.now machine.old) (λ trace. trace.changes) (MayRefuse W.may_refuse)
         (outside_of T.Tree O.Sink E.Sink host.old) (outside_of T.Tree O.Sink E.Sink host.new) result }
-    ensures watcher { AtHome machine.old.devices.root (T.state host.old.tree.now).told (λ home. OnOk result
+    ensures watcher { AtRootView machine.old.devices.root (T.state host.old.tree.now).contents (λ root_view. OnOk result
         (WasShown W.shown W.ended (W.held watcher.old)
-        (machine_trail settings.now machine.old home) (W.held watcher.new))) }
+        (machine_trace settings.now machine.old root_view) (W.held watcher.new))) }
     ensures same { SameHost host.old host.new }
 {
     let mut bus = Bus::new(&mut machine.devices, host.tree, host.out, host.err);
@@ -75,10 +75,10 @@ pub fn run_machine<T: Tree, O: Sink, E: Sink, W: Watcher>(
     })
 }
 
-/// Writes a text to the end of a file, where one is asked for.
+/// Writes a text to the end of a file, where one is requested.
 pub fn write_text<T: Tree>(path: &Option<Path>, text: &[u8], tree: &mut T) -> Result<(), Failed>
-    requires { IfSome path.now (IsFileWhereTold (T.state tree.old).told) }
-    ensures { TreeEnded (filling_all (asked_output path.now text.now)) (is_err result) (T.state tree.old) (T.state tree.new) }
+    requires { IfSome path.now (IsFileWhereKnown (T.state tree.old).contents) }
+    ensures { TreeEnded (filling_all (requested_output path.now text.now)) (is_err result) (T.state tree.old) (T.state tree.new) }
 {
     match path {
         Some(path) => append_all(tree, path, text),
@@ -108,12 +108,12 @@ pub fn run_made<T: Tree, O: Sink, E: Sink, W: Watcher>(
 ) -> Result<RunEnd, Stop>
     requires devices { AreNew machine.devices machine.script (role_path task.now Role.Root) }
     requires budget { 1 ≤ task.now.budget }
-    requires files { RunFiles task.now (T.state host.old.tree.now).told }
-    ensures runs { Runs (role_path task.now Role.Root) (task_trail task.now machine) (reported_changes task.now machine) (MayRefuse W.may_refuse)
+    requires files { RunFiles task.now (T.state host.old.tree.now).contents }
+    ensures runs { RunsFromRoot (role_path task.now Role.Root) (task_trace task.now machine) (reported_changes task.now machine) (MayRefuse W.may_refuse)
         (outside_of T.Tree O.Sink E.Sink host.old) (outside_of T.Tree O.Sink E.Sink host.new) result }
-    ensures watcher { AtHome (role_path task.now Role.Root) (T.state host.old.tree.now).told (λ home. OnOk result
+    ensures watcher { AtRootView (role_path task.now Role.Root) (T.state host.old.tree.now).contents (λ root_view. OnOk result
         (WasShown W.shown W.ended (W.held watcher.old)
-        (task_trail task.now machine home) (W.held watcher.new))) }
+        (task_trace task.now machine root_view) (W.held watcher.new))) }
     ensures same { SameHost host.old host.new }
 {
     let mut machine = machine;

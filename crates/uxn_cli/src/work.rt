@@ -1,23 +1,23 @@
-//! What is to be done is judged, and then it is done.
+//! What is to be done is validated, and then it is done.
 ghost use Rattle.std.specs.Prelude.{◌≤◌, Ok};
-ghost use Rattle.tree_io.specs.Ended.{TreeLooked};
-ghost use Rattle.uxn_words.specs.Places.{HasApartOutputs};
-ghost use Rattle.task_files.specs.Blame.{tree_failed};
-ghost use Rattle.uxn_cli.specs.Judged.{IsWork, Judged};
-ghost use Rattle.tree_io.specs.State.{SinkState};
-ghost use Rattle.task_files.specs.Held.{held_files};
+ghost use Rattle.uxn_io_traits.specs.Ended.{TreeLooked};
+ghost use Rattle.uxn_arguments.specs.Places.{HasApartOutputs};
+ghost use Rattle.uxn_task_files.specs.Blame.{halted_by_tree};
+ghost use Rattle.uxn_cli.specs.ValidatesTask.{IsWork, ValidatesTask};
+ghost use Rattle.uxn_io_traits.specs.State.{SinkState};
+ghost use Rattle.uxn_task_files.specs.Held.{model_of_files};
 ghost use Rattle.uxn_cli.specs.Prepared.{SeesWork};
 ghost use Rattle.uxn_cli.specs.Verdict.{write_plan};
-ghost use Rattle.uxn_cli.specs.Outside.{DoesWork, SameHost, host_state, state_of};
+ghost use Rattle.uxn_cli.specs.Outside.{DoesWork, SameHost, host_state, state_of_host};
 
 use super::generating::summarize;
 use super::host::Host;
 use super::joining::{join_up, run_line};
 use super::playing::{Prepared, prepare, run};
 use std::alloc::Global;
-use task_files::{Halt, LineInputs, Written, assemble, disassemble_rom, print, write_outputs};
-use tree_io::{Sink, Tree};
-use uxn_words::{Command, Task};
+use uxn_arguments::{Command, Task};
+use uxn_io_traits::{Sink, Tree};
+use uxn_task_files::{Halt, LineInputs, Written, assemble, disassemble_rom, print, write_outputs};
 
 /// What is to be done, once all inputs are accepted.
 #[derive(Drop)]
@@ -32,10 +32,10 @@ pub enum Work {
     Join(LineInputs),
 }
 
-/// Reads the inputs of a task, one after the other, and gives the work that it asks for.
-fn judge<T: Tree>(alloc: Global, task: &Task, tree: &mut T) -> Result<Work, Halt>
-    ensures judged { Judged (T.state tree.old).told task.now result }
-    ensures looked { TreeLooked (tree_failed result) (T.state tree.old) (T.state tree.new) }
+/// Reads the inputs of a task, one after the other, and gives the work that it requests.
+fn validate<T: Tree>(alloc: Global, task: &Task, tree: &mut T) -> Result<Work, Halt>
+    ensures validated { ValidatesTask (T.state tree.old).contents task.now result }
+    ensures looked { TreeLooked (halted_by_tree result) (T.state tree.old) (T.state tree.new) }
 {
     match task.command {
         Command::Play | Command::Debug => Ok(Work::Run(prepare(alloc, task, tree)?)),
@@ -46,9 +46,9 @@ fn judge<T: Tree>(alloc: Global, task: &Task, tree: &mut T) -> Result<Work, Halt
     }
 }
 
-/// Writes the files that were asked for.
+/// Writes the files that were requested.
 fn write<T: Tree>(task: &Task, written: &Written, tree: &mut T) -> Result<u8, Halt>
-    requires planned { SeesWork (T.state tree.old).told task.now (Ok (write_plan (held_files written.now))) }
+    requires planned { SeesWork (T.state tree.old).contents task.now (Ok (write_plan (model_of_files written.now))) }
     requires apart { HasApartOutputs task.now }
     ensures { (out err : SinkState) → DoesWork (Ok task.now) (host_state (T.state tree.old) out err) (host_state (T.state tree.new) out err) result }
 {
@@ -62,10 +62,10 @@ fn do_work<T: Tree, O: Sink, E: Sink>(
     work: Work,
     host: &mut Host<'_, '_, '_, T, O, E>,
 ) -> Result<u8, Halt>
-    requires work { IsWork (T.state host.old.tree.now).told task.now work }
+    requires work { IsWork (T.state host.old.tree.now).contents task.now work }
     requires apart { HasApartOutputs task.now }
     requires budget { 1 ≤ task.now.budget }
-    ensures does { DoesWork (Ok task.now) (state_of T.Tree O.Sink E.Sink host.old) (state_of T.Tree O.Sink E.Sink host.new) result }
+    ensures does { DoesWork (Ok task.now) (state_of_host T.Tree O.Sink E.Sink host.old) (state_of_host T.Tree O.Sink E.Sink host.new) result }
     ensures same { SameHost host.old host.new }
 {
     match work {
@@ -76,7 +76,7 @@ fn do_work<T: Tree, O: Sink, E: Sink>(
     }
 }
 
-/// Judges a task, and does its work.
+/// Validates a task, and does its work.
 pub fn carry_out<T: Tree, O: Sink, E: Sink>(
     alloc: Global,
     task: &Task,
@@ -84,9 +84,9 @@ pub fn carry_out<T: Tree, O: Sink, E: Sink>(
 ) -> Result<u8, Halt>
     requires apart { HasApartOutputs task.now }
     requires budget { 1 ≤ task.now.budget }
-    ensures does { DoesWork (Ok task.now) (state_of T.Tree O.Sink E.Sink host.old) (state_of T.Tree O.Sink E.Sink host.new) result }
+    ensures does { DoesWork (Ok task.now) (state_of_host T.Tree O.Sink E.Sink host.old) (state_of_host T.Tree O.Sink E.Sink host.new) result }
     ensures same { SameHost host.old host.new }
 {
-    let work = judge(alloc, task, host.tree)?;
+    let work = validate(alloc, task, host.tree)?;
     do_work(alloc, task, work, host)
 }

@@ -7,7 +7,7 @@ use Rattle.std.specs.Int.RustNames.{bit_or}
 use Rattle.std.proofs.lemmas.Bool.{cases_eq, cases_lt, eq-eqb, ne_eqb}
 use Rattle.std.proofs.lemmas.List.{get_or-set_same, get_or-set_other, get_or-replicate, get_or_past, length-replicate}
 use Rattle.std.proofs.lemmas.Nat.Bits.{bit_at-zero, bit_at_set_same, bit_at_set_other, bit_at_clear_same, bit_at_clear_other}
-use Rattle.uxn_debugger.specs.Log.{no_breaks, with_break, without_break}
+use Rattle.uxn_debugger.specs.Log.{no_breaks, set_with_break, without_break}
 use Rattle.uxn_debugger.specs.Bits.{addresses_in}
 
 -- addresses of the same word and bit are the same
@@ -25,7 +25,7 @@ pub none_in_zeros : (size : ℕ) → addresses_in (replicate size 0) ≡ no_brea
 none_in_zeros size = fun_ext (λ a. rw (zero_at size (a / 64), bit_at-zero (a % 64)) refl)
 
 pub bit_set : (bits : List ℕ) (x : ℕ) → x / 64 < length bits
-    → addresses_in (set bits (x / 64) (bit_or (get_or bits (x / 64) 0) (1 * 2 ^ (x % 64) % 2 ^ 64))) ≡ with_break x (addresses_in bits)
+    → addresses_in (set bits (x / 64) (bit_or (get_or bits (x / 64) 0) (1 * 2 ^ (x % 64) % 2 ^ 64))) ≡ set_with_break x (addresses_in bits)
 bit_set bits x within = fun_ext (λ a. elim (cases_eq (a / 64) (x / 64)) [
   | inl same ↦ elim (cases_eq (a % 64) (x % 64)) [
     | inl both ↦ rw (same, get_or-set_same bits (x / 64) _ 0 within, both, bit_at_set_same w64 (get_or bits (x / 64) 0) (x % 64) (omega arith), eq-eqb a x (same_address a x same both)) refl

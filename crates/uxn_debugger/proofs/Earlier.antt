@@ -1,4 +1,4 @@
--- What is kept of the moments before one, and what is seen by it.
+-- What is kept of the moments before one, and what is observed by it.
 use Rattle.std.proofs.Common.{◌≡◌, ℕ, zero, suc, ◌+◌, ◌-◌, ◌%◌, ◌<◌, ◌≤◌, true, false, cond, List, [], ◌∷◌, length, take, drop, Option, Some, None, refl, sym, ap, ◌∙◌, arith}
 use Rattle.std.specs.Prelude.{slice_get, map, option_map, nat_lt, ◌==◌}
 use Rattle.std.proofs.Math.Path.{fun_ext}
@@ -12,9 +12,9 @@ use Rattle.uxn_undo.specs.Laws.{kept_of, Follow, HoldingLaw, GoingBackLaw}
 use Rattle.uxn_undo.specs.Runs.{memory_next, RunLaw}
 use Rattle.uxn_debugger.specs.declared.place.Place.{Place}
 use Rattle.uxn_debugger.specs.declared.place.Place.TheVariants.{Before, End}
-use Rattle.uxn_debugger.specs.Printing.{View, view, byte_at, moment_at}
-use Rattle.uxn_debugger.specs.Log.{Shown, before, gone, at_end, given_of, IsRegular, seen, view_at, given_before, held_before}
-use Rattle.uxn_debugger.specs.Watching.{seen_of, seen_back, keeping}
+use Rattle.uxn_debugger.specs.Printing.{MomentView, view, text_byte_at, moment_at}
+use Rattle.uxn_debugger.specs.Log.{Shown, before, gone, at_end, moment_of_shown, IsRegular, observed, view_at, given_before, held_before}
+use Rattle.uxn_debugger.specs.Watching.{observed_view, observed_back, keeping}
 use Rattle.uxn_debugger.proofs.Places.{get_at, get_past, within, from_place, taken_get, reverse_next, reverse_get}
 
 -- the three laws of what keeps moments
@@ -33,14 +33,14 @@ module _ (labels : List Label) (moments : List Shown) (end : Shown) where
 
   length_kept : (i : ℕ) → i ≤ length moments → length (kept_before i) ≡ i
   length_kept i le =
-      length-map (given_before labels moments end i) kept_of ∙ length-reverse (take i (map given_of moments))
-      ∙ length-take-le i (map given_of moments) (omega (arith, length-map moments given_of))
+      length-map (given_before labels moments end i) kept_of ∙ length-reverse (take i (map moment_of_shown moments))
+      ∙ length-take-le i (map moment_of_shown moments) (omega (arith, length-map moments moment_of_shown))
 
   given_next : (i : ℕ) (s : Shown) (left : List Shown) → drop i moments ≡ s ∷ left
-      → given_before labels moments end (i + 1) ≡ given_of s ∷ given_before labels moments end i
+      → given_before labels moments end (i + 1) ≡ moment_of_shown s ∷ given_before labels moments end i
   given_next i s left is =
       let next : i + 1 ≡ suc i = omega arith in
-      rw next (reverse_next (map given_of moments) i (given_of s) (map given_of left) (drop-map given_of i moments ∙ ap (map given_of) is))
+      rw next (reverse_next (map moment_of_shown moments) i (moment_of_shown s) (map moment_of_shown left) (drop-map moment_of_shown i moments ∙ ap (map moment_of_shown) is))
 
   module _ (laws : UndoLaws) where
     pub held_here : (i : ℕ) → length (undo_at i) ≡ held_before labels moments end i
@@ -66,17 +66,17 @@ module _ (labels : List Label) (moments : List Shown) (end : Shown) where
       pub shown : Shown
       pub more : List Shown
       pub cut : drop (i - suc less) moments ≡ shown ∷ more
-      pub given : slice_get (given_before labels moments end i) less ≡ Some (given_of shown)
+      pub given : slice_get (given_before labels moments end i) less ≡ Some (moment_of_shown shown)
       pub kept : slice_get (undo_at i) less ≡ Some (kept_at shown.core shown.page.stored)
 
     pub is_kept : (i less : ℕ) → i ≤ length moments → less < length (undo_at i) → IsKept i less
     is_kept i less le under =
         let inside : less < i = omega (arith, held_within i le) in
         let from = from_place moments (i - suc less) (omega arith) in
-        let givens = map given_of moments in
-        let given = reverse_get givens i less inside (omega (arith, length-map moments given_of))
-        ∙ slice_get-map given_of moments (i - suc less)
-        ∙ ap (option_map given_of) (get_at moments (i - suc less) from.first from.more from.cut) in
+        let givens = map moment_of_shown moments in
+        let given = reverse_get givens i less inside (omega (arith, length-map moments moment_of_shown))
+        ∙ slice_get-map moment_of_shown moments (i - suc less)
+        ∙ ap (option_map moment_of_shown) (get_at moments (i - suc less) from.first from.more from.cut) in
         record {
           shown = from.first;
           more = from.more;
@@ -91,28 +91,28 @@ module _ (labels : List Label) (moments : List Shown) (end : Shown) where
       pub record IsCome (i : ℕ) (core : Core) (place : Place) : Type 0 where
         pub moments_before : i ≤ length moments
         pub counted : (moment_at place).instructions ≡ i
-        pub memory : memory_next (drop i (map given_of moments)) end.core.memory ≡ core.memory
+        pub memory : memory_next (drop i (map moment_of_shown moments)) end.core.memory ≡ core.memory
 
-      byte_seen : (i less : ℕ) (core : Core) (place : Place) (s : Shown) → IsCome i core place → less < length (undo_at i)
-          → slice_get (given_before labels moments end i) less ≡ Some (given_of s) → (at : ℕ)
-          → byte_back (take (suc less) (undo_at i)) (at % 65536) (byte_at core.memory at) ≡ byte_at s.core.memory at
-      byte_seen i less core place s come under here at =
+      byte_observed : (i less : ℕ) (core : Core) (place : Place) (s : Shown) → IsCome i core place → less < length (undo_at i)
+          → slice_get (given_before labels moments end i) less ≡ Some (moment_of_shown s) → (at : ℕ)
+          → byte_back (take (suc less) (undo_at i)) (at % 65536) (text_byte_at core.memory at) ≡ text_byte_at s.core.memory at
+      byte_observed i less core place s come under here at =
           let next : less + 1 ≡ suc less = omega arith in
           let small : at % 65536 < 65536 = omega arith in
           let follow : Follow (given_before labels moments end i) core.memory =
-          rw come.memory at (laws.run.follow (map given_of moments) end.core.memory i regular.memory) in
-          rw next at (laws.going_back (given_before labels moments end i) (undo_at i) core (given_of s) less (at % 65536)
+          rw come.memory at (laws.run.follow (map moment_of_shown moments) end.core.memory i regular.memory) in
+          rw next at (laws.going_back (given_before labels moments end i) (undo_at i) core (moment_of_shown s) less (at % 65536)
           (laws.holding.newest (kept_before i)) follow under here small)
 
-      gone_seen : (furthest index : ℕ) (s : Shown) (more : List Shown) → drop index moments ≡ s ∷ more → index < furthest
+      gone_observed : (furthest index : ℕ) (s : Shown) (more : List Shown) → drop index moments ≡ s ∷ more → index < furthest
           → view_at labels moments end furthest index ≡ gone s
-      gone_seen furthest index s more is less =
+      gone_observed furthest index s more is less =
           let passed : nat_lt index furthest ≡ true = grind (arith, nat_tests) in
-          rw passed (ap (seen labels moments end true) (get_at moments index s more is))
+          rw passed (ap (observed labels moments end true) (get_at moments index s more is))
 
-      kept_seen : (i less : ℕ) (core : Core) (page : List ℕ) (place : Place) → IsCome i core place → less < length (undo_at i)
-          → seen_of (view core page place) (undo_at i) (suc less) (slice_get (undo_at i) less) ≡ view_at labels moments end i (i - suc less)
-      kept_seen i less core page place come under =
+      kept_observed : (i less : ℕ) (core : Core) (page : List ℕ) (place : Place) → IsCome i core place → less < length (undo_at i)
+          → observed_view (view core page place) (undo_at i) (suc less) (slice_get (undo_at i) less) ≡ view_at labels moments end i (i - suc less)
+      kept_observed i less core page place come under =
           let is = is_kept i less come.moments_before under in
           let s = is.shown in
           let here = get_at moments (i - suc less) s is.more is.cut in
@@ -120,37 +120,37 @@ module _ (labels : List Label) (moments : List Shown) (end : Shown) where
           let count : (moment_at place).instructions - suc less ≡ s.moment.instructions =
           ap (λ n. n - suc less) come.counted ∙ sym (regular.counts (i - suc less) s here) in
           let address : s.core.at ≡ s.moment.address = sym (regular.addresses (i - suc less) s here) in
-          let made : (ℕ → ℕ) → ℕ → ℕ → View = λ byte instructions address. record {
+          let made : (ℕ → ℕ) → ℕ → ℕ → MomentView = λ byte instructions address. record {
             working = s.core.working;
             returns = s.core.returns;
             byte = byte;
             page = s.page.stored;
             place = Before (record { instructions = instructions; address = address });
           } in
-          ap (seen_of (view core page place) (undo_at i) (suc less)) is.kept
-          ∙ ap (λ byte. made byte ((moment_at place).instructions - suc less) s.core.at) (fun_ext (byte_seen i less core place s come under is.given))
-          ∙ ap (λ instructions. made (byte_at s.core.memory) instructions s.core.at) count
-          ∙ ap (λ address. made (byte_at s.core.memory) s.moment.instructions address) address
-          ∙ sym (gone_seen i (i - suc less) s is.more is.cut (omega arith))
+          ap (observed_view (view core page place) (undo_at i) (suc less)) is.kept
+          ∙ ap (λ byte. made byte ((moment_at place).instructions - suc less) s.core.at) (fun_ext (byte_observed i less core place s come under is.given))
+          ∙ ap (λ instructions. made (text_byte_at s.core.memory) instructions s.core.at) count
+          ∙ ap (λ address. made (text_byte_at s.core.memory) s.moment.instructions address) address
+          ∙ sym (gone_observed i (i - suc less) s is.more is.cut (omega arith))
 
       -- so far back one sees what stands there
       pub sees_back : (i : ℕ) (core : Core) (page : List ℕ) (place : Place) → IsCome i core place → view core page place ≡ view_at labels moments end i i
           → (back : ℕ) → back ≤ length (undo_at i)
-          → seen_back (view core page place) (undo_at i) back ≡ view_at labels moments end i (i - back)
+          → observed_back (view core page place) (undo_at i) back ≡ view_at labels moments end i (i - back)
       sees_back i core page place come now zero le = let none : i - 0 ≡ i = omega arith in rw none now
       sees_back i core page place come now (suc less) le =
           let some : (suc less == 0) ≡ false = grind (arith, nat_tests) in
           let one : suc less - 1 ≡ less = omega arith in
-          ap (λ b. cond b (view core page place) (seen_of (view core page place) (undo_at i) (suc less) (slice_get (undo_at i) (suc less - 1)))) some
-          ∙ ap (λ n. seen_of (view core page place) (undo_at i) (suc less) (slice_get (undo_at i) n)) one
-          ∙ kept_seen i less core page place come (omega arith)
+          ap (λ b. cond b (view core page place) (observed_view (view core page place) (undo_at i) (suc less) (slice_get (undo_at i) (suc less - 1)))) some
+          ∙ ap (λ n. observed_view (view core page place) (undo_at i) (suc less) (slice_get (undo_at i) n)) one
+          ∙ kept_observed i less core page place come (omega arith)
 
       -- at a moment, and at the end
-      view_now : (i : ℕ) (one : Option Shown) (now : View) → slice_get moments i ≡ one → seen labels moments end false one ≡ now
+      view_now : (i : ℕ) (one : Option Shown) (now : MomentView) → slice_get moments i ≡ one → observed labels moments end false one ≡ now
           → now ≡ view_at labels moments end i i
       view_now i one now here is =
           let still : nat_lt i i ≡ false = grind (arith, nat_tests) in
-          sym (ap (λ b. seen labels moments end b (slice_get moments i)) still ∙ ap (seen labels moments end false) here ∙ is)
+          sym (ap (λ b. observed labels moments end b (slice_get moments i)) still ∙ ap (observed labels moments end false) here ∙ is)
 
       pub now_before : (i : ℕ) (s : Shown) (left : List Shown) → drop i moments ≡ s ∷ left → before s ≡ view_at labels moments end i i
       now_before i s left is = view_now i (Some s) (before s) (get_at moments i s left is) refl
@@ -162,12 +162,12 @@ module _ (labels : List Label) (moments : List Shown) (end : Shown) where
       comes_before i s left is = record {
         moments_before = omega (arith, within moments i s left is);
         counted = regular.counts i s (get_at moments i s left is);
-        memory = ap (λ given. memory_next given end.core.memory) (drop-map given_of i moments ∙ ap (map given_of) is);
+        memory = ap (λ given. memory_next given end.core.memory) (drop-map moment_of_shown i moments ∙ ap (map moment_of_shown) is);
       }
 
       pub comes_at_end : (i : ℕ) → i ≡ length moments → drop i moments ≡ [] → IsCome i end.core (End end.moment)
       comes_at_end i is none = record {
         moments_before = omega arith;
         counted = regular.count ∙ sym is;
-        memory = ap (λ given. memory_next given end.core.memory) (drop-map given_of i moments ∙ ap (map given_of) none);
+        memory = ap (λ given. memory_next given end.core.memory) (drop-map moment_of_shown i moments ∙ ap (map moment_of_shown) none);
       }

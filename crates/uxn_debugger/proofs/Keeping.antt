@@ -3,7 +3,7 @@ use Rattle.std.proofs.Common.{◌≡◌, ℕ, List, ◌∷◌, length, take, sym
 use Rattle.std.proofs.lemmas.List.{ext_get_or}
 use Rattle.uxn_opcodes.specs.declared.Core.{Core}
 use Rattle.vector_loop.specs.Watch.{Page, IsPage}
-use Rattle.uxn_undo.specs.Kept.{Kept, kept_at, Holds}
+use Rattle.uxn_undo.specs.Kept.{Kept, kept_at, HoldsMoments}
 use Rattle.uxn_undo.specs.Laws.{HoldingLaw}
 use Rattle.uxn_debugger.specs.Watching.{keeping}
 
@@ -12,7 +12,7 @@ pub same_stored : (reads : ℕ → ℕ → Type 0) (bytes : List ℕ) (page : Pa
 same_stored reads bytes page is size =
     ext_get_or 0 bytes page.stored (size ∙ sym is.stored_size) (λ i less. is.holds i (omega arith))
 
-pub kept_so : HoldingLaw → (core : Core) (bytes stored : List ℕ) (older now : List Kept) → bytes ≡ stored → Holds (kept_at core bytes ∷ older) now
+pub kept_so : HoldingLaw → (core : Core) (bytes stored : List ℕ) (older now : List Kept) → bytes ≡ stored → HoldsMoments (kept_at core bytes ∷ older) now
     → now ≡ keeping (kept_at core stored) older
 kept_so law core bytes stored older now same holds =
     holds.newest

@@ -13,9 +13,9 @@ use Rattle.uxn_debugger.specs.declared.place.Place.{Place}
 use Rattle.uxn_debugger.specs.declared.place.Place.TheVariants.{Before, End}
 use Rattle.uxn_debugger.specs.declared.place.Goal.{Goal}
 use Rattle.uxn_debugger.specs.declared.place.Goal.TheVariants.{FirstMoment, MomentAfter, BreakAddress, Nothing}
-use Rattle.uxn_debugger.specs.Printing.{View, printed}
+use Rattle.uxn_debugger.specs.Printing.{MomentView, printed}
 use Rattle.uxn_debugger.specs.Log.{Shown, before, at_end, AddressSet, IsRegular, no_breaks, breaks_after, Stand, view_at, reach, index_after, stand_at, after_command, log_of}
-use Rattle.uxn_debugger.specs.Watching.{Watching, new_watching, seen_back, next_stop, back_after, unless_stopped, goal_of, obeyed, done, unless_it_goes, arrival, arrived, is_awaited, goal_later, keeping, with_kept, shown, ended, KeepsTheLog}
+use Rattle.uxn_debugger.specs.Watching.{Watching, new_watching, observed_back, next_stop, back_after, unless_stopped, goal_of, obeyed, done, unless_it_goes, arrival, arrived, is_awaited, goal_later, keeping, with_kept, shown, ended, KeepsTheLog}
 use Rattle.uxn_debugger.proofs.Obeying.{done-none, done-more}
 use Rattle.uxn_debugger.proofs.Places.{within, drop_next, first_passes, first_fails}
 use Rattle.uxn_debugger.proofs.Earlier.{UndoLaws, undo_at, held_here, held_within, keeps, sees_back, now_before, now_at_end, comes_before, comes_at_end}
@@ -106,18 +106,18 @@ module _ (labels : List Label) (moments : List Shown) (end : Shown) where
         → Stays i place back command breaks log (holding i waiting goal breaks log)
         ⊎ Goes finish place back command rest (standing_back i back breaks log) (holding i waiting goal breaks log)
 
-    -- what is seen so far back
-    abbrev Sees : ℕ → View → Type 0
+    -- what is observed so far back
+    abbrev Sees : ℕ → MomentView → Type 0
     Sees i now = (back : ℕ) → back ≤ length (undo_at labels moments end i)
-        → seen_back now (undo_at labels moments end i) back ≡ view_at labels moments end i (i - back)
+        → observed_back now (undo_at labels moments end i) back ≡ view_at labels moments end i (i - back)
 
-    stays_so : (i : ℕ) (now : View) (back : ℕ) (command : DebugCommand) (waiting : List DebugCommand) (goal : Goal) (breaks : AddressSet) (log : List ℕ)
+    stays_so : (i : ℕ) (now : MomentView) (back : ℕ) (command : DebugCommand) (waiting : List DebugCommand) (goal : Goal) (breaks : AddressSet) (log : List ℕ)
         → i ≤ length moments → Sees i now → back ≤ length (undo_at labels moments end i)
         → Stays i now.place back command breaks log (holding i waiting goal breaks log)
         → after_command labels moments end (standing_back i back breaks log) command
         ≡ standing_back i (back_after (holding i waiting goal breaks log) now.place back command) (breaks_after command breaks)
         (log ++ printed labels (length (undo_at labels moments end i) - back)
-        (seen_back now (undo_at labels moments end i) (back_after (holding i waiting goal breaks log) now.place back command)) command)
+        (observed_back now (undo_at labels moments end i) (back_after (holding i waiting goal breaks log) now.place back command)) command)
     stays_so i now back command waiting goal breaks log le sees under stays =
         let there = back_after (holding i waiting goal breaks log) now.place back command in
         let stand = standing_back i back breaks log in
@@ -131,7 +131,7 @@ module _ (labels : List Label) (moments : List Shown) (end : Shown) where
         (sym (sees there stays.under))
 
     -- all commands at a moment, or at the end
-    done-all : (finish : Watching → List ℕ) (i : ℕ) (now : View) → i ≤ length moments → Sees i now → Turn finish i now.place
+    done-all : (finish : Watching → List ℕ) (i : ℕ) (now : MomentView) → i ≤ length moments → Sees i now → Turn finish i now.place
         → ((held : Watching) → finish (record held { commands = []; goal = Nothing }) ≡ held.log)
         → (commands waiting : List DebugCommand) (back : ℕ) (goal : Goal) (breaks : AddressSet) (log : List ℕ) → back ≤ length (undo_at labels moments end i)
         → finish (done now back commands (holding i waiting goal breaks log)) ≡ log_from (standing_back i back breaks log) commands
@@ -146,7 +146,7 @@ module _ (labels : List Label) (moments : List Shown) (end : Shown) where
           | inl stays ↦
               ap (λ g. finish (unless_it_goes g rest held others)) stays.none
               ∙ done-all finish i now le sees turn ends rest waiting there goal (breaks_after command breaks)
-              (log ++ printed labels (length (undo_at labels moments end i) - back) (seen_back now (undo_at labels moments end i) there) command) stays.under
+              (log ++ printed labels (length (undo_at labels moments end i) - back) (observed_back now (undo_at labels moments end i) there) command) stays.under
               ∙ sym (ap (λ stand. log_from stand rest) (stays_so i now back command waiting goal breaks log le sees under stays))
           | inr goes ↦ ap (λ g. finish (unless_it_goes g rest held others)) goes.some ∙ goes.later
         ]
@@ -197,7 +197,7 @@ module _ (labels : List Label) (moments : List Shown) (end : Shown) where
           → goal_of (holding i waiting goal breaks log) (Before s.moment) back command ≡ Some then → IsWaiting then → breaks_after command breaks ≡ breaks
           → index_after labels moments end command (standing_back i back breaks log) ≡ met_at then breaks (i + 1) left
           → i ≤ met_at then breaks (i + 1) left
-          → ((n : ℕ) (view : View) → printed labels n view command ≡ arrival then labels view)
+          → ((n : ℕ) (view : MomentView) → printed labels n view command ≡ arrival then labels view)
           → Goes finish (Before s.moment) back command rest (standing_back i back breaks log) (holding i waiting goal breaks log)
       goes_on command rest waiting back goal then breaks log some waits same index later prints =
           let stand = standing_back i back breaks log in

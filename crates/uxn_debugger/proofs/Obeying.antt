@@ -5,7 +5,7 @@ use Rattle.std.proofs.lemmas.List.{length-drop, nil_from_length}
 use Rattle.debug_commands.specs.declared.command.DebugCommand.{DebugCommand}
 use Rattle.uxn_debugger.specs.declared.place.Goal.{Goal}
 use Rattle.uxn_debugger.specs.declared.place.Goal.TheVariants.{Nothing}
-use Rattle.uxn_debugger.specs.Printing.{View}
+use Rattle.uxn_debugger.specs.Printing.{MomentView}
 use Rattle.uxn_debugger.specs.Watching.{Watching, goal_of, back_after, obeyed, done, unless_it_goes}
 
 -- what stands at a place comes next
@@ -17,11 +17,11 @@ next_is read xs i x same within here =
 pub none_left : {A : Type 0} (read xs : List A) (i : ℕ) → read ≡ xs → length read ≤ i → drop i xs ≡ []
 none_left read xs i same past = rw (← same) (nil_from_length (drop i read) (omega (arith, length-drop i read)))
 
-pub done-none : (now : View) (back : ℕ) (held : Watching) → done now back [] held ≡ record held { commands = []; goal = Nothing }
+pub done-none : (now : MomentView) (back : ℕ) (held : Watching) → done now back [] held ≡ record held { commands = []; goal = Nothing }
 unfolding done
 done-none now back held = refl
 
-pub done-more : (now : View) (back : ℕ) (command : DebugCommand) (rest : List DebugCommand) (held : Watching) → done now back (command ∷ rest) held
+pub done-more : (now : MomentView) (back : ℕ) (command : DebugCommand) (rest : List DebugCommand) (held : Watching) → done now back (command ∷ rest) held
     ≡ unless_it_goes (goal_of held now.place back command) rest held
     (done now (back_after held now.place back command) rest (obeyed now back command held))
 unfolding done
@@ -34,7 +34,7 @@ same_goes : (goal : Option Goal) (rest : List DebugCommand) (one two a b : Watch
 same_goes None rest one two a b same goes = same
 same_goes (Some g) rest one two a b same goes = goes g
 
-done-any : (now : View) (back : ℕ) (commands other : List DebugCommand) (held : Watching)
+done-any : (now : MomentView) (back : ℕ) (commands other : List DebugCommand) (held : Watching)
     → done now back commands (record held { commands = other }) ≡ done now back commands held
 done-any now back [] other held = done-none now back (record held { commands = other }) ∙ sym (done-none now back held)
 done-any now back (command ∷ rest) other held =
@@ -44,7 +44,7 @@ done-any now back (command ∷ rest) other held =
     ∙ sym (done-more now back command rest held)
 
 -- a command was done that does not go on
-pub was_obeyed : (now : View) (back there : ℕ) (command : DebugCommand) (rest : List DebugCommand) (held new all : Watching) → held.commands ≡ command ∷ rest
+pub was_obeyed : (now : MomentView) (back there : ℕ) (command : DebugCommand) (rest : List DebugCommand) (held new all : Watching) → held.commands ≡ command ∷ rest
     → goal_of (record held { commands = rest }) now.place back command ≡ None
     → there ≡ back_after (record held { commands = rest }) now.place back command
     → new ≡ obeyed now back command (record held { commands = rest })
@@ -59,7 +59,7 @@ was_obeyed now back there command rest held new all cut stays is_there is whole 
     ∙ whole
 
 -- one went on
-pub went : (now : View) (back : ℕ) (command : DebugCommand) (rest : List DebugCommand) (goal : Goal) (held all : Watching) → held.commands ≡ command ∷ rest
+pub went : (now : MomentView) (back : ℕ) (command : DebugCommand) (rest : List DebugCommand) (goal : Goal) (held all : Watching) → held.commands ≡ command ∷ rest
     → goal_of (record held { commands = rest }) now.place back command ≡ Some goal → done now back held.commands held ≡ all
     → record held { commands = rest; goal = goal } ≡ all
 went now back command rest goal held all cut goes whole =
@@ -68,7 +68,7 @@ went now back command rest goal held all cut goes whole =
     ∙ whole
 
 -- none is left
-pub finished : (now : View) (back : ℕ) (held all : Watching) → held.commands ≡ [] → done now back held.commands held ≡ all
+pub finished : (now : MomentView) (back : ℕ) (held all : Watching) → held.commands ≡ [] → done now back held.commands held ≡ all
     → record held { goal = Nothing } ≡ all
 finished now back held all none whole =
     ap (λ commands. record held { commands = commands; goal = Nothing }) none

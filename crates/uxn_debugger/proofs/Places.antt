@@ -1,4 +1,4 @@
--- What stands at a place of a list, of its front, and of its front in reverse.
+-- What stands at a place of a list, of its prefix, and of its prefix in reverse.
 use Rattle.std.proofs.Common.{◌≡◌, ℕ, zero, suc, ◌+◌, ◌-◌, ◌<◌, ◌≤◌, Bool, true, false, cond, List, [], ◌∷◌, ◌++◌, length, take, drop, Some, None, refl, sym, ap, ◌∙◌, arith}
 use Rattle.std.specs.Prelude.{slice_get, not, reverse}
 use Rattle.std.specs.List.{position_or_len}
@@ -41,7 +41,7 @@ first_passes p x xs awaited = ap (λ b. cond (not b) (1 + position_or_len p xs) 
 pub first_fails : {A : Type 0} (p : A → Bool) (x : A) (xs : List A) → p x ≡ false → position_or_len p (x ∷ xs) ≡ 1 + position_or_len p xs
 first_fails p x xs other = ap (λ b. cond (not b) (1 + position_or_len p xs) 0) other
 
--- a front, and one in reverse
+-- a prefix, and one in reverse
 pub taken_get : {A : Type 0} (n : ℕ) (xs : List A) (i : ℕ) → i < n → slice_get (take n xs) i ≡ slice_get xs i
 taken_get zero xs i less = absurd (omega arith)
 taken_get (suc n) [] i less = refl

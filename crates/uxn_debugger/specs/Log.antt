@@ -9,12 +9,12 @@ use Rattle.tal_words.specs.declared.name.Label.{Label}
 use Rattle.vector_loop.specs.declared.watch.Moment.{Moment}
 use Rattle.vector_loop.specs.Watch.{Page}
 use Rattle.uxn_undo.specs.Kept.{number_held}
-use Rattle.uxn_undo.specs.Laws.{Given, kept_of}
+use Rattle.uxn_undo.specs.Laws.{GivenMoments, kept_of}
 use Rattle.uxn_undo.specs.Runs.{InRow}
 use Rattle.debug_commands.specs.declared.command.DebugCommand.{DebugCommand}
 use Rattle.debug_commands.specs.declared.command.DebugCommand.TheVariants.{Break, Delete, Run, Step, Back}
 use Rattle.uxn_debugger.specs.declared.place.Place.TheVariants.{Before, End}
-use Rattle.uxn_debugger.specs.Printing.{View, view, printed}
+use Rattle.uxn_debugger.specs.Printing.{MomentView, view, printed}
 
 -- what a watcher is shown: the machine, the 256 ports, and where the run is
 pub record Shown : Type 0 where
@@ -23,18 +23,18 @@ pub record Shown : Type 0 where
   pub moment : Moment
 
 -- a moment where the run stands, with what its ports read; one that the run has gone on from, with what was stored in them; and the end
-abbrev pub before : Shown → View
+abbrev pub before : Shown → MomentView
 before shown = view shown.core shown.page.read (Before shown.moment)
 
-abbrev pub gone : Shown → View
+abbrev pub gone : Shown → MomentView
 gone shown = view shown.core shown.page.stored (Before shown.moment)
 
-abbrev pub at_end : Shown → View
+abbrev pub at_end : Shown → MomentView
 at_end shown = view shown.core shown.page.read (End shown.moment)
 
 -- what is given to be kept of it
-abbrev pub given_of : Shown → Given
-given_of shown = record { core = shown.core; stored = shown.page.stored }
+abbrev pub moment_of_shown : Shown → GivenMoments
+moment_of_shown shown = record { core = shown.core; stored = shown.page.stored }
 
 -- moments of a run and its end: each is counted by its index, and stands at the address of its machine, and memory differs from that of
 -- the next one only within the bytes that are kept for it
@@ -42,7 +42,7 @@ pub record IsRegular (moments : List Shown) (end : Shown) : Type 0 where
   pub counts : (index : ℕ) (shown : Shown) → slice_get moments index ≡ Some shown → shown.moment.instructions ≡ index
   pub addresses : (index : ℕ) (shown : Shown) → slice_get moments index ≡ Some shown → shown.moment.address ≡ shown.core.at
   pub count : end.moment.instructions ≡ length moments
-  pub memory : InRow (map given_of moments) end.core.memory
+  pub memory : InRow (map moment_of_shown moments) end.core.memory
 
 -- a set of addresses, and what commands make of it
 abbrev pub AddressSet : Type 0
@@ -51,14 +51,14 @@ AddressSet = ℕ → Bool
 abbrev pub no_breaks : AddressSet
 no_breaks address = false
 
-abbrev pub with_break : ℕ → AddressSet → AddressSet
-with_break added breaks address = address == added || breaks address
+abbrev pub set_with_break : ℕ → AddressSet → AddressSet
+set_with_break added breaks address = address == added || breaks address
 
 abbrev pub without_break : ℕ → AddressSet → AddressSet
 without_break removed breaks address = not (address == removed) && breaks address
 
 abbrev pub breaks_after : DebugCommand → AddressSet → AddressSet
-breaks_after (Break address) breaks = with_break address breaks
+breaks_after (Break address) breaks = set_with_break address breaks
 breaks_after (Delete address) breaks = without_break address breaks
 breaks_after _ breaks = breaks
 
@@ -73,21 +73,21 @@ abbrev pub first_stand : Stand
 first_stand = record { index = 0; furthest = 0; breaks = no_breaks; log = [] }
 
 module _ (labels : List Label) (moments : List Shown) (end : Shown) where
-  -- what is seen at an index: a moment, or the end where there is none
-  abbrev pub moment_seen : Bool → Shown → View
-  moment_seen true shown = gone shown
-  moment_seen false shown = before shown
+  -- what is observed at an index: a moment, or the end where there is none
+  abbrev pub moment_observed : Bool → Shown → MomentView
+  moment_observed true shown = gone shown
+  moment_observed false shown = before shown
 
-  abbrev pub seen : Bool → Option Shown → View
-  seen passed (Some shown) = moment_seen passed shown
-  seen passed None = at_end end
+  abbrev pub observed : Bool → Option Shown → MomentView
+  observed passed (Some shown) = moment_observed passed shown
+  observed passed None = at_end end
 
-  abbrev pub view_at : ℕ → ℕ → View
-  view_at furthest index = seen (nat_lt index furthest) (slice_get moments index)
+  abbrev pub view_at : ℕ → ℕ → MomentView
+  view_at furthest index = observed (nat_lt index furthest) (slice_get moments index)
 
   -- the moments before an index, the newest first, and how many of them are held there
-  abbrev pub given_before : ℕ → List Given
-  given_before index = reverse (take index (map given_of moments))
+  abbrev pub given_before : ℕ → List GivenMoments
+  given_before index = reverse (take index (map moment_of_shown moments))
 
   abbrev pub held_before : ℕ → ℕ
   held_before index = number_held (map kept_of (given_before index))

@@ -2,7 +2,7 @@
 use Rattle.std.specs.Prelude.{ℕ, ◌+◌, ◌-◌, ◌%◌, ◌||◌, ◌==◌, nat_le, if◌then◌else◌, List, []}
 use Rattle.std.specs.Prelude.{◌∷◌, ◌++◌, codes, decimal, slice_index, Option, Some, None}
 use Rattle.std.specs.List.{flat_map, range_with_len}
-use Rattle.tree_io.specs.NumberText.{hex_of_byte, hex_of_short}
+use Rattle.uxn_io_traits.specs.NumberText.{hex_of_byte, hex_of_short}
 use Rattle.uxn_stacks.specs.Cells.{Cells}
 use Rattle.uxn_opcodes.specs.declared.Core.{Core}
 use Rattle.system_port.specs.DebugText.{spaced, debug_text_of}
@@ -15,8 +15,8 @@ use Rattle.debug_commands.specs.declared.command.DebugCommand.TheVariants.{Break
 use Rattle.uxn_debugger.specs.declared.place.Place.{Place}
 use Rattle.uxn_debugger.specs.declared.place.Place.TheVariants.{Before, End}
 
--- what is seen of a machine: its two rings, the byte of bank 0 at each address, the bytes that `ports` prints, and where the run is
-pub record View : Type 0 where
+-- what is observed of a machine: its two stacks, the byte of bank 0 at each address, the bytes that `ports` prints, and where the run is
+pub record MomentView : Type 0 where
   pub working : Cells
   pub returns : Cells
   pub byte : ℕ → ℕ
@@ -24,14 +24,14 @@ pub record View : Type 0 where
   pub place : Place
 
 -- the byte of bank 0 at an address, modulo 65536
-abbrev pub byte_at : List ℕ → ℕ → ℕ
-byte_at memory address = slice_index memory (address % 65536)
+abbrev pub text_byte_at : List ℕ → ℕ → ℕ
+text_byte_at memory address = slice_index memory (address % 65536)
 
-abbrev pub view : Core → List ℕ → Place → View
+abbrev pub view : Core → List ℕ → Place → MomentView
 view core page place = record {
   working = core.working;
   returns = core.returns;
-  byte = byte_at core.memory;
+  byte = text_byte_at core.memory;
   page = page;
   place = place;
 }
@@ -52,13 +52,13 @@ place_line labels opcode (Before moment) =
     ++ name_of_op opcode ++ label_text (nearest_label labels moment.address) moment.address ++ newline
 place_line labels opcode (End moment) = codes "end " ++ decimal moment.instructions ++ newline
 
--- that of what is seen, with the opcode at the address
+-- that of what is observed, with the opcode at the address
 abbrev pub moment_at : Place → Moment
 moment_at (Before moment) = moment
 moment_at (End moment) = moment
 
-abbrev pub place_seen : List Label → View → List ℕ
-place_seen labels seen = place_line labels (seen.byte (moment_at seen.place).address) seen.place
+abbrev pub place_observed : List Label → MomentView → List ℕ
+place_observed labels observed = place_line labels (observed.byte (moment_at observed.place).address) observed.place
 
 -- how many moments back one could have gone
 abbrev pub held_line : ℕ → List ℕ
@@ -87,13 +87,13 @@ abbrev pub port_table : List ℕ → List ℕ
 port_table page = table hex_of_byte (slice_index page) 256
 
 -- what a command prints where the run stands once the command is done; before it one could have gone so many moments back
-abbrev pub printed : List Label → ℕ → View → DebugCommand → List ℕ
-printed labels reach seen (Break address) = address_line (codes "break") address
-printed labels reach seen (Delete address) = address_line (codes "delete") address
-printed labels reach seen Run = place_seen labels seen
-printed labels reach seen (Step count) = place_seen labels seen
-printed labels reach seen (Back count) = if nat_le count reach then place_seen labels seen else held_line reach
-printed labels reach seen Here = place_seen labels seen
-printed labels reach seen Stacks = debug_text_of seen.working seen.returns
-printed labels reach seen (Mem address count) = memory_table seen.byte address count
-printed labels reach seen PortPage = port_table seen.page
+abbrev pub printed : List Label → ℕ → MomentView → DebugCommand → List ℕ
+printed labels reach observed (Break address) = address_line (codes "break") address
+printed labels reach observed (Delete address) = address_line (codes "delete") address
+printed labels reach observed Run = place_observed labels observed
+printed labels reach observed (Step count) = place_observed labels observed
+printed labels reach observed (Back count) = if nat_le count reach then place_observed labels observed else held_line reach
+printed labels reach observed Here = place_observed labels observed
+printed labels reach observed Stacks = debug_text_of observed.working observed.returns
+printed labels reach observed (Mem address count) = memory_table observed.byte address count
+printed labels reach observed PortPage = port_table observed.page

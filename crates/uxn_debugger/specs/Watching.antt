@@ -14,7 +14,7 @@ use Rattle.uxn_debugger.specs.declared.place.Place.{Place}
 use Rattle.uxn_debugger.specs.declared.place.Place.TheVariants.{Before, End}
 use Rattle.uxn_debugger.specs.declared.place.Goal.{Goal}
 use Rattle.uxn_debugger.specs.declared.place.Goal.TheVariants.{FirstMoment, MomentAfter, BreakAddress, Nothing}
-use Rattle.uxn_debugger.specs.Printing.{View, moment_at, place_seen, printed}
+use Rattle.uxn_debugger.specs.Printing.{MomentView, moment_at, place_observed, printed}
 use Rattle.uxn_debugger.specs.Bits.{addresses_in}
 use Rattle.uxn_debugger.specs.Log.{AddressSet, no_breaks, breaks_after, Shown, before, at_end, IsRegular, log_of}
 
@@ -33,10 +33,10 @@ abbrev pub new_watching : List DebugCommand → List Label → Watching
 new_watching commands labels =
     record { commands = commands; labels = labels; goal = FirstMoment; breaks = no_breaks; log = []; undo = [] }
 
--- what is seen so many moments before the one that is shown, by what is kept of them
-abbrev pub seen_of : View → List Kept → ℕ → Option Kept → View
-seen_of now held back None = now
-seen_of now held back (Some kept) = record {
+-- what is observed so many moments before the one that is shown, by what is kept of them
+abbrev pub observed_view : MomentView → List Kept → ℕ → Option Kept → MomentView
+observed_view now held back None = now
+observed_view now held back (Some kept) = record {
   working = kept.working;
   returns = kept.returns;
   byte = λ at. byte_back (take back held) (at % 65536) (now.byte at);
@@ -44,8 +44,8 @@ seen_of now held back (Some kept) = record {
   place = Before (record { instructions = (moment_at now.place).instructions - back; address = kept.at });
 }
 
-abbrev pub seen_back : View → List Kept → ℕ → View
-seen_back now held back = if back == 0 then now else seen_of now held back (slice_get held (back - 1))
+abbrev pub observed_back : MomentView → List Kept → ℕ → MomentView
+observed_back now held back = if back == 0 then now else observed_view now held back (slice_get held (back - 1))
 
 -- the moment so many before stands at a break address; 0 is the one that is shown, and the end is none
 abbrev pub stands_at_break : AddressSet → Place → Bool
@@ -83,15 +83,15 @@ goal_of held (Before moment) back (Step count) = if nat_le count back then None 
 goal_of _ _ _ _ = None
 
 -- a command is done where it leaves one
-abbrev pub did : View → ℕ → DebugCommand → Watching → Watching
+abbrev pub did : MomentView → ℕ → DebugCommand → Watching → Watching
 did view reach command held = record held {
   breaks = breaks_after command held.breaks;
   log = held.log ++ printed held.labels reach view command;
 }
 
-abbrev pub obeyed : View → ℕ → DebugCommand → Watching → Watching
+abbrev pub obeyed : MomentView → ℕ → DebugCommand → Watching → Watching
 obeyed now back command held =
-    did (seen_back now held.undo (back_after held now.place back command)) (length held.undo - back) command held
+    did (observed_back now held.undo (back_after held now.place back command)) (length held.undo - back) command held
 
 -- a command that goes on leaves the rest to be done later
 abbrev pub unless_it_goes : Option Goal → List DebugCommand → Watching → Watching → Watching
@@ -99,21 +99,21 @@ unless_it_goes (Some goal) rest held others = record held { commands = rest; goa
 unless_it_goes None rest held others = others
 
 -- commands are done from so many moments back on, until one goes on or none is left
-unfoldable pub done : View → ℕ → List DebugCommand → Watching → Watching
+unfoldable pub done : MomentView → ℕ → List DebugCommand → Watching → Watching
 done now back [] held = record held { commands = []; goal = Nothing }
 done now back (command ∷ rest) held =
     unless_it_goes (goal_of held now.place back command) rest held
     (done now (back_after held now.place back command) rest (obeyed now back command held))
 
 -- the place line is printed as `run` and `step` arrive, and the next commands are done
-abbrev pub arrival : Goal → List Label → View → List ℕ
+abbrev pub arrival : Goal → List Label → MomentView → List ℕ
 arrival FirstMoment labels view = []
-arrival _ labels view = place_seen labels view
+arrival _ labels view = place_observed labels view
 
-abbrev pub with_arrival : View → Watching → Watching
+abbrev pub with_arrival : MomentView → Watching → Watching
 with_arrival view held = record held { log = held.log ++ arrival held.goal held.labels view }
 
-unfoldable pub arrived : View → Watching → Watching
+unfoldable pub arrived : MomentView → Watching → Watching
 arrived view held = done view 0 held.commands (with_arrival view held)
 
 -- a moment at this address is the one that was waited for
@@ -173,7 +173,7 @@ after_moment held core page moment = shown held (shown_of core page moment)
 abbrev pub after_end : Watching → Core → Page → Moment → Watching
 after_end held core page moment = ended held (shown_of core page moment)
 
--- where memory was wanting to it, it has kept no moment, and names the same labels
+-- when out of memory to it, it has kept no moment, and names the same labels
 abbrev pub KeptNone : Watching → Watching → Type 0
 KeptNone before now = (now.undo ≡ before.undo) × (now.labels ≡ before.labels)
 

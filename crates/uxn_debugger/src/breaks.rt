@@ -2,7 +2,7 @@
 
 ghost use Rattle.std.specs.Prelude.{◌≡◌};
 ghost use Rattle.uxn_debugger.specs.Bits.{addresses_in};
-ghost use Rattle.uxn_debugger.specs.Log.{breaks_after, no_breaks, with_break, without_break};
+ghost use Rattle.uxn_debugger.specs.Log.{breaks_after, no_breaks, set_with_break, without_break};
 
 use debug_commands::DebugCommand;
 
@@ -33,7 +33,7 @@ impl Breaks {
 
     // Adds an address.
     pub(crate) fn insert(&mut self, address: u16)
-        ensures { addresses_in self.new.bits ≡ with_break address (addresses_in self.old.bits) }
+        ensures { addresses_in self.new.bits ≡ set_with_break address (addresses_in self.old.bits) }
     {
         self.bits[usize::from(address / 64)] |= 1 << (address % 64);
     }

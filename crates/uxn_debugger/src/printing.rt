@@ -11,7 +11,7 @@ ghost use Rattle.uxn_debugger.specs.Printing.{
   memory_table,
   newline,
   place_line,
-  place_seen,
+  place_observed,
   port_table,
   printed,
 };
@@ -24,7 +24,7 @@ use std::alloc::AllocError;
 use system_port::debug_text;
 use tal_symbols::{Label, nearest};
 use tal_words::op_name;
-use tree_io::{decimal, hex_byte, hex_short};
+use uxn_io_traits::{decimal, hex_byte, hex_short};
 use uxn_opcodes::Ports;
 
 /// How many bytes a line shows.
@@ -91,7 +91,7 @@ pub(crate) fn put_place(
 ) -> Result<(), AllocError>
     requires { scene.now.back ≤ length scene.now.undo.now }
     ensures { OnOk result ((page : List ℕ)
-        → log.new.items ≡ log.old.items ++ place_seen labels.now (view_in scene.now page)) }
+        → log.new.items ≡ log.old.items ++ place_observed labels.now (view_in scene.now page)) }
 {
     let place = scene.place();
     let opcode = scene.byte(place.moment().address);

@@ -21,7 +21,7 @@ pub(crate) struct Scene<'s> {
 }
 
 impl<'s> Scene<'s> {
-    // The working ring.
+    // The working stack.
     pub(crate) fn working(&self) -> Ring
         requires { self.now.back ≤ length self.now.undo.now }
         ensures { (page : List ℕ) → result ≡ (view_in self.now page).working }
@@ -33,7 +33,7 @@ impl<'s> Scene<'s> {
         }
     }
 
-    // The return ring.
+    // The return stack.
     pub(crate) fn returns(&self) -> Ring
         requires { self.now.back ≤ length self.now.undo.now }
         ensures { (page : List ℕ) → result ≡ (view_in self.now page).returns }

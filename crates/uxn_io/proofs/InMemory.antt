@@ -4,6 +4,6 @@ pub mod HeldLemmas
 pub mod LookupLemmas
 pub mod PlaceLemmas
 pub mod SoundLemmas
-pub mod SureLemmas
+pub mod GuaranteedLemmas
 pub mod TreeLemmas
 pub mod CallLemmas

@@ -1,4 +1,4 @@
-//! Sinks and trees that are kept in memory, tell what they hold and fail on demand. Nothing else here rests on them.
+//! Sinks and trees that are kept in memory, have known contents and fail on demand. Nothing else here rests on them.
 mod places;
 mod sinks;
 mod trees;

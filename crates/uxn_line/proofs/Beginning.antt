@@ -5,15 +5,15 @@ use Rattle.std.proofs.lemmas.List.{length-set}
 use Rattle.uxn_line.specs.declared.line.Line.{Line}
 use Rattle.uxn_line.specs.declared.line.Moved.TheVariants.{Gave}
 use Rattle.uxn_line.specs.declared.member.Member.{Member}
-use Rattle.vector_loop.specs.declared.gift.Gift.{Gift}
+use Rattle.vector_loop.specs.declared.pending_input.PendingInput.{PendingInput}
 use Rattle.vector_loop.specs.Places.{Place}
 use Rattle.uxn_line.specs.Places.{turn}
 use Rattle.uxn_line.specs.Members.{MemberAt}
-use Rattle.uxn_line.specs.MemberTurns.{WasGiven}
-use Rattle.uxn_line.specs.Standing.{place_in}
+use Rattle.uxn_line.specs.MemberTurns.{MemberWasGiven}
+use Rattle.uxn_line.specs.Standing.{machine_place}
 use Rattle.uxn_line.specs.Moves.{Came}
 use Rattle.uxn_line.specs.Work.{work, works, work_left}
-use Rattle.uxn_line.proofs.Turned.{give-gifts, give-put}
+use Rattle.uxn_line.proofs.Turned.{give-pending_inputs, give-put}
 use Rattle.uxn_line.proofs.Working.{until_all, idle-open, ring-within, given-less, head-less}
 use Rattle.uxn_line.proofs.Standings.{place-more}
 use Rattle.uxn_line.proofs.Running.{with_member, room-stays, empty-stays}
@@ -21,17 +21,17 @@ use Rattle.uxn_line.proofs.Coming.{next-is-for}
 use Rattle.uxn_line.proofs.Feeding.{FoundOpen, idle-at, give-came}
 
 -- what was taken first
-pub first-gift : (all : List Gift) (gift : Gift) → slice_get all 0 ≡ Some gift → all ≡ gift ∷ drop 1 all
-first-gift [] gift is = absurd (cc)
-first-gift (first ∷ all) gift is = (let same : first ≡ gift = cc in ap (λ g. g ∷ all) same)
+pub first-pending_input : (all : List PendingInput) (pending_input : PendingInput) → slice_get all 0 ≡ Some pending_input → all ≡ pending_input ∷ drop 1 all
+first-pending_input [] pending_input is = absurd (cc)
+first-pending_input (first ∷ all) pending_input is = (let same : first ≡ pending_input = cc in ap (λ g. g ∷ all) same)
 
-pub no-gift : (all : List Gift) → slice_get all 0 ≡ None → all ≡ []
-no-gift [] is = refl
-no-gift (gift ∷ all) is = absurd (cc)
+pub no-pending_input : (all : List PendingInput) → slice_get all 0 ≡ None → all ≡ []
+no-pending_input [] is = refl
+no-pending_input (pending_input ∷ all) is = absurd (cc)
 
 -- the line then
-abbrev pub begun_on : Line → List Gift → Member → Line
-begun_on line rest now = record (with_member line 0 now) { giver = rest }
+abbrev pub begun_on : Line → List PendingInput → Member → Line
+begun_on line rest now = record (with_member line 0 now) { input_queue = rest }
 
 -- the first of a list was set
 set-first : (budget before before_now : ℕ) (members : List Member) (member now : Member) → slice_get members 0 ≡ Some member
@@ -46,29 +46,29 @@ some-until : (given : Bool) → until_all given ≤ 1
 some-until true = omega arith
 some-until false = omega arith
 
-first-less : (line : Line) (member now : Member) (gift : Gift) (last : Bool) (rest : List Gift) → FoundOpen line 0 member
-    → slice_get line.giver 0 ≡ Some gift → rest ≡ drop 1 line.giver → WasGiven line.budget gift last member now
+first-less : (line : Line) (member now : Member) (pending_input : PendingInput) (last : Bool) (rest : List PendingInput) → FoundOpen line 0 member
+    → slice_get line.input_queue 0 ≡ Some pending_input → rest ≡ drop 1 line.input_queue → MemberWasGiven line.budget pending_input last member now
     → work_left (begun_on line rest now) < work_left line
-first-less line member now gift last rest found taken rest_is gives =
-    let size : length line.giver ≡ suc (length rest) = ap length (first-gift line.giver gift taken ∙ ap (λ r. gift ∷ r) (sym rest_is)) in
+first-less line member now pending_input last rest found taken rest_is gives =
+    let size : length line.input_queue ≡ suc (length rest) = ap length (first-pending_input line.input_queue pending_input taken ∙ ap (λ r. pending_input ∷ r) (sym rest_is)) in
     let within = ring-within member now member.ring.items gives.ring in
     let open_still : until_all member.all_given ≡ 1 = ap until_all (idle-open member found.idle found.goes_on).1 in
     let most = some-until now.all_given in
-    set-first line.budget (length line.giver) (length rest) line.members.items member now found.there
-    (given-less line.budget (length line.giver) (length rest) member now found.goes_on (omega (arith, size, within, open_still, most)) gives.left)
+    set-first line.budget (length line.input_queue) (length rest) line.members.items member now found.there
+    (given-less line.budget (length line.input_queue) (length rest) member now found.goes_on (omega (arith, size, within, open_still, most)) gives.left)
 
-pub first-came : (line : Line) (member now : Member) (gift : Gift) (last : Bool) (rest : List Gift) → FoundOpen line 0 member
-    → slice_get line.giver 0 ≡ Some gift → rest ≡ drop 1 line.giver → (last ≡ true) ↔ (rest ≡ []) → WasGiven line.budget gift last member now
+pub first-came : (line : Line) (member now : Member) (pending_input : PendingInput) (last : Bool) (rest : List PendingInput) → FoundOpen line 0 member
+    → slice_get line.input_queue 0 ≡ Some pending_input → rest ≡ drop 1 line.input_queue → (last ≡ true) ↔ (rest ≡ []) → MemberWasGiven line.budget pending_input last member now
     → Came 0 Gave [] line (begun_on line rest now)
-first-came line member now gift last rest found taken rest_is is_last gives =
+first-came line member now pending_input last rest found taken rest_is is_last gives =
     give-came line (begun_on line rest now) 0 member now found
     (λ job turned stands.
-    let place = place_in job turned 0 in
+    let place = machine_place job turned 0 in
     let inline = stands.each 0 member found.there in
     let idle = idle-at member place inline.stands found.idle found.goes_on in
-    let are : place.gifts ≡ gift ∷ rest = sym stands.script ∙ first-gift line.giver gift taken ∙ ap (λ r. gift ∷ r) (sym rest_is) in
-    let for_console = next-is-for job stands.job_is 0 (turned 0) gift rest are in
-    let gifts = give-gifts line.budget place gift rest idle.idle are idle.goes_on for_console in
+    let are : place.pending_inputs ≡ pending_input ∷ rest = sym stands.script ∙ first-pending_input line.input_queue pending_input taken ∙ ap (λ r. pending_input ∷ r) (sym rest_is) in
+    let for_console = next-is-for job stands.job_is 0 (turned 0) pending_input rest are in
+    let pending_inputs = give-pending_inputs line.budget place pending_input rest idle.idle are idle.goes_on for_console in
     let at = gives.stands place rest inline.stands are for_console is_last idle.goes_on in
     let P : ℕ → Type 0 = λ b. MemberAt now (turn b place) in
     let Q : Place → Type 0 = λ p. MemberAt now p in
@@ -76,15 +76,15 @@ first-came line member now gift last rest found taken rest_is is_last gives =
       there = found.there;
       items = refl;
       budget = refl;
-      script = sym gifts ∙ ap (λ b. (turn b place).gifts) stands.budget ∙ ap (λ (p : Place). p.gifts) (sym (place-more job 0 turned));
+      script = sym pending_inputs ∙ ap (λ b. (turn b place).pending_inputs) stands.budget ∙ ap (λ (p : Place). p.pending_inputs) (sym (place-more job 0 turned));
       own = record {
         stands = subst Q (sym (place-more job 0 turned)) (subst P stands.budget at);
         ring = empty-stays member now member.ring.items gives.ring inline.ring;
         room = room-stays member now member.ring.items gives.ring ∙ inline.room;
         within = (let kept = ring-within member now member.ring.items gives.ring in omega (arith, kept, inline.within));
       };
-      put = give-put job.budget place gift rest idle.idle are idle.goes_on for_console;
+      put = give-put job.budget place pending_input rest idle.idle are idle.goes_on for_console;
     })
     (λ job turned stands waits. waits)
     (length-set line.members.items 0 now)
-    (first-less line member now gift last rest found taken rest_is gives)
+    (first-less line member now pending_input last rest found taken rest_is gives)

@@ -25,7 +25,7 @@ one-not events place other test within is not_test so_far all =
     let yes_test = is.1 ((parted events place other within).0 (so_far.1 all)).0 in
     cc
 
-pub all-seen : (events : List Event) (place : ℕ) → length events ≤ place → AreOfConsole (drop place events) ↔ AreOfConsole events → AreOfConsole events
-all-seen events place past so_far =
+pub all-observed : (events : List Event) (place : ℕ) → length events ≤ place → AreOfConsole (drop place events) ↔ AreOfConsole events → AreOfConsole events
+all-observed events place past so_far =
     let P : List Event → Type 0 = λ e. AreOfConsole e in
     so_far.0 (subst P (sym (drop_of_length-le events past)) tt)

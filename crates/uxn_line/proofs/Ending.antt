@@ -1,22 +1,22 @@
--- What a line has put is a front of the stream of its last machine.
+-- What a line has put is a prefix of the stream of its last machine.
 use Rattle.std.proofs.Common.{◌≡◌, ℕ, zero, suc, ◌+◌, ◌<◌, ◌↔◌, ◌||◌, inl, inr, Bool, true, false, List, [], ◌∷◌, ◌++◌, length, refl, sym, ap, subst, ◌∙◌, arith, append_assoc, length-append}
 use Rattle.std.specs.Prelude.{Some, Result, Ok, Err, IfOk, OnErr, is_err, slice_get}
 use Rattle.std.proofs.lemmas.Bool.{true≢false}
 use Rattle.std.proofs.lemmas.List.{take-append-le}
-use Rattle.tree_io.specs.Ended.{SinkEnded}
-use Rattle.tree_io.specs.EndedLaws.{sink-as-it-was, sink-then}
-use Rattle.tree_io.specs.State.{SinkState}
-use Rattle.tree_io.specs.Told.{extended}
-use Rattle.tree_io.specs.declared.sinks.Failed.{Failed}
+use Rattle.uxn_io_traits.specs.Ended.{SinkEnded}
+use Rattle.uxn_io_traits.specs.EndedLaws.{sink-as-it-was, sink-then}
+use Rattle.uxn_io_traits.specs.State.{SinkState}
+use Rattle.uxn_io_traits.specs.Known.{extended}
+use Rattle.uxn_io_traits.specs.declared.sinks.Failed.{Failed}
 use Rattle.uxn_line.specs.declared.line.Line.{Line}
 use Rattle.uxn_line.specs.declared.line.Moved.{Moved}
 use Rattle.uxn_line.specs.declared.line.Moved.TheVariants.{Ran, Gave, Waits, Held, Ended}
-use Rattle.vector_loop.specs.Places.{HasEnded}
+use Rattle.vector_loop.specs.Places.{PlaceHasEnded}
 use Rattle.uxn_line.specs.Places.{put_in}
 use Rattle.uxn_line.specs.Machines.{handed_on}
-use Rattle.uxn_line.specs.Streams.{Job, IsJob, stream, after}
-use Rattle.uxn_line.specs.Standing.{Turned, place_in, Stands}
-use Rattle.uxn_line.specs.Moves.{last_of, written_in, turned_by, is_move, IsWaiting, IsStill, Cause, Leads, Goes, WritesLast, Fails, TurnCame, IsUnderWay, StaysUnderWay, Reaches, GoesOnWith, Stops, Went}
+use Rattle.uxn_line.specs.Streams.{LineJob, IsJob, stream, after}
+use Rattle.uxn_line.specs.Standing.{Turned, machine_place, LineRepresents}
+use Rattle.uxn_line.specs.Moves.{last_machine, written_in, turned_by, is_move, IsWaiting, IsStill, Cause, Leads, Goes, WritesLast, Fails, TurnCame, IsUnderWay, StaysUnderWay, LineReaches, GoesOnWith, LineStops, Went}
 use Rattle.uxn_line.specs.Work.{work_left, WorksOn}
 use Rattle.uxn_line.proofs.MachineTurns.{run-put}
 use Rattle.uxn_line.proofs.Turning.{follows}
@@ -29,13 +29,13 @@ some-there [] place within = absurd (omega (arith, within))
 some-there (x ∷ xs) zero within = (x, refl)
 some-there (x ∷ xs) (suc place) within = some-there xs place (omega (arith, within))
 
--- what was written is a front of the stream
-pub stream-is : (job : Job) → IsJob job → (machine count : ℕ) → (rest : List ℕ) × (stream job machine ≡ put_in (after job machine count) ++ rest)
-stream-is job is machine count = let run = follows job is machine count in (run.rest, run.front)
+-- what was written is a prefix of the stream
+pub stream-is : (job : LineJob) → IsJob job → (machine count : ℕ) → (rest : List ℕ) × (stream job machine ≡ put_in (after job machine count) ++ rest)
+stream-is job is machine count = let run = follows job is machine count in (run.rest, run.prefix)
 
 -- where nothing moved the machine is still
 pub move-still : (line : Line) (machine : ℕ) (moved : Moved) → is_move moved ≡ false
-    → ((job : Job) (turned : Turned) → Stands job line turned → Cause job line turned machine moved) → IsStill line machine
+    → ((job : LineJob) (turned : Turned) → LineRepresents job line turned → Cause job line turned machine moved) → IsStill line machine
 move-still line machine Ran is cause = absurd (cc)
 move-still line machine Gave is cause = absurd (cc)
 move-still line machine Waits is cause = λ job turned stands. inl (cause job turned stands)
@@ -54,21 +54,21 @@ works-more true a b c first last = works-then true true a b c first last
 works-more false a b c first last = works-then false true a b c first last
 
 -- where the last machine writes a byte its stream goes on with it
-goes-on-with : (job : Job) (line : Line) (turned : Turned) (machine byte : ℕ) → Stands job line turned → WritesLast job turned machine byte
+goes-on-with : (job : LineJob) (line : Line) (turned : Turned) (machine byte : ℕ) → LineRepresents job line turned → WritesLast job turned machine byte
     → GoesOnWith job turned byte
 goes-on-with job line turned machine byte stands writes =
     let count = stands.machines in
     let last = writes.last in
     let there = some-there line.members.items machine (omega (arith, last, count)) in
     let at = (stands.each machine there.0 there.1).stands.stands in
-    let place = place_in job turned machine in
+    let place = machine_place job turned machine in
     let vector = writes.vector in
     let left = at.left in
     let put = run-put job.budget there.0.machine place (omega (arith, left, vector)) at in
     let rest = stream-is job stands.job_is machine (suc (turned machine)) in
     let bytes = ap (λ c. handed_on c) at.core ∙ writes.writes in
-    let same : machine ≡ last_of job = omega (arith, last) in
-    let P : ℕ → Type 0 = λ m. (rest : List ℕ) × (stream job m ≡ put_in (place_in job turned m) ++ byte ∷ rest) in
+    let same : machine ≡ last_machine job = omega (arith, last) in
+    let P : ℕ → Type 0 = λ m. (rest : List ℕ) × (stream job m ≡ put_in (machine_place job turned m) ++ byte ∷ rest) in
     subst P same (
       rest.0,
       rest.1 ∙ ap (λ all. all ++ rest.0) (put ∙ ap (λ b. put_in place ++ b) bytes) ∙ append_assoc (put_in place) (byte ∷ []) rest.0,
@@ -89,13 +89,13 @@ goes-then to then a b c o p q first last = record {
   leads = leads-then to then first.bytes last.bytes a b c first.leads last.leads;
 }
 
-pub reach-none : (line : Line) (out : SinkState) → Reaches line line out out
+pub reach-none : (line : Line) (out : SinkState) → LineReaches line line out out
 reach-none line out = (λ turned. turned, record { bytes = []; put = sink-as-it-was out; leads = leads-nowhere line })
 
-pub reach-then : (a b c : Line) (o p q : SinkState) → Reaches a b o p → Reaches b c p q → Reaches a c o q
+pub reach-then : (a b c : Line) (o p q : SinkState) → LineReaches a b o p → LineReaches b c p q → LineReaches a c o q
 reach-then a b c o p q first last = (λ turned. last.0 (first.0 turned), goes-then first.0 last.0 a b c o p q first.1 last.1)
 
-pub stop-then : (a b c : Line) (o p q : SinkState) → Reaches a b o p → Stops b c p q → Stops a c o q
+pub stop-then : (a b c : Line) (o p q : SinkState) → LineReaches a b o p → LineStops b c p q → LineStops a c o q
 stop-then a b c o p q first stopped = record {
   to = λ turned. stopped.to (first.0 turned);
   here = stopped.here;
@@ -128,29 +128,29 @@ sink-first first more a b p =
       holds = record {
         count = p.holds.count;
         within = omega (arith, within, longer);
-        taken = p.holds.taken ∙ ap (extended a.told) (sym (take-append-le p.holds.count first more (omega (arith, within))));
+        taken = p.holds.taken ∙ ap (extended a.contents) (sym (take-append-le p.holds.count first more (omega (arith, within))));
       };
       counted = p.counted;
-      blamed = λ is sure. p.blamed is (omega (arith, sure, longer));
+      blamed = λ is guaranteed. p.blamed is (omega (arith, guaranteed, longer));
       left = λ is. absurd (true≢false is);
     }
 
 -- what was put since a line was begun
-module _ (job : Job) (begun : SinkState) (a b : Line) (o p : SinkState) (way : IsUnderWay job begun a o) where
+module _ (job : LineJob) (begun : SinkState) (a b : Line) (o p : SinkState) (way : IsUnderWay job begun a o) where
   pub put-more : (to : Turned → Turned) → Goes to a b o p → SinkEnded (written_in job (to way.turned)) false begun p
   put-more to goes =
       let P : List ℕ → Type 0 = λ bytes. SinkEnded bytes false begun p in
       subst P (sym (goes.leads job way.turned way.stands).1) (sink-then (written_in job way.turned) goes.bytes false begun o p way.put goes.put)
 
-  pub way-on : Reaches a b o p → IsUnderWay job begun b p
+  pub way-on : LineReaches a b o p → IsUnderWay job begun b p
   way-on reached = record {
     turned = reached.0 way.turned;
     stands = (reached.1.leads job way.turned way.stands).0;
     put = put-more reached.0 reached.1;
   }
 
-pub way-stops : (job : Job) (begun : SinkState) (a b : Line) (o p : SinkState) → IsUnderWay job begun a o → Stops a b o p
-    → SinkEnded (stream job (last_of job)) true begun p
+pub way-stops : (job : LineJob) (begun : SinkState) (a b : Line) (o p : SinkState) → IsUnderWay job begun a o → LineStops a b o p
+    → SinkEnded (stream job (last_machine job)) true begun p
 way-stops job begun a b o p way stopped =
     let written = written_in job (stopped.to way.turned) in
     let next = stopped.next job way.turned way.stands in
@@ -161,11 +161,11 @@ way-stops job begun a b o p way stopped =
     (sink-then written (byte ∷ []) true begun stopped.here p (put-more job begun a b o stopped.here way stopped.to stopped.goes) stopped.put))
 
 -- a machine that waits is idle, and its run goes on
-waiting-idle : (job : Job) (line : Line) (turned : Turned) (machine : ℕ) → IsWaiting job line turned machine → (place_in job turned machine).left ≡ 0
+waiting-idle : (job : LineJob) (line : Line) (turned : Turned) (machine : ℕ) → IsWaiting job line turned machine → (machine_place job turned machine).left ≡ 0
 waiting-idle job line turned zero waits = absurd waits
 waiting-idle job line turned (suc before) waits = waits.idle
 
-waiting-goes : (job : Job) (line : Line) (turned : Turned) (machine : ℕ) → IsWaiting job line turned machine → HasEnded (place_in job turned machine) → ⊥
+waiting-goes : (job : LineJob) (line : Line) (turned : Turned) (machine : ℕ) → IsWaiting job line turned machine → PlaceHasEnded (machine_place job turned machine) → ⊥
 waiting-goes job line turned zero waits = absurd waits
 waiting-goes job line turned (suc before) waits = waits.goes_on
 
@@ -182,7 +182,7 @@ module _ (machine : ℕ) (line line_now : Line) (out out_now : SinkState) where
   turn-fails (Ok moved) came = tt
   turn-fails (Err failed) fails = fails
 
-  pub turn-waits : (result : Result Moved Failed) → Comes result → (job : Job) (turned : Turned) → Stands job line turned
+  pub turn-waits : (result : Result Moved Failed) → Comes result → (job : LineJob) (turned : Turned) → LineRepresents job line turned
       → (result ≡ Ok Waits) ↔ IsWaiting job line turned machine
   turn-waits (Ok Ran) came job turned stands =
       let vector = (came.came.cause job turned stands).vector in
@@ -206,7 +206,7 @@ module _ (machine : ℕ) (line line_now : Line) (out out_now : SinkState) where
   turn-machines (Ok moved) came = came.came.machines
   turn-machines (Err failed) fails = ap (λ (l : Line). length l.members.items) fails.same
 
-  pub turn-way : (result : Result Moved Failed) → Comes result → (job : Job) (begun : SinkState) → IsUnderWay job begun line out
+  pub turn-way : (result : Result Moved Failed) → Comes result → (job : LineJob) (begun : SinkState) → IsUnderWay job begun line out
       → StaysUnderWay job begun line_now out_now (is_err result)
   turn-way (Ok moved) came job begun way = way-on job begun line line_now out out_now way (turn-went machine line line_now out out_now (Ok moved) came)
   turn-way (Err failed) fails job begun way =

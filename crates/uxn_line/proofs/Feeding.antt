@@ -8,16 +8,16 @@ use Rattle.vector_loop.specs.State.{is_over}
 use Rattle.uxn_line.specs.declared.line.Line.{Line}
 use Rattle.uxn_line.specs.declared.line.Moved.TheVariants.{Gave, Waits}
 use Rattle.uxn_line.specs.declared.member.Member.{Member}
-use Rattle.vector_loop.specs.Places.{Place, HasEnded}
+use Rattle.vector_loop.specs.Places.{Place, PlaceHasEnded}
 use Rattle.uxn_line.specs.Places.{turn, IsForConsole, put_in}
-use Rattle.vector_loop.specs.Gifts.{gifts_of}
-use Rattle.uxn_line.specs.Streams.{Job, script_at, stream, after}
-use Rattle.uxn_line.specs.Members.{MemberAt, has_ended, IsOpen, next_gift}
+use Rattle.vector_loop.specs.PendingInputs.{pending_inputs_of}
+use Rattle.uxn_line.specs.Streams.{LineJob, script_at, stream, after}
+use Rattle.uxn_line.specs.Members.{MemberAt, member_has_ended, IsOpen, next_pending}
 use Rattle.uxn_line.specs.MemberTurns.{WasGivenNext}
-use Rattle.uxn_line.specs.Standing.{Turned, one_more, place_in, given_after, Between, InLine, Stands}
+use Rattle.uxn_line.specs.Standing.{Turned, one_more, machine_place, given_after, Between, InLine, LineRepresents}
 use Rattle.uxn_line.specs.Moves.{IsWaiting, ring_of, Came}
 use Rattle.uxn_line.specs.Work.{work, work_left}
-use Rattle.uxn_line.proofs.Turned.{give-gifts, give-put}
+use Rattle.uxn_line.proofs.Turned.{give-pending_inputs, give-put}
 use Rattle.uxn_line.proofs.Working.{bools, idle-open, ring-within, set-less}
 use Rattle.uxn_line.proofs.Standings.{more-here, more-apart, place-apart, ended-is, not-ended, goes-on, set-here, set-apart, stands-more}
 use Rattle.uxn_line.proofs.Running.{found-is, with_member, room-stays, handed-nothing, put-behind, wrote-none, leads-nowhere}
@@ -27,7 +27,7 @@ use Rattle.uxn_line.proofs.Coming.{Comes, comes}
 pub record FoundOpen (line : Line) (machine : ℕ) (found : Member) : Type 0 where
   pub there : slice_get line.members.items machine ≡ Some found
   pub idle : found.machine.left ≡ 0
-  pub goes_on : has_ended found ≡ false
+  pub goes_on : member_has_ended found ≡ false
 
 pub found-open : (line : Line) (machine : ℕ) (found : Member) → IsOpen line machine → found ≡ get_or line.members.items machine found
     → FoundOpen line machine found
@@ -40,9 +40,9 @@ found-open line machine found is read =
 pub record IdleAt (place : Place) : Type 0 where
   pub idle : place.left ≡ 0
   pub goes_on : is_over place.done.last ≡ false
-  pub some : place.gifts ≢ []
+  pub some : place.pending_inputs ≢ []
 
-pub idle-at : (member : Member) (place : Place) → MemberAt member place → member.machine.left ≡ 0 → has_ended member ≡ false → IdleAt place
+pub idle-at : (member : Member) (place : Place) → MemberAt member place → member.machine.left ≡ 0 → member_has_ended member ≡ false → IdleAt place
 idle-at member place at idle goes =
     let left = sym at.stands.left ∙ idle in
     let still = idle-open member idle goes in
@@ -53,16 +53,16 @@ idle-at member place at idle goes =
     }
 
 -- a line in which a machine was given something
-pub record GivesIn (job : Job) (turned : Turned) (line line_now : Line) (machine : ℕ) (member now : Member) : Type 0 where
+pub record GivesIn (job : LineJob) (turned : Turned) (line line_now : Line) (machine : ℕ) (member now : Member) : Type 0 where
   pub there : slice_get line.members.items machine ≡ Some member
   pub items : line_now.members.items ≡ slice_set line.members.items machine now
   pub budget : line_now.budget ≡ line.budget
-  pub script : line_now.giver ≡ (place_in job (one_more machine turned) 0).gifts
+  pub script : line_now.input_queue ≡ (machine_place job (one_more machine turned) 0).pending_inputs
   pub own : InLine job (one_more machine turned) machine now
-  pub put : put_in (turn job.budget (place_in job turned machine)) ≡ put_in (place_in job turned machine)
+  pub put : put_in (turn job.budget (machine_place job turned machine)) ≡ put_in (machine_place job turned machine)
 
-pub give-stands : (job : Job) (line line_now : Line) (turned : Turned) (machine : ℕ) (member now : Member) → Stands job line turned
-    → GivesIn job turned line line_now machine member now → Stands job line_now (one_more machine turned)
+pub give-stands : (job : LineJob) (line line_now : Line) (turned : Turned) (machine : ℕ) (member now : Member) → LineRepresents job line turned
+    → GivesIn job turned line line_now machine member now → LineRepresents job line_now (one_more machine turned)
 give-stands job line line_now turned machine member now stands gives =
     let items = line.members.items in
     let at : (other : ℕ) → slice_get line_now.members.items other ≡ slice_get (slice_set items machine now) other
@@ -84,15 +84,15 @@ give-stands job line line_now turned machine member now stands gives =
 
 -- a turn of it is a giving, where it does not wait
 pub give-came : (line line_now : Line) (machine : ℕ) (member now : Member) → FoundOpen line machine member
-    → ((job : Job) (turned : Turned) → Stands job line turned → GivesIn job turned line line_now machine member now)
-    → ((job : Job) (turned : Turned) → Stands job line turned → IsWaiting job line turned machine → ⊥)
+    → ((job : LineJob) (turned : Turned) → LineRepresents job line turned → GivesIn job turned line line_now machine member now)
+    → ((job : LineJob) (turned : Turned) → LineRepresents job line turned → IsWaiting job line turned machine → ⊥)
     → length line_now.members.items ≡ length line.members.items → work_left line_now < work_left line → Came machine Gave [] line line_now
 give-came line line_now machine member now found gives comes count less = record {
   cause = λ job turned stands.
       let at = (stands.each machine member found.there).stands in
       record {
         idle = sym at.stands.left ∙ found.idle;
-        goes_on = not-ended member (place_in job turned machine) at found.goes_on;
+        goes_on = not-ended member (machine_place job turned machine) at found.goes_on;
         comes = comes job turned stands;
       };
   leads = λ job turned stands.
@@ -105,12 +105,12 @@ give-came line line_now machine member now found gives comes count less = record
 }
 
 -- what is left of the script where another machine than the first had a turn
-pub script-apart : (job : Job) (line : Line) (turned : Turned) (before : ℕ) → Stands job line turned
-    → line.giver ≡ (place_in job (one_more (suc before) turned) 0).gifts
+pub script-apart : (job : LineJob) (line : Line) (turned : Turned) (before : ℕ) → LineRepresents job line turned
+    → line.input_queue ≡ (machine_place job (one_more (suc before) turned) 0).pending_inputs
 script-apart job line turned before stands =
-    stands.script ∙ ap (λ (p : Place). p.gifts) (sym (place-apart job (suc before) turned 0 (λ same. omega (arith, same))))
+    stands.script ∙ ap (λ (p : Place). p.pending_inputs) (sym (place-apart job (suc before) turned 0 (λ same. omega (arith, same))))
 
-ring-is-for : (ring : List ℕ) → IsForConsole (next_gift ring)
+ring-is-for : (ring : List ℕ) → IsForConsole (next_pending ring)
 ring-is-for [] = refl
 ring-is-for (byte ∷ ring) = refl
 
@@ -118,18 +118,18 @@ shorter : (ring : List ℕ) → length (drop 1 ring) ≤ length ring
 shorter [] = omega arith
 shorter (byte ∷ ring) = omega arith
 
-pub next-own : (job : Job) (turned : Turned) (before : ℕ) (member now : Member) → WasGivenNext job.budget member now → InLine job turned (suc before) member
-    → IdleAt (place_in job turned (suc before)) → Comes job before (turned before) (turned (suc before)) member.ring.items
+pub next-own : (job : LineJob) (turned : Turned) (before : ℕ) (member now : Member) → WasGivenNext job.budget member now → InLine job turned (suc before) member
+    → IdleAt (machine_place job turned (suc before)) → Comes job before (turned before) (turned (suc before)) member.ring.items
     → InLine job (one_more (suc before) turned) (suc before) now
 next-own job turned before member now given inline idle next =
-    let place = place_in job turned (suc before) in
+    let place = machine_place job turned (suc before) in
     let here = more-here (suc before) turned in
     let there = more-apart (suc before) turned before (λ same. omega (arith, same)) in
-    let at : MemberAt now (turn job.budget place) = given.stands place next.gifts inline.stands next.are next.last idle.goes_on in
-    let gifts = give-gifts job.budget place (next_gift member.ring.items) next.gifts idle.idle next.are idle.goes_on (ring-is-for member.ring.items) in
-    let total = length (gifts_of (script_at job (suc before))) in
-    let count = ap (λ g. total - length g) gifts ∙ next.given in
-    let room_ring : (has_ended now ≡ false → now.ring.items ≡ drop 1 member.ring.items) = λ goes. ap (λ (r : Buffer ℕ). r.items) (given.ring.kept goes) in
+    let at : MemberAt now (turn job.budget place) = given.stands place next.pending_inputs inline.stands next.are next.last idle.goes_on in
+    let pending_inputs = give-pending_inputs job.budget place (next_pending member.ring.items) next.pending_inputs idle.idle next.are idle.goes_on (ring-is-for member.ring.items) in
+    let total = length (pending_inputs_of (script_at job (suc before))) in
+    let count = ap (λ g. total - length g) pending_inputs ∙ next.given in
+    let room_ring : (member_has_ended now ≡ false → now.ring.items ≡ drop 1 member.ring.items) = λ goes. ap (λ (r : Buffer ℕ). r.items) (given.ring.kept goes) in
     let P : ℕ → Type 0 = λ n. MemberAt now (after job (suc before) n) in
     let Q : ℕ → Type 0 = λ n. Between job before n (one_more (suc before) turned (suc before)) now.ring.items in
     let R : ℕ → Type 0 = λ n. Between job before (turned before) n now.ring.items in
@@ -152,14 +152,14 @@ next-own job turned before member now given inline idle next =
     }
 
 pub next-came : (line : Line) (before : ℕ) (member now last : Member) → FoundOpen line (suc before) member → WasGivenNext line.budget member now
-    → slice_get line.members.items before ≡ Some last → (member.ring.items ≡ [] → has_ended last ≡ true)
+    → slice_get line.members.items before ≡ Some last → (member.ring.items ≡ [] → member_has_ended last ≡ true)
     → ((left : ℕ) → work line.budget left now < work line.budget left member) → Came (suc before) Gave [] line (with_member line (suc before) now)
 next-came line before member now last found given there ended less =
-    let over : (job : Job) (turned : Turned) → Stands job line turned → member.ring.items ≡ [] → HasEnded (place_in job turned before)
-    = λ job turned stands none. (ended-is last (place_in job turned before) (stands.each before last there).stands).0 (ended none) in
+    let over : (job : LineJob) (turned : Turned) → LineRepresents job line turned → member.ring.items ≡ [] → PlaceHasEnded (machine_place job turned before)
+    = λ job turned stands none. (ended-is last (machine_place job turned before) (stands.each before last there).stands).0 (ended none) in
     give-came line (with_member line (suc before) now) (suc before) member now found
     (λ job turned stands.
-    let place = place_in job turned (suc before) in
+    let place = machine_place job turned (suc before) in
     let inline = stands.each (suc before) member found.there in
     let at = inline.stands in
     let idle = idle-at member place at found.idle found.goes_on in
@@ -173,23 +173,23 @@ next-came line before member now last found given there ended less =
       budget = refl;
       script = script-apart job line turned before stands;
       own = next-own job turned before member now (subst P stands.budget given) inline idle next;
-      put = give-put job.budget place (next_gift member.ring.items) next.gifts idle.idle next.are idle.goes_on (ring-is-for member.ring.items);
+      put = give-put job.budget place (next_pending member.ring.items) next.pending_inputs idle.idle next.are idle.goes_on (ring-is-for member.ring.items);
     })
     (λ job turned stands waits. waits.comes (over job turned stands (ap ring_of (sym found.there) ∙ waits.nothing)))
     (length-set line.members.items (suc before) now)
-    (set-less line.budget (length line.giver) line.members.items (suc before) member now found.there less)
+    (set-less line.budget (length line.input_queue) line.members.items (suc before) member now found.there less)
 
 -- a machine waits whose ring is empty, where the run of the one before it goes on
 pub wait-came : (line : Line) (before : ℕ) (member last : Member) → FoundOpen line (suc before) member
-    → slice_get line.members.items before ≡ Some last → member.ring.items ≡ [] → has_ended last ≡ false → Came (suc before) Waits [] line line
+    → slice_get line.members.items before ≡ Some last → member.ring.items ≡ [] → member_has_ended last ≡ false → Came (suc before) Waits [] line line
 wait-came line before member last found there none goes = record {
   cause = λ job turned stands.
       let at = (stands.each (suc before) member found.there).stands in
       record {
-        goes_on = not-ended member (place_in job turned (suc before)) at found.goes_on;
+        goes_on = not-ended member (machine_place job turned (suc before)) at found.goes_on;
         idle = sym at.stands.left ∙ found.idle;
         nothing = ap ring_of found.there ∙ none;
-        comes = not-ended last (place_in job turned before) (stands.each before last there).stands goes;
+        comes = not-ended last (machine_place job turned before) (stands.each before last there).stands goes;
       };
   leads = leads-nowhere line;
   works = refl;
@@ -197,13 +197,13 @@ wait-came line before member last found there none goes = record {
 }
 
 -- what was found of a machine behind another, of that one, and whether it waits
-pub record Behind (line : Line) (machine : ℕ) (last seen : Member) (none_comes waits : Bool) : Type 0 where
+pub record Behind (line : Line) (machine : ℕ) (last observed : Member) (none_comes waits : Bool) : Type 0 where
   pub behind : 1 ≤ machine
   pub is_open : IsOpen line machine
   pub last_is : last ≡ get_or line.members.items (machine - 1) last
-  pub seen_is : seen ≡ get_or line.members.items machine seen
-  pub none_is : none_comes ≡ has_ended last
-  pub waits_is : (waits ≡ true) ↔ ((seen.ring.items ≡ []) × (none_comes ≡ false))
+  pub observed_is : observed ≡ get_or line.members.items machine observed
+  pub none_is : none_comes ≡ member_has_ended last
+  pub waits_is : (waits ≡ true) ↔ ((observed.ring.items ≡ []) × (none_comes ≡ false))
 
 last-there : (line : Line) (before : ℕ) (last member : Member) → last ≡ get_or line.members.items (suc before - 1) last
     → slice_get line.members.items (suc before) ≡ Some member → slice_get line.members.items before ≡ Some last
@@ -213,25 +213,25 @@ last-there line before last member read there =
     let within = slice_get_within items (suc before) member there in
     slice_get_read items (length items) before last refl (omega (arith, within)) (read ∙ ap (λ n. get_or items n last) one)
 
-pub behind-waits : (line : Line) (machine : ℕ) (last seen : Member) (none_comes waits : Bool)
-    → Behind line machine last seen none_comes waits → waits ≡ true → Came machine Waits [] line line
-behind-waits line zero last seen none_comes waits at yes_waits = (let some = at.behind in absurd (omega (arith, some)))
-behind-waits line (suc before) last seen none_comes waits at yes_waits =
-    let found = found-open line (suc before) seen at.is_open at.seen_is in
+pub behind-waits : (line : Line) (machine : ℕ) (last observed : Member) (none_comes waits : Bool)
+    → Behind line machine last observed none_comes waits → waits ≡ true → Came machine Waits [] line line
+behind-waits line zero last observed none_comes waits at yes_waits = (let some = at.behind in absurd (omega (arith, some)))
+behind-waits line (suc before) last observed none_comes waits at yes_waits =
+    let found = found-open line (suc before) observed at.is_open at.observed_is in
     let is = at.waits_is.0 yes_waits in
-    wait-came line before seen last found (last-there line before last seen at.last_is found.there) is.0 (sym at.none_is ∙ is.1)
+    wait-came line before observed last found (last-there line before last observed at.last_is found.there) is.0 (sym at.none_is ∙ is.1)
 
-pub behind-gives : (line : Line) (machine : ℕ) (last seen found now : Member) (none_comes waits : Bool)
-    → Behind line machine last seen none_comes waits → waits ≡ false → found ≡ get_or line.members.items machine found
+pub behind-gives : (line : Line) (machine : ℕ) (last observed found now : Member) (none_comes waits : Bool)
+    → Behind line machine last observed none_comes waits → waits ≡ false → found ≡ get_or line.members.items machine found
     → WasGivenNext line.budget found now → ((left : ℕ) → work line.budget left now < work line.budget left found)
     → Came machine Gave [] line (with_member line machine now)
-behind-gives line zero last seen found now none_comes waits at goes read given less = (let some = at.behind in absurd (omega (arith, some)))
-behind-gives line (suc before) last seen found now none_comes waits at goes read given less =
-    let first = found-open line (suc before) seen at.is_open at.seen_is in
+behind-gives line zero last observed found now none_comes waits at goes read given less = (let some = at.behind in absurd (omega (arith, some)))
+behind-gives line (suc before) last observed found now none_comes waits at goes read given less =
+    let first = found-open line (suc before) observed at.is_open at.observed_is in
     let open_found = found-open line (suc before) found at.is_open read in
     let one = first.there in
     let two = open_found.there in
-    let same : seen ≡ found = cc in
+    let same : observed ≡ found = cc in
     let P : Member → Type 0 = λ m. (waits ≡ true) ↔ ((m.ring.items ≡ []) × (none_comes ≡ false)) in
     let test = subst P same at.waits_is in
     next-came line before found now last open_found given (last-there line before last found at.last_is open_found.there)

@@ -1,27 +1,27 @@
 -- Where no machine of a line moves, all their runs are over.
 use Rattle.std.proofs.Common.{◌≡◌, ℕ, zero, suc, ◌+◌, ◌-◌, ◌<◌, ◌⊎◌, inl, inr, false, List, [], ◌∷◌, ◌++◌, length, refl, sym, ap, subst, ◌∙◌, arith, append-nil}
 use Rattle.std.specs.Prelude.{Some, slice_get, slice_set}
-use Rattle.tree_io.specs.Ended.{SinkEnded}
-use Rattle.tree_io.specs.State.{SinkState}
+use Rattle.uxn_io_traits.specs.Ended.{SinkEnded}
+use Rattle.uxn_io_traits.specs.State.{SinkState}
 use Rattle.uxn_line.specs.declared.line.Line.{Line}
 use Rattle.uxn_line.specs.declared.member.Member.{Member}
 use Rattle.uxn_line.proofs.Running.{with_member}
-use Rattle.vector_loop.specs.Places.{HasEnded}
+use Rattle.vector_loop.specs.Places.{PlaceHasEnded}
 use Rattle.uxn_line.specs.Places.{put_in}
-use Rattle.uxn_line.specs.Streams.{Job, stream, exit_code_at}
-use Rattle.uxn_line.specs.Standing.{Turned, place_in, Stands}
-use Rattle.uxn_line.specs.Moves.{last_of, written_in, ring_before, IsWaiting, IsHeld, IsStill, IsUnderWay, Reaches, IsOver, Finishes}
+use Rattle.uxn_line.specs.Streams.{LineJob, stream, exit_code_at}
+use Rattle.uxn_line.specs.Standing.{Turned, machine_place, LineRepresents}
+use Rattle.uxn_line.specs.Moves.{last_machine, written_in, ring_before, IsWaiting, MachineIsHeld, IsStill, IsUnderWay, LineReaches, IsOver, LineFinishes}
 use Rattle.uxn_line.proofs.Turning.{follows}
 use Rattle.uxn_line.proofs.Ending.{put-more, reach-then, stream-is}
 
-module _ (job : Job) (line : Line) (turned : Turned) (stands : Stands job line turned)
+module _ (job : LineJob) (line : Line) (turned : Turned) (stands : LineRepresents job line turned)
     (still : (machine : ℕ) → machine < length line.members.items → IsStill line machine) where
   still-at : (machine : ℕ) → machine < length job.roms
-      → IsWaiting job line turned machine ⊎ (IsHeld job line turned machine ⊎ HasEnded (place_in job turned machine))
+      → IsWaiting job line turned machine ⊎ (MachineIsHeld job line turned machine ⊎ PlaceHasEnded (machine_place job turned machine))
   still-at machine within = (let count = stands.machines in still machine (omega (arith, within, count)) job turned stands)
 
   -- from the last machine on none is held
-  none-held : (behind machine : ℕ) → machine + suc behind ≡ length job.roms → IsHeld job line turned machine → ⊥
+  none-held : (behind machine : ℕ) → machine + suc behind ≡ length job.roms → MachineIsHeld job line turned machine → ⊥
   none-held zero machine last held = (let there = held.there in omega (arith, there, last))
   none-held (suc behind) machine last held = elim (still-at (suc machine) (omega (arith, last))) [
     | inl waits ↦
@@ -35,7 +35,7 @@ module _ (job : Job) (line : Line) (turned : Turned) (stands : Stands job line t
   ]
 
   -- so from the first one on all are at their end
-  all-over : (machine : ℕ) → machine < length job.roms → HasEnded (place_in job turned machine)
+  all-over : (machine : ℕ) → machine < length job.roms → PlaceHasEnded (machine_place job turned machine)
   all-over zero within = elim (still-at zero within) [
     | inl waits ↦ absurd waits
     | inr other ↦ elim other [
@@ -51,27 +51,27 @@ module _ (job : Job) (line : Line) (turned : Turned) (stands : Stands job line t
     ]
   ]
 
-over-at : (job : Job) (line : Line) (turned : Turned) (code : ℕ) → Stands job line turned
+over-at : (job : LineJob) (line : Line) (turned : Turned) (code : ℕ) → LineRepresents job line turned
     → ((machine : ℕ) → machine < length line.members.items → IsStill line machine)
-    → code ≡ exit_code_at (place_in job turned (last_of job)).done.last → IsOver job turned code
+    → code ≡ exit_code_at (machine_place job turned (last_machine job)).done.last → IsOver job turned code
 over-at job line turned code stands still code_is =
     let over = all-over job line turned stands still in
     let some = stands.some in
-    let run = follows job stands.job_is (last_of job) (turned (last_of job)) in
-    let at_last = run.end (over (last_of job) (omega (arith, some))) in
+    let run = follows job stands.job_is (last_machine job) (turned (last_machine job)) in
+    let at_last = run.end (over (last_machine job) (omega (arith, some))) in
     record {
       ended = λ machine within. (over machine within, sym ((follows job stands.job_is machine (turned machine)).end (over machine within)).1);
-      whole = sym (run.front ∙ ap (λ rest. written_in job turned ++ rest) at_last.0 ∙ append-nil (written_in job turned));
+      whole = sym (run.prefix ∙ ap (λ rest. written_in job turned ++ rest) at_last.0 ∙ append-nil (written_in job turned));
       code_is = code_is ∙ ap exit_code_at (sym at_last.1);
     }
 
 -- a round in which no machine moved is the last one
-pub rounds-finish : (first line line_now line_end : Line) (begun out out_now : SinkState) (code : ℕ) → Reaches first line begun out
-    → Reaches line line_now out out_now → line_now ≡ line
+pub rounds-finish : (first line line_now line_end : Line) (begun out out_now : SinkState) (code : ℕ) → LineReaches first line begun out
+    → LineReaches line line_now out out_now → line_now ≡ line
     → ((machine : ℕ) → machine < length line.members.items → IsStill line machine)
-    → ((job : Job) (turned : Turned) → Stands job line_now turned → Stands job line_end turned)
-    → ((job : Job) (turned : Turned) → Stands job line_now turned → code ≡ exit_code_at (place_in job turned (last_of job)).done.last)
-    → Finishes first line_end begun out_now code
+    → ((job : LineJob) (turned : Turned) → LineRepresents job line_now turned → LineRepresents job line_end turned)
+    → ((job : LineJob) (turned : Turned) → LineRepresents job line_now turned → code ≡ exit_code_at (machine_place job turned (last_machine job)).done.last)
+    → LineFinishes first line_end begun out_now code
 rounds-finish first line line_now line_end begun out out_now code went round same still ends codes =
     let both = reach-then first line line_now begun out out_now went round in
     let goes = both.1 in
@@ -85,13 +85,13 @@ rounds-finish first line line_now line_end begun out out_now code went round sam
       over = λ job turned stands.
           let last = both.0 turned in
           let at = (goes.leads job turned stands).0 in
-          let P : Line → Type 0 = λ l. Stands job l last in
+          let P : Line → Type 0 = λ l. LineRepresents job l last in
           over-at job line last code (subst P same at) still (codes job last at);
     }
 
 -- of a line under way
-pub finish-put : (job : Job) (begun : SinkState) (a b : Line) (o p : SinkState) (code : ℕ) → IsUnderWay job begun a o → Finishes a b o p code
-    → SinkEnded (stream job (last_of job)) false begun p
+pub finish-put : (job : LineJob) (begun : SinkState) (a b : Line) (o p : SinkState) (code : ℕ) → IsUnderWay job begun a o → LineFinishes a b o p code
+    → SinkEnded (stream job (last_machine job)) false begun p
 finish-put job begun a b o p code way done =
     let P : List ℕ → Type 0 = λ bytes. SinkEnded bytes false begun p in
     subst P (done.over job way.turned way.stands).whole (put-more job begun a b o p way done.to done.goes)
@@ -102,8 +102,8 @@ same-set [] place item there = refl
 same-set (first ∷ items) zero item there = let same : first ≡ item = cc in ap (λ x. x ∷ items) (sym same)
 same-set (first ∷ items) (suc place) item there = ap (λ all. first ∷ all) (same-set items place item there)
 
-pub stands-again : (job : Job) (line : Line) (turned : Turned) (place : ℕ) (found now : Member) → slice_get line.members.items place ≡ Some found → now ≡ found
-    → Stands job line turned → Stands job (with_member line place now) turned
+pub stands-again : (job : LineJob) (line : Line) (turned : Turned) (place : ℕ) (found now : Member) → slice_get line.members.items place ≡ Some found → now ≡ found
+    → LineRepresents job line turned → LineRepresents job (with_member line place now) turned
 stands-again job line turned place found now there same stands =
     let items = line.members.items in
     let is : slice_set items place now ≡ items = ap (λ m. slice_set items place m) same ∙ same-set items place found there in
@@ -117,13 +117,13 @@ stands-again job line turned place found now there same stands =
     }
 
 -- the streams of a line after any turns
-pub fronts : (job : Job) (line : Line) (turned : Turned) → Stands job line turned → (machine : ℕ)
-    → (rest : List ℕ) × (stream job machine ≡ put_in (place_in job turned machine) ++ rest)
-fronts job line turned stands machine = stream-is job stands.job_is machine (turned machine)
+pub prefixes : (job : LineJob) (line : Line) (turned : Turned) → LineRepresents job line turned → (machine : ℕ)
+    → (rest : List ℕ) × (stream job machine ≡ put_in (machine_place job turned machine) ++ rest)
+prefixes job line turned stands machine = stream-is job stands.job_is machine (turned machine)
 
-pub wholes : (job : Job) (line : Line) (turned : Turned) → Stands job line turned → (machine : ℕ) → HasEnded (place_in job turned machine)
-    → put_in (place_in job turned machine) ≡ stream job machine
+pub wholes : (job : LineJob) (line : Line) (turned : Turned) → LineRepresents job line turned → (machine : ℕ) → PlaceHasEnded (machine_place job turned machine)
+    → put_in (machine_place job turned machine) ≡ stream job machine
 wholes job line turned stands machine ended =
     let run = follows job stands.job_is machine (turned machine) in
-    let put = put_in (place_in job turned machine) in
-    sym (run.front ∙ ap (λ rest. put ++ rest) (run.end ended).0 ∙ append-nil put)
+    let put = put_in (machine_place job turned machine) in
+    sym (run.prefix ∙ ap (λ rest. put ++ rest) (run.end ended).0 ∙ append-nil put)

@@ -3,7 +3,7 @@ use Rattle.std.proofs.Common.{◌%◌, ◌≡◌, ◌≢◌, ℕ, ◌==◌, Bool
 use Rattle.std.specs.Prelude.{Option, None, Some}
 use Rattle.std.proofs.lemmas.Bool.Decides.{nat_tests}
 use Rattle.std.proofs.lemmas.List.{append-nil}
-use Rattle.tree_io.specs.Outside.{Change, ToOut, ToErr, Creates, ToFile, Removes}
+use Rattle.uxn_io_traits.specs.Outside.{Change, ToOut, ToErr, Creates, ToFile, Removes}
 use Rattle.uxn_opcodes.specs.declared.Core.{Core}
 use Rattle.uxn_opcodes.specs.declared.rows.Access.{Access}
 use Rattle.uxn_opcodes.specs.declared.rows.Access.TheVariants.{Nothing, Read as Reads, Write as Writes}

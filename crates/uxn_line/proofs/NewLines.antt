@@ -1,25 +1,25 @@
--- A new line stands for no turns.
+-- A new line represents no turns.
 use Rattle.std.proofs.Common.{◌≡◌, ◌≢◌, ℕ, zero, suc, ◌-◌, ◌<◌, ◌≤◌, ◌↔◌, ◌⊎◌, inl, inr, Bool, true, false, List, [], ◌∷◌, ◌++◌, take, get_or, length, pos, refl, sym, ap, subst, ◌∙◌, arith}
 use Rattle.std.specs.Prelude.{Some, Result, Ok, Err, IfOk, slice_get, slice_index_or}
 use Rattle.std.specs.declared.alloc.AllocError.{AllocError}
 use Rattle.std.proofs.lemmas.Bool.{false≢true}
 use Rattle.circular_buffer.specs.Buffer.{Buffer, buffer}
-use Rattle.tree_io.specs.ByteList.{ByteList}
+use Rattle.uxn_io_traits.specs.ByteList.{ByteList}
 use Rattle.play_script.specs.Held.{bytes_in}
 use Rattle.play_script.specs.Scripts.{ScriptView}
 use Rattle.play_script.specs.declared.script.Clock.{Clock}
 use Rattle.uxn_line.specs.declared.member.Member.{Member}
-use Rattle.vector_loop.specs.Gifts.{gifts_of}
-use Rattle.uxn_line.specs.Streams.{Job, script_at, rom_at, first_place, stream}
+use Rattle.vector_loop.specs.PendingInputs.{pending_inputs_of}
+use Rattle.uxn_line.specs.Streams.{LineJob, script_at, rom_at, first_place, stream}
 use Rattle.uxn_line.specs.Members.{MemberAt}
 use Rattle.uxn_line.specs.Standing.{none_turned, Between, RingBefore, InLine}
 use Rattle.uxn_line.proofs.Coming.{all-inputs, length-inputs}
 
 -- nothing was given yet
-new-ring : (job : Job) (machine : ℕ) (ring : List ℕ) → ring ≡ [] → RingBefore job none_turned machine ring
+new-ring : (job : LineJob) (machine : ℕ) (ring : List ℕ) → ring ≡ [] → RingBefore job none_turned machine ring
 new-ring job zero ring none = none
 new-ring job (suc before) ring none =
-    let total = length (gifts_of (script_at job (suc before))) in
+    let total = length (pending_inputs_of (script_at job (suc before))) in
     let zero_given : total - total ≡ 0 = omega arith in
     let between : Between job before 0 0 ring = record {
       dropped = λ ended. none;
@@ -27,7 +27,7 @@ new-ring job (suc before) ring none =
     } in
     between
 
-new-in-line : (job : Job) (machine : ℕ) (member : Member)
+new-in-line : (job : LineJob) (machine : ℕ) (member : Member)
     → MemberAt member (first_place job.budget (rom_at job machine) (script_at job machine)) → member.ring ≡ buffer [] 256
     → InLine job none_turned machine member
 new-in-line job machine member at ring =
@@ -42,14 +42,14 @@ new-in-line job machine member at ring =
 -- what is so of a machine that is new
 abbrev pub IsNew : ℕ → List ℕ → List (List ℕ) → Clock → Bool → Member → Type 0
 IsNew budget rom texts clock all_given member = (script : ScriptView) → script.arguments ≡ texts → script.clock ≡ clock
-    → (all_given ≡ true) ↔ (gifts_of script ≡ []) → MemberAt member (first_place budget rom script)
+    → (all_given ≡ true) ↔ (pending_inputs_of script ≡ []) → MemberAt member (first_place budget rom script)
 
 abbrev pub IsNewAt : ScriptView → ℕ → List ℕ → ℕ → Member → Type 0
-IsNewAt script budget rom machine member = (job : Job) → job.script ≡ script → job.budget ≡ budget → rom_at job machine ≡ rom
+IsNewAt script budget rom machine member = (job : LineJob) → job.script ≡ script → job.budget ≡ budget → rom_at job machine ≡ rom
     → InLine job none_turned machine member
 
 pub new-first : (result : Result Member AllocError) (script : ScriptView) (budget machine : ℕ) (rom : List ℕ) (texts : List (List ℕ)) (clock : Clock) (nothing : Bool)
-    → machine ≡ 0 → texts ≡ script.arguments → clock ≡ script.clock → (nothing ≡ true) ↔ (gifts_of script ≡ [])
+    → machine ≡ 0 → texts ≡ script.arguments → clock ≡ script.clock → (nothing ≡ true) ↔ (pending_inputs_of script ≡ [])
     → IfOk result (IsNew budget rom texts clock nothing) → IfOk result (λ member. member.ring ≡ buffer [] 256)
     → IfOk result (IsNewAt script budget rom machine)
 new-first (Err error) script budget machine rom texts clock nothing is_first same_texts same_clock given new ring = tt
@@ -69,10 +69,10 @@ pub new-behind : (result : Result Member AllocError) (script : ScriptView) (budg
 new-behind (Err error) script budget machine rom clock behind same new ring = tt
 new-behind (Ok member) script budget zero rom clock behind same new ring = absurd (behind refl)
 new-behind (Ok member) script budget (suc before) rom clock behind same new ring = λ job script_is budget_is rom_is.
-    let some : length (gifts_of (script_at job (suc before))) ≡ suc (length (stream job before))
+    let some : length (pending_inputs_of (script_at job (suc before))) ≡ suc (length (stream job before))
     = ap length (all-inputs job before) ∙ length-inputs (stream job before) in
     let at = new (script_at job (suc before)) refl (sym same)
-    (λ e. absurd (false≢true e), λ none. (let empty : length (gifts_of (script_at job (suc before))) ≡ 0 = ap length none in absurd (omega (arith, some, empty)))) in
+    (λ e. absurd (false≢true e), λ none. (let empty : length (pending_inputs_of (script_at job (suc before))) ≡ 0 = ap length none in absurd (omega (arith, some, empty)))) in
     let R : ℕ → Type 0 = λ b. MemberAt member (first_place b rom (script_at job (suc before))) in
     let S : List ℕ → Type 0 = λ r. MemberAt member (first_place job.budget r (script_at job (suc before))) in
     new-in-line job (suc before) member (subst S (sym rom_is) (subst R (sym budget_is) at)) ring
@@ -96,7 +96,7 @@ get-of-more (first ∷ items) item other (suc place) is = elim (get-of-more item
 ]
 
 -- one machine more is in line
-pub member-more : (job : Job) (items : List Member) (member : Member) (count : ℕ) → length items ≡ count
+pub member-more : (job : LineJob) (items : List Member) (member : Member) (count : ℕ) → length items ≡ count
     → ((machine : ℕ) (other : Member) → slice_get items machine ≡ Some other → InLine job none_turned machine other) → InLine job none_turned count member
     → (machine : ℕ) (other : Member) → slice_get (items ++ member ∷ []) machine ≡ Some other → InLine job none_turned machine other
 member-more job items member count size each last machine other there = elim (get-of-more items member other machine there) [

@@ -8,8 +8,8 @@ use Rattle.uxn_line.specs.declared.line.Line.{Line}
 use Rattle.uxn_line.specs.declared.line.Moved.TheVariants.{Ran, Held}
 use Rattle.uxn_line.specs.declared.member.Member.{Member}
 use Rattle.uxn_line.specs.Machines.{handed_on}
-use Rattle.uxn_line.specs.Members.{has_ended, IsRunning}
-use Rattle.uxn_line.specs.Standing.{place_in}
+use Rattle.uxn_line.specs.Members.{member_has_ended, IsRunning}
+use Rattle.uxn_line.specs.Standing.{machine_place}
 use Rattle.uxn_line.specs.Moves.{ring_of, Came}
 use Rattle.uxn_line.proofs.Working.{bools, pair-less, taken-pays}
 use Rattle.uxn_line.proofs.Standings.{not-ended, goes-on, set-here, set-apart}
@@ -18,9 +18,9 @@ use Rattle.uxn_line.proofs.Running.{found-is, RanFrom, Handed, RunsIn, with_memb
 -- the next machine, as it is found, and what it is once it was handed a byte
 pub record Taken (byte : ℕ) (line : Line) (machine : ℕ) (next now : Member) : Type 0 where
   pub there : slice_get line.members.items (suc machine) ≡ Some next
-  pub room : has_ended next ≡ false → length next.ring.items < next.ring.capacity
-  pub over : has_ended next ≡ true → now ≡ next
-  pub kept : has_ended next ≡ false → now ≡ record next { ring = buffer (next.ring.items ++ byte ∷ []) next.ring.capacity }
+  pub room : member_has_ended next ≡ false → length next.ring.items < next.ring.capacity
+  pub over : member_has_ended next ≡ true → now ≡ next
+  pub kept : member_has_ended next ≡ false → now ≡ record next { ring = buffer (next.ring.items ++ byte ∷ []) next.ring.capacity }
 
 -- the item that was read at the place behind
 pub read-behind : {X : Type 0} (items : List X) (place : ℕ) (found : X) → place + 1 < length items → found ≡ get_or items (place + 1) found
@@ -32,7 +32,7 @@ taken-handed : (byte : ℕ) (line : Line) (machine : ℕ) (next now : Member) �
     → next.ring.capacity ≡ 256 → Handed (byte ∷ []) next now
 taken-handed byte line machine next now taken within room =
     let P : Member → Type 0 = λ m. Handed (byte ∷ []) next m in
-    elim (bools (has_ended next)) [
+    elim (bools (member_has_ended next)) [
       | inl ended ↦ subst P (sym (taken.over ended)) (record {
         stands = λ place at. at;
         over = λ over. refl;
@@ -90,11 +90,11 @@ pass-came byte line machine member now next next_now found ran taken =
     run-came line (passed line machine next_now now) machine member now [] (pass-runs byte line machine member now next next_now found ran taken)
     (λ job turned stands held.
     let inline = stands.each (suc machine) next taken.there in
-    let room = taken.room (goes-on next (place_in job turned (suc machine)) inline.stands held.goes_on) in
+    let room = taken.room (goes-on next (machine_place job turned (suc machine)) inline.stands held.goes_on) in
     let full : length next.ring.items ≡ 256 = ap (λ o. length (ring_of o)) (sym taken.there) ∙ held.full in
     omega (arith, room, full, inline.room))
     (λ job turned stands puts. (let count = stands.machines in wrote-apart job turned machine (λ last. omega (arith, last, there, count))))
-    (pair-less line.budget (length line.giver) line.members.items machine member now next next_now found.there taken.there (ran.work line.budget)
+    (pair-less line.budget (length line.input_queue) line.members.items machine member now next next_now found.there taken.there (ran.work line.budget)
     (taken-pays line.budget byte next next_now taken.over taken.kept))
 
 -- the machine that is found again once the byte was handed on
@@ -109,7 +109,7 @@ found-again byte line machine next_now found running read =
 
 -- a machine whose byte has no room is held
 pub held-came : (byte : ℕ) (line : Line) (machine : ℕ) (next : Member) → IsRunning (byte ∷ []) line machine
-    → slice_get line.members.items (suc machine) ≡ Some next → has_ended next ≡ false → next.ring.capacity ≤ length next.ring.items
+    → slice_get line.members.items (suc machine) ≡ Some next → member_has_ended next ≡ false → next.ring.capacity ≤ length next.ring.items
     → Came machine Held [] line line
 held-came byte line machine next running there goes full =
     let within = slice_get_within line.members.items (suc machine) next there in
@@ -125,7 +125,7 @@ held-came byte line machine next running there goes full =
             vector = omega (arith, some, left);
             writes = λ none. (let e = sym (ap handed_on (sym own.stands.core) ∙ running.writes) ∙ none in cc);
             there = omega (arith, within, count);
-            goes_on = not-ended next (place_in job turned (suc machine)) inline.stands goes;
+            goes_on = not-ended next (machine_place job turned (suc machine)) inline.stands goes;
             full = ap (λ o. length (ring_of o)) there ∙ length_is;
           };
       leads = leads-nowhere line;
@@ -134,17 +134,17 @@ held-came byte line machine next running there goes full =
     }
 
 -- what was found of the next machine, and that its ring is not full
-pub taken-of : (byte : ℕ) (line : Line) (machine : ℕ) (seen found now : Member) (full : Bool) → machine + 1 < length line.members.items
-    → seen ≡ get_or line.members.items (machine + 1) seen → found ≡ get_or line.members.items (machine + 1) found
-    → (has_ended seen ≡ false → (full ≡ true) ↔ (seen.ring.capacity ≤ length seen.ring.items)) → full ≡ false
-    → (has_ended found ≡ true → now ≡ found)
-    → (has_ended found ≡ false → now ≡ record found { ring = buffer (found.ring.items ++ byte ∷ []) found.ring.capacity })
+pub taken-of : (byte : ℕ) (line : Line) (machine : ℕ) (observed found now : Member) (full : Bool) → machine + 1 < length line.members.items
+    → observed ≡ get_or line.members.items (machine + 1) observed → found ≡ get_or line.members.items (machine + 1) found
+    → (member_has_ended observed ≡ false → (full ≡ true) ↔ (observed.ring.capacity ≤ length observed.ring.items)) → full ≡ false
+    → (member_has_ended found ≡ true → now ≡ found)
+    → (member_has_ended found ≡ false → now ≡ record found { ring = buffer (found.ring.items ++ byte ∷ []) found.ring.capacity })
     → Taken byte line machine found now
-taken-of byte line machine seen found now full within read again test not_full over kept =
-    let first = read-behind line.members.items machine seen within read in
+taken-of byte line machine observed found now full within read again test not_full over kept =
+    let first = read-behind line.members.items machine observed within read in
     let second = read-behind line.members.items machine found within again in
-    let same : seen ≡ found = cc in
-    let P : Member → Type 0 = λ m. has_ended m ≡ false → (full ≡ true) ↔ (m.ring.capacity ≤ length m.ring.items) in
+    let same : observed ≡ found = cc in
+    let P : Member → Type 0 = λ m. member_has_ended m ≡ false → (full ≡ true) ↔ (m.ring.capacity ≤ length m.ring.items) in
     let at = subst P same test in
     record {
       there = second;
@@ -153,16 +153,16 @@ taken-of byte line machine seen found now full within read again test not_full o
       kept = kept;
     }
 
-pub room-left : (seen found : Member) (full : Bool) → seen ≡ found
-    → (has_ended seen ≡ false → (full ≡ true) ↔ (seen.ring.capacity ≤ length seen.ring.items)) → full ≡ false → has_ended found ≡ false
+pub room-left : (observed found : Member) (full : Bool) → observed ≡ found
+    → (member_has_ended observed ≡ false → (full ≡ true) ↔ (observed.ring.capacity ≤ length observed.ring.items)) → full ≡ false → member_has_ended found ≡ false
     → length found.ring.items < found.ring.capacity
-room-left seen found full same test not_full =
-    let P : Member → Type 0 = λ m. has_ended m ≡ false → length m.ring.items < m.ring.capacity in
-    subst P same (λ goes. (let h : (seen.ring.capacity ≤ length seen.ring.items) → ⊥ = λ past. (let e = (test goes).1 past in cc) in omega (arith, h)))
+room-left observed found full same test not_full =
+    let P : Member → Type 0 = λ m. member_has_ended m ≡ false → length m.ring.items < m.ring.capacity in
+    subst P same (λ goes. (let h : (observed.ring.capacity ≤ length observed.ring.items) → ⊥ = λ past. (let e = (test goes).1 past in cc) in omega (arith, h)))
 
 -- a machine with a full ring is not at its end
-pub full-goes : (member : Member) (full : Bool) → (has_ended member ≡ true → full ≡ false) → full ≡ true → has_ended member ≡ false
-full-goes member full over is = elim (bools (has_ended member)) [
+pub full-goes : (member : Member) (full : Bool) → (member_has_ended member ≡ true → full ≡ false) → full ≡ true → member_has_ended member ≡ false
+full-goes member full over is = elim (bools (member_has_ended member)) [
   | inl ended ↦ absurd (let e = over ended in cc)
   | inr goes ↦ goes
 ]

@@ -7,9 +7,9 @@ use Rattle.uxn_line.specs.declared.line.Moved.TheVariants.{Ran}
 use Rattle.uxn_line.specs.declared.member.Member.{Member}
 use Rattle.uxn_line.specs.Machines.{handed_on}
 use Rattle.uxn_line.specs.Places.{put_in}
-use Rattle.uxn_line.specs.Streams.{Job}
+use Rattle.uxn_line.specs.Streams.{LineJob}
 use Rattle.uxn_line.specs.Members.{IsRunning}
-use Rattle.uxn_line.specs.Standing.{Turned, place_in, Stands}
+use Rattle.uxn_line.specs.Standing.{Turned, machine_place, LineRepresents}
 use Rattle.uxn_line.specs.Moves.{WritesLast, Came}
 use Rattle.uxn_line.proofs.Standings.{set-here, set-apart}
 use Rattle.uxn_line.proofs.Working.{set-less}
@@ -41,11 +41,11 @@ put-came byte line machine member now found ran last =
     (λ job turned stands held. (let there = held.there in let count = stands.machines in omega (arith, there, last, count)))
     (λ job turned stands puts.
     let count = stands.machines in
-    wrote-here job turned machine (byte ∷ []) (omega (arith, last, count)) (puts ∙ ap (λ bytes. put_in (place_in job turned machine) ++ bytes) found.writes))
-    (set-less line.budget (length line.giver) line.members.items machine member now found.there (ran.work line.budget))
+    wrote-here job turned machine (byte ∷ []) (omega (arith, last, count)) (puts ∙ ap (λ bytes. put_in (machine_place job turned machine) ++ bytes) found.writes))
+    (set-less line.budget (length line.input_queue) line.members.items machine member now found.there (ran.work line.budget))
 
 -- the byte was not put
-pub writes-last : (job : Job) (byte : ℕ) (line : Line) (turned : Turned) (machine : ℕ) → Stands job line turned
+pub writes-last : (job : LineJob) (byte : ℕ) (line : Line) (turned : Turned) (machine : ℕ) → LineRepresents job line turned
     → IsRunning (byte ∷ []) line machine → machine + 1 ≡ length line.members.items → WritesLast job turned machine byte
 writes-last job byte line turned machine stands running last =
     let own = (stands.each machine running.member running.there).stands.stands in

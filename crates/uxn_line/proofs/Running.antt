@@ -8,17 +8,17 @@ use Rattle.circular_buffer.specs.Buffer.{Buffer}
 use Rattle.uxn_line.specs.declared.line.Line.{Line}
 use Rattle.uxn_line.specs.declared.line.Moved.TheVariants.{Ran}
 use Rattle.uxn_line.specs.declared.member.Member.{Member}
-use Rattle.vector_loop.specs.Places.{Place, HasEnded}
+use Rattle.vector_loop.specs.Places.{Place, PlaceHasEnded}
 use Rattle.uxn_line.specs.Places.{turn, put_in}
 use Rattle.uxn_line.specs.Machines.{handed_on}
-use Rattle.vector_loop.specs.Gifts.{gifts_of}
-use Rattle.uxn_line.specs.Streams.{Job, script_at, stream, after}
-use Rattle.uxn_line.specs.Members.{MemberAt, has_ended, IsRunning}
+use Rattle.vector_loop.specs.PendingInputs.{pending_inputs_of}
+use Rattle.uxn_line.specs.Streams.{LineJob, script_at, stream, after}
+use Rattle.uxn_line.specs.Members.{MemberAt, member_has_ended, IsRunning}
 use Rattle.uxn_line.specs.MemberTurns.{KeepsRing, HasRun}
-use Rattle.uxn_line.specs.Standing.{Turned, one_more, place_in, given_after, Between, RingBefore, InLine, Stands}
-use Rattle.uxn_line.specs.Moves.{last_of, written_in, IsHeld, Leads, Came}
+use Rattle.uxn_line.specs.Standing.{Turned, one_more, machine_place, given_after, Between, RingBefore, InLine, LineRepresents}
+use Rattle.uxn_line.specs.Moves.{last_machine, written_in, MachineIsHeld, Leads, Came}
 use Rattle.uxn_line.specs.Work.{work, work_left}
-use Rattle.uxn_line.proofs.Turned.{run-gifts}
+use Rattle.uxn_line.proofs.Turned.{run-pending_inputs}
 use Rattle.uxn_line.proofs.Working.{bools, ring-within, set-less}
 use Rattle.uxn_line.proofs.Standings.{same-or-not, more-here, more-apart, place-more, place-apart, ended-is, goes-on, ring-grows, stands-more, set-here, set-apart}
 
@@ -36,8 +36,8 @@ pub record RanFrom (member now : Member) : Type 0 where
 -- what the handing on of bytes does to the next one
 pub record Handed (bytes : List ℕ) (member now : Member) : Type 0 where
   pub stands : (place : Place) → MemberAt member place → MemberAt now place
-  pub over : has_ended member ≡ true → now.ring.items ≡ member.ring.items
-  pub kept : has_ended member ≡ false → now.ring.items ≡ member.ring.items ++ bytes
+  pub over : member_has_ended member ≡ true → now.ring.items ≡ member.ring.items
+  pub kept : member_has_ended member ≡ false → now.ring.items ≡ member.ring.items ++ bytes
   pub room : now.ring.capacity ≡ member.ring.capacity
   pub within : length now.ring.items ≤ 256
 
@@ -53,26 +53,26 @@ handed-nothing member within = record {
 -- a ring that is kept or emptied
 module _ (member now : Member) (items : List ℕ) (ring : KeepsRing member now items) where
   pub room-stays : now.ring.capacity ≡ member.ring.capacity
-  room-stays = elim (bools (has_ended now)) [
+  room-stays = elim (bools (member_has_ended now)) [
     | inl over ↦ ap (λ (r : Buffer ℕ). r.capacity) (ring.dropped over)
     | inr goes ↦ ap (λ (r : Buffer ℕ). r.capacity) (ring.kept goes)
   ]
 
   pub empty-stays : items ≡ [] → now.ring.items ≡ []
-  empty-stays none = elim (bools (has_ended now)) [
+  empty-stays none = elim (bools (member_has_ended now)) [
     | inl over ↦ ap (λ (r : Buffer ℕ). r.items) (ring.dropped over)
     | inr goes ↦ ap (λ (r : Buffer ℕ). r.items) (ring.kept goes) ∙ none
   ]
 
 -- a machine in a vector is not at its end
-pub running-goes : (member : Member) (place : Place) → MemberAt member place → 0 < member.machine.left → HasEnded place → ⊥
+pub running-goes : (member : Member) (place : Place) → MemberAt member place → 0 < member.machine.left → PlaceHasEnded place → ⊥
 running-goes member place at some ended = let l = at.stands.left in omega (arith, l, some, ended.0)
 
-run-ring : (job : Job) (turned : Turned) (machine : ℕ) (member now : Member) → RanFrom member now → InLine job turned machine member
-    → MemberAt now (place_in job (one_more machine turned) machine) → RingBefore job (one_more machine turned) machine now.ring.items
+run-ring : (job : LineJob) (turned : Turned) (machine : ℕ) (member now : Member) → RanFrom member now → InLine job turned machine member
+    → MemberAt now (machine_place job (one_more machine turned) machine) → RingBefore job (one_more machine turned) machine now.ring.items
 run-ring job turned zero member now ran inline at = empty-stays member now member.ring.items ran.ran.ring inline.ring
 run-ring job turned (suc before) member now ran inline at =
-    let place = place_in job turned (suc before) in
+    let place = machine_place job turned (suc before) in
     let between : Between job before (turned before) (turned (suc before)) member.ring.items = inline.ring in
     let here = more-here (suc before) turned in
     let there = more-apart (suc before) turned before (λ same. omega (arith, same)) in
@@ -80,8 +80,8 @@ run-ring job turned (suc before) member now ran inline at =
     let Q : ℕ → Type 0 = λ n. Between job before (turned before) n now.ring.items in
     let R : ℕ → Type 0 = λ n. MemberAt now (after job (suc before) n) in
     let at_next : MemberAt now (turn job.budget place) = subst R here at in
-    let total = length (gifts_of (script_at job (suc before))) in
-    let given = ap (λ g. total - length g) (run-gifts job.budget member.machine place ran.some inline.stands.stands) in
+    let total = length (pending_inputs_of (script_at job (suc before))) in
+    let given = ap (λ g. total - length g) (run-pending_inputs job.budget member.machine place ran.some inline.stands.stands) in
     let grown : Between job before (turned before) (suc (turned (suc before))) now.ring.items = record {
       dropped = λ ended. ap (λ (r : Buffer ℕ). r.items) (ran.ran.ring.dropped ((ended-is now (turn job.budget place) at_next).1 ended));
       written = λ goes.
@@ -93,11 +93,11 @@ run-ring job turned (suc before) member now ran inline at =
     subst P (sym there) (subst Q (sym here) grown)
 
 -- a machine that ran is in line after one more turn
-pub run-own : (job : Job) (turned : Turned) (machine : ℕ) (member now : Member) → RanFrom member now → InLine job turned machine member
+pub run-own : (job : LineJob) (turned : Turned) (machine : ℕ) (member now : Member) → RanFrom member now → InLine job turned machine member
     → InLine job (one_more machine turned) machine now
 run-own job turned machine member now ran inline =
     let P : Place → Type 0 = λ p. MemberAt now p in
-    let at = subst P (sym (place-more job machine turned)) (ran.ran.stands job.budget (place_in job turned machine) inline.stands) in
+    let at = subst P (sym (place-more job machine turned)) (ran.ran.stands job.budget (machine_place job turned machine) inline.stands) in
     record {
       stands = at;
       ring = run-ring job turned machine member now ran inline at;
@@ -106,13 +106,13 @@ run-own job turned machine member now ran inline =
     }
 
 -- the next one is in line where it was handed the bytes that were written
-pub put-behind : (job : Job) (turned : Turned) (machine : ℕ) (bytes : List ℕ) (next now : Member) → Handed bytes next now
-    → put_in (turn job.budget (place_in job turned machine)) ≡ put_in (place_in job turned machine) ++ bytes
+pub put-behind : (job : LineJob) (turned : Turned) (machine : ℕ) (bytes : List ℕ) (next now : Member) → Handed bytes next now
+    → put_in (turn job.budget (machine_place job turned machine)) ≡ put_in (machine_place job turned machine) ++ bytes
     → InLine job turned (suc machine) next → InLine job (one_more machine turned) (suc machine) now
 put-behind job turned machine bytes next now handed put inline =
     let here = more-here machine turned in
     let there = more-apart machine turned (suc machine) (λ same. omega (arith, same)) in
-    let place = place_in job turned (suc machine) in
+    let place = machine_place job turned (suc machine) in
     let between : Between job machine (turned machine) (turned (suc machine)) next.ring.items = inline.ring in
     let P : ℕ → Type 0 = λ n. MemberAt now (after job (suc machine) n) in
     let Q : ℕ → Type 0 = λ n. Between job machine n (one_more machine turned (suc machine)) now.ring.items in
@@ -128,21 +128,21 @@ put-behind job turned machine bytes next now handed put inline =
     }
 
 -- what the last machine has written where a machine wrote these bytes more
-pub wrote-here : (job : Job) (turned : Turned) (machine : ℕ) (bytes : List ℕ) → last_of job ≡ machine
-    → put_in (turn job.budget (place_in job turned machine)) ≡ put_in (place_in job turned machine) ++ bytes
+pub wrote-here : (job : LineJob) (turned : Turned) (machine : ℕ) (bytes : List ℕ) → last_machine job ≡ machine
+    → put_in (turn job.budget (machine_place job turned machine)) ≡ put_in (machine_place job turned machine) ++ bytes
     → written_in job (one_more machine turned) ≡ written_in job turned ++ bytes
 wrote-here job turned machine bytes last put =
-    let P : ℕ → Type 0 = λ m. put_in (place_in job (one_more machine turned) m) ≡ put_in (place_in job turned m) ++ bytes in
+    let P : ℕ → Type 0 = λ m. put_in (machine_place job (one_more machine turned) m) ≡ put_in (machine_place job turned m) ++ bytes in
     subst P (sym last) (ap put_in (place-more job machine turned) ∙ put)
 
-pub wrote-apart : (job : Job) (turned : Turned) (machine : ℕ) → last_of job ≢ machine
+pub wrote-apart : (job : LineJob) (turned : Turned) (machine : ℕ) → last_machine job ≢ machine
     → written_in job (one_more machine turned) ≡ written_in job turned ++ []
-wrote-apart job turned machine apart = ap put_in (place-apart job machine turned (last_of job) apart) ∙ sym (append-nil (written_in job turned))
+wrote-apart job turned machine apart = ap put_in (place-apart job machine turned (last_machine job) apart) ∙ sym (append-nil (written_in job turned))
 
-pub wrote-none : (job : Job) (turned : Turned) (machine : ℕ)
-    → put_in (turn job.budget (place_in job turned machine)) ≡ put_in (place_in job turned machine)
+pub wrote-none : (job : LineJob) (turned : Turned) (machine : ℕ)
+    → put_in (turn job.budget (machine_place job turned machine)) ≡ put_in (machine_place job turned machine)
     → written_in job (one_more machine turned) ≡ written_in job turned ++ []
-wrote-none job turned machine same = elim (same-or-not (last_of job) machine) [
+wrote-none job turned machine same = elim (same-or-not (last_machine job) machine) [
   | inl last ↦ wrote-here job turned machine [] last (same ∙ sym (append-nil _))
   | inr apart ↦ wrote-apart job turned machine apart
 ]
@@ -161,27 +161,27 @@ pub record RunsIn (line line_now : Line) (machine : ℕ) (member now : Member) :
       × (length was.ring.items ≤ 256 → was.ring.capacity ≡ 256 → Handed (handed_on member.machine.core) was next)
   pub count : length line_now.members.items ≡ length line.members.items
   pub budget : line_now.budget ≡ line.budget
-  pub script : line_now.giver ≡ line.giver
+  pub script : line_now.input_queue ≡ line.input_queue
   pub ran : RanFrom member now
 
-pub run-puts : (job : Job) (line line_now : Line) (turned : Turned) (machine : ℕ) (member now : Member) → Stands job line turned
+pub run-puts : (job : LineJob) (line line_now : Line) (turned : Turned) (machine : ℕ) (member now : Member) → LineRepresents job line turned
     → RunsIn line line_now machine member now
-    → put_in (turn job.budget (place_in job turned machine)) ≡ put_in (place_in job turned machine) ++ handed_on member.machine.core
+    → put_in (turn job.budget (machine_place job turned machine)) ≡ put_in (machine_place job turned machine) ++ handed_on member.machine.core
 run-puts job line line_now turned machine member now stands runs =
-    runs.ran.ran.put job.budget (place_in job turned machine) (stands.each machine member runs.at).stands
+    runs.ran.ran.put job.budget (machine_place job turned machine) (stands.each machine member runs.at).stands
 
-run-script : (job : Job) (line : Line) (turned : Turned) (machine : ℕ) (member : Member) → Stands job line turned
-    → MemberAt member (place_in job turned machine) → 0 < member.machine.left → line.giver ≡ (place_in job (one_more machine turned) 0).gifts
+run-script : (job : LineJob) (line : Line) (turned : Turned) (machine : ℕ) (member : Member) → LineRepresents job line turned
+    → MemberAt member (machine_place job turned machine) → 0 < member.machine.left → line.input_queue ≡ (machine_place job (one_more machine turned) 0).pending_inputs
 run-script job line turned machine member stands at some = elim (same-or-not 0 machine) [
   | inl first ↦
-      let P : ℕ → Type 0 = λ m. (place_in job (one_more machine turned) m).gifts ≡ (place_in job turned m).gifts in
-      stands.script ∙ sym (subst P (sym first) (ap (λ (p : Place). p.gifts) (place-more job machine turned)
-      ∙ run-gifts job.budget member.machine (place_in job turned machine) some at.stands))
-  | inr apart ↦ stands.script ∙ ap (λ (p : Place). p.gifts) (sym (place-apart job machine turned 0 apart))
+      let P : ℕ → Type 0 = λ m. (machine_place job (one_more machine turned) m).pending_inputs ≡ (machine_place job turned m).pending_inputs in
+      stands.script ∙ sym (subst P (sym first) (ap (λ (p : Place). p.pending_inputs) (place-more job machine turned)
+      ∙ run-pending_inputs job.budget member.machine (machine_place job turned machine) some at.stands))
+  | inr apart ↦ stands.script ∙ ap (λ (p : Place). p.pending_inputs) (sym (place-apart job machine turned 0 apart))
 ]
 
-pub run-stands : (job : Job) (line line_now : Line) (turned : Turned) (machine : ℕ) (member now : Member) → Stands job line turned
-    → RunsIn line line_now machine member now → Stands job line_now (one_more machine turned)
+pub run-stands : (job : LineJob) (line line_now : Line) (turned : Turned) (machine : ℕ) (member now : Member) → LineRepresents job line turned
+    → RunsIn line line_now machine member now → LineRepresents job line_now (one_more machine turned)
 run-stands job line line_now turned machine member now stands runs =
     let inline = stands.each machine member runs.at in
     stands-more job turned machine line line_now stands (record {
@@ -201,9 +201,9 @@ run-stands job line line_now turned machine member now stands runs =
 
 -- a turn of it is a run, where it is not held
 pub run-came : (line line_now : Line) (machine : ℕ) (member now : Member) (bytes : List ℕ) → RunsIn line line_now machine member now
-    → ((job : Job) (turned : Turned) → Stands job line turned → IsHeld job line turned machine → ⊥)
-    → ((job : Job) (turned : Turned) → Stands job line turned
-    → put_in (turn job.budget (place_in job turned machine)) ≡ put_in (place_in job turned machine) ++ handed_on member.machine.core
+    → ((job : LineJob) (turned : Turned) → LineRepresents job line turned → MachineIsHeld job line turned machine → ⊥)
+    → ((job : LineJob) (turned : Turned) → LineRepresents job line turned
+    → put_in (turn job.budget (machine_place job turned machine)) ≡ put_in (machine_place job turned machine) ++ handed_on member.machine.core
     → written_in job (one_more machine turned) ≡ written_in job turned ++ bytes)
     → work_left line_now < work_left line → Came machine Ran bytes line line_now
 run-came line line_now machine member now bytes runs free wrote less = record {
@@ -261,5 +261,5 @@ quiet-came line machine member now found ran =
     run-came line (with_member line machine now) machine member now [] (quiet-runs line machine member now found ran)
     (λ job turned stands held. held.writes (ap handed_on (sym (stands.each machine member found.there).stands.stands.core) ∙ found.writes))
     (λ job turned stands puts.
-    wrote-none job turned machine (puts ∙ ap (λ bytes. put_in (place_in job turned machine) ++ bytes) found.writes ∙ append-nil _))
-    (set-less line.budget (length line.giver) line.members.items machine member now found.there (ran.work line.budget))
+    wrote-none job turned machine (puts ∙ ap (λ bytes. put_in (machine_place job turned machine) ++ bytes) found.writes ∙ append-nil _))
+    (set-less line.budget (length line.input_queue) line.members.items machine member now found.there (ran.work line.budget))

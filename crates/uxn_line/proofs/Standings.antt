@@ -1,14 +1,14 @@
--- A line in which one machine had a turn more stands for one more of it.
+-- A line in which one machine had a turn more represents one more of it.
 use Rattle.std.proofs.Common.{◌≡◌, ◌≢◌, ℕ, zero, suc, ◌==◌, ◌<◌, ◌&&◌, ◌||◌, ◌↔◌, ◌⊎◌, inl, inr, Bool, true, false, cond, List, [], ◌∷◌, ◌++◌, take, length, refl, sym, ap, subst, ◌∙◌, arith, append_assoc}
 use Rattle.std.specs.Prelude.{Some, slice_get, slice_set}
 use Rattle.std.proofs.lemmas.Bool.Decides.{nat_tests}
 use Rattle.uxn_line.specs.declared.line.Line.{Line}
 use Rattle.uxn_line.specs.declared.member.Member.{Member}
-use Rattle.vector_loop.specs.Places.{Place, HasEnded}
+use Rattle.vector_loop.specs.Places.{Place, PlaceHasEnded}
 use Rattle.uxn_line.specs.Places.{turn, put_in}
-use Rattle.uxn_line.specs.Streams.{Job, stream, after}
-use Rattle.uxn_line.specs.Members.{MemberAt, has_ended}
-use Rattle.uxn_line.specs.Standing.{Turned, one_more, place_in, given_after, Between, InLine, Stands}
+use Rattle.uxn_line.specs.Streams.{LineJob, stream, after}
+use Rattle.uxn_line.specs.Members.{MemberAt, member_has_ended}
+use Rattle.uxn_line.specs.Standing.{Turned, one_more, machine_place, given_after, Between, InLine, LineRepresents}
 use Rattle.uxn_line.proofs.Working.{bools}
 
 -- numbers that are equal or not
@@ -40,11 +40,11 @@ pub more-apart : (machine : ℕ) (turned : Turned) (other : ℕ) → other ≢ m
 more-apart machine turned other apart =
     let test : (other == machine) ≡ false = grind (arith, nat_tests, apart) in ap (λ b. cond b (suc (turned other)) (turned other)) test
 
-pub place-more : (job : Job) (machine : ℕ) (turned : Turned) → place_in job (one_more machine turned) machine ≡ turn job.budget (place_in job turned machine)
+pub place-more : (job : LineJob) (machine : ℕ) (turned : Turned) → machine_place job (one_more machine turned) machine ≡ turn job.budget (machine_place job turned machine)
 place-more job machine turned = ap (after job machine) (more-here machine turned)
 
-pub place-apart : (job : Job) (machine : ℕ) (turned : Turned) (other : ℕ) → other ≢ machine
-    → place_in job (one_more machine turned) other ≡ place_in job turned other
+pub place-apart : (job : LineJob) (machine : ℕ) (turned : Turned) (other : ℕ) → other ≢ machine
+    → machine_place job (one_more machine turned) other ≡ machine_place job turned other
 place-apart job machine turned other apart = ap (after job other) (more-apart machine turned other apart)
 
 -- a machine is known to be at its end
@@ -52,7 +52,7 @@ either : (stopped given : Bool) → (stopped || given) ≡ true → (stopped ≡
 either true given is = inl refl
 either false given is = inr is
 
-pub ended-is : (member : Member) (now : Place) → MemberAt member now → (has_ended member ≡ true) ↔ HasEnded now
+pub ended-is : (member : Member) (now : Place) → MemberAt member now → (member_has_ended member ≡ true) ↔ PlaceHasEnded now
 ended-is member now at = (
   λ ended.
       let idle : member.machine.left ≡ 0 = elim (bools (member.machine.left == 0)) [
@@ -82,17 +82,17 @@ ended-is member now at = (
     or-true true b is = refl
     or-true false b is = is
 
-pub not-ended : (member : Member) (now : Place) → MemberAt member now → has_ended member ≡ false → HasEnded now → ⊥
+pub not-ended : (member : Member) (now : Place) → MemberAt member now → member_has_ended member ≡ false → PlaceHasEnded now → ⊥
 not-ended member now at goes ended = let e = (ended-is member now at).1 ended in cc
 
-pub goes-on : (member : Member) (now : Place) → MemberAt member now → (HasEnded now → ⊥) → has_ended member ≡ false
-goes-on member now at goes = elim (bools (has_ended member)) [
+pub goes-on : (member : Member) (now : Place) → MemberAt member now → (PlaceHasEnded now → ⊥) → member_has_ended member ≡ false
+goes-on member now at goes = elim (bools (member_has_ended member)) [
   | inl ended ↦ absurd (goes ((ended-is member now at).0 ended))
   | inr is ↦ is
 ]
 
 -- a machine whose turns, and those of the one before it, are the same is in line as before
-pub in-line-same : (job : Job) (turned now : Turned) (machine : ℕ) (member : Member) → now machine ≡ turned machine
+pub in-line-same : (job : LineJob) (turned now : Turned) (machine : ℕ) (member : Member) → now machine ≡ turned machine
     → ((before : ℕ) → machine ≡ suc before → now before ≡ turned before) → InLine job turned machine member → InLine job now machine member
 in-line-same job turned now zero member same before inline =
     let P : ℕ → Type 0 = λ n. MemberAt member (after job zero n) in
@@ -109,8 +109,8 @@ in-line-same job turned now (suc machine) member same before inline =
     }
 
 -- the ring behind a machine that wrote so many bytes more, which the next one keeps or drops
-pub ring-grows : (job : Job) (machine count count_now next : ℕ) (ring ring_now bytes : List ℕ)
-    → (HasEnded (after job (suc machine) next) → ring_now ≡ []) → ((HasEnded (after job (suc machine) next) → ⊥) → ring_now ≡ ring ++ bytes)
+pub ring-grows : (job : LineJob) (machine count count_now next : ℕ) (ring ring_now bytes : List ℕ)
+    → (PlaceHasEnded (after job (suc machine) next) → ring_now ≡ []) → ((PlaceHasEnded (after job (suc machine) next) → ⊥) → ring_now ≡ ring ++ bytes)
     → put_in (after job machine count_now) ≡ put_in (after job machine count) ++ bytes
     → Between job machine count next ring → Between job machine count_now next ring_now
 ring-grows job machine count count_now next ring ring_now bytes drops keeps put between = record {
@@ -121,7 +121,7 @@ ring-grows job machine count count_now next ring ring_now bytes drops keeps put 
 }
 
 -- all machines of a line where one had a turn more
-pub record OneMore (job : Job) (turned : Turned) (machine : ℕ) (line line_now : Line) : Type 0 where
+pub record OneMore (job : LineJob) (turned : Turned) (machine : ℕ) (line line_now : Line) : Type 0 where
   pub member : Member
   pub here : slice_get line_now.members.items machine ≡ Some member
   pub own : InLine job (one_more machine turned) machine member
@@ -129,10 +129,10 @@ pub record OneMore (job : Job) (turned : Turned) (machine : ℕ) (line line_now 
   pub apart : (other : ℕ) → other ≢ machine → other ≢ suc machine → slice_get line_now.members.items other ≡ slice_get line.members.items other
   pub count : length line_now.members.items ≡ length line.members.items
   pub budget : line_now.budget ≡ line.budget
-  pub script : line_now.giver ≡ (place_in job (one_more machine turned) 0).gifts
+  pub script : line_now.input_queue ≡ (machine_place job (one_more machine turned) 0).pending_inputs
 
-pub stands-more : (job : Job) (turned : Turned) (machine : ℕ) (line line_now : Line) → Stands job line turned
-    → OneMore job turned machine line line_now → Stands job line_now (one_more machine turned)
+pub stands-more : (job : LineJob) (turned : Turned) (machine : ℕ) (line line_now : Line) → LineRepresents job line turned
+    → OneMore job turned machine line line_now → LineRepresents job line_now (one_more machine turned)
 stands-more job turned machine line line_now stands more =
     let now = one_more machine turned in
     record {

@@ -1,12 +1,12 @@
 -- The turns of a machine, taken one after the other, are its run.
 use Rattle.std.proofs.Common.{◌≡◌, ℕ, zero, suc, List, [], ◌∷◌, ◌++◌, refl, ap, sym, ◌∙◌, map, append_assoc}
-use Rattle.tree_io.specs.Outside.{Change}
+use Rattle.uxn_io_traits.specs.Outside.{Change}
 use Rattle.play_script.specs.declared.script.Event.TheVariants.{Input, EndInput}
-use Rattle.vector_loop.specs.Trail.{Trail}
+use Rattle.vector_loop.specs.Trace.{Trace}
 use Rattle.vector_loop.specs.Places.{run_left}
 use Rattle.vector_loop.specs.StepLaws.{ended-nothing, steps-are}
 use Rattle.uxn_line.specs.Places.{no_outputs, put_by_one, put_by}
-use Rattle.uxn_line.specs.Streams.{Job, AreOfConsole, IsJob, FollowsRun, new_machine, script_at, rom_at, run_at, after}
+use Rattle.uxn_line.specs.Streams.{LineJob, AreOfConsole, IsJob, FollowsRun, new_machine, script_at, rom_at, run_of_machine, after}
 
 pub put_by-append : (first more : List Change) → put_by (first ++ more) ≡ put_by first ++ put_by more
 put_by-append [] more = refl
@@ -17,21 +17,21 @@ inputs-are : (bytes : List ℕ) → AreOfConsole (map (λ byte. Input byte) byte
 inputs-are [] = (tt, tt)
 inputs-are (byte ∷ bytes) = (tt, inputs-are bytes)
 
-pub script-is : (job : Job) → IsJob job → (machine : ℕ) → AreOfConsole (script_at job machine).events
+pub script-is : (job : LineJob) → IsJob job → (machine : ℕ) → AreOfConsole (script_at job machine).events
 script-is job is zero = is.events
 script-is job is (suc machine) = inputs-are _
 
-pub follows : (job : Job) → IsJob job → (machine count : ℕ) → FollowsRun (after job machine count) (run_at job machine)
+pub follows : (job : LineJob) → IsJob job → (machine count : ℕ) → FollowsRun (after job machine count) (run_of_machine job machine)
 follows job is machine count =
     let script = script_at job machine in
     let now = after job machine count in
     let steps = steps-are job.budget no_outputs script (new_machine (rom_at job machine) script.clock) is.budget in
-    let left = run_left job.budget no_outputs now.left now.gifts now.done.last in
+    let left = run_left job.budget no_outputs now.left now.pending_inputs now.done.last in
     record {
       rest = put_by left.changes;
-      front = ap (λ (t : Trail). put_by t.changes) (sym (steps.parts count)) ∙ put_by-append now.done.changes left.changes;
+      prefix = ap (λ (t : Trace). put_by t.changes) (sym (steps.parts count)) ∙ put_by-append now.done.changes left.changes;
       end = λ ended. (
-        ap (λ (t : Trail). put_by t.changes) (ended-nothing job.budget no_outputs now.left now.gifts now.done.last ended.0 ended.1),
-        ap (λ (t : Trail). t.last) (sym (steps.end count ended)),
+        ap (λ (t : Trace). put_by t.changes) (ended-nothing job.budget no_outputs now.left now.pending_inputs now.done.last ended.0 ended.1),
+        ap (λ (t : Trace). t.last) (sym (steps.end count ended)),
       );
     }

@@ -5,7 +5,7 @@ use Rattle.std.proofs.Math.Nat.{mul-le-mul_right}
 use Rattle.std.proofs.lemmas.Bool.Decides.{nat_tests}
 use Rattle.circular_buffer.specs.Buffer.{Buffer, buffer}
 use Rattle.uxn_line.specs.declared.member.Member.{Member}
-use Rattle.uxn_line.specs.Members.{has_ended}
+use Rattle.uxn_line.specs.Members.{member_has_ended}
 use Rattle.uxn_line.specs.MemberTurns.{KeepsRing}
 use Rattle.uxn_line.specs.Work.{still_given, work, works}
 
@@ -14,7 +14,7 @@ bools true = inl refl
 bools false = inr refl
 
 -- the work of a machine whose run is not over
-going-on : (budget before : ℕ) (member : Member) → has_ended member ≡ false
+going-on : (budget before : ℕ) (member : Member) → member_has_ended member ≡ false
     → work budget before member ≡ still_given before member * (budget + 1) + member.machine.left
 going-on budget before member goes_on = ap (λ b. cond b 0 (still_given before member * (budget + 1) + member.machine.left)) goes_on
 
@@ -22,10 +22,10 @@ going-on budget before member goes_on = ap (λ b. cond b 0 (still_given before m
 at-most : (budget before : ℕ) (member : Member) → work budget before member ≤ still_given before member * (budget + 1) + member.machine.left
 at-most budget before member =
     let all = still_given before member * (budget + 1) + member.machine.left in
-    elim (has_ended member) as (λ b. cond b 0 all ≤ all) [ true ↦ omega arith | false ↦ omega arith ]
+    elim (member_has_ended member) as (λ b. cond b 0 all ≤ all) [ true ↦ omega arith | false ↦ omega arith ]
 
 -- one that was given a thing has less work left, whatever it does then
-pub given-less : (budget before before_now : ℕ) (member now : Member) → has_ended member ≡ false
+pub given-less : (budget before before_now : ℕ) (member now : Member) → member_has_ended member ≡ false
     → still_given before_now now < still_given before member → now.machine.left ≤ budget
     → work budget before_now now < work budget before member
 given-less budget before before_now member now goes_on fewer within =
@@ -35,7 +35,7 @@ given-less budget before before_now member now goes_on fewer within =
     omega (arith, was, is, product, within)
 
 -- one that is idle and not at its end was not given all
-pub idle-open : (member : Member) → member.machine.left ≡ 0 → has_ended member ≡ false → (member.stopped ≡ false) × (member.all_given ≡ false)
+pub idle-open : (member : Member) → member.machine.left ≡ 0 → member_has_ended member ≡ false → (member.stopped ≡ false) × (member.all_given ≡ false)
 idle-open member idle goes_on =
     let zero_left : (member.machine.left == 0) ≡ true = grind (arith, nat_tests, idle) in
     let either : (member.stopped || member.all_given) ≡ false = ap (λ b. b && (member.stopped || member.all_given)) (sym zero_left) ∙ goes_on in
@@ -49,7 +49,7 @@ idle-open member idle goes_on =
 pub ring-within : (before now : Member) (items : List ℕ) → KeepsRing before now items → length now.ring.items ≤ length items
 ring-within before now items ring =
     let P : Buffer ℕ → Type 0 = λ ring. length ring.items ≤ length items in
-    elim (bools (has_ended now)) [
+    elim (bools (member_has_ended now)) [
       | inl over ↦ subst P (sym (ring.dropped over)) (omega arith)
       | inr goes ↦ subst P (sym (ring.kept goes)) (omega arith)
     ]
@@ -58,7 +58,7 @@ abbrev pub until_all : Bool → ℕ
 until_all given = cond given 0 1
 
 -- a machine was given the next thing
-pub next-less : (budget before : ℕ) (member now : Member) (last : Bool) → member.machine.left ≡ 0 → has_ended member ≡ false
+pub next-less : (budget before : ℕ) (member now : Member) (last : Bool) → member.machine.left ≡ 0 → member_has_ended member ≡ false
     → now.all_given ≡ last → now.machine.left ≤ budget → length now.ring.items + until_all last ≤ length member.ring.items
     → work budget before now < work budget before member
 next-less budget before member now last idle goes_on given within fewer =
@@ -68,15 +68,15 @@ next-less budget before member now last idle goes_on given within fewer =
     given-less budget before before member now goes_on (omega (arith, was, is, fewer)) within
 
 -- where no more may be given to it, it has no more work left
-work-mono : (budget before before_now : ℕ) (member now : Member) → has_ended member ≡ has_ended now → now.machine.left ≡ member.machine.left
+work-mono : (budget before before_now : ℕ) (member now : Member) → member_has_ended member ≡ member_has_ended now → now.machine.left ≡ member.machine.left
     → still_given before_now now ≤ still_given before member → work budget before_now now ≤ work budget before member
 work-mono budget before before_now member now same left fewer =
     let product = mul-le-mul_right {m = still_given before_now now} {n = still_given before member} (budget + 1) fewer in
     let less : still_given before_now now * (budget + 1) + now.machine.left ≤ still_given before member * (budget + 1) + member.machine.left
     = omega (arith, product, left) in
-    let P : Bool → Type 0 = λ b. cond (has_ended now) 0 (still_given before_now now * (budget + 1) + now.machine.left)
+    let P : Bool → Type 0 = λ b. cond (member_has_ended now) 0 (still_given before_now now * (budget + 1) + now.machine.left)
     ≤ cond b 0 (still_given before member * (budget + 1) + member.machine.left) in
-    subst P (sym same) (elim (has_ended now) as (λ b. cond b 0 (still_given before_now now * (budget + 1) + now.machine.left)
+    subst P (sym same) (elim (member_has_ended now) as (λ b. cond b 0 (still_given before_now now * (budget + 1) + now.machine.left)
     ≤ cond b 0 (still_given before member * (budget + 1) + member.machine.left)) [ true ↦ omega arith | false ↦ less ])
 
 -- a byte that is handed on is paid for by the machine before
@@ -135,12 +135,12 @@ pair-less budget before (first ∷ members) (suc place) member now next next_now
     let rest = pair-less budget (work budget before first) members place member now next next_now there behind less pays in
     omega (arith, rest)
 
-pub taken-pays : (budget byte : ℕ) (next now : Member) → (has_ended next ≡ true → now ≡ next)
-    → (has_ended next ≡ false → now ≡ record next { ring = buffer (next.ring.items ++ byte ∷ []) next.ring.capacity }) → Pays budget next now
+pub taken-pays : (budget byte : ℕ) (next now : Member) → (member_has_ended next ≡ true → now ≡ next)
+    → (member_has_ended next ≡ false → now ≡ record next { ring = buffer (next.ring.items ++ byte ∷ []) next.ring.capacity }) → Pays budget next now
 unfolding Pays
 taken-pays budget byte next now over kept left left_now less =
     let P : Member → Type 0 = λ m. work budget left_now m ≤ work budget left next in
-    elim (bools (has_ended next)) [
+    elim (bools (member_has_ended next)) [
       | inl ended ↦ subst P (sym (over ended)) (work-mono budget left left_now next next refl refl (omega (arith, less)))
       | inr goes ↦ subst P (sym (kept goes)) (handed-mono budget left left_now byte next less)
     ]

@@ -7,14 +7,14 @@ use Rattle.uxn_opcodes.specs.declared.Core.{Core}
 use Rattle.uxn_opcodes.specs.declared.operation.Width.{Width}
 use Rattle.uxn_opcodes.specs.Words.{word_below}
 use Rattle.uxn_opcodes.specs.Table.{operations, op_of, mode_of}
-use Rattle.uxn_opcodes.specs.Rule.{sides_of, opcode_at, past_opcode, begun_by, begun, deed_of}
+use Rattle.uxn_opcodes.specs.Rule.{sides_of, opcode_at, past_opcode, begun_by, begun, op_effect_of}
 use Rattle.uxn_opcodes.specs.Instruction.{writes_of}
 use Rattle.uxn_opcodes.specs.Model.{writes_in}
 use Rattle.uxn_line.specs.Machines.{handed_in, handed_on}
 
 -- the others write none
 other-access : (n code : ℕ) (core : Core) → n < 32 → n ≢ 23 → writes_in (begun_by (slice_index_or operations n None) code core).access ≡ []
-unfolding deed_of
+unfolding op_effect_of
 other-access zero code core small apart = refl
 other-access (suc zero) code core small apart = refl
 other-access (suc (suc zero)) code core small apart = refl
@@ -81,7 +81,7 @@ same-ring false core = refl
 pub handed_on-output : (core : Core) → opcode_at core % 32 ≡ 23
     → handed_on core ≡ (let width = (mode_of (opcode_at core)).width in let ring = (sides_of (mode_of (opcode_at core)).returns core).this in
     handed_in (writes_of width (byte_below ring 0) (word_below ring width 1)))
-unfolding word_below deed_of handed written_from
+unfolding word_below op_effect_of handed written_from
 handed_on-output core is =
     let code = opcode_at core in
     let some : (code == 0) ≡ false = grind (arith, nat_tests) in

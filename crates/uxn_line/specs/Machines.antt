@@ -1,10 +1,10 @@
--- What a machine of a line stands for (profile).
+-- What a machine of a line represents (profile).
 use Rattle.std.specs.Prelude.{◌≡◌, ℕ, ◌==◌, List, [], ◌∷◌, None, if◌then◌else◌}
 use Rattle.uxn_opcodes.specs.declared.Core.{Core}
 use Rattle.uxn_opcodes.specs.Rule.{opcode_at, begun}
 use Rattle.uxn_opcodes.specs.Model.{writes_in}
 use Rattle.varvara_bus.specs.declared.devices.Devices.{Devices}
-use Rattle.varvara_bus.specs.State.{DeviceState, StandFor, HasFiles}
+use Rattle.varvara_bus.specs.State.{DeviceState, DevicesRepresent, HasFiles}
 use Rattle.varvara_bus.specs.Effect.{Effect}
 use Rattle.uxn_line.specs.declared.machine.Machine.{Machine}
 use Rattle.vector_loop.specs.Places.{Place}
@@ -18,18 +18,18 @@ handed_in (write ∷ writes) = if write.0 == 0x18 then write.1 ∷ handed_in wri
 unfoldable pub handed_on : Core → List ℕ
 handed_on core = if opcode_at core == 0 then [] else handed_in (writes_in (begun core).access)
 
--- devices without a root and without a tree stand for a state
+-- devices without a root and without a tree represent a state
 pub record Rests (held : Devices) (state : DeviceState) : Type 0 where
-  pub devices : StandFor held state
+  pub devices : DevicesRepresent held state
   pub alone : HasFiles None state.root state.part state.parent
 
 -- a core and devices are as an effect says
-pub record HasDone (new : Core) (held : Devices) (done : Effect) : Type 0 where
+pub record MachineHasDone (new : Core) (held : Devices) (done : Effect) : Type 0 where
   pub core : new ≡ done.core
   pub devices : Rests held done.devices
 
 -- a machine stands at a place of a run
-pub record StandsAt (machine : Machine) (now : Place) : Type 0 where
+pub record MachineRepresents (machine : Machine) (now : Place) : Type 0 where
   pub core : machine.core ≡ now.done.last.core
   pub devices : Rests machine.devices now.done.last.devices
   pub left : machine.left ≡ now.left

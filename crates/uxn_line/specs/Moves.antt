@@ -2,18 +2,18 @@
 use Rattle.std.specs.Prelude.{◌≡◌, ◌≢◌, ℕ, zero, suc, ◌-◌, ◌<◌, ◌≤◌, Bool, true, false, List, []}
 use Rattle.std.specs.Prelude.{◌∷◌, ◌++◌, ◌⊎◌, length, slice_get}
 use Rattle.std.specs.Prelude.{Option, Some, None, Result, Ok, Err}
-use Rattle.tree_io.specs.Ended.{SinkEnded}
-use Rattle.tree_io.specs.State.{SinkState}
-use Rattle.tree_io.specs.declared.sinks.Failed.{Failed}
+use Rattle.uxn_io_traits.specs.Ended.{SinkEnded}
+use Rattle.uxn_io_traits.specs.State.{SinkState}
+use Rattle.uxn_io_traits.specs.declared.sinks.Failed.{Failed}
 use Rattle.uxn_line.specs.declared.line.Line.{Line}
 use Rattle.uxn_line.specs.declared.line.Moved.{Moved}
 use Rattle.uxn_line.specs.declared.line.Moved.TheVariants.{Ran, Gave, Waits, Held, Ended}
 use Rattle.uxn_line.specs.declared.member.Member.{Member}
-use Rattle.vector_loop.specs.Places.{HasEnded}
+use Rattle.vector_loop.specs.Places.{PlaceHasEnded}
 use Rattle.uxn_line.specs.Places.{put_in}
-use Rattle.uxn_line.specs.Streams.{Job, stream, run_at, exit_code_at}
+use Rattle.uxn_line.specs.Streams.{LineJob, stream, run_of_machine, exit_code_at}
 use Rattle.uxn_line.specs.Machines.{handed_on}
-use Rattle.uxn_line.specs.Standing.{Turned, one_more, place_in, Stands}
+use Rattle.uxn_line.specs.Standing.{Turned, one_more, machine_place, LineRepresents}
 use Rattle.uxn_line.specs.Work.{WorksOn}
 
 -- the bytes in the ring before a machine, if it is there
@@ -25,23 +25,23 @@ abbrev pub ring_before : Line → ℕ → List ℕ
 ring_before line machine = ring_of (slice_get line.members.items machine)
 
 -- a machine waits that is not the first and is idle, whose ring is empty, and neither its run nor that of the machine before it is over
-pub record WaitsBehind (job : Job) (line : Line) (turned : Turned) (before : ℕ) : Type 0 where
-  pub goes_on : HasEnded (place_in job turned (suc before)) → ⊥
-  pub idle : (place_in job turned (suc before)).left ≡ 0
+pub record WaitsBehind (job : LineJob) (line : Line) (turned : Turned) (before : ℕ) : Type 0 where
+  pub goes_on : PlaceHasEnded (machine_place job turned (suc before)) → ⊥
+  pub idle : (machine_place job turned (suc before)).left ≡ 0
   pub nothing : ring_before line (suc before) ≡ []
-  pub comes : HasEnded (place_in job turned before) → ⊥
+  pub comes : PlaceHasEnded (machine_place job turned before) → ⊥
 
-abbrev pub IsWaiting : Job → Line → Turned → ℕ → Type 0
+abbrev pub IsWaiting : LineJob → Line → Turned → ℕ → Type 0
 IsWaiting job line turned zero = ⊥
 IsWaiting job line turned (suc before) = WaitsBehind job line turned before
 
 -- a machine is held that is in a vector, whose next instruction writes port 18, behind which there is a machine whose run is not over,
 -- and the ring between them holds 256 bytes
-pub record IsHeld (job : Job) (line : Line) (turned : Turned) (machine : ℕ) : Type 0 where
-  pub vector : 1 ≤ (place_in job turned machine).left
-  pub writes : handed_on (place_in job turned machine).done.last.core ≢ []
+pub record MachineIsHeld (job : LineJob) (line : Line) (turned : Turned) (machine : ℕ) : Type 0 where
+  pub vector : 1 ≤ (machine_place job turned machine).left
+  pub writes : handed_on (machine_place job turned machine).done.last.core ≢ []
   pub there : suc machine < length job.roms
-  pub goes_on : HasEnded (place_in job turned (suc machine)) → ⊥
+  pub goes_on : PlaceHasEnded (machine_place job turned (suc machine)) → ⊥
   pub full : length (ring_before line (suc machine)) ≡ 256
 
 -- the numbers after a turn that came to this
@@ -61,40 +61,40 @@ is_move Held = false
 is_move Ended = false
 
 -- the last machine, and what it has written to port 18
-abbrev pub last_of : Job → ℕ
-last_of job = length job.roms - 1
+abbrev pub last_machine : LineJob → ℕ
+last_machine job = length job.roms - 1
 
-abbrev pub written_in : Job → Turned → List ℕ
-written_in job turned = put_in (place_in job turned (last_of job))
+abbrev pub written_in : LineJob → Turned → List ℕ
+written_in job turned = put_in (machine_place job turned (last_machine job))
 
 -- no turn of a machine moves anything, for whatever numbers of turns the line stands
 abbrev pub IsStill : Line → ℕ → Type 0
-IsStill line machine = (job : Job) (turned : Turned) → Stands job line turned
-    → IsWaiting job line turned machine ⊎ (IsHeld job line turned machine ⊎ HasEnded (place_in job turned machine))
+IsStill line machine = (job : LineJob) (turned : Turned) → LineRepresents job line turned
+    → IsWaiting job line turned machine ⊎ (MachineIsHeld job line turned machine ⊎ PlaceHasEnded (machine_place job turned machine))
 
 -- a machine runs that is in a vector and is not held
-pub record Runs (job : Job) (line : Line) (turned : Turned) (machine : ℕ) : Type 0 where
-  pub vector : 1 ≤ (place_in job turned machine).left
-  pub free : IsHeld job line turned machine → ⊥
+pub record LineRuns (job : LineJob) (line : Line) (turned : Turned) (machine : ℕ) : Type 0 where
+  pub vector : 1 ≤ (machine_place job turned machine).left
+  pub free : MachineIsHeld job line turned machine → ⊥
 
 -- a machine is given what comes next that is idle, whose run is not over, and that does not wait
-pub record IsGiven (job : Job) (line : Line) (turned : Turned) (machine : ℕ) : Type 0 where
-  pub idle : (place_in job turned machine).left ≡ 0
-  pub goes_on : HasEnded (place_in job turned machine) → ⊥
+pub record IsGiven (job : LineJob) (line : Line) (turned : Turned) (machine : ℕ) : Type 0 where
+  pub idle : (machine_place job turned machine).left ≡ 0
+  pub goes_on : PlaceHasEnded (machine_place job turned machine) → ⊥
   pub comes : IsWaiting job line turned machine → ⊥
 
 -- why a turn came to this
-abbrev pub Cause : Job → Line → Turned → ℕ → Moved → Type 0
-Cause job line turned machine Ran = Runs job line turned machine
+abbrev pub Cause : LineJob → Line → Turned → ℕ → Moved → Type 0
+Cause job line turned machine Ran = LineRuns job line turned machine
 Cause job line turned machine Gave = IsGiven job line turned machine
 Cause job line turned machine Waits = IsWaiting job line turned machine
-Cause job line turned machine Held = IsHeld job line turned machine
-Cause job line turned machine Ended = HasEnded (place_in job turned machine)
+Cause job line turned machine Held = MachineIsHeld job line turned machine
+Cause job line turned machine Ended = PlaceHasEnded (machine_place job turned machine)
 
--- for all numbers of turns for which a line stood it stands for those that they come to, and its last machine has written these bytes more
+-- for all numbers of turns for which a line stood it represents those that they come to, and its last machine has written these bytes more
 abbrev pub Leads : (Turned → Turned) → List ℕ → Line → Line → Type 0
-Leads to bytes before now = (job : Job) (turned : Turned) → Stands job before turned
-    → Stands job now (to turned) × (written_in job (to turned) ≡ written_in job turned ++ bytes)
+Leads to bytes before now = (job : LineJob) (turned : Turned) → LineRepresents job before turned
+    → LineRepresents job now (to turned) × (written_in job (to turned) ≡ written_in job turned ++ bytes)
 
 -- and these were put
 pub record Goes (to : Turned → Turned) (before now : Line) (out out_now : SinkState) : Type 0 where
@@ -104,23 +104,23 @@ pub record Goes (to : Turned → Turned) (before now : Line) (out out_now : Sink
 
 -- all that came of a turn in which the last machine wrote these bytes, but for the output
 pub record Came (machine : ℕ) (moved : Moved) (bytes : List ℕ) (before now : Line) : Type 0 where
-  pub cause : (job : Job) (turned : Turned) → Stands job before turned → Cause job before turned machine moved
+  pub cause : (job : LineJob) (turned : Turned) → LineRepresents job before turned → Cause job before turned machine moved
   pub leads : Leads (turned_by moved machine) bytes before now
   pub works : WorksOn (is_move moved) before now
   pub machines : length now.members.items ≡ length before.members.items
 
 -- a machine is the last one and in a vector, and its next instruction writes this byte to port 18
-pub record WritesLast (job : Job) (turned : Turned) (machine byte : ℕ) : Type 0 where
-  pub vector : 1 ≤ (place_in job turned machine).left
+pub record WritesLast (job : LineJob) (turned : Turned) (machine byte : ℕ) : Type 0 where
+  pub vector : 1 ≤ (machine_place job turned machine).left
   pub last : suc machine ≡ length job.roms
-  pub writes : handed_on (place_in job turned machine).done.last.core ≡ byte ∷ []
+  pub writes : handed_on (machine_place job turned machine).done.last.core ≡ byte ∷ []
 
 -- a turn failed: its byte was not put, and nothing was changed
 pub record Fails (machine : ℕ) (before now : Line) (out out_now : SinkState) : Type 0 where
   pub same : now ≡ before
   pub byte : ℕ
   pub put : SinkEnded (byte ∷ []) true out out_now
-  pub cause : (job : Job) (turned : Turned) → Stands job before turned → WritesLast job turned machine byte
+  pub cause : (job : LineJob) (turned : Turned) → LineRepresents job before turned → WritesLast job turned machine byte
 
 -- a turn moved, and what the last machine wrote was put
 pub record HasTurned (machine : ℕ) (moved : Moved) (before now : Line) (out out_now : SinkState) : Type 0 where
@@ -132,59 +132,59 @@ abbrev pub TurnCame : ℕ → Line → Line → SinkState → SinkState → Resu
 TurnCame machine before now out out_now (Ok moved) = HasTurned machine moved before now out out_now
 TurnCame machine before now out out_now (Err failed) = Fails machine before now out out_now
 
--- a line that was begun over this output stands for some turns, and what its last machine has written was put
-pub record IsUnderWay (job : Job) (begun : SinkState) (line : Line) (now : SinkState) : Type 0 where
+-- a line that was begun over this output represents some turns, and what its last machine has written was put
+pub record IsUnderWay (job : LineJob) (begun : SinkState) (line : Line) (now : SinkState) : Type 0 where
   pub turned : Turned
-  pub stands : Stands job line turned
+  pub stands : LineRepresents job line turned
   pub put : SinkEnded (written_in job turned) false begun now
 
--- after a call that did not fail it is under way still; one that failed has put a front of the stream that is not whole
-abbrev pub StaysUnderWay : Job → SinkState → Line → SinkState → Bool → Type 0
+-- after a call that did not fail it is under way still; one that failed has put a prefix of the stream that is not whole
+abbrev pub StaysUnderWay : LineJob → SinkState → Line → SinkState → Bool → Type 0
 StaysUnderWay job begun line now false = IsUnderWay job begun line now
-StaysUnderWay job begun line now true = SinkEnded (stream job (last_of job)) true begun now
+StaysUnderWay job begun line now true = SinkEnded (stream job (last_machine job)) true begun now
 
 -- some turns were given, and what the last machine wrote was put
-abbrev pub Reaches : Line → Line → SinkState → SinkState → Type 0
-Reaches before now out out_now = (to : Turned → Turned) × Goes to before now out out_now
+abbrev pub LineReaches : Line → Line → SinkState → SinkState → Type 0
+LineReaches before now out out_now = (to : Turned → Turned) × Goes to before now out out_now
 
 -- every machine stands at the end of its run
-abbrev pub AllEnded : Job → Turned → Type 0
+abbrev pub AllEnded : LineJob → Turned → Type 0
 AllEnded job turned = (machine : ℕ) → machine < length job.roms
-    → HasEnded (place_in job turned machine) × ((place_in job turned machine).done.last ≡ (run_at job machine).last)
+    → PlaceHasEnded (machine_place job turned machine) × ((machine_place job turned machine).done.last ≡ (run_of_machine job machine).last)
 
 -- all runs are over: the last machine has written its whole stream, and this is its exit code
-pub record IsOver (job : Job) (turned : Turned) (code : ℕ) : Type 0 where
+pub record IsOver (job : LineJob) (turned : Turned) (code : ℕ) : Type 0 where
   pub ended : AllEnded job turned
-  pub whole : written_in job turned ≡ stream job (last_of job)
-  pub code_is : code ≡ exit_code_at (run_at job (last_of job)).last
+  pub whole : written_in job turned ≡ stream job (last_machine job)
+  pub code_is : code ≡ exit_code_at (run_of_machine job (last_machine job)).last
 
 -- a line was brought to the end of all its runs, and what was left of the stream was put
-pub record Finishes (before now : Line) (out out_now : SinkState) (code : ℕ) : Type 0 where
+pub record LineFinishes (before now : Line) (out out_now : SinkState) (code : ℕ) : Type 0 where
   pub to : Turned → Turned
   pub goes : Goes to before now out out_now
-  pub over : (job : Job) (turned : Turned) → Stands job before turned → IsOver job (to turned) code
+  pub over : (job : LineJob) (turned : Turned) → LineRepresents job before turned → IsOver job (to turned) code
 
 -- the stream of the last machine goes on with this byte
-abbrev pub GoesOnWith : Job → Turned → ℕ → Type 0
-GoesOnWith job turned byte = (rest : List ℕ) × (stream job (last_of job) ≡ written_in job turned ++ byte ∷ rest)
+abbrev pub GoesOnWith : LineJob → Turned → ℕ → Type 0
+GoesOnWith job turned byte = (rest : List ℕ) × (stream job (last_machine job) ≡ written_in job turned ++ byte ∷ rest)
 
 -- it was stopped where the next byte of that stream was not taken: all before it was put
-pub record Stops (before now : Line) (out out_now : SinkState) : Type 0 where
+pub record LineStops (before now : Line) (out out_now : SinkState) : Type 0 where
   pub to : Turned → Turned
   pub here : SinkState
   pub goes : Goes to before now out here
   pub byte : ℕ
-  pub next : (job : Job) (turned : Turned) → Stands job before turned → GoesOnWith job (to turned) byte
+  pub next : (job : LineJob) (turned : Turned) → LineRepresents job before turned → GoesOnWith job (to turned) byte
   pub put : SinkEnded (byte ∷ []) true here out_now
 
 -- what came of giving machines turns as long as they move
 abbrev pub Went : {X : Type 0} → Line → Line → SinkState → SinkState → Result X Failed → Type 0
-Went before now out out_now (Ok moved) = Reaches before now out out_now
-Went before now out out_now (Err failed) = Stops before now out out_now
+Went before now out out_now (Ok moved) = LineReaches before now out out_now
+Went before now out out_now (Err failed) = LineStops before now out out_now
 
--- whatever turns were given to a line: what each machine has written to port 18 is a front of its stream, and all of it where its run is over
+-- whatever turns were given to a line: what each machine has written to port 18 is a prefix of its stream, and all of it where its run is over
 pub record StreamLaw : Type 0 where
-  pub front : (job : Job) (line : Line) (turned : Turned) → Stands job line turned → (machine : ℕ)
-      → (rest : List ℕ) × (stream job machine ≡ put_in (place_in job turned machine) ++ rest)
-  pub whole : (job : Job) (line : Line) (turned : Turned) → Stands job line turned → (machine : ℕ)
-      → HasEnded (place_in job turned machine) → put_in (place_in job turned machine) ≡ stream job machine
+  pub prefix : (job : LineJob) (line : Line) (turned : Turned) → LineRepresents job line turned → (machine : ℕ)
+      → (rest : List ℕ) × (stream job machine ≡ put_in (machine_place job turned machine) ++ rest)
+  pub whole : (job : LineJob) (line : Line) (turned : Turned) → LineRepresents job line turned → (machine : ℕ)
+      → PlaceHasEnded (machine_place job turned machine) → put_in (machine_place job turned machine) ≡ stream job machine

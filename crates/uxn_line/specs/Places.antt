@@ -1,9 +1,9 @@
 -- The turns of a machine of a line, which are the steps of its run, and what they write to port 18 (profile).
 use Rattle.std.specs.Prelude.{◌≡◌, ℕ, true, List, [], ◌∷◌, ◌++◌, None, is_some}
-use Rattle.tree_io.specs.Outside.{Change, ToOut, ToErr, Creates, ToFile, Removes}
-use Rattle.vector_loop.specs.declared.gift.Gift.{Gift}
+use Rattle.uxn_io_traits.specs.Outside.{Change, ToOut, ToErr, Creates, ToFile, Removes}
+use Rattle.vector_loop.specs.declared.pending_input.PendingInput.{PendingInput}
 use Rattle.vector_loop.specs.declared.output.Outputs.{Outputs}
-use Rattle.vector_loop.specs.Gifts.{console_of}
+use Rattle.vector_loop.specs.PendingInputs.{console_byte_of}
 use Rattle.vector_loop.specs.Places.{Place, step}
 
 -- a machine of a line keeps no pictures and no samples
@@ -15,8 +15,8 @@ abbrev pub turn : ℕ → Place → Place
 turn budget now = step budget no_outputs now
 
 -- it is for the console, as all is that a machine of a line is given
-abbrev pub IsForConsole : Gift → Type 0
-IsForConsole gift = is_some (console_of gift) ≡ true
+abbrev pub IsForConsole : PendingInput → Type 0
+IsForConsole pending_input = is_some (console_byte_of pending_input) ≡ true
 
 -- the bytes that changes add to the standard output, which are those written to port 18
 abbrev pub put_by_one : Change → List ℕ

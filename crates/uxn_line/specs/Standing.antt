@@ -3,13 +3,13 @@ use Rattle.std.specs.Prelude.{◌≡◌, ℕ, zero, suc, ◌==◌, ◌-◌, ◌�
 use Rattle.std.specs.Prelude.{◌++◌, length, take, slice_get, Some}
 use Rattle.play_script.specs.Held.{bytes_in}
 use Rattle.play_script.specs.Scripts.{ScriptView}
-use Rattle.tree_io.specs.ByteList.{ByteList}
+use Rattle.uxn_io_traits.specs.ByteList.{ByteList}
 use Rattle.uxn_line.specs.declared.line.Line.{Line}
 use Rattle.uxn_line.specs.declared.member.Member.{Member}
-use Rattle.vector_loop.specs.Places.{Place, HasEnded}
+use Rattle.vector_loop.specs.Places.{Place, PlaceHasEnded}
 use Rattle.uxn_line.specs.Places.{put_in}
-use Rattle.vector_loop.specs.Gifts.{gifts_of}
-use Rattle.uxn_line.specs.Streams.{Job, IsJob, script_at, stream, after}
+use Rattle.vector_loop.specs.PendingInputs.{pending_inputs_of}
+use Rattle.uxn_line.specs.Streams.{LineJob, IsJob, script_at, stream, after}
 use Rattle.uxn_line.specs.Members.{MemberAt}
 
 -- how many turns each machine was given; machines are counted from 0
@@ -23,41 +23,41 @@ abbrev pub one_more : ℕ → Turned → Turned
 one_more machine turned other = if other == machine then suc (turned other) else turned other
 
 -- where a machine stands after its turns
-abbrev pub place_in : Job → Turned → ℕ → Place
-place_in job turned machine = after job machine (turned machine)
+abbrev pub machine_place : LineJob → Turned → ℕ → Place
+machine_place job turned machine = after job machine (turned machine)
 
 -- how many bytes and events it was given in so many turns
-abbrev pub given_after : Job → ℕ → ℕ → ℕ
-given_after job machine count = length (gifts_of (script_at job machine)) - length (after job machine count).gifts
+abbrev pub given_after : LineJob → ℕ → ℕ → ℕ
+given_after job machine count = length (pending_inputs_of (script_at job machine)) - length (after job machine count).pending_inputs
 
 -- the ring between a machine after so many turns and the next one after so many holds what this one has written to port 18 and the next
 -- one was not given, or nothing where the run of the next one is over
-pub record Between (job : Job) (machine count next : ℕ) (ring : List ℕ) : Type 0 where
-  pub dropped : HasEnded (after job (suc machine) next) → ring ≡ []
-  pub written : (HasEnded (after job (suc machine) next) → ⊥)
+pub record Between (job : LineJob) (machine count next : ℕ) (ring : List ℕ) : Type 0 where
+  pub dropped : PlaceHasEnded (after job (suc machine) next) → ring ≡ []
+  pub written : (PlaceHasEnded (after job (suc machine) next) → ⊥)
       → put_in (after job machine count) ≡ take (given_after job (suc machine) next) (stream job machine) ++ ring
 
 -- the ring before a machine; before the first one there is nothing
-abbrev pub RingBefore : Job → Turned → ℕ → List ℕ → Type 0
+abbrev pub RingBefore : LineJob → Turned → ℕ → List ℕ → Type 0
 RingBefore job turned zero ring = ring ≡ []
 RingBefore job turned (suc machine) ring = Between job machine (turned machine) (turned (suc machine)) ring
 
 -- a machine with the ring before it, which has room for 256 bytes
-pub record InLine (job : Job) (turned : Turned) (machine : ℕ) (member : Member) : Type 0 where
-  pub stands : MemberAt member (place_in job turned machine)
+pub record InLine (job : LineJob) (turned : Turned) (machine : ℕ) (member : Member) : Type 0 where
+  pub stands : MemberAt member (machine_place job turned machine)
   pub ring : RingBefore job turned machine member.ring.items
   pub room : member.ring.capacity ≡ 256
   pub within : length member.ring.items ≤ 256
 
--- a line stands for these numbers of turns: each machine stands where its turns lead
-pub record Stands (job : Job) (line : Line) (turned : Turned) : Type 0 where
+-- a line represents these numbers of turns: each machine stands where its turns lead
+pub record LineRepresents (job : LineJob) (line : Line) (turned : Turned) : Type 0 where
   pub job_is : IsJob job
   pub some : 2 ≤ length job.roms
   pub machines : length line.members.items ≡ length job.roms
   pub budget : line.budget ≡ job.budget
-  pub script : line.giver ≡ (place_in job turned 0).gifts
+  pub script : line.input_queue ≡ (machine_place job turned 0).pending_inputs
   pub each : (machine : ℕ) (member : Member) → slice_get line.members.items machine ≡ Some member → InLine job turned machine member
 
 -- the job of a line of these ROMs
-abbrev pub job_of : List ByteList → ScriptView → ℕ → Job
-job_of texts given number = record { roms = bytes_in texts; script = given; budget = number }
+abbrev pub line_job : List ByteList → ScriptView → ℕ → LineJob
+line_job texts given number = record { roms = bytes_in texts; script = given; budget = number }

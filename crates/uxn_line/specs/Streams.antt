@@ -13,13 +13,13 @@ use Rattle.varvara_bus.specs.History.{stored}
 use Rattle.varvara_bus.specs.declared.time.Clock.{Clock as BusClock}
 use Rattle.varvara_bus.specs.State.{new_state}
 use Rattle.vector_loop.specs.State.{State, new_tally}
-use Rattle.vector_loop.specs.Trail.{Trail}
+use Rattle.vector_loop.specs.Trace.{Trace}
 use Rattle.vector_loop.specs.Run.{run}
-use Rattle.vector_loop.specs.Places.{Place, HasEnded, after_steps, run_begun}
+use Rattle.vector_loop.specs.Places.{Place, PlaceHasEnded, after_steps, run_begun}
 use Rattle.uxn_line.specs.Places.{no_outputs, put_by, put_in}
 
 -- what a line is made of: a ROM for each machine, the script of the first one, and the budget of every vector
-pub record Job : Type 0 where
+pub record LineJob : Type 0 where
   pub roms : List (List ℕ)
   pub script : ScriptView
   pub budget : ℕ
@@ -49,7 +49,7 @@ new_machine rom time = record {
   tally = new_tally;
 }
 
-abbrev pub run_of : ℕ → List ℕ → ScriptView → Trail
+abbrev pub run_of : ℕ → List ℕ → ScriptView → Trace
 run_of budget rom script = run budget no_outputs script (new_machine rom script.clock)
 
 -- the script of bytes that are handed on: each as an input, and then the end
@@ -57,18 +57,18 @@ abbrev pub script_of_bytes : List ℕ → ScriptView
 script_of_bytes bytes = script_with First (record { seconds = pos 0; offset = pos 0 }) [] (map (λ byte. Input byte) bytes ++ EndInput ∷ [])
 
 -- the script of a machine, counted from 0, its run, and the bytes that it writes to port 18
-abbrev pub rom_at : Job → ℕ → List ℕ
+abbrev pub rom_at : LineJob → ℕ → List ℕ
 rom_at job machine = slice_index_or job.roms machine []
 
-abbrev pub script_at : Job → ℕ → ScriptView
+abbrev pub script_at : LineJob → ℕ → ScriptView
 script_at job zero = job.script
 script_at job (suc machine) = script_of_bytes (put_by (run_of job.budget (rom_at job machine) (script_at job machine)).changes)
 
-abbrev pub run_at : Job → ℕ → Trail
-run_at job machine = run_of job.budget (rom_at job machine) (script_at job machine)
+abbrev pub run_of_machine : LineJob → ℕ → Trace
+run_of_machine job machine = run_of job.budget (rom_at job machine) (script_at job machine)
 
-abbrev pub stream : Job → ℕ → List ℕ
-stream job machine = put_by (run_at job machine).changes
+abbrev pub stream : LineJob → ℕ → List ℕ
+stream job machine = put_by (run_of_machine job machine).changes
 
 -- the exit code of a run that ends in this state
 abbrev pub exit_code_at : State → ℕ
@@ -79,16 +79,16 @@ abbrev pub first_place : ℕ → List ℕ → ScriptView → Place
 first_place budget rom script = run_begun budget script (new_machine rom script.clock)
 
 -- where a machine of a line stands after so many turns
-abbrev pub after : Job → ℕ → ℕ → Place
+abbrev pub after : LineJob → ℕ → ℕ → Place
 after job machine count = after_steps job.budget no_outputs count (first_place job.budget (rom_at job machine) (script_at job machine))
 
 -- the events of the first script are of the console, and a vector may run an instruction
-pub record IsJob (job : Job) : Type 0 where
+pub record IsJob (job : LineJob) : Type 0 where
   pub budget : 1 ≤ job.budget
   pub events : AreOfConsole job.script.events
 
--- turns follow a run: what was written so far is a front of its stream, and at the end all of it, in the last state of the run
-pub record FollowsRun (now : Place) (whole : Trail) : Type 0 where
+-- turns follow a run: what was written so far is a prefix of its stream, and at the end all of it, in the last state of the run
+pub record FollowsRun (now : Place) (whole : Trace) : Type 0 where
   pub rest : List ℕ
-  pub front : put_by whole.changes ≡ put_in now ++ rest
-  pub end : HasEnded now → (rest ≡ []) × (whole.last ≡ now.done.last)
+  pub prefix : put_by whole.changes ≡ put_in now ++ rest
+  pub end : PlaceHasEnded now → (rest ≡ []) × (whole.last ≡ now.done.last)

@@ -2,7 +2,7 @@
 use Rattle.std.specs.Prelude.{◌≡◌, ℕ, ◌<◌, ◌+◌, ◌*◌, if◌then◌else◌, Bool, true, false, List, [], ◌∷◌, length}
 use Rattle.uxn_line.specs.declared.line.Line.{Line}
 use Rattle.uxn_line.specs.declared.member.Member.{Member}
-use Rattle.uxn_line.specs.Members.{has_ended}
+use Rattle.uxn_line.specs.Members.{member_has_ended}
 
 -- how much may still be given to a machine: the bytes of its ring, the work left before it, and one more until all was given
 abbrev pub still_given : ℕ → Member → ℕ
@@ -10,7 +10,7 @@ still_given before member = length member.ring.items + before + (if member.all_g
 
 -- each of these may run a vector of the whole budget; an ended machine has no work left
 abbrev pub work : ℕ → ℕ → Member → ℕ
-work budget before member = if has_ended member then 0 else still_given before member * (budget + 1) + member.machine.left
+work budget before member = if member_has_ended member then 0 else still_given before member * (budget + 1) + member.machine.left
 
 -- the work left of all machines from one on, before which so much is left
 abbrev pub works : ℕ → ℕ → List Member → ℕ
@@ -19,7 +19,7 @@ works budget before (member ∷ members) = work budget before member + works bud
 
 -- before the first machine all that its script still gives is left
 abbrev pub work_left : Line → ℕ
-work_left line = works line.budget (length line.giver) line.members.items
+work_left line = works line.budget (length line.input_queue) line.members.items
 
 -- a call that moved something made it less, and one that did not left the line as it was
 abbrev pub WorksOn : Bool → Line → Line → Type 0

@@ -1,14 +1,14 @@
 //! A line to its end.
 ghost use Rattle.std.specs.Prelude.{◌≡◌, ◌<◌, ℕ, false, IfOk, OnErr, is_err, length};
-ghost use Rattle.tree_io.specs.Ended.{SinkEnded};
-ghost use Rattle.tree_io.specs.State.{SinkState};
-ghost use Rattle.uxn_line.specs.Streams.{Job, exit_code_at, run_at, stream};
-ghost use Rattle.uxn_line.specs.Standing.{Turned, Stands, place_in};
+ghost use Rattle.uxn_io_traits.specs.Ended.{SinkEnded};
+ghost use Rattle.uxn_io_traits.specs.State.{SinkState};
+ghost use Rattle.uxn_line.specs.Streams.{LineJob, exit_code_at, run_of_machine, stream};
+ghost use Rattle.uxn_line.specs.Standing.{Turned, LineRepresents, machine_place};
 ghost use Rattle.uxn_line.specs.Work.{WorksOn};
-ghost use Rattle.uxn_line.specs.Moves.{Finishes, IsStill, IsUnderWay, Stops, Went, last_of};
+ghost use Rattle.uxn_line.specs.Moves.{LineFinishes, IsStill, IsUnderWay, LineStops, Went, last_machine};
 
 use crate::line::Line;
-use tree_io::{Failed, Sink};
+use uxn_io_traits::{Failed, Sink};
 
 impl<'a> Line<'a> {
     /// Gives turns to the machines in order, again and again, until all have ended: the exit code of the last machine. Each
@@ -17,15 +17,15 @@ impl<'a> Line<'a> {
     /// Errors where `out` does not take a byte that the last machine writes.
     pub fn finish<O: Sink>(&mut self, out: &mut O) -> Result<u8, Failed>
         // For all numbers of turns for which the line stood it is brought to the end of all runs, or stopped before a byte of the last.
-        ensures finishes { IfOk result (Finishes self.old self.new (O.state out.old) (O.state out.new)) }
-        ensures stops { OnErr result (Stops self.old self.new (O.state out.old) (O.state out.new)) }
+        ensures finishes { IfOk result (LineFinishes self.old self.new (O.state out.old) (O.state out.new)) }
+        ensures stops { OnErr result (LineStops self.old self.new (O.state out.old) (O.state out.new)) }
 
-        // Of a line that was begun over `out`: all of the stream of its last machine is put, or a front of it that is not whole
-        // where `out` fails; and an `out` that surely takes that stream does not fail.
-        ensures put { (job : Job) (begun : SinkState) → IsUnderWay job begun self.old (O.state out.old)
-            → SinkEnded (stream job (last_of job)) (is_err result) begun (O.state out.new) }
-        ensures code { IfOk result (λ code. (job : Job) (begun : SinkState) → IsUnderWay job begun self.old (O.state out.old)
-            → code ≡ exit_code_at (run_at job (last_of job)).last) }
+        // Of a line that was begun over `out`: all of the stream of its last machine is put, or a prefix of it that is not whole
+        // where `out` fails; and an `out` that is guaranteed to take that stream does not fail.
+        ensures put { (job : LineJob) (begun : SinkState) → IsUnderWay job begun self.old (O.state out.old)
+            → SinkEnded (stream job (last_machine job)) (is_err result) begun (O.state out.new) }
+        ensures code { IfOk result (λ code. (job : LineJob) (begun : SinkState) → IsUnderWay job begun self.old (O.state out.old)
+            → code ≡ exit_code_at (run_of_machine job (last_machine job)).last) }
     {
         'rounds: while self.round(out)? {}
         Ok(self.exit_code())
@@ -61,9 +61,9 @@ impl<'a> Line<'a> {
 
     // The exit code of the last machine, in whatever state it stands.
     fn exit_code(&mut self) -> u8
-        ensures stands { (job : Job) (turned : Turned) → Stands job self.old turned → Stands job self.new turned }
-        ensures code { (job : Job) (turned : Turned) → Stands job self.old turned
-            → result ≡ exit_code_at (place_in job turned (last_of job)).done.last }
+        ensures stands { (job : LineJob) (turned : Turned) → LineRepresents job self.old turned → LineRepresents job self.new turned }
+        ensures code { (job : LineJob) (turned : Turned) → LineRepresents job self.old turned
+            → result ≡ exit_code_at (machine_place job turned (last_machine job)).done.last }
     {
         let count = self.members.len();
         if count == 0 {

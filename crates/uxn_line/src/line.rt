@@ -1,22 +1,22 @@
 //! A line of machines, and its turns.
 ghost use Rattle.std.specs.Prelude.{◌≡◌, ◌↔◌, ◌-◌, ◌+◌, ◌<◌, ◌≤◌, ◌∷◌, [], ℕ, suc, true, false, Ok, IfOk, OnOk, OnErr, IsOk, is_err, length, slice_get, Some};
 ghost use Rattle.std.specs.List.{All};
-ghost use Rattle.tree_io.specs.State.{SinkState};
+ghost use Rattle.uxn_io_traits.specs.State.{SinkState};
 ghost use Rattle.uxn_memory.specs.Bytes.{largest_rom};
-ghost use Rattle.vector_loop.specs.Places.{HasEnded};
-ghost use Rattle.vector_loop.specs.Gifts.{gifts_of};
-ghost use Rattle.uxn_line.specs.Streams.{Job, AreOfConsole, rom_at};
+ghost use Rattle.vector_loop.specs.Places.{PlaceHasEnded};
+ghost use Rattle.vector_loop.specs.PendingInputs.{pending_inputs_of};
+ghost use Rattle.uxn_line.specs.Streams.{LineJob, AreOfConsole, rom_at};
 ghost use Rattle.uxn_line.specs.Members.{IsOpen, IsRunning};
-ghost use Rattle.uxn_line.specs.Standing.{Turned, none_turned, place_in, InLine, Stands, job_of};
-ghost use Rattle.uxn_line.specs.Moves.{Came, Fails, Goes, IsHeld, IsUnderWay, IsWaiting, StaysUnderWay, TurnCame, is_move, turned_by};
+ghost use Rattle.uxn_line.specs.Standing.{Turned, none_turned, machine_place, InLine, LineRepresents, line_job};
+ghost use Rattle.uxn_line.specs.Moves.{Came, Fails, Goes, MachineIsHeld, IsUnderWay, IsWaiting, StaysUnderWay, TurnCame, is_move, turned_by};
 
 use crate::member::Member;
 use crate::output::next_byte;
 use console_port::{Output, console_write};
 use play_script::{Clock, Script};
 use std::alloc::{AllocError, Global};
-use tree_io::{Bytes, Failed, NoSink, Sink};
-use vector_loop::Giver;
+use uxn_io_traits::{Bytes, Failed, NoSink, Sink};
+use vector_loop::InputQueue;
 
 /// What a turn came to.
 #[derive(Clone, Copy, PartialEq, Eq)]
@@ -35,7 +35,7 @@ pub enum Moved {
 
 impl Moved {
     /// Whether the machine moved.
-    pub fn is_move(self) -> bool
+    pub(crate) fn is_move(self) -> bool
         ensures { result ≡ is_move self }
     {
         matches!(self, Moved::Ran | Moved::Gave)
@@ -46,7 +46,7 @@ impl Moved {
 #[derive(Drop)]
 pub struct Line<'a> {
     pub(crate) members: Vec<Member>,
-    pub(crate) giver: Giver<'a>,
+    pub(crate) input_queue: InputQueue<'a>,
     pub(crate) budget: u32,
 }
 
@@ -64,10 +64,10 @@ impl<'a> Line<'a> {
         requires small { All (λ rom. length rom.list ≤ largest_rom) roms.now }
         requires events { AreOfConsole script.now.events }
         requires some { 1 ≤ budget }
-        ensures stands { IfOk result (λ line. Stands (job_of roms.now script.now budget) line none_turned) }
-        ensures under_way { IfOk result (λ line. (out : SinkState) → IsUnderWay (job_of roms.now script.now budget) out line out) }
+        ensures stands { IfOk result (λ line. LineRepresents (line_job roms.now script.now budget) line none_turned) }
+        ensures under_way { IfOk result (λ line. (out : SinkState) → IsUnderWay (line_job roms.now script.now budget) out line out) }
     {
-        let giver = Giver::new(script);
+        let input_queue = InputQueue::new(script);
         let mut members = Vec::with_capacity(alloc, roms.len())?;
         for (index, rom) in roms.iter().enumerate() {
             members.push(new_member(
@@ -75,13 +75,13 @@ impl<'a> Line<'a> {
                 index,
                 rom.as_slice(),
                 script,
-                giver.is_empty(),
+                input_queue.is_empty(),
                 budget,
             )?)?;
         }
         Ok(Line {
             members,
-            giver,
+            input_queue,
             budget,
         })
     }
@@ -99,22 +99,22 @@ impl<'a> Line<'a> {
         requires first { 1 ≤ machine }
         requires there { machine ≤ length self.old.members.items }
 
-        // For all numbers of turns for which the line stood it stands for the same ones, but one more of the machine where it moved,
+        // For all numbers of turns for which the line stood it represents the same ones, but one more of the machine where it moved,
         // and what the last machine has written more was put.
         ensures goes { IfOk result (λ moved. Goes (turned_by moved (machine - 1)) self.old self.new
             (O.state out.old) (O.state out.new)) }
 
         // Each answer comes exactly where its cause holds; the first two also depend on what `out` takes.
-        ensures ran { (job : Job) (turned : Turned) → Stands job self.old turned → result ≡ Ok Moved.Ran
-            → 1 ≤ (place_in job turned (machine - 1)).left }
-        ensures gave { (job : Job) (turned : Turned) → Stands job self.old turned → result ≡ Ok Moved.Gave
-            → (place_in job turned (machine - 1)).left ≡ 0 }
-        ensures waits { (job : Job) (turned : Turned) → Stands job self.old turned
+        ensures ran { (job : LineJob) (turned : Turned) → LineRepresents job self.old turned → result ≡ Ok Moved.Ran
+            → 1 ≤ (machine_place job turned (machine - 1)).left }
+        ensures gave { (job : LineJob) (turned : Turned) → LineRepresents job self.old turned → result ≡ Ok Moved.Gave
+            → (machine_place job turned (machine - 1)).left ≡ 0 }
+        ensures waits { (job : LineJob) (turned : Turned) → LineRepresents job self.old turned
             → (result ≡ Ok Moved.Waits) ↔ IsWaiting job self.old turned (machine - 1) }
-        ensures held { (job : Job) (turned : Turned) → Stands job self.old turned
-            → (result ≡ Ok Moved.Held) ↔ IsHeld job self.old turned (machine - 1) }
-        ensures ended { (job : Job) (turned : Turned) → Stands job self.old turned
-            → (result ≡ Ok Moved.Ended) ↔ HasEnded (place_in job turned (machine - 1)) }
+        ensures held { (job : LineJob) (turned : Turned) → LineRepresents job self.old turned
+            → (result ≡ Ok Moved.Held) ↔ MachineIsHeld job self.old turned (machine - 1) }
+        ensures ended { (job : LineJob) (turned : Turned) → LineRepresents job self.old turned
+            → (result ≡ Ok Moved.Ended) ↔ PlaceHasEnded (machine_place job turned (machine - 1)) }
 
         // A failure comes only where the last machine is in a vector, and its next instruction writes a byte to port 18 that `out`
         // does not take; then nothing is changed, nor is it by the other three answers.
@@ -122,9 +122,9 @@ impl<'a> Line<'a> {
         ensures same { IfOk result (λ moved. is_move moved ≡ false → self.new ≡ self.old) }
         ensures machines { length self.new.members.items ≡ length self.old.members.items }
 
-        // Of a line that was begun over `out`: what is put is a front of the stream of its last machine, which is not whole where
-        // `out` fails, and an `out` that surely takes that stream does not fail.
-        ensures under_way { (job : Job) (begun : SinkState) → IsUnderWay job begun self.old (O.state out.old)
+        // Of a line that was begun over `out`: what is put is a prefix of the stream of its last machine, which is not whole where
+        // `out` fails, and an `out` that is guaranteed to take that stream does not fail.
+        ensures under_way { (job : LineJob) (begun : SinkState) → IsUnderWay job begun self.old (O.state out.old)
             → StaysUnderWay job begun self.new (O.state out.new) (is_err result) }
     {
         self.turn_at(usize::from(machine) - 1, out)
@@ -143,13 +143,13 @@ impl<'a> Line<'a> {
             return Ok(self.give_at(index));
         }
         match next_byte(&member.machine.core) {
-            None => Ok(self.run_at(index)),
+            None => Ok(self.run_of_machine(index)),
             Some(byte) => self.write_at(index, byte, out),
         }
     }
 
     // Runs an instruction that writes nothing to port 18.
-    fn run_at(&mut self, index: usize) -> Moved
+    fn run_of_machine(&mut self, index: usize) -> Moved
         requires { IsRunning [] self.old index }
         ensures { Came index result [] self.old self.new }
     {
@@ -201,11 +201,11 @@ impl<'a> Line<'a> {
         requires { IsOpen self.old 0 }
         ensures { Came 0 result [] self.old self.new }
     {
-        let Some(gift) = self.giver.take() else {
+        let Some(pending_input) = self.input_queue.take() else {
             return Moved::Ended;
         };
-        let last = self.giver.is_empty();
-        self.members[0].give(gift, last, self.budget);
+        let last = self.input_queue.is_empty();
+        self.members[0].give(pending_input, last, self.budget);
         Moved::Gave
     }
 
@@ -235,8 +235,8 @@ fn new_member(
 ) -> Result<Member, AllocError>
     requires small { length rom.now ≤ largest_rom }
     requires some { 1 ≤ budget }
-    requires nothing { (nothing ≡ true) ↔ (gifts_of script.now ≡ []) }
-    ensures { IfOk result (λ member. (job : Job) → job.script ≡ script.now → job.budget ≡ budget → rom_at job index ≡ rom.now
+    requires nothing { (nothing ≡ true) ↔ (pending_inputs_of script.now ≡ []) }
+    ensures { IfOk result (λ member. (job : LineJob) → job.script ≡ script.now → job.budget ≡ budget → rom_at job index ≡ rom.now
         → InLine job none_turned index member) }
 {
     if index == 0 {

@@ -1,5 +1,5 @@
 //! One machine of a line: its core and its devices, with nothing outside. It can stop between any two instructions.
-ghost use Rattle.std.specs.Prelude.{◌++◌, ◌≤◌, IfOk, length, ◌≡◌, ℕ, ◌<◌, ◌∷◌, [], List, false, ◌↔◌};
+ghost use Rattle.std.specs.Prelude.{◌++◌, ◌≤◌, IfOk, None, length, ◌≡◌, ℕ, ◌<◌, ◌∷◌, [], List, false, ◌↔◌};
 ghost use Rattle.uxn_memory.specs.Bytes.{largest_rom};
 ghost use Rattle.uxn_opcodes.specs.Rule.{opcode_at};
 ghost use Rattle.console_port.specs.Console.{event_byte};
@@ -12,19 +12,20 @@ ghost use Rattle.varvara_bus.specs.History.{stored, stored_short};
 ghost use Rattle.varvara_bus.specs.State.{DeviceState, storing};
 ghost use Rattle.varvara_bus.specs.Model.{instruction_effect};
 ghost use Rattle.vector_loop.specs.State.{is_over};
-ghost use Rattle.vector_loop.specs.declared.gift.Gift.{Gift};
+ghost use Rattle.vector_loop.specs.declared.pending_input.PendingInput.{PendingInput};
+ghost use Rattle.vector_loop.specs.PendingInputs.{console_byte_of};
 ghost use Rattle.vector_loop.specs.Places.{Place};
 ghost use Rattle.uxn_line.specs.Places.{turn, put_in, IsForConsole};
-ghost use Rattle.uxn_line.specs.Machines.{Rests, HasDone, StandsAt, handed_on};
+ghost use Rattle.uxn_line.specs.Machines.{Rests, MachineHasDone, MachineRepresents, handed_on};
 
 use console_port::{EventKind, KIND};
 use play_script::Clock as ScriptClock;
 use std::alloc::{AllocError, Global};
 use system_port::exit_code;
-use tree_io::{Bytes, NoSink, NoTree};
+use uxn_io_traits::{Bytes, NoSink, NoTree};
 use uxn_opcodes::{Core, Turn, step};
 use varvara_bus::{Bus, Clock, Devices};
-use vector_loop::Gift;
+use vector_loop::PendingInput;
 
 /// The port of the state, which ends a run where it is not 0.
 const STATE: u8 = 0x0f;
@@ -45,7 +46,7 @@ pub struct Machine {
 
 /// Runs one instruction. Nothing outside is there and there is no root, so it never stops.
 fn run_instruction(core: &mut Core, devices: &mut Devices) -> Turn
-    ensures done { (state : DeviceState) → Rests devices.old state → HasDone core.new devices.new (instruction_effect state core.old) }
+    ensures done { (state : DeviceState) → Rests devices.old state → MachineHasDone core.new devices.new (instruction_effect state core.old) }
     ensures broke { (state : DeviceState) → Rests devices.old state → (result ≡ Turn.Broke) ↔ (opcode_at core.old ≡ 0) }
 {
     let mut tree = NoTree;
@@ -122,7 +123,7 @@ impl Machine {
         requires small { length rom.now ≤ largest_rom }
         requires time { IsTime clock }
         ensures { IfOk result (λ machine. (script : ScriptView) → script.arguments ≡ bytes_in arguments.now → script.clock ≡ clock
-            → StandsAt machine (first_place budget rom.now script)) }
+            → MachineRepresents machine (first_place budget rom.now script)) }
     {
         let mut devices = Devices::new(alloc, None, clock_of(clock))?;
         make_ready(&mut devices, arguments);
@@ -138,8 +139,8 @@ impl Machine {
     pub fn run(&mut self)
         requires { 0 < self.old.left }
         ensures left { self.new.left < self.old.left }
-        ensures stands { (budget : ℕ) (now : Place) → StandsAt self.old now → StandsAt self.new (turn budget now) }
-        ensures put { (budget : ℕ) (now : Place) → StandsAt self.old now
+        ensures stands { (budget : ℕ) (now : Place) → MachineRepresents self.old now → MachineRepresents self.new (turn budget now) }
+        ensures put { (budget : ℕ) (now : Place) → MachineRepresents self.old now
             → put_in (turn budget now) ≡ put_in now ++ handed_on self.old.core }
     {
         self.left = match run_instruction(&mut self.core, &mut self.devices) {
@@ -149,13 +150,14 @@ impl Machine {
     }
 
     /// Gives an idle machine whose run is not over what comes next. What is not for the console does nothing.
-    pub fn give(&mut self, gift: Gift, budget: u32)
+    pub fn give(&mut self, pending_input: PendingInput, budget: u32)
         requires { self.old.left ≡ 0 }
         ensures left { self.new.left ≤ budget }
-        ensures stands { (now : Place) (gifts : List Gift) → StandsAt self.old now → now.gifts ≡ gift ∷ gifts
-            → IsForConsole gift → is_over now.done.last ≡ false → StandsAt self.new (turn budget now) }
+        ensures stands { (now : Place) (pending_inputs : List PendingInput) → MachineRepresents self.old now → now.pending_inputs ≡ pending_input ∷ pending_inputs
+            → IsForConsole pending_input → is_over now.done.last ≡ false → MachineRepresents self.new (turn budget now) }
+        ensures others { console_byte_of pending_input ≡ None → self.new ≡ self.old }
     {
-        let Some((byte, kind)) = gift.console_byte() else {
+        let Some((byte, kind)) = pending_input.console_byte() else {
             return;
         };
         let address = hold(&mut self.devices, byte, kind);
@@ -166,16 +168,16 @@ impl Machine {
     }
 
     /// Whether the state is not 0, which ends the run of an idle machine.
-    pub fn is_over(&mut self) -> bool
-        ensures over { (now : Place) → StandsAt self.old now → result ≡ is_over now.done.last }
+    pub(crate) fn is_over(&mut self) -> bool
+        ensures over { (now : Place) → MachineRepresents self.old now → result ≡ is_over now.done.last }
         ensures same { self.new ≡ self.old }
     {
         state_of(&mut self.devices) != 0
     }
 
     /// The exit code of a run that ended in this state.
-    pub fn exit_code(&mut self) -> u8
-        ensures code { (now : Place) → StandsAt self.old now → result ≡ exit_code_at now.done.last }
+    pub(crate) fn exit_code(&mut self) -> u8
+        ensures code { (now : Place) → MachineRepresents self.old now → result ≡ exit_code_at now.done.last }
         ensures same { self.new ≡ self.old }
     {
         exit_code(state_of(&mut self.devices))

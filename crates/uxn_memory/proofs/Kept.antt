@@ -45,7 +45,7 @@ all_bytes-more first count size is more within =
 
 pub length-with_bytes : (memory : List ℕ) (at : ℕ) (bytes : List ℕ) → at + length bytes ≤ length memory → length (with_bytes memory at bytes) ≡ length memory
 length-with_bytes memory at bytes h =
-    let front : length (take at memory) ≡ at = length-take-le at memory (omega arith) in
+    let prefix : length (take at memory) ≡ at = length-take-le at memory (omega arith) in
     simp (length-append, length-drop) (omega arith)
 
 pub all_bytes-with : (first : List ℕ) (at : ℕ) (bytes : List ℕ) → at + length bytes ≤ length first → with_bytes (all_bytes first) at bytes ≡ all_bytes (with_bytes first at bytes)
@@ -66,7 +66,7 @@ all_bytes-fit first within fit k h =
       | inr behind ↦ let e = all_bytes-behind first k behind below in omega (arith, e)
     ]
 
--- the shorter of two fronts
+-- the shorter of two prefixes
 take_both : (count room : ℕ) (xs : List ℕ) → take count (take room xs) ≡ take (min count room) xs
 take_both count room xs = elim (cases_lt count room) [
   | inl h ↦ let e : min count room ≡ count = omega arith in rw e (take-take count room xs (omega arith))

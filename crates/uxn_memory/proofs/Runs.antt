@@ -4,14 +4,14 @@ use Rattle.std.proofs.Math.ListN.{length-set}
 use Rattle.std.proofs.lemmas.Bool.{cases_eq}
 use Rattle.std.proofs.lemmas.Bool.Decides.{nat_tests}
 use Rattle.std.proofs.lemmas.Grind.{common_steps}
-use Rattle.uxn_memory.specs.Bytes.{place_in, copied, filled, copied_up, copied_down}
+use Rattle.uxn_memory.specs.Bytes.{bank_place, copied, filled, copied_up, copied_down}
 
 pub filled-none : (memory : List ℕ) (bank at value : ℕ) → filled memory 0 bank at value ≡ memory
 unfolding filled
 filled-none memory bank at value = refl
 
 pub filled-more : (memory : List ℕ) (count bank at value : ℕ)
-    → filled memory (count + 1) bank at value ≡ slice_set (filled memory count bank at value) (place_in bank (at + count)) value
+    → filled memory (count + 1) bank at value ≡ slice_set (filled memory count bank at value) (bank_place bank (at + count)) value
 unfolding filled
 filled-more memory count bank at value = rw add-one refl
 
@@ -45,11 +45,11 @@ length-filled memory zero bank at value = refl
 length-filled memory (suc count) bank at value = simp length-set (length-filled memory count bank at value)
 
 -- how far a place lies behind an address of its bank
-away : (bank at count k : ℕ) → at < 65536 → count < 65536 → k ≢ place_in bank (at + count) → k / 65536 ≡ bank
+away : (bank at count k : ℕ) → at < 65536 → count < 65536 → k ≢ bank_place bank (at + count) → k / 65536 ≡ bank
     → (k % 65536 + 65536 - at) % 65536 ≢ count
 away bank at count k a c ne is = omega arith
 
-away_here : (bank at count k : ℕ) → at < 65536 → count < 65536 → k ≡ place_in bank (at + count)
+away_here : (bank at count k : ℕ) → at < 65536 → count < 65536 → k ≡ bank_place bank (at + count)
     → (k / 65536 ≡ bank) × ((k % 65536 + 65536 - at) % 65536 ≡ count)
 away_here bank at count k a c e = (omega arith, omega arith)
 
@@ -61,7 +61,7 @@ unfolding filled
 filled-at memory zero bank at value k h a c = grind (arith, nat_tests)
 filled-at memory (suc count) bank at value k h a c =
     let before = filled-at memory count bank at value k h a (omega arith) in
-    elim (cases_eq k (place_in bank (at + count))) [
+    elim (cases_eq k (bank_place bank (at + count))) [
       | inl e ↦ let d = away_here bank at count k a (omega arith) e in grind (arith, nat_tests, common_steps, length-filled)
       | inr ne ↦ let d = away bank at count k a (omega arith) ne in grind (arith, nat_tests, common_steps, length-filled)
     ]

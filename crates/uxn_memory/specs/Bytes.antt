@@ -20,7 +20,7 @@ unfoldable pub all_bytes : List ℕ → List ℕ
 all_bytes first = first ++ zeros (memory_size - length first)
 
 -- how much of a memory is kept: all of bank 0, and room for all banks
-pub record IsKept (first capacity : ℕ) : Type 0 where
+pub record BytesAreMaintained (first capacity : ℕ) : Type 0 where
   pub bank0 : 65536 ≤ first
   pub within : first ≤ memory_size
   pub room : memory_size ≤ capacity
@@ -30,8 +30,8 @@ unfoldable pub bank0 : List ℕ → List ℕ
 bank0 memory = take 65536 memory
 
 -- where the byte at an address of a bank stands among all bytes
-abbrev pub place_in : ℕ → ℕ → ℕ
-place_in bank at = bank * 65536 + at % 65536
+abbrev pub bank_place : ℕ → ℕ → ℕ
+bank_place bank at = bank * 65536 + at % 65536
 
 -- a place among all bytes is one of so many addresses of a bank, from an address on
 abbrev pub in_run : ℕ → ℕ → ℕ → ℕ → Bool
@@ -59,12 +59,12 @@ with_bytes memory at bytes = take at memory ++ bytes ++ drop (at + length bytes)
 
 -- the byte at an address of one bank put at an address of another
 abbrev pub copied : List ℕ → ℕ → ℕ → ℕ → ℕ → List ℕ
-copied memory from_bank from to_bank to = slice_set memory (place_in to_bank to) (slice_index memory (place_in from_bank from))
+copied memory from_bank from to_bank to = slice_set memory (bank_place to_bank to) (slice_index memory (bank_place from_bank from))
 
 -- the first bytes of a run are set to a value, one address after the other
 unfoldable pub filled : List ℕ → ℕ → ℕ → ℕ → ℕ → List ℕ
 filled memory zero bank at value = memory
-filled memory (suc count) bank at value = slice_set (filled memory count bank at value) (place_in bank (at + count)) value
+filled memory (suc count) bank at value = slice_set (filled memory count bank at value) (bank_place bank (at + count)) value
 
 -- the bytes of a run copied one after the other, the lowest address first
 unfoldable pub copied_up : List ℕ → ℕ → ℕ → ℕ → ℕ → ℕ → List ℕ

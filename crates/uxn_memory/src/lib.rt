@@ -29,9 +29,9 @@ ghost use Rattle.uxn_memory.specs.Bytes.{
   largest_rom,
   zeros,
   all_bytes,
-  IsKept,
+  BytesAreMaintained,
   bank0,
-  place_in,
+  bank_place,
   in_run,
   short_at,
   zero_short_at,
@@ -73,13 +73,13 @@ pub struct Memory {
 
 impl Model for Memory {
     ghost use Rattle.std.specs.Prelude.{ℕ, List, vec_len, vec_capacity};
-    ghost use Rattle.uxn_memory.specs.Bytes.{all_bytes, IsKept};
+    ghost use Rattle.uxn_memory.specs.Bytes.{all_bytes, BytesAreMaintained};
 
     ghost Value = { List ℕ };
 
     ghost view = { λ m. all_bytes m.bytes.items };
 
-    ghost invariant = { λ m. IsKept (vec_len m.bytes) (vec_capacity m.bytes) };
+    ghost invariant = { λ m. BytesAreMaintained (vec_len m.bytes) (vec_capacity m.bytes) };
 }
 
 impl Memory {
@@ -183,9 +183,9 @@ impl Memory {
     #[tactic(auto, using(crate::proofs::Kept::kept))]
     pub fn bank_byte(&self, bank: u8, at: u16) -> u8
         requires { bank < 16 }
-        ensures { result ≡ slice_index self.now (place_in bank at) }
+        ensures { result ≡ slice_index self.now (bank_place bank at) }
     {
-        let place = place_in(bank, at);
+        let place = bank_place(bank, at);
         if place < self.bytes.len() {
             self.bytes[place]
         } else {
@@ -197,10 +197,10 @@ impl Memory {
     #[tactic(auto, using(crate::proofs::Kept::kept))]
     fn set_bank_byte(&mut self, bank: u8, at: u16, value: u8)
         requires { bank < 16 }
-        ensures { self.new ≡ slice_set self.old (place_in bank at) value }
+        ensures { self.new ≡ slice_set self.old (bank_place bank at) value }
     {
-        reach(&mut self.bytes, place_in(bank, 0xffff) + 1);
-        self.bytes[place_in(bank, at)] = value;
+        reach(&mut self.bytes, bank_place(bank, 0xffff) + 1);
+        self.bytes[bank_place(bank, at)] = value;
     }
 
     /// Puts the byte at an address of one bank below 16 at an address of another.
@@ -262,8 +262,8 @@ pub fn bank0_changes()
 {}
 
 /// Where the byte at an address of a bank stands among all bytes.
-fn place_in(bank: u8, at: u16) -> usize
-    ensures { result ≡ place_in bank at }
+fn bank_place(bank: u8, at: u16) -> usize
+    ensures { result ≡ bank_place bank at }
 {
     usize::from(bank) * BANK_SIZE + usize::from(at)
 }

@@ -19,9 +19,9 @@ abbrev pub writes_of : Width → ℕ → ℕ → List (ℕ × ℕ)
 writes_of Byte port value = (port, value % 256) ∷ []
 writes_of Short port value = (port, value / 256) ∷ ((port + 1) % 256, value % 256) ∷ []
 
--- what was read is pushed on this ring
-abbrev pub answered : Mode → Core → ℕ → Core
-answered mode core value = let s = sides_of mode.returns core in core_of mode.returns (record s { this = pushed s.this mode.width value })
+-- what was read is pushed on this stack
+abbrev pub port_answered : Mode → Core → ℕ → Core
+port_answered mode core value = let s = sides_of mode.returns core in core_of mode.returns (record s { this = pushed s.this mode.width value })
 
 -- a word is read at a port: a byte there, or the high byte there and the low byte at the next port modulo 256
 abbrev pub ReadsWord : {S : Type 0} → Rules S → Width → S → Core → ℕ → ℕ → Type 0
@@ -45,19 +45,19 @@ WriteStops {S} rules (write ∷ writes) ports core stop ports_new core_new =
     × WriteStops rules writes between middle stop ports_new core_new)))
 
 -- the port access of an instruction is done
-unfoldable pub Finishes : {S : Type 0} → Rules S → Access → Core → S → Core → S → Type 0
-Finishes rules Nothing core ports core_new ports_new = (core_new ≡ core) × (ports_new ≡ ports)
-Finishes rules (Read port mode) core ports core_new ports_new =
+unfoldable pub FinishesAccess : {S : Type 0} → Rules S → Access → Core → S → Core → S → Type 0
+FinishesAccess rules Nothing core ports core_new ports_new = (core_new ≡ core) × (ports_new ≡ ports)
+FinishesAccess rules (Read port mode) core ports core_new ports_new =
     (ports_new ≡ ports)
-    × ((value : ℕ) × (ReadsWord rules mode.width ports core port value × (core_new ≡ answered mode core value)))
-Finishes rules (Write port width value) core ports core_new ports_new =
+    × ((value : ℕ) × (ReadsWord rules mode.width ports core port value × (core_new ≡ port_answered mode core value)))
+FinishesAccess rules (Write port width value) core ports core_new ports_new =
     Written rules (writes_of width port value) ports core ports_new core_new
 
 -- the port access of an instruction stops
-unfoldable pub Stops : {S : Type 0} → Rules S → Access → Core → S → Stop → Core → S → Type 0
-Stops rules Nothing core ports stop core_new ports_new = ⊥
-Stops rules (Read port mode) core ports stop core_new ports_new = ⊥
-Stops rules (Write port width value) core ports stop core_new ports_new =
+unfoldable pub StopsInAccess : {S : Type 0} → Rules S → Access → Core → S → Stop → Core → S → Type 0
+StopsInAccess rules Nothing core ports stop core_new ports_new = ⊥
+StopsInAccess rules (Read port mode) core ports stop core_new ports_new = ⊥
+StopsInAccess rules (Write port width value) core ports stop core_new ports_new =
     WriteStops rules (writes_of width port value) ports core stop ports_new core_new
 
 -- the instruction at `at`: BRK, which ends the vector; or one that runs to its end; or one whose port access stops
@@ -65,6 +65,6 @@ unfoldable pub Instruction : {S : Type 0} → Rules S → Core → S → Result 
 Instruction rules core ports (Ok Broke) core_new ports_new =
     (opcode_at core ≡ 0) × (core_new ≡ past_opcode core) × (ports_new ≡ ports)
 Instruction rules core ports (Ok Ran) core_new ports_new =
-    (opcode_at core ≢ 0) × Finishes rules (begun core).access (begun core).core ports core_new ports_new
+    (opcode_at core ≢ 0) × FinishesAccess rules (begun core).access (begun core).core ports core_new ports_new
 Instruction rules core ports (Err stop) core_new ports_new =
-    (opcode_at core ≢ 0) × Stops rules (begun core).access (begun core).core ports stop core_new ports_new
+    (opcode_at core ≢ 0) × StopsInAccess rules (begun core).access (begun core).core ports stop core_new ports_new

@@ -1,6 +1,6 @@
 -- What ports are to an instruction (Varvara device reference), and who is to blame for a stop (profile).
 use Rattle.std.specs.Prelude.{ℕ, Result, Ok, Err}
-use Rattle.tree_io.specs.Faults.{Blame, Nobody, TheTree, ASink}
+use Rattle.uxn_io_traits.specs.Faults.{Blame, Nobody, TheTree, ASink}
 use Rattle.uxn_opcodes.specs.declared.Core.{Core}
 use Rattle.uxn_opcodes.specs.declared.Stop.{Stop}
 use Rattle.uxn_opcodes.specs.declared.Stop.TheVariants.{TreeFault, SinkFault, NoMemory}
@@ -13,8 +13,8 @@ pub record Rules (S : Type 0) : Type 1 where
   pub stopped : S → Core → ℕ → ℕ → Stop → S → Core → Type 0
 
 -- who is to blame for how a call ended
-abbrev pub blame_of : {T : Type 0} → Result T Stop → Blame
-blame_of (Ok value) = Nobody
-blame_of (Err TreeFault) = TheTree
-blame_of (Err SinkFault) = ASink
-blame_of (Err NoMemory) = Nobody
+abbrev pub result_blame : {T : Type 0} → Result T Stop → Blame
+result_blame (Ok value) = Nobody
+result_blame (Err TreeFault) = TheTree
+result_blame (Err SinkFault) = ASink
+result_blame (Err NoMemory) = Nobody

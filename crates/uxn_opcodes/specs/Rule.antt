@@ -11,15 +11,15 @@ use Rattle.uxn_opcodes.specs.declared.operation.Op.TheVariants.{Inc, Sft, Arithm
 use Rattle.uxn_opcodes.specs.declared.rows.Access.{Access}
 use Rattle.uxn_opcodes.specs.declared.rows.Access.TheVariants.{Nothing, Read, Write}
 use Rattle.uxn_opcodes.specs.Words.{size_of, pushed, pushed_all, dropped, word_loaded}
-use Rattle.uxn_opcodes.specs.Table.{op_of, mode_of, Row, taken, made, Pushes}
+use Rattle.uxn_opcodes.specs.Table.{op_of, mode_of, Row, taken, results_of_row, Pushes}
 use Rattle.uxn_opcodes.specs.Table.{increment_row, shift_row, arithmetic_row, stack_row, compare_row}
 use Rattle.uxn_opcodes.specs.Table.{jump_row, stash_row, load_row, store_row, read_row, write_row}
 
--- the machine at the start: memory 0 but for the program from 0100 of bank 0 on, across the banks; new rings, at 0100
+-- the machine at the start: memory 0 but for the program from 0100 of bank 0 on, across the banks; new stacks, at 0100
 unfoldable pub new_core : List ℕ → Core
 new_core rom = record { memory = with_bytes (zeros memory_size) 256 rom; working = new_ring; returns = new_ring; at = 256 }
 
--- memory, the address after the opcode, this ring and the other ring
+-- memory, the address after the opcode, this stack and the other stack
 pub record Sides : Type 0 where
   pub memory : List ℕ
   pub at : ℕ
@@ -29,7 +29,7 @@ pub record Sides : Type 0 where
 abbrev pub found : List ℕ → ℕ → Cells → Cells → Sides
 found memory at this other = record { memory = memory; at = at; this = this; other = other }
 
--- return mode swaps the roles of the two rings
+-- return mode swaps the roles of the two stacks
 abbrev pub sides_of : Bool → Core → Sides
 sides_of false core = record { memory = core.memory; at = core.at; this = core.working; other = core.returns }
 sides_of true core = record { memory = core.memory; at = core.at; this = core.returns; other = core.working }
@@ -39,8 +39,8 @@ core_of false sides = record { memory = sides.memory; working = sides.this; retu
 core_of true sides = record { memory = sides.memory; working = sides.other; returns = sides.this; at = sides.at }
 
 -- what a row does: the bytes that it takes, what becomes of memory and of the next address, what is pushed on
--- the other ring and on this one, and which ports are still to be read or written
-pub record Deed : Type 0 where
+-- the other stack and on this one, and which ports are still to be read or written
+pub record OpEffect : Type 0 where
   pub count : ℕ
   pub memory : List ℕ
   pub next : ℕ
@@ -49,38 +49,38 @@ pub record Deed : Type 0 where
   pub access : Access
 
 -- a row that only takes its operands
-abbrev pub takes : {A : Type 0} → Row A → Sides → Deed
+abbrev pub takes : {A : Type 0} → Row A → Sides → OpEffect
 takes row sides = record { count = taken row; memory = sides.memory; next = sides.at; passes = []; results = []; access = Nothing }
 
--- each kind of row: its operands are those of this ring as the instruction finds it
-unfoldable pub deed_of : Op → Mode → Sides → Deed
-deed_of Inc mode s = let row = increment_row mode.width in record (takes row s) { results = made row s.this }
-deed_of Sft mode s = let row = shift_row mode.width in record (takes row s) { results = made row s.this }
-deed_of (Arithmetic op) mode s = let row = arithmetic_row op mode.width in record (takes row s) { results = made row s.this }
-deed_of (Stack op) mode s = let row = stack_row op mode.width in record (takes row s) { results = made row s.this }
-deed_of (Compare op) mode s = let row = compare_row op mode.width in record (takes row s) { results = made row s.this }
-deed_of (Jump op) mode s = let row = jump_row op mode.width s.at in
-    record (takes row s) { next = (made row s.this).next; passes = (made row s.this).passes }
-deed_of Sth mode s = let row = stash_row mode.width in record (takes row s) { passes = made row s.this }
-deed_of (Load op) mode s = let row = load_row op mode.width s.memory s.at in record (takes row s) { results = made row s.this }
-deed_of (Store op) mode s = let row = store_row op mode.width s.memory s.at in record (takes row s) { memory = made row s.this }
-deed_of Dei mode s = record (takes read_row s) { access = Read (made read_row s.this) mode }
-deed_of Deo mode s = let row = write_row mode.width in
-    record (takes row s) { access = Write (made row s.this).0 mode.width (made row s.this).1 }
+-- each kind of row: its operands are those of this stack as the instruction finds it
+unfoldable pub op_effect_of : Op → Mode → Sides → OpEffect
+op_effect_of Inc mode s = let row = increment_row mode.width in record (takes row s) { results = results_of_row row s.this }
+op_effect_of Sft mode s = let row = shift_row mode.width in record (takes row s) { results = results_of_row row s.this }
+op_effect_of (Arithmetic op) mode s = let row = arithmetic_row op mode.width in record (takes row s) { results = results_of_row row s.this }
+op_effect_of (Stack op) mode s = let row = stack_row op mode.width in record (takes row s) { results = results_of_row row s.this }
+op_effect_of (Compare op) mode s = let row = compare_row op mode.width in record (takes row s) { results = results_of_row row s.this }
+op_effect_of (Jump op) mode s = let row = jump_row op mode.width s.at in
+    record (takes row s) { next = (results_of_row row s.this).next; passes = (results_of_row row s.this).passes }
+op_effect_of Sth mode s = let row = stash_row mode.width in record (takes row s) { passes = results_of_row row s.this }
+op_effect_of (Load op) mode s = let row = load_row op mode.width s.memory s.at in record (takes row s) { results = results_of_row row s.this }
+op_effect_of (Store op) mode s = let row = store_row op mode.width s.memory s.at in record (takes row s) { memory = results_of_row row s.this }
+op_effect_of Dei mode s = record (takes read_row s) { access = Read (results_of_row read_row s.this) mode }
+op_effect_of Deo mode s = let row = write_row mode.width in
+    record (takes row s) { access = Write (results_of_row row s.this).0 mode.width (results_of_row row s.this).1 }
 
 -- the machine where nothing but a port access is left of an instruction, and this access
 pub record Begun : Type 0 where
   pub core : Core
   pub access : Access
 
--- the rule: the pointer of this ring is lowered past the operands unless keep mode is set; memory, the next
--- address and the other ring change; and the results are pushed on this ring at the pointer as it now stands
-abbrev pub ruled : Mode → Sides → Deed → Sides
-ruled mode s deed = record {
-  memory = deed.memory;
-  at = deed.next;
-  this = pushed_all (dropped mode.keep s.this deed.count) deed.results;
-  other = pushed_all s.other deed.passes;
+-- the rule: the pointer of this stack is lowered past the operands unless keep mode is set; memory, the next
+-- address and the other stack change; and the results are pushed on this stack at the pointer as it now stands
+abbrev pub ruled : Mode → Sides → OpEffect → Sides
+ruled mode s op_effect = record {
+  memory = op_effect.memory;
+  at = op_effect.next;
+  this = pushed_all (dropped mode.keep s.this op_effect.count) op_effect.results;
+  other = pushed_all s.other op_effect.passes;
 }
 
 -- the opcode, and the machine past it
@@ -102,17 +102,17 @@ moved core at = record core { at = at }
 abbrev pub jumped : Core → Core
 jumped core = record core { at = (core.at + 2 + immediate_of core) % 65536 }
 
--- JCI: takes one byte of the working ring, and jumps where it is not 0
+-- JCI: takes one byte of the working stack, and jumps where it is not 0
 abbrev pub jumped_if : Core → Core
 jumped_if core = if byte_below core.working 0 == 0
     then record core { working = lowered core.working 1; at = (core.at + 2) % 65536 }
     else record (jumped core) { working = lowered core.working 1 }
 
--- JSI: pushes the address after the immediate on the return ring, and jumps
+-- JSI: pushes the address after the immediate on the return stack, and jumps
 abbrev pub called : Core → Core
 called core = record (jumped core) { returns = pushed core.returns Short ((core.at + 2) % 65536) }
 
--- LIT: pushes the word that follows on this ring, and goes on after it
+-- LIT: pushes the word that follows on this stack, and goes on after it
 abbrev pub literal : Mode → Core → Core
 literal mode core = let s = sides_of mode.returns core in core_of mode.returns (record s {
   this = pushed s.this mode.width (word_loaded mode.width s.memory s.at);
@@ -127,8 +127,8 @@ immediate code core =
 
 -- a row's instruction, from the machine past the opcode, up to its port access
 abbrev pub row_begun : Op → Mode → Core → Begun
-row_begun op mode core = let s = sides_of mode.returns core in let deed = deed_of op mode s in
-    record { core = core_of mode.returns (ruled mode s deed); access = deed.access }
+row_begun op mode core = let s = sides_of mode.returns core in let op_effect = op_effect_of op mode s in
+    record { core = core_of mode.returns (ruled mode s op_effect); access = op_effect.access }
 
 abbrev pub begun_by : Option Op → ℕ → Core → Begun
 begun_by None code core = record { core = immediate code core; access = Nothing }

@@ -22,7 +22,7 @@ use Rattle.uxn_opcodes.specs.declared.operation.LoadOp.TheVariants.{Ldz, Ldr, Ld
 use Rattle.uxn_opcodes.specs.declared.operation.StoreOp.{StoreOp}
 use Rattle.uxn_opcodes.specs.declared.operation.StoreOp.TheVariants.{Stz, Str, Sta}
 use Rattle.uxn_opcodes.specs.Words.{size_of, word_below, pushed_all, dropped, relative, target}
-use Rattle.uxn_opcodes.specs.Words.{word_loaded, zero_word_loaded, with_word, with_zero_word}
+use Rattle.uxn_opcodes.specs.Words.{word_loaded, zero_word_loaded, memory_with_word, with_zero_word}
 
 -- the operations in the order of their codes 00 to 1f; 00 has none
 abbrev pub operations : List (Option Op)
@@ -60,19 +60,19 @@ taken (one a make) = size_of a
 taken (two a b make) = size_of a + size_of b
 taken (three a b c make) = size_of a + size_of b + size_of c
 
--- what a row makes of the operands below the pointer of a ring
-abbrev pub made : {A : Type 0} → Row A → Cells → A
-made (one a make) ring = make (word_below ring a 0)
-made (two a b make) ring = make (word_below ring a (size_of b)) (word_below ring b 0)
-made (three a b c make) ring = make (word_below ring a (size_of b + size_of c)) (word_below ring b (size_of c)) (word_below ring c 0)
+-- what a row makes of the operands below the pointer of a stack
+abbrev pub results_of_row : {A : Type 0} → Row A → Cells → A
+results_of_row (one a make) ring = make (word_below ring a 0)
+results_of_row (two a b make) ring = make (word_below ring a (size_of b)) (word_below ring b 0)
+results_of_row (three a b c make) ring = make (word_below ring a (size_of b + size_of c)) (word_below ring b (size_of c)) (word_below ring c 0)
 
 -- the words that a row pushes, in order
 abbrev pub Pushes : Type 0
 Pushes = List (Width × ℕ)
 
--- the ring after a row whose results are pushed at the pointer as it stands once the operands were taken
-abbrev pub yielded : Mode → Row Pushes → Cells → Cells
-yielded mode row ring = pushed_all (dropped mode.keep ring (taken row)) (made row ring)
+-- the stack after a row whose results are pushed at the pointer as it stands once the operands were taken
+abbrev pub results : Mode → Row Pushes → Cells → Cells
+results mode row ring = pushed_all (dropped mode.keep ring (taken row)) (results_of_row row ring)
 
 -- 01: the word and one more
 abbrev pub increment_row : Width → Row Pushes
@@ -92,7 +92,7 @@ arithmetic_row Eor w = two w w (λ a b. (w, bit_xor a b) ∷ [])
 abbrev pub shift_row : Width → Row Pushes
 shift_row w = two w Byte (λ a s. (w, a / 2 ^ (s % 16) * 2 ^ (s / 16)) ∷ [])
 
--- 02 to 07: the order of the words on this ring
+-- 02 to 07: the order of the words on this stack
 abbrev pub stack_row : StackOp → Width → Row Pushes
 stack_row Pop w = one w (λ a. [])
 stack_row Nip w = two w w (λ a b. (w, b) ∷ [])
@@ -112,18 +112,18 @@ compare_row Neq w = two w w (λ a b. flag (not (a == b)))
 compare_row Gth w = two w w (λ a b. flag (nat_lt b a))
 compare_row Lth w = two w w (λ a b. flag (nat_lt a b))
 
--- where a jump leads, and what it pushes on the other ring
-pub record Landing : Type 0 where
+-- where a jump leads, and what it pushes on the other stack
+pub record JumpTarget : Type 0 where
   pub next : ℕ
   pub passes : Pushes
 
 -- 0c to 0e: `at` is the address after the opcode
-abbrev pub jump_row : JumpOp → Width → ℕ → Row Landing
+abbrev pub jump_row : JumpOp → Width → ℕ → Row JumpTarget
 jump_row Jmp w at = one w (λ j. record { next = target w at j; passes = [] })
 jump_row Jcn w at = two Byte w (λ t j. record { next = if t == 0 then at else target w at j; passes = [] })
 jump_row Jsr w at = one w (λ j. record { next = target w at j; passes = (Short, at) ∷ [] })
 
--- 0f: the word goes to the other ring
+-- 0f: the word goes to the other stack
 abbrev pub stash_row : Width → Row Pushes
 stash_row w = one w (λ a. (w, a) ∷ [])
 
@@ -136,8 +136,8 @@ load_row Lda w memory at = one Short (λ a. (w, word_loaded w memory a) ∷ [])
 -- 11, 13 and 15: memory after the word is stored there
 abbrev pub store_row : StoreOp → Width → List ℕ → ℕ → Row (List ℕ)
 store_row Stz w memory at = two w Byte (λ v z. with_zero_word w memory z v)
-store_row Str w memory at = two w Byte (λ v o. with_word w memory (relative at o) v)
-store_row Sta w memory at = two w Short (λ v a. with_word w memory a v)
+store_row Str w memory at = two w Byte (λ v o. memory_with_word w memory (relative at o) v)
+store_row Sta w memory at = two w Short (λ v a. memory_with_word w memory a v)
 
 -- 16: the port that is read
 abbrev pub read_row : Row ℕ

@@ -1,4 +1,4 @@
--- Words of one or two bytes on a ring and in memory, high byte first (Uxntal opcode reference).
+-- Words of one or two bytes on a stack and in memory, high byte first (Uxntal opcode reference).
 use Rattle.std.specs.Prelude.{ℕ, ◌+◌, ◌-◌, ◌%◌, Bool, true, false, nat_lt, if◌then◌else◌, List, [], ◌∷◌}
 use Rattle.std.specs.Prelude.{slice_index, slice_set}
 use Rattle.uxn_memory.specs.Bytes.{short_at, zero_short_at, with_short, with_zero_short}
@@ -11,7 +11,7 @@ abbrev pub size_of : Width → ℕ
 size_of Byte = 1
 size_of Short = 2
 
--- the word of a ring with this many bytes between it and the pointer
+-- the word of a stack with this many bytes between it and the pointer
 unfoldable pub word_below : Cells → Width → ℕ → ℕ
 word_below ring Byte depth = byte_below ring depth
 word_below ring Short depth = short_below ring depth
@@ -42,9 +42,9 @@ zero_word_loaded Byte memory place = slice_index memory place
 zero_word_loaded Short memory place = zero_short_at memory place
 
 -- memory with a word stored at an address, cut to its width
-unfoldable pub with_word : Width → List ℕ → ℕ → ℕ → List ℕ
-with_word Byte memory at value = slice_set memory at (value % 256)
-with_word Short memory at value = with_short memory at value
+unfoldable pub memory_with_word : Width → List ℕ → ℕ → ℕ → List ℕ
+memory_with_word Byte memory at value = slice_set memory at (value % 256)
+memory_with_word Short memory at value = with_short memory at value
 
 -- memory with a word stored at a place of the zero page, cut to its width
 unfoldable pub with_zero_word : Width → List ℕ → ℕ → ℕ → List ℕ

@@ -20,16 +20,16 @@ ghost use Rattle.uxn_opcodes.specs.Rule.{
   moved,
 };
 ghost use Rattle.uxn_opcodes.specs.Table.{op_of, mode_of};
-ghost use Rattle.tree_io.specs.Faults.{Ledger};
-ghost use Rattle.uxn_opcodes.specs.Ports.{blame_of};
+ghost use Rattle.uxn_io_traits.specs.Faults.{Ledger};
+ghost use Rattle.uxn_opcodes.specs.Ports.{result_blame};
 ghost use Rattle.uxn_opcodes.specs.Instruction.{
   ReadsWord,
   Written,
   WriteStops,
   writes_of,
-  answered,
-  Finishes,
-  Stops,
+  port_answered,
+  FinishesAccess,
+  StopsInAccess,
   Instruction,
 };
 
@@ -49,9 +49,9 @@ use uxn_stacks::Ring;
 pub struct Core {
     /// The bytes of all banks of memory.
     pub memory: Memory,
-    /// The working ring.
+    /// The working stack.
     pub working: Ring,
-    /// The return ring.
+    /// The return stack.
     pub returns: Ring,
     /// The address of the next instruction.
     pub at: u16,
@@ -80,10 +80,10 @@ pub enum Turn {
 /// The ports of the machine: what is read at them, and what writing them does.
 pub trait Ports {
     ghost use Rattle.std.specs.Prelude.{◌≡◌, ℕ, List, OnOk, IfErr};
-    ghost use Rattle.tree_io.specs.Faults.{Counts, Ledger};
+    ghost use Rattle.uxn_io_traits.specs.Faults.{Counts, Ledger};
     ghost use Rattle.uxn_opcodes.specs.declared.Core.{Core};
     ghost use Rattle.uxn_opcodes.specs.declared.Stop.{Stop};
-    ghost use Rattle.uxn_opcodes.specs.Ports.{Rules, blame_of};
+    ghost use Rattle.uxn_opcodes.specs.Ports.{Rules, result_blame};
 
     /// What is read, what a write does, and what a write that stops leaves.
     ghost rules: { Rules Self };
@@ -99,13 +99,13 @@ pub trait Ports {
         ensures { rules.reads self.now core.now port result };
 
     /// Writes a port. A fault is answered only where the count of the object to blame rose in this call; no other
-    /// count changes. Want of memory may come at any write.
+    /// count changes. Running out of memory may come at any write.
     fn deo(&mut self, core: &mut Core, port: u8, value: u8) -> Result<(), Stop>
         ensures ok { OnOk result (rules.wrote self.old core.old port value self.new core.new) }
         ensures err { IfErr result (λ stop. rules.stopped self.old core.old port value stop self.new core.new) }
-        ensures ledger { Ledger (faults self.old) (faults self.new) (blame_of result) };
+        ensures ledger { Ledger (faults self.old) (faults self.new) (result_blame result) };
 
-    /// The bytes last stored, whatever the ports read. No instruction asks for them.
+    /// The bytes last stored, whatever the ports read. No instruction requests them.
     fn stored_page(&self) -> &[u8; 256]
         ensures { result.now ≡ stored self.now };
 }
@@ -145,7 +145,7 @@ fn jump_on(core: &Core, at: &mut u16)
     *at = at.wrapping_add(2).wrapping_add(distance);
 }
 
-/// JCI: takes a byte of the working ring, and jumps where it is not 0.
+/// JCI: takes a byte of the working stack, and jumps where it is not 0.
 #[inline(always)]
 fn jump_on_if(core: &mut Core, at: &mut u16)
     ensures { moved core.new at.new ≡ jumped_if (moved core.old at.old) }
@@ -157,7 +157,7 @@ fn jump_on_if(core: &mut Core, at: &mut u16)
     }
 }
 
-/// JSI: pushes the address after the immediate on the return ring, and jumps.
+/// JSI: pushes the address after the immediate on the return stack, and jumps.
 #[inline(always)]
 fn call(core: &mut Core, at: &mut u16)
     ensures { moved core.new at.new ≡ called (moved core.old at.old) }
@@ -257,7 +257,7 @@ fn write_word<P: Ports>(
     ensures ok { OnOk result (Written P.rules (writes_of width port value) ports.old core.old ports.new core.new) }
     ensures err { IfErr result (λ stop. WriteStops P.rules (writes_of width port value)
         ports.old core.old stop ports.new core.new) }
-    ensures ledger { Ledger (P.faults ports.old) (P.faults ports.new) (blame_of result) }
+    ensures ledger { Ledger (P.faults ports.old) (P.faults ports.new) (result_blame result) }
 {
     match width {
         Width::Byte => ports.deo(core, port, (value % 256) as u8),
@@ -272,7 +272,7 @@ fn write_word<P: Ports>(
 /// Pushes the word that was read at a port.
 #[inline(always)]
 fn answer(core: &mut Core, mode: Mode, value: u16)
-    ensures { core.new ≡ answered mode core.old value }
+    ensures { core.new ≡ port_answered mode core.old value }
 {
     if mode.returns {
         push(&mut core.returns, mode.width, u32::from(value));
@@ -283,11 +283,11 @@ fn answer(core: &mut Core, mode: Mode, value: u16)
 
 /// Does the port access of an instruction.
 #[inline(always)]
-#[tactic(auto, unfolding(crate::specs::Instruction::Finishes, crate::specs::Instruction::Stops))]
+#[tactic(auto, unfolding(crate::specs::Instruction::FinishesAccess, crate::specs::Instruction::StopsInAccess))]
 fn finish<P: Ports>(core: &mut Core, ports: &mut P, access: Access) -> Result<(), Stop>
-    ensures ok { OnOk result (Finishes P.rules access core.old ports.old core.new ports.new) }
-    ensures err { IfErr result (λ stop. Stops P.rules access core.old ports.old stop core.new ports.new) }
-    ensures ledger { Ledger (P.faults ports.old) (P.faults ports.new) (blame_of result) }
+    ensures ok { OnOk result (FinishesAccess P.rules access core.old ports.old core.new ports.new) }
+    ensures err { IfErr result (λ stop. StopsInAccess P.rules access core.old ports.old stop core.new ports.new) }
+    ensures ledger { Ledger (P.faults ports.old) (P.faults ports.new) (result_blame result) }
 {
     match access {
         Access::Nothing => Ok(()),
@@ -327,7 +327,7 @@ macro_rules! run_code {
     };
 }
 
-/// Runs the instruction of a code, all but its port access. No ports stand here, and each arm lends one reference: the
+/// Runs the instruction of a code, all but its port access. No ports stand here, and each arm borrows one reference: the
 /// proof of so many arms is long, and the longer the more there is in each.
 #[inline(always)]
 fn run_any(core: &mut Core, code: u8) -> Option<Access>
@@ -361,7 +361,7 @@ fn run_any(core: &mut Core, code: u8) -> Option<Access>
 pub fn step<P: Ports>(core: &mut Core, ports: &mut P) -> Result<Turn, Stop>
     ensures instruction { Instruction P.rules core.old ports.old result core.new ports.new }
     ensures broke { (result ≡ Ok Turn.Broke) ↔ (opcode_at core.old ≡ 0) }
-    ensures ledger { Ledger (P.faults ports.old) (P.faults ports.new) (blame_of result) }
+    ensures ledger { Ledger (P.faults ports.old) (P.faults ports.new) (result_blame result) }
 {
     let code = opcode(core);
     let Some(access) = run_any(core, code) else {

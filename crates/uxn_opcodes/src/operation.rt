@@ -17,7 +17,7 @@ pub enum Width {
 pub struct Mode {
     /// Short mode makes the words two bytes.
     pub width: Width,
-    /// Return mode swaps the roles of the two rings.
+    /// Return mode swaps the roles of the two stacks.
     pub returns: bool,
     /// Keep mode leaves the operands where they are.
     pub keep: bool,
@@ -44,7 +44,7 @@ pub enum CompareOp {
     Lth,
 }
 
-/// The order of the words on a ring.
+/// The order of the words on a stack.
 #[derive(Clone, Copy)]
 pub enum StackOp {
     Pop,
@@ -89,7 +89,7 @@ pub enum Op {
     Arithmetic(ArithmeticOp),
     Compare(CompareOp),
     Stack(StackOp),
-    /// Moves a word to the other ring.
+    /// Moves a word to the other stack.
     Sth,
     Jump(JumpOp),
     Load(LoadOp),

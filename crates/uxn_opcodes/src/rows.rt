@@ -4,16 +4,16 @@ ghost use Rattle.std.specs.Prelude.{◌≡◌, ◌+◌, ◌-◌, ◌*◌, ◌/�
 ghost use Rattle.uxn_opcodes.specs.Words.{word_below, pushed_all, dropped};
 ghost use Rattle.uxn_opcodes.specs.Table.{
   taken,
-  made,
+  results_of_row,
   arithmetic_row,
   stack_row,
   compare_row,
   jump_row,
   load_row,
   store_row,
-  yielded,
+  results,
 };
-ghost use Rattle.uxn_opcodes.specs.Rule.{found, deed_of, ruled};
+ghost use Rattle.uxn_opcodes.specs.Rule.{found, op_effect_of, ruled};
 
 use crate::operation::{
     ArithmeticOp, CompareOp, JumpOp, LoadOp, Mode, Op, StackOp, StoreOp, Width,
@@ -52,7 +52,7 @@ fn product(a: u16, b: u16) -> u32
     u32::from(a) * u32::from(b)
 }
 
-/// The quotient, cut off; 0 where the divisor is 0.
+/// The quotient, truncated; 0 where the divisor is 0.
 #[inline(always)]
 fn quotient(a: u16, b: u16) -> u32
     ensures { result ≡ (if b == 0 then 0 else a / b) }
@@ -63,7 +63,7 @@ fn quotient(a: u16, b: u16) -> u32
 /// The row of arithmetic on two words.
 #[inline(always)]
 fn calculate(op: ArithmeticOp, mode: Mode, this: &mut Ring)
-    ensures { this.new ≡ yielded mode (arithmetic_row op mode.width) this.old }
+    ensures { this.new ≡ results mode (arithmetic_row op mode.width) this.old }
 {
     let (a, b) = take_two(this, mode, mode.width, mode.width);
     let value = match op {
@@ -81,7 +81,7 @@ fn calculate(op: ArithmeticOp, mode: Mode, this: &mut Ring)
 /// The row of comparisons, which push 1 or 0 as one byte.
 #[inline(always)]
 fn compare(op: CompareOp, mode: Mode, this: &mut Ring)
-    ensures { this.new ≡ yielded mode (compare_row op mode.width) this.old }
+    ensures { this.new ≡ results mode (compare_row op mode.width) this.old }
 {
     let (a, b) = take_two(this, mode, mode.width, mode.width);
     match op {
@@ -95,7 +95,7 @@ fn compare(op: CompareOp, mode: Mode, this: &mut Ring)
 /// The row of the orders of words.
 #[inline(always)]
 fn arrange(op: StackOp, mode: Mode, this: &mut Ring)
-    ensures { this.new ≡ yielded mode (stack_row op mode.width) this.old }
+    ensures { this.new ≡ results mode (stack_row op mode.width) this.old }
 {
     let width = mode.width;
     match op {
@@ -134,9 +134,9 @@ fn arrange(op: StackOp, mode: Mode, this: &mut Ring)
 /// The row of jumps, which tells the next address.
 #[inline(always)]
 fn jump(op: JumpOp, mode: Mode, at: u16, this: &mut Ring, other: &mut Ring) -> u16
-    ensures next { result ≡ (made (jump_row op mode.width at) this.old).next }
+    ensures next { result ≡ (results_of_row (jump_row op mode.width at) this.old).next }
     ensures this { this.new ≡ dropped mode.keep this.old (taken (jump_row op mode.width at)) }
-    ensures other { other.new ≡ pushed_all other.old (made (jump_row op mode.width at) this.old).passes }
+    ensures other { other.new ≡ pushed_all other.old (results_of_row (jump_row op mode.width at) this.old).passes }
 {
     let width = mode.width;
     match op {
@@ -163,7 +163,7 @@ fn jump(op: JumpOp, mode: Mode, at: u16, this: &mut Ring, other: &mut Ring) -> u
 /// The row of loads.
 #[inline(always)]
 fn load_word(op: LoadOp, mode: Mode, memory: &Memory, at: u16, this: &mut Ring)
-    ensures { this.new ≡ yielded mode (load_row op mode.width memory.now at) this.old }
+    ensures { this.new ≡ results mode (load_row op mode.width memory.now at) this.old }
 {
     let width = mode.width;
     match op {
@@ -186,7 +186,7 @@ fn load_word(op: LoadOp, mode: Mode, memory: &Memory, at: u16, this: &mut Ring)
 /// The row of stores.
 #[inline(always)]
 fn store_word(op: StoreOp, mode: Mode, memory: &mut Memory, at: u16, this: &mut Ring)
-    ensures memory { memory.new ≡ made (store_row op mode.width memory.old at) this.old }
+    ensures memory { memory.new ≡ results_of_row (store_row op mode.width memory.old at) this.old }
     ensures this { this.new ≡ dropped mode.keep this.old (taken (store_row op mode.width memory.old at)) }
 {
     let width = mode.width;
@@ -206,10 +206,10 @@ fn store_word(op: StoreOp, mode: Mode, memory: &mut Memory, at: u16, this: &mut 
     }
 }
 
-/// Runs a row on memory, the address after the opcode, this ring and the other ring, and tells what is left to do
+/// Runs a row on memory, the address after the opcode, this stack and the other stack, and tells what is left to do
 /// at the ports.
 #[inline(always)]
-#[tactic(auto, unfolding(crate::specs::Rule::deed_of))]
+#[tactic(auto, unfolding(crate::specs::Rule::op_effect_of))]
 pub fn perform(
     op: Op,
     mode: Mode,
@@ -219,8 +219,8 @@ pub fn perform(
     other: &mut Ring,
 ) -> Access
     ensures sides { found memory.new at.new this.new other.new
-        ≡ ruled mode (found memory.old at.old this.old other.old) (deed_of op mode (found memory.old at.old this.old other.old)) }
-    ensures access { result ≡ (deed_of op mode (found memory.old at.old this.old other.old)).access }
+        ≡ ruled mode (found memory.old at.old this.old other.old) (op_effect_of op mode (found memory.old at.old this.old other.old)) }
+    ensures access { result ≡ (op_effect_of op mode (found memory.old at.old this.old other.old)).access }
 {
     match op {
         Op::Inc => {

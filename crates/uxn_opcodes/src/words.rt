@@ -1,4 +1,4 @@
-//! Words of one or two bytes on a ring and in memory, and the taking of operands.
+//! Words of one or two bytes on a stack and in memory, and the taking of operands.
 
 ghost use Rattle.std.specs.Prelude.{◌≡◌, ◌+◌, ◌-◌, ◌*◌, ◌/◌, ◌%◌, ◌^◌};
 ghost use Rattle.uxn_opcodes.specs.declared.operation.Width.TheVariants.{Byte, Short};
@@ -9,7 +9,7 @@ ghost use Rattle.uxn_opcodes.specs.Words.{
   dropped,
   word_loaded,
   zero_word_loaded,
-  with_word,
+  memory_with_word,
   with_zero_word,
   relative,
   target,
@@ -165,9 +165,9 @@ pub fn load_zero(memory: &Memory, width: Width, place: u8) -> u16
 
 /// Stores a word at an address.
 #[inline(always)]
-#[tactic(auto, unfolding(crate::specs::Words::with_word))]
+#[tactic(auto, unfolding(crate::specs::Words::memory_with_word))]
 pub fn store(memory: &mut Memory, width: Width, at: u16, value: u16)
-    ensures { memory.new ≡ with_word width memory.old at value }
+    ensures { memory.new ≡ memory_with_word width memory.old at value }
 {
     match width {
         Width::Byte => memory.set(at, (value % 256) as u8),

@@ -6,7 +6,7 @@ mod words;
 
 use std::process::ExitCode;
 use uxn_cli::uxn;
-use uxn_host::{CurrentFolder, Stream};
+use uxn_io_host::{CurrentFolder, Stream};
 use words::{refuse_words, words_of};
 
 fn main(rt: HostRuntime) -> ExitCode {

@@ -1,17 +1,17 @@
 //! The words after the program's name, and what is said where they cannot be had.
-ghost use Rattle.uxn_program.specs.Refusal.{Refuses};
+ghost use Rattle.uxn_program.specs.Refusal.{MainRefuses};
 
 use std::io::ErrorKind;
 use std::rt::Env;
 use std::{env, io};
-use tree_io::{Failed, Sink, put_all};
+use uxn_io_traits::{Failed, Sink, put_all};
 
 /// Why the words cannot be had.
 #[derive(Clone, Copy)]
 pub enum WordsStop {
     /// A word is not UTF-8.
     NotText,
-    /// Want of memory.
+    /// Running out of memory.
     NoMemory,
 }
 
@@ -34,10 +34,10 @@ pub fn words_of<R: Env + AllocGlobal>(rt: &R) -> Result<Vec<String>, WordsStop> 
     Ok(words)
 }
 
-/// The status where the words cannot be had: 138 where memory is wanting, 128 and its line where a word is
+/// The status where the words cannot be had: 138 when out of memory, 128 and its line where a word is
 /// not UTF-8, and 137 where that line cannot be put.
 pub fn refuse_words<E: Sink>(err: &mut E, stop: WordsStop) -> u8
-    ensures { Refuses stop (E.state err.old) (E.state err.new) result }
+    ensures { MainRefuses stop (E.state err.old) (E.state err.new) result }
 {
     match stop {
         WordsStop::NoMemory => 138,

@@ -1,4 +1,4 @@
--- A ring is 256 bytes and a pointer; every place is taken modulo 256 (Uxntal opcode reference: the stacks are circular).
+-- A stack is 256 bytes and a pointer; every place is taken modulo 256 (Uxntal opcode reference: the stacks are circular).
 use Rattle.std.specs.Prelude.{ℕ, ◌+◌, ◌-◌, ◌*◌, ◌/◌, ◌%◌, List, replicate, slice_index, slice_set}
 
 -- the bytes, and the place that the next byte is pushed at

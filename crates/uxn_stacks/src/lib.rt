@@ -1,4 +1,4 @@
-//! The stacks of the machine: rings of 256 bytes, whose pointers wrap.
+//! The stacks of the machine: stacks of 256 bytes, whose pointers wrap.
 #![tactic(auto)]
 
 ghost use Rattle.std.specs.Prelude.{◌≡◌, ◌+◌, ◌-◌, ◌*◌, ◌/◌, ◌%◌, ◌<◌, length, slice_index, slice_set, EachIndex};
@@ -14,7 +14,7 @@ ghost use Rattle.uxn_stacks.specs.Cells.{
 
 use std::marker::Model;
 
-/// A ring of 256 bytes with a pointer to where the next byte is pushed. There is no overflow and no underflow.
+/// A stack of 256 bytes with a pointer to where the next byte is pushed. There is no overflow and no underflow.
 #[derive(Clone, Copy)]
 pub struct Ring {
     bytes: [u8; 256],
@@ -32,7 +32,7 @@ impl Model for Ring {
 }
 
 impl Ring {
-    /// A ring whose bytes are all 0, with its pointer at 0.
+    /// A stack whose bytes are all 0, with its pointer at 0.
     #[tactic(auto, unfolding(crate::specs::Cells::new_ring))]
     pub fn new() -> Ring
         ensures { result ≡ new_ring }
@@ -43,7 +43,7 @@ impl Ring {
         }
     }
 
-    /// Tells contracts what holds of every ring.
+    /// Tells contracts what holds of every stack.
     pub fn known(&self)
         ensures size { length self.now.bytes ≡ 256 }
         ensures bytes { EachIndex self.now.bytes (λ k. slice_index self.now.bytes k < 256) }

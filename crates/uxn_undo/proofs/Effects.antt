@@ -1,43 +1,43 @@
--- What a write to a port leaves of memory and of the rings.
+-- What a write to a port leaves of memory and of the stacks.
 use Rattle.std.proofs.Common.{◌≡◌, ◌≢◌, ℕ, ◌+◌, ◌==◌, Bool, true, false, cond, List, [], ◌∷◌, Option, Some, None, refl, inl, inr}
 use Rattle.std.proofs.lemmas.Bool.{cases_Bool, eqb-true}
-use Rattle.tree_io.specs.Outside.{Change, Removes}
+use Rattle.uxn_io_traits.specs.Outside.{Change, Removes}
 use Rattle.uxn_opcodes.specs.declared.Core.{Core}
 use Rattle.file_ports.specs.Device.{FileState, idle_at, is_writing}
-use Rattle.file_ports.specs.Actions.{Outcome, Seen, quiet, is_file, begun, deletes, writes, adds, seen_in, count_from}
+use Rattle.file_ports.specs.Actions.{FileOutcome, Observed, quiet, is_file, begun, deletes, writes, adds, observed_in, count_from}
 use Rattle.std.specs.Option.{option_map}
 use Rattle.varvara_bus.specs.History.{stored_short}
 use Rattle.varvara_bus.specs.FileActs.{length_in, keeps_in}
 use Rattle.varvara_bus.specs.State.{DeviceState, storing}
 use Rattle.varvara_bus.specs.Effect.{effect}
 
--- neither memory nor a byte of a ring changes
+-- neither memory nor a byte of a stack changes
 pub record Quiet (before after : Core) : Type 0 where
   pub memory : after.memory ≡ before.memory
   pub working : after.working.bytes ≡ before.working.bytes
   pub returns : after.returns.bytes ≡ before.returns.bytes
 
 -- a file device that deletes or writes leaves memory alone
-deletes-same : (device : FileState) (memory : List ℕ) (seen : Option Seen) → (deletes device memory seen).memory ≡ memory
+deletes-same : (device : FileState) (memory : List ℕ) (observed : Option Observed) → (deletes device memory observed).memory ≡ memory
 deletes-same device memory None = refl
-deletes-same device memory (Some seen) =
-    let gone : Outcome = record { success = 1; device = idle_at (Some seen.path); memory = memory; changes = Removes seen.path ∷ [] } in
-    elim (is_file seen.kind) as (λ b. (cond b gone (quiet 0 (idle_at (Some seen.path)) memory)).memory ≡ memory) [ true ↦ refl | false ↦ refl ]
+deletes-same device memory (Some observed) =
+    let gone : FileOutcome = record { success = 1; device = idle_at (Some observed.path); memory = memory; changes = Removes observed.path ∷ [] } in
+    elim (is_file observed.kind) as (λ b. (cond b gone (quiet 0 (idle_at (Some observed.path)) memory)).memory ≡ memory) [ true ↦ refl | false ↦ refl ]
 
 adds-same : (path memory piece : List ℕ) (first : Option (List Change)) → (adds path memory piece first).memory ≡ memory
 adds-same path memory piece None = refl
 adds-same path memory piece (Some first) = refl
 
-writes-same : (at count : ℕ) (keep : Bool) (device : FileState) (memory : List ℕ) (seen : Option Seen) → (writes at count keep device memory seen).memory ≡ memory
+writes-same : (at count : ℕ) (keep : Bool) (device : FileState) (memory : List ℕ) (observed : Option Observed) → (writes at count keep device memory observed).memory ≡ memory
 writes-same at count keep device memory None = refl
-writes-same at count keep device memory (Some seen) = adds-same seen.path memory _ (begun (is_writing device.mode) keep seen)
+writes-same at count keep device memory (Some observed) = adds-same observed.path memory _ (begun (is_writing device.mode) keep observed)
 
 writes-port : (base : ℕ) (devices : DeviceState) (device : FileState) (memory : List ℕ)
     → (writes (stored_short devices.history (base + 0x0e)) (count_from (stored_short devices.history (base + 0x0e)) (length_in devices.history base))
-    (keeps_in devices.history base) device memory (option_map (seen_in devices.root devices.part devices.parent) device.path)).memory ≡ memory
+    (keeps_in devices.history base) device memory (option_map (observed_in devices.root devices.part devices.parent) device.path)).memory ≡ memory
 writes-port base devices device memory =
     writes-same (stored_short devices.history (base + 0x0e)) (count_from (stored_short devices.history (base + 0x0e)) (length_in devices.history base))
-    (keeps_in devices.history base) device memory (option_map (seen_in devices.root devices.part devices.parent) device.path)
+    (keeps_in devices.history base) device memory (option_map (observed_in devices.root devices.part devices.parent) device.path)
 
 -- a port whose write changes no memory
 pub record Spares (port : ℕ) : Type 0 where

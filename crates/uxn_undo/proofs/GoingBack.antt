@@ -7,15 +7,15 @@ use Rattle.std.proofs.lemmas.List.{take-take}
 use Rattle.std.proofs.lemmas.List.FromFn.{get_or-map-range_with_len}
 use Rattle.uxn_opcodes.specs.declared.Core.{Core}
 use Rattle.uxn_undo.specs.declared.span.Span.{Span}
-use Rattle.uxn_undo.specs.Spans.{address_after, distance_to, covers, bytes_at}
-use Rattle.uxn_undo.specs.Changes.{span_of}
-use Rattle.uxn_undo.specs.Kept.{Kept, Holds, byte_back}
-use Rattle.uxn_undo.specs.Laws.{Given, kept_of, DiffersWithin, Follow}
+use Rattle.uxn_undo.specs.Spans.{address_after_span, distance_to, covers, span_bytes_at}
+use Rattle.uxn_undo.specs.Changes.{instruction_span}
+use Rattle.uxn_undo.specs.Kept.{Kept, HoldsMoments, byte_back}
+use Rattle.uxn_undo.specs.Laws.{GivenMoments, kept_of, DiffersWithin, Follow}
 
 -- an address that is covered is so far behind the first one as is said
 pub record IsPlace (span : Span) (at : ℕ) : Type 0 where
   pub within : distance_to span at < span.count
-  pub here : address_after span (distance_to span at) ≡ at
+  pub here : address_after_span span (distance_to span at) ≡ at
 
 place_in : (page : Bool) (first count at : ℕ) → covers (record { first = first; count = count; in_zero_page = page }) at ≡ true
     → IsPlace (record { first = first; count = count; in_zero_page = page }) at
@@ -28,34 +28,34 @@ place_in false first count at is =
 
 -- one moment back
 one_back : (span : Span) (before after : List ℕ) (at : ℕ) → DiffersWithin span before after → at < 65536
-    → cond (covers span at) (slice_index (bytes_at span before) (distance_to span at)) (slice_index after at) ≡ slice_index before at
+    → cond (covers span at) (slice_index (span_bytes_at span before) (distance_to span at)) (slice_index after at) ≡ slice_index before at
 one_back span before after at differs small =
     elim (cases_Bool (covers span at)) [
       | inl is ↦
           let place = place_in span.in_zero_page span.first span.count at is in
-          rw is (get_or-map-range_with_len (λ count. slice_index before (address_after span count)) 0 span.count (distance_to span at) (distance_to span at) 0 place.within (omega arith)
+          rw is (get_or-map-range_with_len (λ count. slice_index before (address_after_span span count)) 0 span.count (distance_to span at) (distance_to span at) 0 place.within (omega arith)
           ∙ ap (λ address. slice_index before address) place.here)
       | inr other ↦ rw other (sym (differs at small other))
     ]
 
 -- moments in a row, back to one of them
-many_back : (given : List Given) (last : List ℕ) (moment : Given) (back at : ℕ) → Follow given last → slice_get given back ≡ Some moment → at < 65536
+many_back : (given : List GivenMoments) (last : List ℕ) (moment : GivenMoments) (back at : ℕ) → Follow given last → slice_get given back ≡ Some moment → at < 65536
     → byte_back (take (suc back) (map kept_of given)) at (slice_index last at) ≡ slice_index moment.core.memory at
 unfolding byte_back
 many_back [] last moment back at follow here small = cc
 many_back (given ∷ older) last moment zero at follow here small =
     let same : given ≡ moment = cc in
-    rw (← same) (one_back (span_of given.core given.stored) given.core.memory last at follow.0 small)
+    rw (← same) (one_back (instruction_span given.core given.stored) given.core.memory last at follow.0 small)
 many_back (given ∷ older) last moment (suc back) at follow here small =
     ap (λ byte. byte_back (take (suc back) (map kept_of older)) at byte)
-    (one_back (span_of given.core given.stored) given.core.memory last at follow.0 small)
+    (one_back (instruction_span given.core given.stored) given.core.memory last at follow.0 small)
     ∙ many_back older given.core.memory moment back at follow.1 here small
 
-pub going_back_law : (given : List Given) (held : List Kept) (last : Core) (moment : Given) (back at : ℕ)
-    → Holds (map kept_of given) held → Follow given last.memory → back < length held → slice_get given back ≡ Some moment → at < 65536
+pub going_back_law : (given : List GivenMoments) (held : List Kept) (last : Core) (moment : GivenMoments) (back at : ℕ)
+    → HoldsMoments (map kept_of given) held → Follow given last.memory → back < length held → slice_get given back ≡ Some moment → at < 65536
     → byte_back (take (back + 1) held) at (slice_index last.memory at) ≡ slice_index moment.core.memory at
 going_back_law given held last moment back at holds follow within here small =
     let next : back + 1 ≡ suc back = omega arith in
-    let front : take (suc back) held ≡ take (suc back) (map kept_of given) =
+    let prefix : take (suc back) held ≡ take (suc back) (map kept_of given) =
     ap (λ (kept : List Kept). take (suc back) kept) holds.newest ∙ take-take (suc back) (length held) (map kept_of given) (omega arith) in
-    rw (next, front) (many_back given last.memory moment back at follow here small)
+    rw (next, prefix) (many_back given last.memory moment back at follow here small)

@@ -5,18 +5,18 @@ use Rattle.std.proofs.lemmas.Bool.{cases_lt, cases_Bool}
 use Rattle.std.proofs.lemmas.Bool.Decides.{nat_tests}
 use Rattle.std.proofs.lemmas.List.{take-take, length-take-le}
 use Rattle.std.proofs.lemmas.List.Sums.{sum_by-cons}
-use Rattle.uxn_undo.specs.Kept.{Kept, Holds, byte_count, most_moments, most_bytes, fitting, number_held}
+use Rattle.uxn_undo.specs.Kept.{Kept, HoldsMoments, byte_count, most_moments, most_bytes, fitting_moments, number_held}
 use Rattle.uxn_undo.specs.Laws.{HoldingLaw}
 
 -- what is held of the older moments is as good as all of them, as far as it goes
-same_front : (kept : Kept) (given held : List Kept) (n : ℕ) → held ≡ take (length held) given → n ≤ suc (length held)
+same_prefix : (kept : Kept) (given held : List Kept) (n : ℕ) → held ≡ take (length held) given → n ≤ suc (length held)
     → take n (kept ∷ held) ≡ take n (kept ∷ given)
-same_front kept given held zero newest le = refl
-same_front kept given held (suc n) newest le =
+same_prefix kept given held zero newest le = refl
+same_prefix kept given held (suc n) newest le =
     ap (λ (older : List Kept). kept ∷ older)
     (ap (λ (older : List Kept). take n older) newest ∙ take-take n (length held) given (omega arith))
 
-none : Holds [] []
+none : HoldsMoments [] []
 none = record {
   number = record {
     within = omega arith;
@@ -28,7 +28,7 @@ none = record {
 }
 
 -- with more moments than these there is no room
-no_room : (given held now : List Kept) (kept : Kept) → Holds given held → Holds (kept ∷ held) now
+no_room : (given held now : List Kept) (kept : Kept) → HoldsMoments given held → HoldsMoments (kept ∷ held) now
     → (more : ℕ) → length now < more → more ≤ suc (length given) → more ≤ most_moments → most_bytes < sum_by byte_count (take more (kept ∷ given))
 no_room given held now kept before after zero above within moments = absurd (omega arith)
 no_room given held now kept before after (suc more) above within moments =
@@ -38,12 +38,12 @@ no_room given held now kept before after (suc more) above within moments =
           omega (arith, sum_by-cons byte_count kept (take more given))
       | inr here ↦
           let full : most_bytes < sum_by byte_count (take (suc more) (kept ∷ held)) = after.number.greatest (suc more) above (omega arith) moments in
-          rw (sym (same_front kept given held (suc more) before.newest (omega arith))) full
+          rw (sym (same_prefix kept given held (suc more) before.newest (omega arith))) full
     ]
 
-one_more : (given held now : List Kept) (kept : Kept) → Holds given held → Holds (kept ∷ held) now → Holds (kept ∷ given) now
+one_more : (given held now : List Kept) (kept : Kept) → HoldsMoments given held → HoldsMoments (kept ∷ held) now → HoldsMoments (kept ∷ given) now
 one_more given held now kept before after =
-    let same = same_front kept given held (length now) before.newest after.number.within in
+    let same = same_prefix kept given held (length now) before.newest after.number.within in
     let within : length now ≤ suc (length held) = after.number.within in
     let older : length held ≤ length given = before.number.within in
     record {
@@ -96,8 +96,8 @@ too_large left room kept older large = record {
   greatest = λ more above within few. all_too_large room kept older large more above;
 }
 
-fits : (left room : ℕ) (given : List Kept) → Fits left room given (fitting left room given)
-unfolding fitting
+fits : (left room : ℕ) (given : List Kept) → Fits left room given (fitting_moments left room given)
+unfolding fitting_moments
 fits zero room given = record {
   within = omega arith;
   moments = omega arith;
@@ -114,13 +114,13 @@ fits (suc left) room (kept ∷ older) =
     elim (cases_Bool (nat_le (byte_count kept) room)) [
       | inl is ↦
           let small : byte_count kept ≤ room = grind (arith, nat_tests) in
-          rw is (one_fits left room kept older (fitting left (room - byte_count kept) older) small (fits left (room - byte_count kept) older))
+          rw is (one_fits left room kept older (fitting_moments left (room - byte_count kept) older) small (fits left (room - byte_count kept) older))
       | inr not ↦
           let large : room < byte_count kept = grind (arith, nat_tests) in
           rw not (too_large left room kept older large)
     ]
 
-number : (given held : List Kept) → Holds given held → length held ≡ number_held given
+number : (given held : List Kept) → HoldsMoments given held → length held ≡ number_held given
 number given held holds =
     let all = fits most_moments most_bytes given in
     elim (cases_lt (length held) (number_held given)) [
@@ -139,7 +139,7 @@ number given held holds =
       ]
     ]
 
-newest : (given : List Kept) → Holds given (take (number_held given) given)
+newest : (given : List Kept) → HoldsMoments given (take (number_held given) given)
 newest given =
     let all = fits most_moments most_bytes given in
     let size : length (take (number_held given) given) ≡ number_held given = length-take-le (number_held given) given all.within in

@@ -6,15 +6,15 @@ use Rattle.std.proofs.lemmas.Bool.{cases_Bool, eqb-true}
 use Rattle.std.proofs.lemmas.Bool.Decides.{nat_tests}
 use Rattle.std.proofs.lemmas.List.{length-take, length-append, length-replicate}
 use Rattle.std.proofs.lemmas.List.FromFn.{get_or-map-range_with_len}
-use Rattle.tree_io.specs.declared.trees.Kind.{Kind}
-use Rattle.tree_io.specs.declared.trees.Kind.TheVariants.{Missing, File, Folder}
+use Rattle.uxn_io_traits.specs.declared.trees.Kind.{Kind}
+use Rattle.uxn_io_traits.specs.declared.trees.Kind.TheVariants.{Missing, File, Folder}
 use Rattle.uxn_memory.specs.Bytes.{filled, copied_up, copied_down}
 use Rattle.uxn_opcodes.specs.declared.Core.{Core}
 use Rattle.file_ports.specs.declared.mode.Mode.{Mode}
 use Rattle.file_ports.specs.declared.mode.Mode.TheVariants.{Idle, ReadingFile, ReadingListing, Writing}
 use Rattle.file_ports.specs.Signs.{signs, hex_digits}
 use Rattle.file_ports.specs.Device.{FileState}
-use Rattle.file_ports.specs.Actions.{Seen, given, reading, reads, stats, quiet, count_from, seen_in}
+use Rattle.file_ports.specs.Actions.{Observed, given, reading, reads, stats, quiet, count_from, observed_in}
 use Rattle.file_ports.specs.Place.{last_place, bytes_on}
 use Rattle.system_port.specs.Expansion.{byte_in, short_in, record_at, expanded}
 use Rattle.varvara_bus.specs.History.{stored, stored_short}
@@ -28,20 +28,20 @@ use Rattle.uxn_opcodes.specs.declared.operation.Mode.{Mode as OpMode}
 use Rattle.uxn_opcodes.specs.declared.operation.Op.{Op}
 use Rattle.uxn_opcodes.specs.declared.operation.Op.TheVariants.{Inc, Sft, Arithmetic, Compare, Stack, Sth, Jump, Load, Store, Dei, Deo}
 use Rattle.uxn_opcodes.specs.declared.operation.StoreOp.TheVariants.{Stz, Str, Sta}
-use Rattle.uxn_opcodes.specs.Words.{size_of, word_below, relative, with_word, with_zero_word}
+use Rattle.uxn_opcodes.specs.Words.{size_of, word_below, relative, memory_with_word, with_zero_word}
 use Rattle.uxn_opcodes.specs.Table.{op_of, mode_of}
-use Rattle.uxn_opcodes.specs.Rule.{Deed, deed_of, ruled, sides_of, core_of, row_begun, begun_by, begun, opcode_at, past_opcode}
+use Rattle.uxn_opcodes.specs.Rule.{OpEffect, op_effect_of, ruled, sides_of, core_of, row_begun, begun_by, begun, opcode_at, past_opcode}
 use Rattle.uxn_opcodes.specs.Instruction.{writes_of}
 use Rattle.uxn_opcodes.specs.Model.{word_read, written_by, access_done, after_instruction}
 use Rattle.uxn_undo.specs.declared.span.Span.{Span}
 use Rattle.uxn_undo.specs.Spans.{span_in_page, span_in_bank, no_span}
-use Rattle.uxn_undo.specs.Changes.{span_of_op, span_of_write, span_of, either_span, target_span, span_of_record, span_of_file, span_at_port}
+use Rattle.uxn_undo.specs.Changes.{span_of_op, span_of_write, instruction_span, either_span, target_span, span_of_record, span_of_file, span_at_port}
 use Rattle.uxn_undo.specs.Row.{InstructionLaw, IsMachine, HoldsBytes, page_of}
 use Rattle.uxn_undo.proofs.Machines.{immediate-machine, row-memory, row-machine, side-memory, side-holds, byte-small, answered-machine, answered-memory}
 use Rattle.uxn_undo.proofs.Effects.{Spares, Quiet, quiet-effect}
 use Rattle.uxn_undo.proofs.Misses.{Changes, same-memory, one-set, two-set, fill-changes, fill-elsewhere, up-changes, up-elsewhere, down-changes, down-elsewhere, put-changes}
 
--- the signs of a stat are as many as are asked for
+-- the signs of a stat are as many as are requested
 length-digits : (count value : ℕ) → length (hex_digits count value) ≡ count
 unfolding hex_digits
 length-digits zero value = refl
@@ -60,25 +60,25 @@ length-signs count Folder = length-replicate count 45
 length-on : (bytes : List ℕ) (place count : ℕ) → length (bytes_on bytes place count) ≤ count
 length-on bytes place count = omega (arith, length-take (min count (last_place - place)) (drop place bytes))
 
-length-given : (mode : Mode) (seen : Seen) (count : ℕ) → length (given mode seen count) ≤ count
-length-given Idle seen count = omega arith
-length-given (ReadingFile place) seen count = length-on seen.bytes place count
-length-given (ReadingListing place listing) seen count = length-on listing place count
-length-given Writing seen count = omega arith
+length-given : (mode : Mode) (observed : Observed) (count : ℕ) → length (given mode observed count) ≤ count
+length-given Idle observed count = omega arith
+length-given (ReadingFile place) observed count = length-on observed.bytes place count
+length-given (ReadingListing place listing) observed count = length-on listing place count
+length-given Writing observed count = omega arith
 
-reads-change : (at length_ : ℕ) (device : FileState) (memory : List ℕ) (seen : Option Seen) → 65536 ≤ length memory
-    → Changes (span_of_file at length_) memory (reads at (count_from at length_) device memory seen).memory
+reads-change : (at length_ : ℕ) (device : FileState) (memory : List ℕ) (observed : Option Observed) → 65536 ≤ length memory
+    → Changes (span_of_file at length_) memory (reads at (count_from at length_) device memory observed).memory
 reads-change at length_ device memory None size = same-memory (span_of_file at length_) memory
-reads-change at length_ device memory (Some seen) size =
-    let piece = given (reading device.mode seen) seen (count_from at length_) in
-    put-changes memory at length_ piece size (length-given (reading device.mode seen) seen (count_from at length_))
+reads-change at length_ device memory (Some observed) size =
+    let piece = given (reading device.mode observed) observed (count_from at length_) in
+    put-changes memory at length_ piece size (length-given (reading device.mode observed) observed (count_from at length_))
 
-stats-change : (at length_ : ℕ) (device : FileState) (memory : List ℕ) (seen : Option Seen) → 65536 ≤ length memory
-    → Changes (span_of_file at length_) memory (stats at (count_from at length_) device memory seen).memory
+stats-change : (at length_ : ℕ) (device : FileState) (memory : List ℕ) (observed : Option Observed) → 65536 ≤ length memory
+    → Changes (span_of_file at length_) memory (stats at (count_from at length_) device memory observed).memory
 stats-change at length_ device memory None size =
     put-changes memory at length_ (signs (count_from at length_) Missing) size (omega (arith, length-signs (count_from at length_) Missing))
-stats-change at length_ device memory (Some seen) size =
-    put-changes memory at length_ (signs (count_from at length_) seen.kind) size (omega (arith, length-signs (count_from at length_) seen.kind))
+stats-change at length_ device memory (Some observed) size =
+    put-changes memory at length_ (signs (count_from at length_) observed.kind) size (omega (arith, length-signs (count_from at length_) observed.kind))
 
 either_way : {span : Span} {memory one other : List ℕ} (b : Bool) → Changes span memory one → Changes span memory other
     → Changes span memory (cond b one other)
@@ -134,7 +134,7 @@ expanded-changes memory at =
       ])
     ]
 
--- a change within some addresses, which leaves the bytes of both rings alone
+-- a change within some addresses, which leaves the bytes of both stacks alone
 pub record Does (span : Span) (before after : Core) : Type 0 where
   pub changes : Changes span before.memory after.memory
   pub working : after.working.bytes ≡ before.working.bytes
@@ -192,8 +192,8 @@ quiet-does span before after quiet = record {
   returns = quiet.returns;
 }
 
-abbrev seen_by : DeviceState → FileState → Option Seen
-seen_by devices device = option_map (seen_in devices.root devices.part devices.parent) device.path
+abbrev observed_by : DeviceState → FileState → Option Observed
+observed_by devices device = option_map (observed_in devices.root devices.part devices.parent) device.path
 
 -- a byte written to a port
 abbrev WriteDoes : DeviceState → Core → ℕ → ℕ → Type 0
@@ -213,25 +213,25 @@ write-does devices core port byte size =
     (record { changes = rw (page-at devices 0x02 (omega arith)) (expanded-changes core.memory (stored h 0x02 * 256 + byte)); working = refl; returns = refl })
     (record {
       changes = rw (page-at devices 0xa4 (omega arith), aa, ab)
-          (stats-change (stored h 0xa4 * 256 + byte) (stored_short h 0xaa) devices.first_file core.memory (seen_by devices devices.first_file) size);
+          (stats-change (stored h 0xa4 * 256 + byte) (stored_short h 0xaa) devices.first_file core.memory (observed_by devices devices.first_file) size);
       working = refl;
       returns = refl;
     })
     (record {
       changes = rw (page-at devices 0xac (omega arith), aa, ab)
-          (reads-change (stored h 0xac * 256 + byte) (stored_short h 0xaa) devices.first_file core.memory (seen_by devices devices.first_file) size);
+          (reads-change (stored h 0xac * 256 + byte) (stored_short h 0xaa) devices.first_file core.memory (observed_by devices devices.first_file) size);
       working = refl;
       returns = refl;
     })
     (record {
       changes = rw (page-at devices 0xb4 (omega arith), ba, bb)
-          (stats-change (stored h 0xb4 * 256 + byte) (stored_short h 0xba) devices.second_file core.memory (seen_by devices devices.second_file) size);
+          (stats-change (stored h 0xb4 * 256 + byte) (stored_short h 0xba) devices.second_file core.memory (observed_by devices devices.second_file) size);
       working = refl;
       returns = refl;
     })
     (record {
       changes = rw (page-at devices 0xbc (omega arith), ba, bb)
-          (reads-change (stored h 0xbc * 256 + byte) (stored_short h 0xba) devices.second_file core.memory (seen_by devices devices.second_file) size);
+          (reads-change (stored h 0xbc * 256 + byte) (stored_short h 0xba) devices.second_file core.memory (observed_by devices devices.second_file) size);
       working = refl;
       returns = refl;
     })
@@ -291,22 +291,22 @@ two-do devices core port high low size =
     by_port (TwoDo devices core high low) port
     (record { changes = expanded-changes core.memory address; working = refl; returns = refl })
     (record {
-      changes = rw (aa, ab) (stats-change address (stored_short h 0xaa) devices.first_file core.memory (seen_by devices devices.first_file) size);
+      changes = rw (aa, ab) (stats-change address (stored_short h 0xaa) devices.first_file core.memory (observed_by devices devices.first_file) size);
       working = refl;
       returns = refl;
     })
     (record {
-      changes = rw (aa, ab) (reads-change address (stored_short h 0xaa) devices.first_file core.memory (seen_by devices devices.first_file) size);
+      changes = rw (aa, ab) (reads-change address (stored_short h 0xaa) devices.first_file core.memory (observed_by devices devices.first_file) size);
       working = refl;
       returns = refl;
     })
     (record {
-      changes = rw (ba, bb) (stats-change address (stored_short h 0xba) devices.second_file core.memory (seen_by devices devices.second_file) size);
+      changes = rw (ba, bb) (stats-change address (stored_short h 0xba) devices.second_file core.memory (observed_by devices devices.second_file) size);
       working = refl;
       returns = refl;
     })
     (record {
-      changes = rw (ba, bb) (reads-change address (stored_short h 0xba) devices.second_file core.memory (seen_by devices devices.second_file) size);
+      changes = rw (ba, bb) (reads-change address (stored_short h 0xba) devices.second_file core.memory (observed_by devices devices.second_file) size);
       working = refl;
       returns = refl;
     })
@@ -343,20 +343,20 @@ write-leaves devices core Short port value is small =
     does-leaves _ core (after_write devices core Short port value) is (rw (back, whole) at two)
 
 -- a row that leaves memory alone, and one that stores
-store-leaves : (mode : OpMode) (core : Core) (deed : Deed) (span : Span) → IsMachine core
-    → Changes span (sides_of mode.returns core).memory deed.memory
-    → Leaves span (sides_of mode.returns core).memory (core_of mode.returns (ruled mode (sides_of mode.returns core) deed))
-store-leaves mode core deed span is changes =
-    let whole : 65536 ≤ length deed.memory = omega (arith, changes.size, ap (λ (z : List ℕ). length z) (side-memory mode.returns core), is.memory) in
+store-leaves : (mode : OpMode) (core : Core) (op_effect : OpEffect) (span : Span) → IsMachine core
+    → Changes span (sides_of mode.returns core).memory op_effect.memory
+    → Leaves span (sides_of mode.returns core).memory (core_of mode.returns (ruled mode (sides_of mode.returns core) op_effect))
+store-leaves mode core op_effect span is changes =
+    let whole : 65536 ≤ length op_effect.memory = omega (arith, changes.size, ap (λ (z : List ℕ). length z) (side-memory mode.returns core), is.memory) in
     record {
-      changes = rw (row-memory mode.returns mode core deed) changes;
-      machine = row-machine mode.returns mode core deed is whole;
+      changes = rw (row-memory mode.returns mode core op_effect) changes;
+      machine = row-machine mode.returns mode core op_effect is whole;
     }
 
-plain-leaves : (mode : OpMode) (core : Core) (deed : Deed) (span : Span) → IsMachine core → deed.memory ≡ (sides_of mode.returns core).memory
-    → Leaves span (sides_of mode.returns core).memory (core_of mode.returns (ruled mode (sides_of mode.returns core) deed))
-plain-leaves mode core deed span is same =
-    store-leaves mode core deed span is (rw same (same-memory span (sides_of mode.returns core).memory))
+plain-leaves : (mode : OpMode) (core : Core) (op_effect : OpEffect) (span : Span) → IsMachine core → op_effect.memory ≡ (sides_of mode.returns core).memory
+    → Leaves span (sides_of mode.returns core).memory (core_of mode.returns (ruled mode (sides_of mode.returns core) op_effect))
+plain-leaves mode core op_effect span is same =
+    store-leaves mode core op_effect span is (rw same (same-memory span (sides_of mode.returns core).memory))
 
 zero-changes : (width : Width) (memory : List ℕ) (place value : ℕ) → place < 256
     → Changes (span_in_page place (size_of width)) memory (with_zero_word width memory place value)
@@ -366,8 +366,8 @@ zero-changes Short memory place value small =
     two-set (span_in_page place 2) memory place ((place + 1) % 256) (value / 256) (value % 256) (omega arith) (omega arith) refl
 
 word-changes : (width : Width) (memory : List ℕ) (place value : ℕ) → place < 65536
-    → Changes (span_in_bank place (size_of width)) memory (with_word width memory place value)
-unfolding with_word
+    → Changes (span_in_bank place (size_of width)) memory (memory_with_word width memory place value)
+unfolding memory_with_word
 word-changes Byte memory place value small = one-set (span_in_bank place 1) memory place (value % 256) (omega arith) (omega arith)
 word-changes Short memory place value small =
     two-set (span_in_bank place 2) memory place ((place + 1) % 65536) (value / 256) (value % 256) (omega arith) (omega arith) refl
@@ -394,44 +394,44 @@ RowLeaves op mode core devices =
     (access_done varvara (row_begun op mode core).access (row_begun op mode core).core (no_changes devices)).core
 
 row-leaves : (op : Op) (mode : OpMode) (core : Core) (devices : DeviceState) → IsMachine core → RowLeaves op mode core devices
-unfolding deed_of
-row-leaves Inc mode core devices is = plain-leaves mode core (deed_of Inc mode (sides_of mode.returns core)) no_span is refl
-row-leaves Sft mode core devices is = plain-leaves mode core (deed_of Sft mode (sides_of mode.returns core)) no_span is refl
-row-leaves (Arithmetic op) mode core devices is = plain-leaves mode core (deed_of (Arithmetic op) mode (sides_of mode.returns core)) no_span is refl
-row-leaves (Stack op) mode core devices is = plain-leaves mode core (deed_of (Stack op) mode (sides_of mode.returns core)) no_span is refl
-row-leaves (Compare op) mode core devices is = plain-leaves mode core (deed_of (Compare op) mode (sides_of mode.returns core)) no_span is refl
-row-leaves (Jump op) mode core devices is = plain-leaves mode core (deed_of (Jump op) mode (sides_of mode.returns core)) no_span is refl
-row-leaves Sth mode core devices is = plain-leaves mode core (deed_of Sth mode (sides_of mode.returns core)) no_span is refl
-row-leaves (Load op) mode core devices is = plain-leaves mode core (deed_of (Load op) mode (sides_of mode.returns core)) no_span is refl
+unfolding op_effect_of
+row-leaves Inc mode core devices is = plain-leaves mode core (op_effect_of Inc mode (sides_of mode.returns core)) no_span is refl
+row-leaves Sft mode core devices is = plain-leaves mode core (op_effect_of Sft mode (sides_of mode.returns core)) no_span is refl
+row-leaves (Arithmetic op) mode core devices is = plain-leaves mode core (op_effect_of (Arithmetic op) mode (sides_of mode.returns core)) no_span is refl
+row-leaves (Stack op) mode core devices is = plain-leaves mode core (op_effect_of (Stack op) mode (sides_of mode.returns core)) no_span is refl
+row-leaves (Compare op) mode core devices is = plain-leaves mode core (op_effect_of (Compare op) mode (sides_of mode.returns core)) no_span is refl
+row-leaves (Jump op) mode core devices is = plain-leaves mode core (op_effect_of (Jump op) mode (sides_of mode.returns core)) no_span is refl
+row-leaves Sth mode core devices is = plain-leaves mode core (op_effect_of Sth mode (sides_of mode.returns core)) no_span is refl
+row-leaves (Load op) mode core devices is = plain-leaves mode core (op_effect_of (Load op) mode (sides_of mode.returns core)) no_span is refl
 row-leaves (Store Stz) mode core devices is =
     let s = sides_of mode.returns core in
-    store-leaves mode core (deed_of (Store Stz) mode s) _ is
+    store-leaves mode core (op_effect_of (Store Stz) mode s) _ is
     (zero-changes mode.width s.memory (word_below s.this Byte 0) _ (byte-small s.this 0 (side-holds mode.returns core is)))
 row-leaves (Store Str) mode core devices is =
     let s = sides_of mode.returns core in
-    store-leaves mode core (deed_of (Store Str) mode s) _ is
+    store-leaves mode core (op_effect_of (Store Str) mode s) _ is
     (word-changes mode.width s.memory (relative s.at (word_below s.this Byte 0)) _ (relative-small s.at (word_below s.this Byte 0)))
 row-leaves (Store Sta) mode core devices is =
     let s = sides_of mode.returns core in
-    store-leaves mode core (deed_of (Store Sta) mode s) _ is
+    store-leaves mode core (op_effect_of (Store Sta) mode s) _ is
     (word-changes mode.width s.memory (word_below s.this Short 0) _ (short-small s.this 0 (side-holds mode.returns core is)))
 row-leaves Dei mode core devices is =
     let s = sides_of mode.returns core in
-    let begun = plain-leaves mode core (deed_of Dei mode s) no_span is refl in
-    let after = core_of mode.returns (ruled mode s (deed_of Dei mode s)) in
+    let begun = plain-leaves mode core (op_effect_of Dei mode s) no_span is refl in
+    let after = core_of mode.returns (ruled mode s (op_effect_of Dei mode s)) in
     record {
       changes = rw (answered-memory mode.returns after mode.width (word_read varvara mode.width (no_changes devices) after (word_below s.this Byte 0))) begun.changes;
       machine = answered-machine mode.returns after mode.width _ begun.machine;
     }
 row-leaves Deo mode core devices is =
     let s = sides_of mode.returns core in
-    let begun = plain-leaves mode core (deed_of Deo mode s) no_span is refl in
-    let after = core_of mode.returns (ruled mode s (deed_of Deo mode s)) in
+    let begun = plain-leaves mode core (op_effect_of Deo mode s) no_span is refl in
+    let after = core_of mode.returns (ruled mode s (op_effect_of Deo mode s)) in
     let port = word_below s.this Byte 0 in
     let value = word_below s.this mode.width 1 in
     let P : List ℕ → Type 0 = λ memory.
     Leaves (span_of_write memory (page_of devices) mode.width port value) memory (after_write devices after mode.width port value) in
-    subst P (row-memory mode.returns mode core (deed_of Deo mode s))
+    subst P (row-memory mode.returns mode core (op_effect_of Deo mode s))
     (write-leaves devices after mode.width port value begun.machine (byte-small s.this 0 (side-holds mode.returns core is)))
 
 any-leaves : (op : Option Op) (code : ℕ) (core : Core) (devices : DeviceState) → IsMachine core
@@ -451,8 +451,8 @@ any-leaves (Some op) code core devices is =
     subst P memory row
 
 instruction-leaves : (devices : DeviceState) (core : Core) → IsMachine core
-    → Leaves (span_of core (page_of devices)) core.memory (instruction_effect devices core).core
-unfolding instruction_effect after_instruction begun span_of
+    → Leaves (instruction_span core (page_of devices)) core.memory (instruction_effect devices core).core
+unfolding instruction_effect after_instruction begun instruction_span
 instruction-leaves devices core is =
     let past : IsMachine (past_opcode core) = record { memory = is.memory; working = is.working; returns = is.returns } in
     elim (cases_Bool (opcode_at core == 0)) [

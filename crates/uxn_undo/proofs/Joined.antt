@@ -1,4 +1,4 @@
--- Two rings that hold the same moments.
+-- Two stacks that hold the same moments.
 use Rattle.std.proofs.Common.{◌≡◌, ℕ, zero, suc, ◌+◌, ◌-◌, ◌<◌, ◌≤◌, Bool, true, false, cond, List, [], ◌∷◌, ◌++◌, length, take, drop, Some, None, refl, sym, ap, ◌∙◌, arith}
 use Rattle.std.specs.Prelude.{get_or, map, slice_get, slice_index, sum_by, option_map}
 use Rattle.std.specs.List.{range_with_len}
@@ -10,42 +10,42 @@ use Rattle.std.proofs.lemmas.Option.{get_or_from_slice_get, slice_get-get_or}
 use Rattle.uxn_undo.specs.Spans.{covers, distance_to}
 use Rattle.uxn_undo.specs.Kept.{Kept, byte_count, byte_back}
 use Rattle.circular_buffer.specs.Buffer.{Buffer, buffer}
-use Rattle.uxn_undo.specs.Rings.{Entry, with_bytes, count_of, joined, AreRings}
+use Rattle.uxn_undo.specs.Rings.{RingEntry, with_bytes, entry_count, joined_entries, AreRings}
 
-pub length-joined : (records : List Entry) (bytes : List ℕ) → length (joined records bytes) ≡ length records
-unfolding joined
-length-joined [] bytes = refl
-length-joined (newest ∷ older) bytes = ap suc (length-joined older (drop (count_of newest) bytes))
+pub length-joined_entries : (records : List RingEntry) (bytes : List ℕ) → length (joined_entries records bytes) ≡ length records
+unfolding joined_entries
+length-joined_entries [] bytes = refl
+length-joined_entries (newest ∷ older) bytes = ap suc (length-joined_entries older (drop (entry_count newest) bytes))
 
-pub counts-joined : (records : List Entry) (bytes : List ℕ) → sum_by byte_count (joined records bytes) ≡ sum_by count_of records
-unfolding joined
-counts-joined [] bytes = refl
-counts-joined (newest ∷ older) bytes =
-    sum_by-cons byte_count (with_bytes newest (take (count_of newest) bytes)) (joined older (drop (count_of newest) bytes))
-    ∙ ap (λ n. count_of newest + n) (counts-joined older (drop (count_of newest) bytes))
-    ∙ sym (sum_by-cons count_of newest older)
+pub counts-joined_entries : (records : List RingEntry) (bytes : List ℕ) → sum_by byte_count (joined_entries records bytes) ≡ sum_by entry_count records
+unfolding joined_entries
+counts-joined_entries [] bytes = refl
+counts-joined_entries (newest ∷ older) bytes =
+    sum_by-cons byte_count (with_bytes newest (take (entry_count newest) bytes)) (joined_entries older (drop (entry_count newest) bytes))
+    ∙ ap (λ n. entry_count newest + n) (counts-joined_entries older (drop (entry_count newest) bytes))
+    ∙ sym (sum_by-cons entry_count newest older)
 
 -- one more record, with its bytes
-pub joined-push : (newest : Entry) (older : List Entry) (bytes others : List ℕ) → length bytes ≡ count_of newest
-    → joined (newest ∷ older) (bytes ++ others) ≡ with_bytes newest bytes ∷ joined older others
-unfolding joined
-joined-push newest older bytes others size =
-    ap (λ (z : List ℕ). with_bytes newest z ∷ joined older (drop (count_of newest) (bytes ++ others))) (take_at bytes others (count_of newest) size)
-    ∙ ap (λ (z : List ℕ). with_bytes newest bytes ∷ joined older z) (drop_at bytes others (count_of newest) size)
+pub joined_entries-push : (newest : RingEntry) (older : List RingEntry) (bytes others : List ℕ) → length bytes ≡ entry_count newest
+    → joined_entries (newest ∷ older) (bytes ++ others) ≡ with_bytes newest bytes ∷ joined_entries older others
+unfolding joined_entries
+joined_entries-push newest older bytes others size =
+    ap (λ (z : List ℕ). with_bytes newest z ∷ joined_entries older (drop (entry_count newest) (bytes ++ others))) (take_at bytes others (entry_count newest) size)
+    ∙ ap (λ (z : List ℕ). with_bytes newest bytes ∷ joined_entries older z) (drop_at bytes others (entry_count newest) size)
 
 -- the newest records, with their bytes
-joined-take : (n : ℕ) (records : List Entry) (bytes : List ℕ)
-    → joined (take n records) (take (sum_by count_of (take n records)) bytes) ≡ take n (joined records bytes)
-unfolding joined
-joined-take zero records bytes = refl
-joined-take (suc n) [] bytes = refl
-joined-take (suc n) (newest ∷ older) bytes =
-    let count = count_of newest in
-    let rest = sum_by count_of (take n older) in
-    ap (λ s. with_bytes newest (take count (take s bytes)) ∷ joined (take n older) (drop count (take s bytes))) (sum_by-cons count_of newest (take n older))
-    ∙ ap (λ (z : List ℕ). with_bytes newest z ∷ joined (take n older) (drop count (take (count + rest) bytes))) (take-take count (count + rest) bytes (omega arith))
-    ∙ ap (λ (z : List ℕ). with_bytes newest (take count bytes) ∷ joined (take n older) z) (drop-take count rest bytes)
-    ∙ ap (λ (z : List Kept). with_bytes newest (take count bytes) ∷ z) (joined-take n older (drop count bytes))
+joined_entries-take : (n : ℕ) (records : List RingEntry) (bytes : List ℕ)
+    → joined_entries (take n records) (take (sum_by entry_count (take n records)) bytes) ≡ take n (joined_entries records bytes)
+unfolding joined_entries
+joined_entries-take zero records bytes = refl
+joined_entries-take (suc n) [] bytes = refl
+joined_entries-take (suc n) (newest ∷ older) bytes =
+    let count = entry_count newest in
+    let rest = sum_by entry_count (take n older) in
+    ap (λ s. with_bytes newest (take count (take s bytes)) ∷ joined_entries (take n older) (drop count (take s bytes))) (sum_by-cons entry_count newest (take n older))
+    ∙ ap (λ (z : List ℕ). with_bytes newest z ∷ joined_entries (take n older) (drop count (take (count + rest) bytes))) (take-take count (count + rest) bytes (omega arith))
+    ∙ ap (λ (z : List ℕ). with_bytes newest (take count bytes) ∷ joined_entries (take n older) z) (drop-take count rest bytes)
+    ∙ ap (λ (z : List Kept). with_bytes newest (take count bytes) ∷ z) (joined_entries-take n older (drop count bytes))
 
 -- what is found is within
 within : {A : Type 0} (xs : List A) (i : ℕ) (x : A) → slice_get xs i ≡ Some x → i < length xs
@@ -54,82 +54,82 @@ within (y ∷ ys) zero x is = omega arith
 within (y ∷ ys) (suc i) x is = let less : i < length ys = within ys i x is in omega arith
 
 -- where the last record ends
-last_ends : (records : List Entry) (last : Entry) (i : ℕ) → length records ≡ suc i → slice_get records i ≡ Some last
-    → sum_by count_of (take i records) + count_of last ≡ sum_by count_of records
+last_ends : (records : List RingEntry) (last : RingEntry) (i : ℕ) → length records ≡ suc i → slice_get records i ≡ Some last
+    → sum_by entry_count (take i records) + entry_count last ≡ sum_by entry_count records
 last_ends records last i size is =
     let all : take (i + 1) records ≡ records = take_all (i + 1) records (omega arith) in
     let here : get_or records i last ≡ last = get_or_from_slice_get records i last last is in
-    let more = sum_by_more count_of records i last (omega arith) in
-    sym (ap (λ (xs : List Entry). sum_by count_of xs) (sym all) ∙ more ∙ ap (λ r. sum_by count_of (take i records) + count_of r) here)
+    let more = sum_by_more entry_count records i last (omega arith) in
+    sym (ap (λ (xs : List RingEntry). sum_by entry_count xs) (sym all) ∙ more ∙ ap (λ r. sum_by entry_count (take i records) + entry_count r) here)
 
-pub record Forgotten (records : List Entry) (bytes : List ℕ) (last : Entry) : Type 0 where
-  pub moments : joined (take (length records - 1) records) (take (length bytes - count_of last) bytes) ≡ take (length (joined records bytes) - 1) (joined records bytes)
-  pub filled : length (take (length bytes - count_of last) bytes) ≡ sum_by count_of (take (length records - 1) records)
-  pub fits : count_of last ≤ length bytes
+pub record Forgotten (records : List RingEntry) (bytes : List ℕ) (last : RingEntry) : Type 0 where
+  pub moments : joined_entries (take (length records - 1) records) (take (length bytes - entry_count last) bytes) ≡ take (length (joined_entries records bytes) - 1) (joined_entries records bytes)
+  pub filled : length (take (length bytes - entry_count last) bytes) ≡ sum_by entry_count (take (length records - 1) records)
+  pub fits : entry_count last ≤ length bytes
 
-pub forgotten : (records : List Entry) (bytes : List ℕ) (last : Entry) → length bytes ≡ sum_by count_of records
+pub forgotten : (records : List RingEntry) (bytes : List ℕ) (last : RingEntry) → length bytes ≡ sum_by entry_count records
     → slice_get records (length records - 1) ≡ Some last → Forgotten records bytes last
 forgotten records bytes last filled is =
     let i = length records - 1 in
     let less : i < length records = within records i last is in
-    let ends : sum_by count_of (take i records) + count_of last ≡ sum_by count_of records = last_ends records last i (omega arith) is in
-    let size : length bytes - count_of last ≡ sum_by count_of (take i records) = omega arith in
+    let ends : sum_by entry_count (take i records) + entry_count last ≡ sum_by entry_count records = last_ends records last i (omega arith) is in
+    let size : length bytes - entry_count last ≡ sum_by entry_count (take i records) = omega arith in
     record {
-      moments = ap (λ n. joined (take i records) (take n bytes)) size ∙ joined-take i records bytes
-          ∙ ap (λ n. take (n - 1) (joined records bytes)) (sym (length-joined records bytes));
-      filled = ap (λ n. length (take n bytes)) size ∙ length-take-le (sum_by count_of (take i records)) bytes (omega arith);
+      moments = ap (λ n. joined_entries (take i records) (take n bytes)) size ∙ joined_entries-take i records bytes
+          ∙ ap (λ n. take (n - 1) (joined_entries records bytes)) (sym (length-joined_entries records bytes));
+      filled = ap (λ n. length (take n bytes)) size ∙ length-take-le (sum_by entry_count (take i records)) bytes (omega arith);
       fits = omega arith;
     }
 
 -- a part of a record that does not lie in its bytes
-pub at_joined : {X : Type 0} (f : Kept → X) (g : Entry → X) → ((r : Entry) (bytes : List ℕ) → f (with_bytes r bytes) ≡ g r)
-    → (records : List Entry) (bytes : List ℕ) (i : ℕ) (r : Entry) → slice_get records i ≡ Some r
-    → option_map f (slice_get (joined records bytes) i) ≡ Some (g r)
-unfolding joined
+pub at_joined : {X : Type 0} (f : Kept → X) (g : RingEntry → X) → ((r : RingEntry) (bytes : List ℕ) → f (with_bytes r bytes) ≡ g r)
+    → (records : List RingEntry) (bytes : List ℕ) (i : ℕ) (r : RingEntry) → slice_get records i ≡ Some r
+    → option_map f (slice_get (joined_entries records bytes) i) ≡ Some (g r)
+unfolding joined_entries
 at_joined f g same [] bytes i r is = cc
 at_joined f g same (newest ∷ older) bytes zero r is =
     let here : newest ≡ r = cc in
-    ap Some (same newest (take (count_of newest) bytes) ∙ ap g here)
-at_joined f g same (newest ∷ older) bytes (suc i) r is = at_joined f g same older (drop (count_of newest) bytes) i r is
+    ap Some (same newest (take (entry_count newest) bytes) ∙ ap g here)
+at_joined f g same (newest ∷ older) bytes (suc i) r is = at_joined f g same older (drop (entry_count newest) bytes) i r is
 
 -- a byte that a record keeps
-kept_byte : (bytes : List ℕ) (r : Entry) (begin at byte : ℕ) (is : Bool) → covers r.span at ≡ is
-    → cond is (slice_index (take (count_of r) (drop begin bytes)) (distance_to r.span at)) byte ≡ cond is (slice_index bytes (begin + distance_to r.span at)) byte
+kept_byte : (bytes : List ℕ) (r : RingEntry) (begin at byte : ℕ) (is : Bool) → covers r.span at ≡ is
+    → cond is (slice_index (take (entry_count r) (drop begin bytes)) (distance_to r.span at)) byte ≡ cond is (slice_index bytes (begin + distance_to r.span at)) byte
 kept_byte bytes r begin at byte false e = refl
 kept_byte bytes r begin at byte true e =
-    let less : distance_to r.span at < count_of r = grind (arith, nat_tests) in
-    get_or-take (count_of r) (drop begin bytes) (distance_to r.span at) 0 less ∙ get_or-drop begin bytes (distance_to r.span at) 0
+    let less : distance_to r.span at < entry_count r = grind (arith, nat_tests) in
+    get_or-take (entry_count r) (drop begin bytes) (distance_to r.span at) 0 less ∙ get_or-drop begin bytes (distance_to r.span at) 0
 
 -- one moment further back
-pub next_back : (records : List Entry) (bytes : List ℕ) (back i begin at byte next : ℕ) (r : Entry) → i < back → slice_get records i ≡ Some r
+pub next_back : (records : List RingEntry) (bytes : List ℕ) (back i begin at byte next : ℕ) (r : RingEntry) → i < back → slice_get records i ≡ Some r
     → next ≡ cond (covers r.span at) (slice_index bytes (begin + distance_to r.span at)) byte
-    → byte_back (take (back - i) (joined (drop i records) (drop begin bytes))) at byte
-    ≡ byte_back (take (back - (i + 1)) (joined (drop (i + 1) records) (drop (begin + count_of r) bytes))) at next
-unfolding byte_back joined
+    → byte_back (take (back - i) (joined_entries (drop i records) (drop begin bytes))) at byte
+    ≡ byte_back (take (back - (i + 1)) (joined_entries (drop (i + 1) records) (drop (begin + entry_count r) bytes))) at next
+unfolding byte_back joined_entries
 next_back records bytes back i begin at byte next r less is found =
     let k = back - (i + 1) in
     let one : back - i ≡ suc k = omega arith in
     let rest : drop i records ≡ r ∷ drop (i + 1) records =
     drop_more records i r (within records i r is) ∙ ap (λ first. first ∷ drop (i + 1) records) (get_or_from_slice_get records i r r is) in
-    let kept = take (count_of r) (drop begin bytes) in
+    let kept = take (entry_count r) (drop begin bytes) in
     let same : cond (covers r.span at) (slice_index kept (distance_to r.span at)) byte ≡ next =
     kept_byte bytes r begin at byte (covers r.span at) refl ∙ sym found in
-    rw (one, rest) (ap (λ (z : List ℕ). byte_back (take k (joined (drop (i + 1) records) z)) at (cond (covers r.span at) (slice_index kept (distance_to r.span at)) byte)) (drop-drop (count_of r) begin bytes)
-    ∙ ap (λ b. byte_back (take k (joined (drop (i + 1) records) (drop (begin + count_of r) bytes))) at b) same)
+    rw (one, rest) (ap (λ (z : List ℕ). byte_back (take k (joined_entries (drop (i + 1) records) z)) at (cond (covers r.span at) (slice_index kept (distance_to r.span at)) byte)) (drop-drop (entry_count r) begin bytes)
+    ∙ ap (λ b. byte_back (take k (joined_entries (drop (i + 1) records) (drop (begin + entry_count r) bytes))) at b) same)
 
--- what the two rings hold
-pub length-held : (records : List Entry) (bytes : List ℕ) (held : List Kept) → joined records bytes ≡ held → length records ≡ length held
-length-held records bytes held is = sym (length-joined records bytes) ∙ ap (λ (z : List Kept). length z) is
+-- what the two stacks hold
+pub length-held : (records : List RingEntry) (bytes : List ℕ) (held : List Kept) → joined_entries records bytes ≡ held → length records ≡ length held
+length-held records bytes held is = sym (length-joined_entries records bytes) ∙ ap (λ (z : List Kept). length z) is
 
-pub bytes-held : (records : Buffer Entry) (bytes : Buffer ℕ) (held : List Kept) → joined records.items bytes.items ≡ held
+pub bytes-held : (records : Buffer RingEntry) (bytes : Buffer ℕ) (held : List Kept) → joined_entries records.items bytes.items ≡ held
     → AreRings records bytes → sum_by byte_count held ≡ length bytes.items
 bytes-held records bytes held is rings =
-    ap (λ (z : List Kept). sum_by byte_count z) (sym is) ∙ counts-joined records.items bytes.items ∙ sym rings.filled
+    ap (λ (z : List Kept). sum_by byte_count z) (sym is) ∙ counts-joined_entries records.items bytes.items ∙ sym rings.filled
 
 -- no moment is held
-pub forgotten-none : (records : List Entry) (bytes : List ℕ) → slice_get records (length records - 1) ≡ None
-    → joined records bytes ≡ take (length (joined records bytes) - 1) (joined records bytes)
-unfolding joined
+pub forgotten-none : (records : List RingEntry) (bytes : List ℕ) → slice_get records (length records - 1) ≡ None
+    → joined_entries records bytes ≡ take (length (joined_entries records bytes) - 1) (joined_entries records bytes)
+unfolding joined_entries
 forgotten-none [] bytes none = refl
 forgotten-none (r ∷ older) bytes none =
     let last : suc (length older) - 1 ≡ length older = omega arith in
@@ -137,10 +137,10 @@ forgotten-none (r ∷ older) bytes none =
     let here : slice_get (r ∷ older) (length older) ≡ None = ap (λ i. slice_get (r ∷ older) i) (sym last) ∙ none in
     cc
 
-pub forgotten-rings : (records : Buffer Entry) (bytes : Buffer ℕ) (last : Entry) → AreRings records bytes
+pub forgotten-rings : (records : Buffer RingEntry) (bytes : Buffer ℕ) (last : RingEntry) → AreRings records bytes
     → slice_get records.items (length records.items - 1) ≡ Some last
     → AreRings (buffer (take (length records.items - 1) records.items) records.capacity)
-    (buffer (take (length bytes.items - count_of last) bytes.items) bytes.capacity)
+    (buffer (take (length bytes.items - entry_count last) bytes.items) bytes.capacity)
 forgotten-rings records bytes last rings is =
     let done = forgotten records.items bytes.items last rings.filled is in
     let few : length records.items ≤ 65536 = rings.few in
@@ -149,26 +149,26 @@ forgotten-rings records bytes last rings is =
       moments = rings.moments;
       room = rings.room;
       few = rw (length-take (length records.items - 1) records.items) (omega arith);
-      small = rw (length-take (length bytes.items - count_of last) bytes.items) (omega arith);
+      small = rw (length-take (length bytes.items - entry_count last) bytes.items) (omega arith);
       filled = done.filled;
     }
 
-in_span : (r : Entry) (at distance : ℕ) (is : Bool) → covers r.span at ≡ is → Some distance ≡ cond is (Some (distance_to r.span at)) None
-    → (begin size : ℕ) → begin + count_of r ≤ size → begin + distance < size
+in_span : (r : RingEntry) (at distance : ℕ) (is : Bool) → covers r.span at ≡ is → Some distance ≡ cond is (Some (distance_to r.span at)) None
+    → (begin size : ℕ) → begin + entry_count r ≤ size → begin + distance < size
 in_span r at distance false e found begin size fits = cc
 in_span r at distance true e found begin size fits =
     let same : distance ≡ distance_to r.span at = cc in
-    let less : distance_to r.span at < count_of r = grind (arith, nat_tests) in
+    let less : distance_to r.span at < entry_count r = grind (arith, nat_tests) in
     omega arith
 
--- a byte that a record keeps lies in the second ring
-pub in_bytes : (records : List Entry) (bytes : List ℕ) (i begin at distance : ℕ) (r : Entry) → length bytes ≡ sum_by count_of records
-    → slice_get records i ≡ Some r → begin ≡ sum_by count_of (take i records)
+-- a byte that a record keeps lies in the second stack
+pub in_bytes : (records : List RingEntry) (bytes : List ℕ) (i begin at distance : ℕ) (r : RingEntry) → length bytes ≡ sum_by entry_count records
+    → slice_get records i ≡ Some r → begin ≡ sum_by entry_count (take i records)
     → Some distance ≡ cond (covers r.span at) (Some (distance_to r.span at)) None → begin + distance < length bytes
 in_bytes records bytes i begin at distance r filled is begins found =
     let here : get_or records i r ≡ r = get_or_from_slice_get records i r r is in
-    let more : sum_by count_of (take i records) + count_of (get_or records i r) ≤ sum_by count_of records =
-    sum_by_more_le count_of records i r (within records i r is) in
+    let more : sum_by entry_count (take i records) + entry_count (get_or records i r) ≤ sum_by entry_count records =
+    sum_by_more_le entry_count records i r (within records i r is) in
     let parts = (rw here at more) in
     in_span r at distance (covers r.span at) refl found begin (length bytes) (omega (arith, parts))
 
@@ -178,7 +178,7 @@ found_in bytes begin distance far byte next false found is = cc
 found_in bytes begin distance far byte next true found is = let same : distance ≡ far = cc in rw (← same) is
 
 -- the byte that is found, or the one that is not
-pub found_byte : (bytes : List ℕ) (r : Entry) (begin at distance byte next : ℕ) → Some distance ≡ cond (covers r.span at) (Some (distance_to r.span at)) None
+pub found_byte : (bytes : List ℕ) (r : RingEntry) (begin at distance byte next : ℕ) → Some distance ≡ cond (covers r.span at) (Some (distance_to r.span at)) None
     → next ≡ slice_index bytes (begin + distance) → next ≡ cond (covers r.span at) (slice_index bytes (begin + distance_to r.span at)) byte
 found_byte bytes r begin at distance byte next found is = found_in bytes begin distance (distance_to r.span at) byte next (covers r.span at) found is
 
@@ -186,15 +186,15 @@ none_in : (kept far byte next : ℕ) (is : Bool) → None ≡ cond is (Some far)
 none_in kept far byte next false none is = is
 none_in kept far byte next true none is = cc
 
-pub no_byte : (bytes : List ℕ) (r : Entry) (begin at byte next : ℕ) → None ≡ cond (covers r.span at) (Some (distance_to r.span at)) None
+pub no_byte : (bytes : List ℕ) (r : RingEntry) (begin at byte next : ℕ) → None ≡ cond (covers r.span at) (Some (distance_to r.span at)) None
     → next ≡ byte → next ≡ cond (covers r.span at) (slice_index bytes (begin + distance_to r.span at)) byte
 no_byte bytes r begin at byte next none is = none_in (slice_index bytes (begin + distance_to r.span at)) (distance_to r.span at) byte next (covers r.span at) none is
 
-pub begins_next : (records : List Entry) (i : ℕ) (r : Entry) → slice_get records i ≡ Some r
-    → sum_by count_of (take (i + 1) records) ≡ sum_by count_of (take i records) + count_of r
+pub begins_next : (records : List RingEntry) (i : ℕ) (r : RingEntry) → slice_get records i ≡ Some r
+    → sum_by entry_count (take (i + 1) records) ≡ sum_by entry_count (take i records) + entry_count r
 begins_next records i r is =
-    sum_by_more count_of records i r (within records i r is)
-    ∙ ap (λ r. sum_by count_of (take i records) + count_of r) (get_or_from_slice_get records i r r is)
+    sum_by_more entry_count records i r (within records i r is)
+    ∙ ap (λ r. sum_by entry_count (take i records) + entry_count r) (get_or_from_slice_get records i r r is)
 
 pub all_back : (n : ℕ) (held : List Kept) (at byte : ℕ) → n ≡ 0 → byte_back (take n held) at byte ≡ byte
 unfolding byte_back

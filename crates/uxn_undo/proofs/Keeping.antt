@@ -5,11 +5,11 @@ use Rattle.std.proofs.lemmas.List.{length-take, length-append}
 use Rattle.std.proofs.lemmas.List.FromFn.{length-map-range_with_len}
 use Rattle.std.proofs.lemmas.List.Sums.{sum_by-cons}
 use Rattle.circular_buffer.specs.Buffer.{Buffer, buffer}
-use Rattle.uxn_undo.specs.Spans.{bytes_at}
-use Rattle.uxn_undo.specs.Kept.{Kept, byte_count, most_moments, most_bytes, Holds}
-use Rattle.uxn_undo.specs.Rings.{Entry, with_bytes, count_of, joined, AreRings}
+use Rattle.uxn_undo.specs.Spans.{span_bytes_at}
+use Rattle.uxn_undo.specs.Kept.{Kept, byte_count, most_moments, most_bytes, HoldsMoments}
+use Rattle.uxn_undo.specs.Rings.{RingEntry, with_bytes, entry_count, joined_entries, AreRings}
 use Rattle.uxn_undo.specs.Room.{MakesRoom}
-use Rattle.uxn_undo.proofs.Joined.{length-held, bytes-held, joined-push}
+use Rattle.uxn_undo.proofs.Joined.{length-held, bytes-held, joined_entries-push}
 
 -- with more moments there is none
 fuller : (before held : List Kept) (kept : Kept) → MakesRoom (byte_count kept) before held → (more : ℕ) → suc (length held) < more
@@ -20,7 +20,7 @@ fuller before held kept room (suc more) above within few =
     omega (arith, full, sum_by-cons byte_count kept (take more before))
 
 -- where there is room, one moment more is held
-room_taken : (before held : List Kept) (kept : Kept) → MakesRoom (byte_count kept) before held → Holds (kept ∷ before) (kept ∷ held)
+room_taken : (before held : List Kept) (kept : Kept) → MakesRoom (byte_count kept) before held → HoldsMoments (kept ∷ before) (kept ∷ held)
 room_taken before held kept room =
     let size : length held ≤ length before = omega (arith, ap (λ (z : List Kept). length z) room.newest, length-take (length held) before) in
     let moments : length held < 65536 = room.moments in
@@ -35,22 +35,22 @@ room_taken before held kept room =
       newest = ap (λ (z : List Kept). kept ∷ z) room.newest;
     }
 
-pub record Keeps (records : Buffer Entry) (bytes : Buffer ℕ) (before : List Kept) (r : Entry) (kept : Kept) : Type 0 where
+pub record Keeps (records : Buffer RingEntry) (bytes : Buffer ℕ) (before : List Kept) (r : RingEntry) (kept : Kept) : Type 0 where
   pub room : length records.items < records.capacity
   pub rings : AreRings (buffer (r ∷ records.items) records.capacity) (buffer (kept.bytes ++ bytes.items) bytes.capacity)
-  pub holds : Holds (kept ∷ before) (joined (r ∷ records.items) (kept.bytes ++ bytes.items))
+  pub holds : HoldsMoments (kept ∷ before) (joined_entries (r ∷ records.items) (kept.bytes ++ bytes.items))
 
-pub keeps : (records : Buffer Entry) (bytes : Buffer ℕ) (before held : List Kept) (r : Entry) (memory : List ℕ)
-    → joined records.items bytes.items ≡ held → AreRings records bytes → MakesRoom (count_of r) before held
-    → Keeps records bytes before r (with_bytes r (bytes_at r.span memory))
+pub keeps : (records : Buffer RingEntry) (bytes : Buffer ℕ) (before held : List Kept) (r : RingEntry) (memory : List ℕ)
+    → joined_entries records.items bytes.items ≡ held → AreRings records bytes → MakesRoom (entry_count r) before held
+    → Keeps records bytes before r (with_bytes r (span_bytes_at r.span memory))
 keeps records bytes before held r memory is rings room =
-    let kept = with_bytes r (bytes_at r.span memory) in
+    let kept = with_bytes r (span_bytes_at r.span memory) in
     let size : length records.items ≡ length held = length-held records.items bytes.items held is in
     let filled : sum_by byte_count held ≡ length bytes.items = bytes-held records bytes held is rings in
     let moments : length held < 65536 = room.moments in
-    let small : sum_by byte_count held + count_of r ≤ 16777216 = room.bytes in
+    let small : sum_by byte_count held + entry_count r ≤ 16777216 = room.bytes in
     let capacity : records.capacity ≡ 65536 = rings.moments in
-    let count : length kept.bytes ≡ count_of r = length-map-range_with_len _ 0 r.span.count in
+    let count : length kept.bytes ≡ entry_count r = length-map-range_with_len _ 0 r.span.count in
     let long = length-append kept.bytes bytes.items in
     record {
       room = omega arith;
@@ -59,7 +59,7 @@ keeps records bytes before held r memory is rings room =
         room = rings.room;
         few = omega arith;
         small = omega (arith, long);
-        filled = long ∙ sym (sum_by-cons count_of r records.items ∙ ap (λ n. count_of r + n) (sym rings.filled) ∙ ap (λ n. n + length bytes.items) (sym count));
+        filled = long ∙ sym (sum_by-cons entry_count r records.items ∙ ap (λ n. entry_count r + n) (sym rings.filled) ∙ ap (λ n. n + length bytes.items) (sym count));
       };
-      holds = rw (joined-push r records.items kept.bytes bytes.items count, is) (room_taken before held kept room);
+      holds = rw (joined_entries-push r records.items kept.bytes bytes.items count, is) (room_taken before held kept room);
     }

@@ -7,7 +7,7 @@ use Rattle.uxn_opcodes.specs.declared.operation.Width.{Width}
 use Rattle.uxn_opcodes.specs.declared.operation.Width.TheVariants.{Byte, Short}
 use Rattle.uxn_opcodes.specs.declared.operation.Mode.{Mode}
 use Rattle.uxn_opcodes.specs.Words.{pushed, pushed_all, dropped, word_below}
-use Rattle.uxn_opcodes.specs.Rule.{sides_of, core_of, Deed, ruled, immediate, jumped, jumped_if, called, literal}
+use Rattle.uxn_opcodes.specs.Rule.{sides_of, core_of, OpEffect, ruled, immediate, jumped, jumped_if, called, literal}
 use Rattle.uxn_opcodes.specs.Table.{Pushes, mode_of}
 use Rattle.uxn_undo.specs.Row.{HoldsBytes, IsMachine}
 
@@ -36,28 +36,28 @@ unfolding dropped
 dropped-holds true ring count holds = holds
 dropped-holds false ring count holds = holds
 
--- the words on a ring of bytes
+-- the words on a stack of bytes
 pub byte-small : (ring : Cells) (depth : ℕ) → HoldsBytes ring → word_below ring Byte depth < 256
 unfolding word_below
 byte-small ring depth holds = holds _
 
 -- a row
-pub row-memory : (returns : Bool) (mode : Mode) (core : Core) (deed : Deed)
-    → (core_of returns (ruled mode (sides_of returns core) deed)).memory ≡ deed.memory
-row-memory true mode core deed = refl
-row-memory false mode core deed = refl
+pub row-memory : (returns : Bool) (mode : Mode) (core : Core) (op_effect : OpEffect)
+    → (core_of returns (ruled mode (sides_of returns core) op_effect)).memory ≡ op_effect.memory
+row-memory true mode core op_effect = refl
+row-memory false mode core op_effect = refl
 
-pub row-machine : (returns : Bool) (mode : Mode) (core : Core) (deed : Deed) → IsMachine core → 65536 ≤ length deed.memory
-    → IsMachine (core_of returns (ruled mode (sides_of returns core) deed))
-row-machine true mode core deed is size = record {
+pub row-machine : (returns : Bool) (mode : Mode) (core : Core) (op_effect : OpEffect) → IsMachine core → 65536 ≤ length op_effect.memory
+    → IsMachine (core_of returns (ruled mode (sides_of returns core) op_effect))
+row-machine true mode core op_effect is size = record {
   memory = size;
-  working = all-pushed-holds core.working deed.passes is.working;
-  returns = all-pushed-holds (dropped mode.keep core.returns deed.count) deed.results (dropped-holds mode.keep core.returns deed.count is.returns);
+  working = all-pushed-holds core.working op_effect.passes is.working;
+  returns = all-pushed-holds (dropped mode.keep core.returns op_effect.count) op_effect.results (dropped-holds mode.keep core.returns op_effect.count is.returns);
 }
-row-machine false mode core deed is size = record {
+row-machine false mode core op_effect is size = record {
   memory = size;
-  working = all-pushed-holds (dropped mode.keep core.working deed.count) deed.results (dropped-holds mode.keep core.working deed.count is.working);
-  returns = all-pushed-holds core.returns deed.passes is.returns;
+  working = all-pushed-holds (dropped mode.keep core.working op_effect.count) op_effect.results (dropped-holds mode.keep core.working op_effect.count is.working);
+  returns = all-pushed-holds core.returns op_effect.passes is.returns;
 }
 
 pub side-memory : (returns : Bool) (core : Core) → (sides_of returns core).memory ≡ core.memory

@@ -15,41 +15,41 @@ use Rattle.play_script.specs.Scripts.{ScriptView}
 use Rattle.varvara_bus.specs.History.{stored, stored_short}
 use Rattle.vector_loop.specs.declared.output.Outputs.{Outputs}
 use Rattle.vector_loop.specs.State.{State, with_stored, with_next_frame, with_counted, is_over}
-use Rattle.vector_loop.specs.Trail.{Trail, stays, followed_by}
+use Rattle.vector_loop.specs.Trace.{Trace, stays, followed_by}
 use Rattle.vector_loop.specs.Vector.{at_break, instruction, instructions, begun_at, vector}
 use Rattle.vector_loop.specs.Event.{vector_in, unless_over, give_each, console, device, expected, samples_kept, vector_where, ended_vectors}
 use Rattle.vector_loop.specs.Event.{heard, shown_and_heard, frame, shot, happens, give}
 use Rattle.vector_loop.specs.Run.{console_byte, arguments_given, made_ready, run}
-use Rattle.uxn_undo.specs.Laws.{Given, Follow}
+use Rattle.uxn_undo.specs.Laws.{GivenMoments, Follow}
 use Rattle.uxn_undo.specs.Row.{IsMachine}
 use Rattle.uxn_undo.specs.Runs.{given_at, memory_next, InRow, RunLaw}
 use Rattle.uxn_undo.proofs.Instructions.{instruction_law}
 
 -- moments in a row, and then others that begin with the memory which those end with
-record Joined (first more : List Given) (middle last : List ℕ) : Type 0 where
+record Joined (first more : List GivenMoments) (middle last : List ℕ) : Type 0 where
   row : InRow (first ++ more) last
   begins : memory_next (first ++ more) last ≡ memory_next first middle
 
-joined : (first more : List Given) (middle last : List ℕ) → InRow first middle → memory_next more last ≡ middle → InRow more last
+joined_entries : (first more : List GivenMoments) (middle last : List ℕ) → InRow first middle → memory_next more last ≡ middle → InRow more last
     → Joined first more middle last
-joined [] more middle last one same two = record { row = two; begins = same }
-joined (given ∷ first) more middle last one same two =
-    let rest = joined first more middle last one.1 same two in
+joined_entries [] more middle last one same two = record { row = two; begins = same }
+joined_entries (given ∷ first) more middle last one same two =
+    let rest = joined_entries first more middle last one.1 same two in
     record { row = (rw rest.begins one.0, rest.row); begins = refl }
 
 -- a part of a run, from a memory on
-record RunsOn (memory : List ℕ) (trail : Trail) : Type 0 where
-  begins : memory_next (map given_at trail.moments) trail.last.core.memory ≡ memory
-  row : InRow (map given_at trail.moments) trail.last.core.memory
-  machine : IsMachine trail.last.core
+record RunsOn (memory : List ℕ) (trace : Trace) : Type 0 where
+  begins : memory_next (map given_at trace.moments) trace.last.core.memory ≡ memory
+  row : InRow (map given_at trace.moments) trace.last.core.memory
+  machine : IsMachine trace.last.core
 
-record Runs (part : State → Trail) : Type 0 where
+record Runs (part : State → Trace) : Type 0 where
   on : (state : State) → IsMachine state.core → RunsOn state.core.memory (part state)
 
-followed : (memory : List ℕ) (first : Trail) (rest : State → Trail) → RunsOn memory first → Runs rest → RunsOn memory (followed_by first rest)
+followed : (memory : List ℕ) (first : Trace) (rest : State → Trace) → RunsOn memory first → Runs rest → RunsOn memory (followed_by first rest)
 followed memory first rest one more =
     let two = more.on first.last one.machine in
-    let both = joined (map given_at first.moments) (map given_at (rest first.last).moments) first.last.core.memory (rest first.last).last.core.memory
+    let both = joined_entries (map given_at first.moments) (map given_at (rest first.last).moments) first.last.core.memory (rest first.last).last.core.memory
     one.row two.begins two.row in
     let split = map-append given_at first.moments (rest first.last).moments in
     record {
@@ -94,7 +94,7 @@ vector_in-runs budget port = record {
       ];
 }
 
-unless_over-runs : (rest : State → Trail) → Runs rest → Runs (unless_over rest)
+unless_over-runs : (rest : State → Trace) → Runs rest → Runs (unless_over rest)
 unfolding unless_over
 unless_over-runs rest r = record {
   on = λ state is. elim (is_over state) as (λ b. RunsOn state.core.memory (cond b (stays state) (rest state))) [
@@ -114,13 +114,13 @@ unfolding device
 device-runs budget input = record {
   on = λ state is.
       let begins = with_stored (stores_of (stored state.devices.history) input) state in
-      let settles : State → Trail = λ after. stays (with_stored (stores_after input) after) in
+      let settles : State → Trace = λ after. stays (with_stored (stores_after input) after) in
       followed state.core.memory (vector_in budget (vector_of input) begins) (unless_over settles)
       ((vector_in-runs budget (vector_of input)).on begins is)
       (unless_over-runs settles (record { on = λ after still. record { begins = refl; row = tt; machine = still } }));
 }
 
-each-runs : {X : Type 0} (given : X → State → Trail) (items : List X) → ((item : X) → Runs (given item)) → Runs (give_each given items)
+each-runs : {X : Type 0} (given : X → State → Trace) (items : List X) → ((item : X) → Runs (given item)) → Runs (give_each given items)
 unfolding give_each
 each-runs given [] r = record { on = λ state is. record { begins = refl; row = tt; machine = is } }
 each-runs given (first ∷ rest) r = record {
@@ -193,7 +193,7 @@ run-runs budget outputs script =
     }
 
 -- the first moments follow one another, the newest first, where those before them do
-follows_on : (later earlier : List Given) (last : List ℕ) (count : ℕ) → Follow earlier (memory_next later last) → InRow later last
+follows_on : (later earlier : List GivenMoments) (last : List ℕ) (count : ℕ) → Follow earlier (memory_next later last) → InRow later last
     → Follow (reverse_aux (take count later) earlier) (memory_next (drop count later) last)
 follows_on later earlier last zero follow row = follow
 follows_on [] earlier last (suc count) follow row = follow

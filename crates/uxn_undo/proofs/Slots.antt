@@ -1,28 +1,29 @@
 -- The rows of the moments that are held stay where they are when the next one is put.
 use Rattle.std.proofs.Common.{◌≡◌, ◌≢◌, ℕ, zero, suc, ◌+◌, ◌-◌, ◌%◌, ◌<◌, ◌≤◌, ◌==◌, cond, List, [], ◌∷◌, length, take, Some, None, refl, sym, ap, ◌∙◌, arith}
-use Rattle.std.specs.Prelude.{map, slice_get, slice_index, slice_index_or, Option, option_map}
+use Rattle.std.specs.Prelude.{map, slice_get, slice_index, slice_index_or, sum_by, Option, option_map}
 use Rattle.std.proofs.lemmas.Bool.Decides.{nat_tests}
-use Rattle.std.proofs.lemmas.List.{length-map, take-map}
+use Rattle.std.proofs.lemmas.List.{length-map, length-take, take-map}
+use Rattle.std.proofs.lemmas.List.Sums.{sum_by-cons}
 use Rattle.std.proofs.lemmas.Option.{slice_get-map}
 use Rattle.uxn_undo.specs.declared.row.Row.{Row}
 use Rattle.uxn_undo.specs.declared.undo.Record.{Record}
 use Rattle.uxn_undo.specs.Kept.{Kept}
-use Rattle.uxn_undo.specs.Rings.{Entry, joined}
+use Rattle.uxn_undo.specs.Rings.{RingEntry, entry_count, joined_entries}
 use Rattle.uxn_undo.proofs.Joined.{length-held}
-use Rattle.uxn_undo.specs.Slots.{entry_of, entry_in, row_in, no_row, slot_before, InOrder, AreSlots}
+use Rattle.uxn_undo.specs.Slots.{slot_entry, entry_in_rows, row_in, no_row, slot_before, InOrder, AreSlots}
 
 -- fewer records
 pub in_order-take : (n size next : ℕ) (records : List Record) → InOrder size next records → InOrder size next (take n records)
 in_order-take zero size next records order = tt
 in_order-take (suc n) size next [] order = tt
-in_order-take (suc n) size next (newest ∷ older) order = (order.0, order.1, in_order-take n size (slot_before next) older order.2)
+in_order-take (suc n) size next (newest ∷ older) order = (order.0, order.1, order.2, in_order-take n size (slot_before next) older order.3)
 
 -- more slots
 pub in_order-more : (size more next : ℕ) (records : List Record) → size ≤ more → InOrder size next records → InOrder more next records
 in_order-more size more next [] le order = tt
 in_order-more size more next (newest ∷ older) le order =
     let within : newest.slot < size = order.1 in
-    (order.0, omega arith, in_order-more size more (slot_before next) older le order.2)
+    (order.0, omega arith, order.2, in_order-more size more (slot_before next) older le order.3)
 
 -- rows that are the same but in one slot
 abbrev pub SameBut : ℕ → ℕ → List Row → List Row → Type 0
@@ -30,55 +31,67 @@ SameBut size slot before now = (k : ℕ) (d : Row) → k < size → k ≢ slot �
 
 -- the slot of a record is not the next one, so its row stays
 pub same_entries : (size slot next gap : ℕ) (records : List Record) (before now : List Row) → SameBut size slot before now → next < 65536
-    → slot ≡ (next + gap) % 65536 → gap + length records < 65536 → InOrder size next records → map (entry_in now) records ≡ map (entry_in before) records
+    → slot ≡ (next + gap) % 65536 → gap + length records < 65536 → InOrder size next records → map (entry_in_rows now) records ≡ map (entry_in_rows before) records
 same_entries size slot next gap [] before now same small here few order = refl
 same_entries size slot next gap (newest ∷ older) before now same small here few order =
     let at : newest.slot ≡ (next + 65535) % 65536 = order.0 in
     let fewer : gap + suc (length older) < 65536 = few in
     let other : newest.slot ≢ slot = λ e. absurd (omega arith) in
-    let rest : map (entry_in now) older ≡ map (entry_in before) older =
-    same_entries size slot (slot_before next) (gap + 1) older before now same (omega arith) (omega arith) (omega arith) order.2 in
-    ap (λ row. entry_of newest row ∷ map (entry_in now) older) (same newest.slot no_row order.1 other)
-    ∙ ap (λ (z : List Entry). entry_in before newest ∷ z) rest
+    let rest : map (entry_in_rows now) older ≡ map (entry_in_rows before) older =
+    same_entries size slot (slot_before next) (gap + 1) older before now same (omega arith) (omega arith) (omega arith) order.3 in
+    ap (λ row. slot_entry newest row ∷ map (entry_in_rows now) older) (same newest.slot no_row order.1 other)
+    ∙ ap (λ (z : List RingEntry). entry_in_rows before newest ∷ z) rest
 
 -- the last record with its row
 pub last_entry : (rows : List Row) (records : List Record) (last : Record) → slice_get records (length records - 1) ≡ Some last
-    → slice_get (map (entry_in rows) records) (length (map (entry_in rows) records) - 1) ≡ Some (entry_in rows last)
+    → slice_get (map (entry_in_rows rows) records) (length (map (entry_in_rows rows) records) - 1) ≡ Some (entry_in_rows rows last)
 last_entry rows records last is =
-    ap (λ n. slice_get (map (entry_in rows) records) (n - 1)) (length-map records (entry_in rows))
-    ∙ slice_get-map (entry_in rows) records (length records - 1) ∙ ap (λ z. option_map (entry_in rows) z) is
+    ap (λ n. slice_get (map (entry_in_rows rows) records) (n - 1)) (length-map records (entry_in_rows rows))
+    ∙ slice_get-map (entry_in_rows rows) records (length records - 1) ∙ ap (λ z. option_map (entry_in_rows rows) z) is
 
 pub no_last_entry : (rows : List Row) (records : List Record) → slice_get records (length records - 1) ≡ None
-    → slice_get (map (entry_in rows) records) (length (map (entry_in rows) records) - 1) ≡ None
+    → slice_get (map (entry_in_rows rows) records) (length (map (entry_in_rows rows) records) - 1) ≡ None
 no_last_entry rows records is =
-    ap (λ n. slice_get (map (entry_in rows) records) (n - 1)) (length-map records (entry_in rows))
-    ∙ slice_get-map (entry_in rows) records (length records - 1) ∙ ap (λ z. option_map (entry_in rows) z) is
+    ap (λ n. slice_get (map (entry_in_rows rows) records) (n - 1)) (length-map records (entry_in_rows rows))
+    ∙ slice_get-map (entry_in_rows rows) records (length records - 1) ∙ ap (λ z. option_map (entry_in_rows rows) z) is
 
-pub fewer_slots : (n size room next : ℕ) (records : List Record) → AreSlots size room next records → AreSlots size room next (take n records)
-fewer_slots n size room next records slots =
-    record { next_slot = slots.next_slot; small = slots.small; whole = slots.whole; order = in_order-take n size next records slots.order }
+pub fewer_slots : (n size room next : ℕ) (records : List Record) → 0 < n → AreSlots size room next records → AreSlots size room next (take n records)
+fewer_slots n size room next records some slots = record {
+  next_slot = slots.next_slot;
+  small = slots.small;
+  whole = slots.whole;
+  order = in_order-take n size next records slots.order;
+  written = λ has. let held = slots.written has in omega (arith, length-take n records, held, some);
+}
+
+-- one moment alone keeps few bytes
+pub alone-small : (size next : ℕ) (rows : List Row) (records : List Record) → InOrder size next records → length records ≤ 1
+    → sum_by entry_count (map (entry_in_rows rows) records) < 65536
+alone-small size next rows [] order few = omega arith
+alone-small size next rows (newest ∷ []) order few = omega (arith, sum_by-cons entry_count (entry_in_rows rows newest) [], order.2)
+alone-small size next rows (newest ∷ next_one ∷ older) order few = absurd (omega (arith, few))
 
 pub fewer_entries : (rows : List Row) (records : List Record)
-    → map (entry_in rows) (take (length records - 1) records) ≡ take (length (map (entry_in rows) records) - 1) (map (entry_in rows) records)
+    → map (entry_in_rows rows) (take (length records - 1) records) ≡ take (length (map (entry_in_rows rows) records) - 1) (map (entry_in_rows rows) records)
 fewer_entries rows records =
-    sym (ap (λ n. take (n - 1) (map (entry_in rows) records)) (length-map records (entry_in rows)) ∙ take-map (entry_in rows) (length records - 1) records)
+    sym (ap (λ n. take (n - 1) (map (entry_in_rows rows) records)) (length-map records (entry_in_rows rows)) ∙ take-map (entry_in_rows rows) (length records - 1) records)
 
 -- how many moments there are
-pub length-records : (rows : List Row) (records : List Record) (bytes : List ℕ) (held : List Kept) → joined (map (entry_in rows) records) bytes ≡ held
+pub length-records : (rows : List Row) (records : List Record) (bytes : List ℕ) (held : List Kept) → joined_entries (map (entry_in_rows rows) records) bytes ≡ held
     → length records ≡ length held
-length-records rows records bytes held is = sym (length-map records (entry_in rows)) ∙ length-held (map (entry_in rows) records) bytes held is
+length-records rows records bytes held is = sym (length-map records (entry_in_rows rows)) ∙ length-held (map (entry_in_rows rows) records) bytes held is
 
 -- a record with its row
 pub entry_at : (rows : List Row) (records : List Record) (i : ℕ) (r : Record) → slice_get records i ≡ Some r
-    → slice_get (map (entry_in rows) records) i ≡ Some (entry_in rows r)
-entry_at rows records i r is = slice_get-map (entry_in rows) records i ∙ ap (λ z. option_map (entry_in rows) z) is
+    → slice_get (map (entry_in_rows rows) records) i ≡ Some (entry_in_rows rows r)
+entry_at rows records i r is = slice_get-map (entry_in_rows rows) records i ∙ ap (λ z. option_map (entry_in_rows rows) z) is
 
 pub slot_within : (size next : ℕ) (records : List Record) (i : ℕ) (r : Record) → InOrder size next records → slice_get records i ≡ Some r → r.slot < size
 slot_within size next [] i r order is = cc
 slot_within size next (newest ∷ older) zero r order is =
     let here : newest ≡ r = cc in
     rw (← here) order.1
-slot_within size next (newest ∷ older) (suc i) r order is = slot_within size (slot_before next) older i r order.2 is
+slot_within size next (newest ∷ older) (suc i) r order is = slot_within size (slot_before next) older i r order.3 is
 
 -- the parts of a row
 pub working_of : (kept : Option Kept) (row : Row) → option_map (λ k. row_in k) kept ≡ Some row → option_map (λ k. k.working) kept ≡ Some row.working
@@ -97,16 +110,17 @@ stored_of None row port is = cc
 -- one record more, whose row was put into the next slot
 pub put_entries : (size slot : ℕ) (newest : Record) (row : Row) (records : List Record) (before now : List Row) → SameBut size slot before now
     → slice_index_or now slot no_row ≡ row → newest.slot ≡ slot → slot < 65536 → length records < 65536 → InOrder size slot records
-    → map (entry_in now) (newest ∷ records) ≡ entry_of newest row ∷ map (entry_in before) records
+    → map (entry_in_rows now) (newest ∷ records) ≡ slot_entry newest row ∷ map (entry_in_rows before) records
 put_entries size slot newest row records before now same here is small few order =
-    ap (λ k. entry_of newest (slice_index_or now k no_row) ∷ map (entry_in now) records) is
-    ∙ ap (λ (z : Row). entry_of newest z ∷ map (entry_in now) records) here
-    ∙ ap (λ (z : List Entry). entry_of newest row ∷ z)
+    ap (λ k. slot_entry newest (slice_index_or now k no_row) ∷ map (entry_in_rows now) records) is
+    ∙ ap (λ (z : Row). slot_entry newest z ∷ map (entry_in_rows now) records) here
+    ∙ ap (λ (z : List RingEntry). slot_entry newest row ∷ z)
     (same_entries size slot slot 0 records before now same small (omega arith) (omega arith) order)
 
 pub put_slots : (size room slot more large next : ℕ) (newest : Record) (records : List Record) → AreSlots size room slot records → newest.slot ≡ slot
-    → slot < 65536 → more ≡ cond (slot == size) (size + 1) size → 65536 ≤ large → next ≡ (slot + 1) % 65536 → AreSlots more large next (newest ∷ records)
-put_slots size room slot more large next newest records slots is small grown whole after =
+    → slot < 65536 → newest.span.count < 65536 → more ≡ cond (slot == size) (size + 1) size → 65536 ≤ large → next ≡ (slot + 1) % 65536
+    → AreSlots more large next (newest ∷ records)
+put_slots size room slot more large next newest records slots is small short grown whole after =
     let at_most : slot ≤ size = slots.next_slot in
     let kept : size ≤ more = grind (arith, nat_tests) in
     let within : slot < more = grind (arith, nat_tests) in
@@ -115,5 +129,6 @@ put_slots size room slot more large next newest records slots is small grown who
       next_slot = omega arith;
       small = omega arith;
       whole = whole;
-      order = (is ∙ sym back, rw is within, rw back (in_order-more size more slot records kept slots.order));
+      order = (is ∙ sym back, rw is within, short, rw back (in_order-more size more slot records kept slots.order));
+      written = λ has. omega arith;
     }

@@ -59,7 +59,7 @@ span_of_write memory page Short port value = either_span
     (span_at_port memory page port (slice_index page ((port + 255) % 256) * 256 + value / 256))
     (span_at_port memory page ((port + 1) % 256) value)
 
--- the operations that store, with what they take from this ring; `at` is the address after the opcode
+-- the operations that store, with what they take from this stack; `at` is the address after the opcode
 abbrev pub span_of_op : Option Op → Width → List ℕ → ℕ → Cells → List ℕ → Span
 span_of_op (Some (Store Stz)) width memory at ring page = span_in_page (word_below ring Byte 0) (size_of width)
 span_of_op (Some (Store Str)) width memory at ring page = span_in_bank (relative at (word_below ring Byte 0)) (size_of width)
@@ -68,8 +68,8 @@ span_of_op (Some Deo) width memory at ring page = span_of_write memory page widt
 span_of_op _ width memory at ring page = no_span
 
 -- what the instruction at `at` may change, with the bytes that are stored in the ports
-unfoldable pub span_of : Core → List ℕ → Span
-span_of core page =
+unfoldable pub instruction_span : Core → List ℕ → Span
+instruction_span core page =
     let mode = mode_of (opcode_at core) in
     let sides = sides_of mode.returns (past_opcode core) in
     span_of_op (op_of (opcode_at core)) mode.width sides.memory sides.at sides.this page

@@ -4,10 +4,10 @@ use Rattle.std.specs.Prelude.{◌∷◌, length, take, sum_by, slice_index}
 use Rattle.uxn_stacks.specs.Cells.{Cells}
 use Rattle.uxn_opcodes.specs.declared.Core.{Core}
 use Rattle.uxn_undo.specs.declared.span.Span.{Span}
-use Rattle.uxn_undo.specs.Spans.{covers, distance_to, bytes_at}
-use Rattle.uxn_undo.specs.Changes.{span_of}
+use Rattle.uxn_undo.specs.Spans.{covers, distance_to, span_bytes_at}
+use Rattle.uxn_undo.specs.Changes.{instruction_span}
 
--- a moment: the address, both rings, the bytes stored in the ports, and the bytes of bank 0 that the coming instruction may change
+-- a moment: the address, both stacks, the bytes stored in the ports, and the bytes of bank 0 that the coming instruction may change
 pub record Kept : Type 0 where
   pub at : ℕ
   pub working : Cells
@@ -22,8 +22,8 @@ kept_at core stored = record {
   working = core.working;
   returns = core.returns;
   stored = stored;
-  span = span_of core stored;
-  bytes = bytes_at (span_of core stored) core.memory;
+  span = instruction_span core stored;
+  bytes = span_bytes_at (instruction_span core stored) core.memory;
 }
 
 -- how many bytes of bank 0 are kept for a moment
@@ -38,7 +38,7 @@ abbrev pub most_bytes : ℕ
 most_bytes = 16777216
 
 -- of these moments so many of the newest are kept: the greatest number that there is room for
-pub record IsHeld (given : List Kept) (number : ℕ) : Type 0 where
+pub record MomentIsHeld (given : List Kept) (number : ℕ) : Type 0 where
   pub within : number ≤ length given
   pub moments : number ≤ most_moments
   pub bytes : sum_by byte_count (take number given) ≤ most_bytes
@@ -46,17 +46,17 @@ pub record IsHeld (given : List Kept) (number : ℕ) : Type 0 where
       → most_bytes < sum_by byte_count (take more given)
 
 -- that number: moments are held from the newest on, until one more is one too many, or its bytes are
-unfoldable pub fitting : ℕ → ℕ → List Kept → ℕ
-fitting zero room given = 0
-fitting (suc left) room [] = 0
-fitting (suc left) room (kept ∷ older) = if nat_le (byte_count kept) room then suc (fitting left (room - byte_count kept) older) else 0
+unfoldable pub fitting_moments : ℕ → ℕ → List Kept → ℕ
+fitting_moments zero room given = 0
+fitting_moments (suc left) room [] = 0
+fitting_moments (suc left) room (kept ∷ older) = if nat_le (byte_count kept) room then suc (fitting_moments left (room - byte_count kept) older) else 0
 
 abbrev pub number_held : List Kept → ℕ
-number_held given = fitting most_moments most_bytes given
+number_held given = fitting_moments most_moments most_bytes given
 
 -- the newest of the given moments are held, as many as there is room for
-pub record Holds (given held : List Kept) : Type 0 where
-  pub number : IsHeld given (length held)
+pub record HoldsMoments (given held : List Kept) : Type 0 where
+  pub number : MomentIsHeld given (length held)
   pub newest : held ≡ take (length held) given
 
 -- the byte at an address before a moment's instruction, where it is this byte after it

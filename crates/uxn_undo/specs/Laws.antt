@@ -3,15 +3,15 @@ use Rattle.std.specs.Prelude.{◌≡◌, ℕ, ◌+◌, ◌<◌, false, List, [],
 use Rattle.uxn_opcodes.specs.declared.Core.{Core}
 use Rattle.uxn_undo.specs.declared.span.Span.{Span}
 use Rattle.uxn_undo.specs.Spans.{covers}
-use Rattle.uxn_undo.specs.Changes.{span_of}
-use Rattle.uxn_undo.specs.Kept.{Kept, kept_at, number_held, Holds, byte_back}
+use Rattle.uxn_undo.specs.Changes.{instruction_span}
+use Rattle.uxn_undo.specs.Kept.{Kept, kept_at, number_held, HoldsMoments, byte_back}
 
 -- a moment of a run: the machine, and the bytes stored in its ports
-pub record Given : Type 0 where
+pub record GivenMoments : Type 0 where
   pub core : Core
   pub stored : List ℕ
 
-abbrev pub kept_of : Given → Kept
+abbrev pub kept_of : GivenMoments → Kept
 kept_of given = kept_at given.core given.stored
 
 -- bank 0 of two memories differs only within these addresses
@@ -20,19 +20,19 @@ DiffersWithin span before after = (at : ℕ) → at < 65536 → covers span at �
 
 -- moments in a row, the newest first, and the memory after them: each differs from the next one, and the newest from that memory,
 -- only within the bytes that are kept for it
-abbrev pub Follow : List Given → List ℕ → Type 0
+abbrev pub Follow : List GivenMoments → List ℕ → Type 0
 Follow [] last = Unit {0}
-Follow (given ∷ older) last = DiffersWithin (span_of given.core given.stored) given.core.memory last × Follow older given.core.memory
+Follow (given ∷ older) last = DiffersWithin (instruction_span given.core given.stored) given.core.memory last × Follow older given.core.memory
 
 -- what holds one moment after another holds the newest of all of them, as many as there is room for
 pub record HoldingLaw : Type 0 where
-  pub none : Holds [] []
-  pub one_more : (given held now : List Kept) (kept : Kept) → Holds given held → Holds (kept ∷ held) now → Holds (kept ∷ given) now
-  pub number : (given held : List Kept) → Holds given held → length held ≡ number_held given
-  pub newest : (given : List Kept) → Holds given (take (number_held given) given)
+  pub none : HoldsMoments [] []
+  pub one_more : (given held now : List Kept) (kept : Kept) → HoldsMoments given held → HoldsMoments (kept ∷ held) now → HoldsMoments (kept ∷ given) now
+  pub number : (given held : List Kept) → HoldsMoments given held → length held ≡ number_held given
+  pub newest : (given : List Kept) → HoldsMoments given (take (number_held given) given)
 
 -- where moments in a row are held, going back gives the byte of the memory of the moment gone to
 abbrev pub GoingBackLaw : Type 0
-GoingBackLaw = (given : List Given) (held : List Kept) (last : Core) (moment : Given) (back at : ℕ)
-    → Holds (map kept_of given) held → Follow given last.memory → back < length held → slice_get given back ≡ Some moment → at < 65536
+GoingBackLaw = (given : List GivenMoments) (held : List Kept) (last : Core) (moment : GivenMoments) (back at : ℕ)
+    → HoldsMoments (map kept_of given) held → Follow given last.memory → back < length held → slice_get given back ≡ Some moment → at < 65536
     → byte_back (take (back + 1) held) at (slice_index last.memory at) ≡ slice_index moment.core.memory at

@@ -1,4 +1,4 @@
--- How the moments lie in two rings: entries, and the bytes of bank 0 that they keep, both the newest first.
+-- How the moments lie in two stacks: entries, and the bytes of bank 0 that they keep, both the newest first.
 use Rattle.std.specs.Prelude.{◌≡◌, ℕ, ◌≤◌, List, [], ◌∷◌, length, take, drop, sum_by}
 use Rattle.circular_buffer.specs.Buffer.{Buffer}
 use Rattle.uxn_stacks.specs.Cells.{Cells}
@@ -6,7 +6,7 @@ use Rattle.uxn_undo.specs.declared.span.Span.{Span}
 use Rattle.uxn_undo.specs.Kept.{Kept, most_moments, most_bytes}
 
 -- what is kept of a moment beside its bytes
-pub record Entry : Type 0 where
+pub record RingEntry : Type 0 where
   pub at : ℕ
   pub working : Cells
   pub returns : Cells
@@ -14,7 +14,7 @@ pub record Entry : Type 0 where
   pub span : Span
 
 -- an entry with its bytes
-abbrev pub with_bytes : Entry → List ℕ → Kept
+abbrev pub with_bytes : RingEntry → List ℕ → Kept
 with_bytes entry bytes = record {
   at = entry.at;
   working = entry.working;
@@ -24,18 +24,18 @@ with_bytes entry bytes = record {
   bytes = bytes;
 }
 
-abbrev pub count_of : Entry → ℕ
-count_of entry = entry.span.count
+abbrev pub entry_count : RingEntry → ℕ
+entry_count entry = entry.span.count
 
 -- each entry with as many bytes as it has addresses
-unfoldable pub joined : List Entry → List ℕ → List Kept
-joined [] bytes = []
-joined (newest ∷ older) bytes = with_bytes newest (take (count_of newest) bytes) ∷ joined older (drop (count_of newest) bytes)
+unfoldable pub joined_entries : List RingEntry → List ℕ → List Kept
+joined_entries [] bytes = []
+joined_entries (newest ∷ older) bytes = with_bytes newest (take (entry_count newest) bytes) ∷ joined_entries older (drop (entry_count newest) bytes)
 
--- the two rings hold the same moments
-pub record AreRings (records : Buffer Entry) (bytes : Buffer ℕ) : Type 0 where
+-- the two stacks hold the same moments
+pub record AreRings (records : Buffer RingEntry) (bytes : Buffer ℕ) : Type 0 where
   pub moments : records.capacity ≡ most_moments
   pub room : bytes.capacity ≡ most_bytes
   pub few : length records.items ≤ most_moments
   pub small : length bytes.items ≤ most_bytes
-  pub filled : length bytes.items ≡ sum_by count_of records.items
+  pub filled : length bytes.items ≡ sum_by entry_count records.items

@@ -6,10 +6,10 @@ use Rattle.uxn_opcodes.specs.declared.Core.{Core}
 use Rattle.varvara_bus.specs.History.{stored}
 use Rattle.varvara_bus.specs.State.{DeviceState}
 use Rattle.varvara_bus.specs.Model.{instruction_effect}
-use Rattle.uxn_undo.specs.Changes.{span_of}
+use Rattle.uxn_undo.specs.Changes.{instruction_span}
 use Rattle.uxn_undo.specs.Laws.{DiffersWithin}
 
--- a machine whose memory has bank 0, and whose rings hold bytes
+-- a machine whose memory has bank 0, and whose stacks hold bytes
 abbrev pub HoldsBytes : Cells → Type 0
 HoldsBytes ring = (place : ℕ) → slice_index ring.bytes place < 256
 
@@ -25,5 +25,5 @@ page_of devices = map (stored devices.history) (range_with_len 0 256)
 -- an instruction changes bank 0 only within the bytes that are kept for it, and leaves a machine
 pub record InstructionLaw : Type 0 where
   pub within : (devices : DeviceState) (core : Core) → IsMachine core
-      → DiffersWithin (span_of core (page_of devices)) core.memory (instruction_effect devices core).core.memory
+      → DiffersWithin (instruction_span core (page_of devices)) core.memory (instruction_effect devices core).core.memory
   pub machine : (devices : DeviceState) (core : Core) → IsMachine core → IsMachine (instruction_effect devices core).core

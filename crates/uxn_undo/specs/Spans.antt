@@ -18,8 +18,8 @@ abbrev pub wraps_at : Span → ℕ
 wraps_at span = if span.in_zero_page then 256 else 65536
 
 -- the address so many after the first, and how far behind the first an address is
-abbrev pub address_after : Span → ℕ → ℕ
-address_after span count = (span.first + count) % wraps_at span
+abbrev pub address_after_span : Span → ℕ → ℕ
+address_after_span span count = (span.first + count) % wraps_at span
 
 abbrev pub distance_to : Span → ℕ → ℕ
 distance_to span at = (at + 65536 - span.first % 65536) % wraps_at span
@@ -29,5 +29,5 @@ abbrev pub covers : Span → ℕ → Bool
 covers span at = nat_lt at (wraps_at span) && nat_lt (distance_to span at) span.count
 
 -- the bytes of memory at these addresses
-abbrev pub bytes_at : Span → List ℕ → List ℕ
-bytes_at span memory = map (λ count. slice_index memory (address_after span count)) (range_with_len 0 span.count)
+abbrev pub span_bytes_at : Span → List ℕ → List ℕ
+span_bytes_at span memory = map (λ count. slice_index memory (address_after_span span count)) (range_with_len 0 span.count)

@@ -10,7 +10,7 @@ ghost use Rattle.system_port.specs.Expansion.{byte_in, short_in};
 ghost use Rattle.uxn_undo.specs.Changes.{
   short_stored,
   span_at_port,
-  span_of,
+  instruction_span,
   span_of_file,
   span_of_record,
   span_of_write,
@@ -23,8 +23,8 @@ use uxn_opcodes::Core;
 use uxn_stacks::Ring;
 
 // What the coming instruction may change, with the bytes that are stored in the ports.
-pub(crate) fn span_of(core: &Core, page: &[u8; 256]) -> Span
-    ensures { result ≡ span_of core.now page.now }
+pub(crate) fn instruction_span(core: &Core, page: &[u8; 256]) -> Span
+    ensures { result ≡ instruction_span core.now page.now }
 {
     let code = core.memory.get(core.at);
     let ring = this_ring(core, code);
@@ -40,7 +40,7 @@ pub(crate) fn span_of(core: &Core, page: &[u8; 256]) -> Span
     }
 }
 
-// The ring that an instruction takes its operands from.
+// The stack that an instruction takes its operands from.
 #[tactic(auto, unfolding(uxn_opcodes::specs::Table::mode_of))]
 fn this_ring(core: &Core, code: u8) -> &Ring
     ensures { result.now ≡ (sides_of (mode_of code).returns core.now).this }

@@ -1,13 +1,13 @@
-//! The rings and the stored bytes of moments, in slots that are written again and again.
+//! The stacks and the stored bytes of moments, in slots that are written again and again.
 
 ghost use Rattle.std.specs.Prelude.{◌≡◌, ◌≢◌, ◌==◌, ◌+◌, ◌<◌, ◌≤◌, [], ◌∷◌, ◌++◌, ℕ, if◌then◌else◌, slice_index_or, vec_len, vec_capacity};
 ghost use Rattle.uxn_undo.specs.Kept.{most_moments};
-ghost use Rattle.uxn_undo.specs.Slots.{row_of};
+ghost use Rattle.uxn_undo.specs.Slots.{slot_row};
 
 use uxn_opcodes::Core;
 use uxn_stacks::Ring;
 
-/// Both rings of a moment, and the bytes that were stored in the ports.
+/// Both stacks of a moment, and the bytes that were stored in the ports.
 #[derive(Clone, Copy)]
 pub(crate) struct Row {
     pub(crate) working: Ring,
@@ -19,7 +19,7 @@ impl Row {
     // Becomes that of a machine.
     #[inline(always)]
     fn set(&mut self, core: &Core, stored: &[u8; 256])
-        ensures { self.new ≡ row_of core.now stored.now }
+        ensures { self.new ≡ slot_row core.now stored.now }
     {
         self.working = core.working;
         self.returns = core.returns;
@@ -31,7 +31,7 @@ impl Row {
 pub(crate) fn put_row(rows: &mut Vec<Row>, slot: u16, core: &Core, stored: &[u8; 256])
     requires within { slot ≤ vec_len rows.old }
     requires room { most_moments ≤ vec_capacity rows.old }
-    ensures here { (d : Row) → slice_index_or rows.new.items slot d ≡ row_of core.now stored.now }
+    ensures here { (d : Row) → slice_index_or rows.new.items slot d ≡ slot_row core.now stored.now }
     ensures others { (k : ℕ) (d : Row) → k < vec_len rows.old → k ≢ slot → slice_index_or rows.new.items k d ≡ slice_index_or rows.old.items k d }
     ensures size { vec_len rows.new ≡ (if slot == vec_len rows.old then vec_len rows.old + 1 else vec_len rows.old) }
     ensures room { most_moments ≤ vec_capacity rows.new }
@@ -48,7 +48,7 @@ pub(crate) fn put_row(rows: &mut Vec<Row>, slot: u16, core: &Core, stored: &[u8;
 #[inline(never)]
 fn push_row(rows: &mut Vec<Row>, core: &Core, stored: &[u8; 256])
     requires { vec_len rows.old < vec_capacity rows.old }
-    ensures items { rows.new.items ≡ rows.old.items ++ row_of core.now stored.now ∷ [] }
+    ensures items { rows.new.items ≡ rows.old.items ++ slot_row core.now stored.now ∷ [] }
     ensures size { vec_len rows.new ≡ vec_len rows.old + 1 }
     ensures room { vec_capacity rows.old ≤ vec_capacity rows.new }
 {

@@ -1,7 +1,7 @@
 //! Addresses of bank 0 in a row.
 
 ghost use Rattle.std.specs.Prelude.{◌≡◌, ◌<◌, if◌then◌else◌, Some, None};
-ghost use Rattle.uxn_undo.specs.Spans.{address_after, covers, distance_to, no_span, span_in_bank, span_in_page};
+ghost use Rattle.uxn_undo.specs.Spans.{address_after_span, covers, distance_to, no_span, span_in_bank, span_in_page};
 
 /// So many addresses from one on. They wrap within the zero page or within the bank.
 #[derive(Clone, Copy)]
@@ -45,8 +45,8 @@ impl Span {
     }
 
     // The address so many after the first.
-    pub(crate) fn address_after(&self, count: u16) -> u16
-        ensures { result ≡ address_after self.now count }
+    pub(crate) fn address_after_span(&self, count: u16) -> u16
+        ensures { result ≡ address_after_span self.now count }
     {
         let at = self.first.wrapping_add(count);
         if self.in_zero_page { at % 256 } else { at }

@@ -18,14 +18,15 @@ ghost use Rattle.std.specs.Prelude.{
   slice_get,
   slice_index,
   sum_by,
+  true,
   nat_lt,
   nat_le,
   ◌&&◌,
 };
 ghost use Rattle.circular_buffer.specs.Buffer.{buffer};
-ghost use Rattle.uxn_undo.specs.Spans.{bytes_at};
+ghost use Rattle.uxn_undo.specs.Spans.{span_bytes_at};
 ghost use Rattle.uxn_undo.specs.Kept.{
-  Holds,
+  HoldsMoments,
   byte_back,
   byte_count,
   kept_at,
@@ -36,7 +37,7 @@ ghost use Rattle.uxn_undo.specs.Room.{MakesRoom};
 ghost use Rattle.uxn_undo.specs.Slots.{row_in};
 ghost use Rattle.uxn_undo.specs.Laws.{GoingBackLaw, HoldingLaw};
 
-use crate::changes::span_of;
+use crate::changes::instruction_span;
 use crate::row::{Row, put_row};
 use crate::span::Span;
 use circular_buffer::HeapCircularBuffer;
@@ -52,7 +53,7 @@ const MOMENTS: usize = 65_536;
 /// The most bytes of bank 0 that are kept.
 const BYTES: usize = 16_777_216;
 
-// What is kept of a moment beside the bytes of bank 0 that its instruction may change. Its rings and stored bytes stand in a
+// What is kept of a moment beside the bytes of bank 0 that its instruction may change. Its stacks and stored bytes stand in a
 // slot.
 #[derive(Drop)]
 pub(crate) struct Record {
@@ -74,20 +75,21 @@ impl Model for Undo {
     ghost use Rattle.std.specs.Prelude.{List, map, vec_len, vec_capacity};
     ghost use Rattle.circular_buffer.specs.Buffer.{buffer};
     ghost use Rattle.uxn_undo.specs.Kept.{Kept};
-    ghost use Rattle.uxn_undo.specs.Rings.{joined, AreRings};
-    ghost use Rattle.uxn_undo.specs.Slots.{entry_in, AreSlots};
+    ghost use Rattle.uxn_undo.specs.Rings.{joined_entries, AreRings};
+    ghost use Rattle.uxn_undo.specs.Slots.{entry_in_rows, AreSlots};
 
     ghost Value = { List Kept };
 
-    ghost view = { λ u. joined (map (entry_in u.rows.items) u.records.items) u.bytes.items };
+    ghost view = { λ u. joined_entries (map (entry_in_rows u.rows.items) u.records.items) u.bytes.items };
 
-    ghost invariant = { λ u. AreRings (buffer (map (entry_in u.rows.items) u.records.items) u.records.capacity) u.bytes
+    ghost invariant = { λ u. AreRings (buffer (map (entry_in_rows u.rows.items) u.records.items) u.records.capacity) u.bytes
         × AreSlots (vec_len u.rows) (vec_capacity u.rows) u.next u.records.items };
 }
 
 impl Undo {
-    /// No moment is kept. This is the one call of this crate that takes memory, all that it will use; none of it is written yet.
-    #[tactic(auto, unfolding(crate::specs::Rings::joined))]
+    /// No moment is kept. This is the one call of this crate that takes memory, all that it will use; none of it is written yet: where
+    /// no moment is held no slot is.
+    #[tactic(auto, unfolding(crate::specs::Rings::joined_entries))]
     pub fn new(alloc: Global) -> Result<Undo, AllocError>
         ensures { IfOk result (λ undo. undo ≡ []) }
     {
@@ -104,10 +106,10 @@ impl Undo {
 
     /// Keeps this moment, and drops the oldest ones for which there is no room any more.
     pub fn keep<P: Ports>(&mut self, core: &Core, ports: &P)
-        ensures { Holds (kept_at core.now (P.stored ports.now) ∷ self.old) self.new }
+        ensures { HoldsMoments (kept_at core.now (P.stored ports.now) ∷ self.old) self.new }
     {
         let stored = ports.stored_page();
-        let span = span_of(core, stored);
+        let span = instruction_span(core, stored);
         self.make_room(usize::from(span.count));
         put_bytes(&mut self.bytes, &core.memory, span);
         let slot = self.next;
@@ -140,7 +142,7 @@ impl Undo {
         nth(&self.records, back - 1).at
     }
 
-    /// Its working ring.
+    /// Its working stack.
     pub fn working(&self, back: u32) -> Ring
         requires first { 0 < back }
         requires last { back ≤ length self.now }
@@ -149,7 +151,7 @@ impl Undo {
         self.row(back).working
     }
 
-    /// Its return ring.
+    /// Its return stack.
     pub fn returns(&self, back: u32) -> Ring
         requires first { 0 < back }
         requires last { back ≤ length self.now }
@@ -211,13 +213,15 @@ impl Undo {
     #[inline(always)]
     fn has_room(&self, count: usize) -> bool
         requires { count < 65536 }
-        ensures { result ≡ (nat_lt (length self.now) most_moments && nat_le (sum_by byte_count self.now + count) most_bytes) }
+        ensures room { result ≡ (nat_lt (length self.now) most_moments && nat_le (sum_by byte_count self.now + count) most_bytes) }
+        ensures alone { length self.now ≤ 1 → result ≡ true }
     {
         self.records.len() < MOMENTS && self.bytes.len() + count <= BYTES
     }
 
-    // Drops the oldest moment.
+    // Drops the oldest of several moments.
     fn forget_oldest(&mut self)
+        requires { 1 < length self.old }
         ensures { self.new ≡ take (length self.old - 1) self.old }
     {
         let Some(oldest) = self.records.back() else {
@@ -250,12 +254,12 @@ fn byte_in(bytes: &HeapCircularBuffer<u8>, index: usize) -> u8
 // Puts the bytes of memory at some addresses before those that are there.
 fn put_bytes(bytes: &mut HeapCircularBuffer<u8>, memory: &Memory, span: Span)
     requires { length bytes.old.items + span.count ≤ bytes.old.capacity }
-    ensures { bytes.new ≡ buffer (bytes_at span memory.now ++ bytes.old.items) bytes.old.capacity }
+    ensures { bytes.new ≡ buffer (span_bytes_at span memory.now ++ bytes.old.items) bytes.old.capacity }
 {
     let mut left = span.count;
     while let Some(less) = left.checked_sub(1) {
         left = less;
-        bytes.push_front(memory.get(span.address_after(left)));
+        bytes.push_front(memory.get(span.address_after_span(left)));
     }
 }
 

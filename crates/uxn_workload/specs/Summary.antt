@@ -1,7 +1,7 @@
 -- The summary of a workload (profile): lengths, counts, the bytes that it printed, and its exit code.
 use Rattle.std.specs.Prelude.{ℕ, List, ◌++◌, codes, decimal}
 use Rattle.std.specs.List.{flat_map}
-use Rattle.tree_io.specs.NumberText.{hex_of_byte}
+use Rattle.uxn_io_traits.specs.NumberText.{hex_of_byte}
 use Rattle.uxn_workload.specs.declared.summary.Ran.{Ran}
 
 -- a line: a word, a space and a value
@@ -12,7 +12,7 @@ line name value = name ++ codes " " ++ value ++ codes "\n"
 abbrev pub digits : List ℕ → List ℕ
 digits bytes = flat_map hex_of_byte bytes
 
--- what is told of a workload that ran: the lengths of its source and its ROM, what was counted of its run, the bytes that it wrote to
+-- what is said of a workload that ran: the lengths of its source and its ROM, what was counted of its run, the bytes that it wrote to
 -- the standard output, and its exit code
 pub record Summary : Type 0 where
   pub source : ℕ

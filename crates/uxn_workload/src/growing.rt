@@ -1,12 +1,12 @@
 //! A sink that keeps all that it takes.
 ghost use Rattle.std.specs.Prelude.{◌≡◌, []};
-ghost use Rattle.uxn_workload.specs.Growing.{state_of};
+ghost use Rattle.uxn_workload.specs.Growing.{growing_state};
 
 use std::alloc::Global;
 use std::marker::Model;
-use tree_io::{Failed, Sink};
+use uxn_io_traits::{Failed, Sink};
 
-/// A sink in memory that grows: it keeps all that it takes. Its one fault is that memory is wanting,
+/// A sink in memory that grows: it keeps all that it takes. Its one fault is that memory runs out,
 /// and it counts exactly the calls that fail so.
 #[derive(Drop)]
 pub struct GrowingSink {
@@ -42,7 +42,7 @@ impl GrowingSink {
 }
 
 impl Sink for GrowingSink {
-    ghost state = { state_of };
+    ghost state = { growing_state };
 
     fn put(&mut self, piece: &[u8]) -> Result<usize, Failed> {
         match self.bytes.extend_from_slice(piece) {

@@ -1,9 +1,9 @@
 //! The source of a workload.
 ghost use Rattle.std.specs.Prelude.{◌≡◌, ◌+◌, ◌*◌, ◌%◌, ◌++◌, IfOk, OnOk};
-ghost use Rattle.uxn_workload.specs.Source.{name_of, call, calls, routine, routines, source_of};
+ghost use Rattle.uxn_workload.specs.Source.{name_of, drawn_call, calls, routine, routines, workload_source};
 
 use std::alloc::{AllocError, Global};
-use tree_io::{decimal, hex_short};
+use uxn_io_traits::{decimal, hex_short};
 
 /// The number after this one.
 fn next_number(value: u16) -> u16
@@ -23,7 +23,7 @@ fn push_name(text: &mut Vec<u8>, i: u16) -> Result<(), AllocError>
 
 /// Puts the line that calls a routine behind a text.
 fn push_call(text: &mut Vec<u8>, i: u16) -> Result<(), AllocError>
-    ensures { OnOk result (text.new.items ≡ text.old.items ++ call i) }
+    ensures { OnOk result (text.new.items ≡ text.old.items ++ drawn_call i) }
 {
     push_name(text, i)?;
     text.extend_from_slice(b"\n")
@@ -64,10 +64,10 @@ fn push_routines(text: &mut Vec<u8>, count: u16) -> Result<(), AllocError>
     Ok(())
 }
 
-/// The source of a workload of `count` routines. Errors with want of memory.
-#[tactic(auto, unfolding(crate::specs::Source::source_of))]
+/// The source of a workload of `count` routines. Errors when out of memory.
+#[tactic(auto, unfolding(crate::specs::Source::workload_source))]
 pub fn source(alloc: Global, count: u16) -> Result<Vec<u8>, AllocError>
-    ensures { IfOk result (λ text. text.items ≡ source_of count) }
+    ensures { IfOk result (λ text. text.items ≡ workload_source count) }
 {
     let mut text = Vec::new(alloc);
     text.extend_from_slice(b"|0100 #0000\n")?;

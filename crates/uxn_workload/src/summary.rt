@@ -3,7 +3,7 @@ ghost use Rattle.std.specs.Prelude.{◌≡◌, ◌++◌, IfOk, OnOk, decimal};
 ghost use Rattle.uxn_workload.specs.Summary.{line, digits, summary_of, summary_text};
 
 use std::alloc::{AllocError, Global};
-use tree_io::{decimal, hex_byte};
+use uxn_io_traits::{decimal, hex_byte};
 
 /// A workload that ran.
 #[derive(Clone, Copy)]
@@ -47,7 +47,7 @@ fn push_digits(text: &mut Vec<u8>, bytes: &[u8]) -> Result<(), AllocError>
 }
 
 impl Ran<'_> {
-    /// The summary: eight lines. Errors with want of memory.
+    /// The summary: eight lines. Errors when out of memory.
     #[tactic(auto, unfolding(crate::specs::Summary::summary_text))]
     pub fn summary(&self, alloc: Global) -> Result<Vec<u8>, AllocError>
         ensures { IfOk result (λ text. text.items ≡ summary_text (summary_of self.now)) }

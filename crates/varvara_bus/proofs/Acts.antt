@@ -3,25 +3,25 @@ use Rattle.std.proofs.Common.{◌≡◌, Bool, true, false, ℕ, List, [], ◌�
 use Rattle.std.specs.Prelude.{◌==◌, if◌then◌else◌, Option, Result, Ok, Err, OnOk, OnErr, IfErr, is_err}
 use Rattle.std.specs.Borrow.{MutBor}
 use Rattle.std.proofs.lemmas.List.{append-nil}
-use Rattle.tree_io.specs.declared.sinks.Failed.{Failed}
-use Rattle.tree_io.specs.Files.{Nodes}
-use Rattle.tree_io.specs.FaultLaws.{counted-same}
-use Rattle.tree_io.specs.Faults.{Tally, Counted, Ledger, Nobody, TheTree, counts}
-use Rattle.tree_io.specs.Outside.{Change, files_by}
-use Rattle.tree_io.specs.State.{TreeState, SinkState, Outside, outside}
-use Rattle.tree_io.specs.Ended.{TreeEnded, Ended, AreOfTree, blame_of_sink}
-use Rattle.tree_io.specs.EndedLaws.{outside-of-tree}
-use Rattle.tree_io.specs.TakingLaws.{remains-all}
+use Rattle.uxn_io_traits.specs.declared.sinks.Failed.{Failed}
+use Rattle.uxn_io_traits.specs.Files.{Nodes}
+use Rattle.uxn_io_traits.specs.FaultLaws.{counted-same}
+use Rattle.uxn_io_traits.specs.Faults.{FaultTally, Counted, Ledger, Nobody, TheTree, counts}
+use Rattle.uxn_io_traits.specs.Outside.{Change, files_by}
+use Rattle.uxn_io_traits.specs.State.{TreeState, SinkState, Outside, outside}
+use Rattle.uxn_io_traits.specs.Ended.{TreeEnded, Ended, AreOfTree, blame_of_sink}
+use Rattle.uxn_io_traits.specs.EndedLaws.{outside-of-tree}
+use Rattle.uxn_io_traits.specs.TakingLaws.{remains-all}
 use Rattle.file_ports.specs.declared.stop.FileStop.{FileStop}
 use Rattle.file_ports.specs.declared.stop.FileStop.TheVariants as causes
 use Rattle.file_ports.specs.Device.{Suits}
 use Rattle.file_ports.specs.RootPart.{LieIn}
-use Rattle.file_ports.specs.Actions.{Outcome}
+use Rattle.file_ports.specs.Actions.{FileOutcome}
 use Rattle.file_ports.specs.ActLaws.{act-lies, of-tree}
 use Rattle.uxn_opcodes.specs.declared.Core.{Core}
 use Rattle.uxn_opcodes.specs.declared.Stop.{Stop}
 use Rattle.uxn_opcodes.specs.declared.Stop.TheVariants.{TreeFault, SinkFault, NoMemory}
-use Rattle.uxn_opcodes.specs.Ports.{blame_of}
+use Rattle.uxn_opcodes.specs.Ports.{result_blame}
 use Rattle.varvara_bus.specs.declared.bus.Bus.{Bus}
 use Rattle.varvara_bus.specs.declared.devices.Devices.{Devices}
 use Rattle.varvara_bus.specs.declared.ports.Action.{Action}
@@ -29,18 +29,18 @@ use Rattle.varvara_bus.specs.declared.ports.Action.TheVariants.{ActsOnFile}
 use Rattle.varvara_bus.specs.declared.ports.FileAct.{FileAct}
 use Rattle.varvara_bus.specs.declared.ports.FileNumber.{FileNumber}
 use Rattle.varvara_bus.specs.declared.ports.FileNumber.TheVariants.{First, Second}
-use Rattle.varvara_bus.specs.State.{DeviceState, StandFor, HasFiles, clock_of, storing}
+use Rattle.varvara_bus.specs.State.{DeviceState, DevicesRepresent, HasFiles, device_clock, storing}
 use Rattle.varvara_bus.specs.Effect.{action_of, asks_tree, no_effect, act, effect}
 use Rattle.varvara_bus.specs.FileActs.{file_base, file_in, file_action, file_outcome, file_acted}
-use Rattle.varvara_bus.specs.FileCalls.{stop_of, tree_failed, FileAnswers, FileEnded}
-use Rattle.varvara_bus.specs.Bus.{Meaning, AreCutShort, SameBus, Becomes, StandsTo, ComesTo, Keeps, Leaves, file_held, held, outside_on, Makes, Wrote, Stopped, Acted, ActEnds, told_on}
+use Rattle.varvara_bus.specs.FileCalls.{stop_of, stopped_by_tree, FileAnswers, FileEnded}
+use Rattle.varvara_bus.specs.Bus.{BusModel, AreCutShort, SameBus, Becomes, RepresentsTo, ComesTo, KeepsBus, Leaves, file_held, held, outside_on, Makes, PortWrote, WriteStopped, PortActed, ActEnds, contents_on}
 use Rattle.varvara_bus.specs.InstructionLaws.{same-again, makes-both, stops-later}
 use Rattle.varvara_bus.proofs.FileCalls.{files-now}
 
 -- who counted a fault, where a sink was to take bytes
 pub sink-ledger : (changes : List Change) (answer : Result (Unit {0}) Stop) (put : Result (Unit {0}) Failed) (before now : Outside)
     → is_err answer ≡ is_err put → OnErr answer (answer ≡ Err SinkFault) → Ended changes (blame_of_sink (is_err put)) before now
-    → Ledger before.faults now.faults (blame_of answer)
+    → Ledger before.faults now.faults (result_blame answer)
 sink-ledger changes (Ok done) (Err failed) before now same sink ended = cc
 sink-ledger changes (Err stop) (Ok done) before now same sink ended = cc
 sink-ledger changes (Ok done) (Ok put) before now same sink ended = ended.ledger
@@ -49,7 +49,7 @@ sink-ledger changes (Err NoMemory) (Err failed) before now same sink ended = cc
 sink-ledger changes (Err SinkFault) (Err failed) before now same sink ended = ended.ledger
 
 -- and where a file device was to act
-tree-ledger : (failed : Bool) (a b out err : Tally) → Counted a b failed
+tree-ledger : (failed : Bool) (a b out err : FaultTally) → Counted a b failed
     → Ledger (counts a out err) (counts b out err) (if failed then TheTree else Nobody)
 tree-ledger false a b out err counted = record { tree = counted; out = counted-same out; err = counted-same err }
 tree-ledger true a b out err counted = record { tree = counted; out = counted-same out; err = counted-same err }
@@ -58,27 +58,27 @@ no-sink : (cause : FileStop) → SinkFault ≡ stop_of cause → ⊥
 no-sink causes.TreeFault is = cc
 no-sink causes.NoMemory is = cc
 
-pub file-ledger : (number : FileNumber) (part : FileAct) (held held_now : Devices) (bytes memory : List ℕ) (told : Option Nodes)
-    (answer : Result (Unit {0}) Stop) (a b out err : Tally) → Counted a b (tree_failed answer)
-    → FileAnswers number part held bytes told answer held_now memory → Ledger (counts a out err) (counts b out err) (blame_of answer)
-file-ledger number part held held_now bytes memory told (Ok done) a b out err counted acted = tree-ledger false a b out err counted
-file-ledger number part held held_now bytes memory told (Err TreeFault) a b out err counted stopped = tree-ledger true a b out err counted
-file-ledger number part held held_now bytes memory told (Err NoMemory) a b out err counted stopped = tree-ledger false a b out err counted
-file-ledger number part held held_now bytes memory told (Err SinkFault) a b out err counted stopped = absurd (no-sink stopped.cause stopped.is)
+pub file-ledger : (number : FileNumber) (part : FileAct) (held held_now : Devices) (bytes memory : List ℕ) (contents : Option Nodes)
+    (answer : Result (Unit {0}) Stop) (a b out err : FaultTally) → Counted a b (stopped_by_tree answer)
+    → FileAnswers number part held bytes contents answer held_now memory → Ledger (counts a out err) (counts b out err) (result_blame answer)
+file-ledger number part held held_now bytes memory contents (Ok done) a b out err counted acted = tree-ledger false a b out err counted
+file-ledger number part held held_now bytes memory contents (Err TreeFault) a b out err counted stopped = tree-ledger true a b out err counted
+file-ledger number part held held_now bytes memory contents (Err NoMemory) a b out err counted stopped = tree-ledger false a b out err counted
+file-ledger number part held held_now bytes memory contents (Err SinkFault) a b out err counted stopped = absurd (no-sink stopped.cause stopped.is)
 
 -- a byte stored leaves the file devices
 pub same-file : (number : FileNumber) (devices : Devices) (port byte : ℕ) → file_held number (record devices { page = slice_set devices.page port byte }) ≡ file_held number devices
 same-file First devices port byte = refl
 same-file Second devices port byte = refl
 
-module _ {T O E : Type 0} (meaning : Meaning T O E) where
-  -- nothing but what the devices stand for changed
+module _ {T O E : Type 0} (meaning : BusModel T O E) where
+  -- nothing but what the devices represent changed
   devices-same : (before : Bus T O E) (devices : MutBor Devices) → devices.ghost_name ≡ before.devices.ghost_name
-      → devices.now.time.frames ≡ before.devices.now.time.frames → clock_of devices.now ≡ clock_of before.devices.now
+      → devices.now.time.frames ≡ before.devices.now.time.frames → device_clock devices.now ≡ device_clock before.devices.now
       → devices.now.root ≡ before.devices.now.root
-      → SameBus (told_on meaning.tree) before (record { devices = devices; tree = before.tree; out = before.out; err = before.err })
-  devices-same before devices lent frames clock root = record {
-    lent = record { devices = lent; tree = refl; out = refl; err = refl };
+      → SameBus (contents_on meaning.tree) before (record { devices = devices; tree = before.tree; out = before.out; err = before.err })
+  devices-same before devices borrowed frames clock root = record {
+    borrowed = record { devices = borrowed; tree = refl; out = refl; err = refl };
     files = record { stays = λ path outside there. there };
     frames = frames;
     clock = clock;
@@ -87,22 +87,22 @@ module _ {T O E : Type 0} (meaning : Meaning T O E) where
 
   -- a byte was stored in the port, and nothing else was done
   pub record Stored (before now : Bus T O E) (port byte : ℕ) : Type 0 where
-    pub devices : Becomes (told_on meaning.tree) (λ state. storing ((port, byte) ∷ []) state) before now
+    pub devices : Becomes (contents_on meaning.tree) (λ state. storing ((port, byte) ∷ []) state) before now
     pub held : (other : ℕ) → held now other ≡ (if other == port then byte else held before other)
     pub files : (number : FileNumber) → file_held number now.devices.now ≡ file_held number before.devices.now
     pub tree : now.tree.now ≡ before.tree.now
     pub out : now.out.now ≡ before.out.now
     pub err : now.err.now ≡ before.err.now
-    pub same : SameBus (told_on meaning.tree) before now
+    pub same : SameBus (contents_on meaning.tree) before now
 
   pub byte_stored : (before : Bus T O E) (devices : MutBor Devices) (port byte : ℕ) → devices.ghost_name ≡ before.devices.ghost_name
       → devices.now ≡ record before.devices.now { page = slice_set before.devices.now.page port byte }
-      → ((state : DeviceState) → StandFor before.devices.now state → StandFor devices.now (storing ((port, byte) ∷ []) state))
+      → ((state : DeviceState) → DevicesRepresent before.devices.now state → DevicesRepresent devices.now (storing ((port, byte) ∷ []) state))
       → ((other : ℕ) → slice_index devices.now.page other ≡ (if other == port then byte else slice_index before.devices.now.page other))
-      → devices.now.time.frames ≡ before.devices.now.time.frames → clock_of devices.now ≡ clock_of before.devices.now
+      → devices.now.time.frames ≡ before.devices.now.time.frames → device_clock devices.now ≡ device_clock before.devices.now
       → devices.now.root ≡ before.devices.now.root
       → Stored before (record { devices = devices; tree = before.tree; out = before.out; err = before.err }) port byte
-  byte_stored before devices port byte lent is stands holds frames clock root = record {
+  byte_stored before devices port byte borrowed is stands holds frames clock root = record {
     devices = record {
       devices = stands;
       bus = λ state stood. record { devices = stands state stood.devices; files = stood.files };
@@ -112,21 +112,21 @@ module _ {T O E : Type 0} (meaning : Meaning T O E) where
     tree = refl;
     out = refl;
     err = refl;
-    same = devices-same before devices lent frames clock root;
+    same = devices-same before devices borrowed frames clock root;
   }
 
   -- that made no change outside
   stored-makes : (before now : Bus T O E) (port byte : ℕ) → Stored before now port byte → Makes meaning before now []
   stored-makes before now port byte stored = record {
     world = rw (stored.tree, stored.out, stored.err) refl;
-    remains = rw (stored.tree, stored.out, stored.err) (remains-all (outside_on meaning before).sure (meaning.tree.state before.tree.now).told);
+    remains = rw (stored.tree, stored.out, stored.err) (remains-all (outside_on meaning before).guaranteed (meaning.tree.state before.tree.now).contents);
   }
 
-  -- the same four are lent where one of the sinks took something
+  -- the same four are borrowed where one of the sinks took something
   sinks-same : (before : Bus T O E) (out : MutBor O) (err : MutBor E) → out.ghost_name ≡ before.out.ghost_name → err.ghost_name ≡ before.err.ghost_name
-      → SameBus (told_on meaning.tree) before (record { devices = before.devices; tree = before.tree; out = out; err = err })
-  sinks-same before out err lent_out lent_err = record {
-    lent = record { devices = refl; tree = refl; out = lent_out; err = lent_err };
+      → SameBus (contents_on meaning.tree) before (record { devices = before.devices; tree = before.tree; out = out; err = err })
+  sinks-same before out err borrowed_out borrowed_err = record {
+    borrowed = record { devices = refl; tree = refl; out = borrowed_out; err = borrowed_err };
     files = record { stays = λ path outside there. there };
     frames = refl;
     clock = refl;
@@ -137,84 +137,84 @@ module _ {T O E : Type 0} (meaning : Meaning T O E) where
   pub sink-ends : (before : Bus T O E) (out : MutBor O) (err : MutBor E) (core : Core) (action : Action) (byte : ℕ) (changes : List Change)
       (answer : Result (Unit {0}) Stop) (put : Result (Unit {0}) Failed) → asks_tree action ≡ false
       → ((state : DeviceState) → act action byte state core ≡ record (no_effect state core) { changes = changes })
-      → ((state : DeviceState) → StandFor before.devices.now state
-      → Leaves meaning action state (meaning.tree.state before.tree.now).told core (record { devices = before.devices; tree = before.tree; out = out; err = err }) core)
+      → ((state : DeviceState) → DevicesRepresent before.devices.now state
+      → Leaves meaning action state (meaning.tree.state before.tree.now).contents core (record { devices = before.devices; tree = before.tree; out = out; err = err }) core)
       → is_err answer ≡ is_err put → OnErr answer (answer ≡ Err SinkFault)
       → Ended changes (blame_of_sink (is_err put)) (outside_on meaning before)
       (outside_on meaning (record { devices = before.devices; tree = before.tree; out = out; err = err }))
       → out.ghost_name ≡ before.out.ghost_name → err.ghost_name ≡ before.err.ghost_name
       → ActEnds meaning before core action byte (record { devices = before.devices; tree = before.tree; out = out; err = err }) core answer
-  sink-ends before out err core action byte changes (Ok done) (Err failed) none is leaves same sink ended lent_out lent_err = cc
-  sink-ends before out err core action byte changes (Err stop) (Ok done) none is leaves same sink ended lent_out lent_err = cc
-  sink-ends before out err core action byte changes (Ok done) (Ok put) none is leaves same sink ended lent_out lent_err = record {
+  sink-ends before out err core action byte changes (Ok done) (Err failed) none is leaves same sink ended borrowed_out borrowed_err = cc
+  sink-ends before out err core action byte changes (Err stop) (Ok done) none is leaves same sink ended borrowed_out borrowed_err = cc
+  sink-ends before out err core action byte changes (Ok done) (Ok put) none is leaves same sink ended borrowed_out borrowed_err = record {
     does = rw none (λ state stands. rw (is state) (record {
       core = refl;
       devices = (stands, refl);
       makes = record { world = ended.world; remains = ended.remains };
     }));
-    same = sinks-same before out err lent_out lent_err;
+    same = sinks-same before out err borrowed_out borrowed_err;
   }
-  sink-ends before out err core action byte changes (Err TreeFault) (Err failed) none is leaves same sink ended lent_out lent_err = cc
-  sink-ends before out err core action byte changes (Err NoMemory) (Err failed) none is leaves same sink ended lent_out lent_err = cc
-  sink-ends before out err core action byte changes (Err SinkFault) (Err failed) none is leaves same sink ended lent_out lent_err = record {
-    cut = λ state stands. rw (is state) (record { cut = ended.cut; not_sure = ended.not_sure });
+  sink-ends before out err core action byte changes (Err TreeFault) (Err failed) none is leaves same sink ended borrowed_out borrowed_err = cc
+  sink-ends before out err core action byte changes (Err NoMemory) (Err failed) none is leaves same sink ended borrowed_out borrowed_err = cc
+  sink-ends before out err core action byte changes (Err SinkFault) (Err failed) none is leaves same sink ended borrowed_out borrowed_err = record {
+    cut = λ state stands. rw (is state) (record { cut = ended.cut; not_guaranteed = ended.not_guaranteed });
     leaves = leaves;
     keeps = rw none (refl, refl);
     page = refl;
     memory = λ wanted. cc;
     names = λ wanted. cc;
-    same = sinks-same before out err lent_out lent_err;
+    same = sinks-same before out err borrowed_out borrowed_err;
   }
 
   pub devices_done : (before : Bus T O E) (devices : MutBor Devices) (core : Core) (action : Action) (byte : ℕ) (done : DeviceState → DeviceState)
       → ((state : DeviceState) → act action byte state core ≡ no_effect (done state) core)
-      → ((state : DeviceState) → StandFor before.devices.now state → StandFor devices.now (done state))
+      → ((state : DeviceState) → DevicesRepresent before.devices.now state → DevicesRepresent devices.now (done state))
       → asks_tree action ≡ false → devices.ghost_name ≡ before.devices.ghost_name
-      → devices.now.time.frames ≡ before.devices.now.time.frames → clock_of devices.now ≡ clock_of before.devices.now
+      → devices.now.time.frames ≡ before.devices.now.time.frames → device_clock devices.now ≡ device_clock before.devices.now
       → devices.now.root ≡ before.devices.now.root
-      → Acted meaning before core action byte (record { devices = devices; tree = before.tree; out = before.out; err = before.err }) core
-  devices_done before devices core action byte done is stands none lent frames clock root = record {
+      → PortActed meaning before core action byte (record { devices = devices; tree = before.tree; out = before.out; err = before.err }) core
+  devices_done before devices core action byte done is stands none borrowed frames clock root = record {
     does = rw none (λ state stood. rw (is state) (record {
       core = refl;
       devices = (stands state stood, refl);
-      makes = record { world = refl; remains = remains-all (outside_on meaning before).sure (meaning.tree.state before.tree.now).told };
+      makes = record { world = refl; remains = remains-all (outside_on meaning before).guaranteed (meaning.tree.state before.tree.now).contents };
     }));
-    same = devices-same before devices lent frames clock root;
+    same = devices-same before devices borrowed frames clock root;
   }
 
   -- a file device acted, or stopped
-  state-files : (number : FileNumber) (outcome : Outcome) (state : DeviceState) (told : Option Nodes)
-      → HasFiles told state.root (files_by state.part outcome.changes) state.parent
-      → HasFiles told (file_acted number outcome state).root (file_acted number outcome state).part (file_acted number outcome state).parent
-  state-files First outcome state told has = has
-  state-files Second outcome state told has = has
+  state-files : (number : FileNumber) (outcome : FileOutcome) (state : DeviceState) (contents : Option Nodes)
+      → HasFiles contents state.root (files_by state.part outcome.changes) state.parent
+      → HasFiles contents (file_acted number outcome state).root (file_acted number outcome state).part (file_acted number outcome state).parent
+  state-files First outcome state contents has = has
+  state-files Second outcome state contents has = has
 
-  state-suits : (number : FileNumber) (devices : Devices) (state : DeviceState) → StandFor devices state → Suits state.root (file_in number state)
+  state-suits : (number : FileNumber) (devices : Devices) (state : DeviceState) → DevicesRepresent devices state → Suits state.root (file_in number state)
   state-suits First devices state stands = stands.files.first_suits
   state-suits Second devices state stands = stands.files.second_suits
 
-  file-lies : (number : FileNumber) (part : FileAct) (devices : Devices) (state : DeviceState) (memory : List ℕ) → StandFor devices state
+  file-lies : (number : FileNumber) (part : FileAct) (devices : Devices) (state : DeviceState) (memory : List ℕ) → DevicesRepresent devices state
       → LieIn state.root (file_outcome number part state memory).changes
   file-lies number part devices state memory stands =
       act-lies (file_action part state.history (file_base number)) state.root state.part state.parent (file_in number state) memory
       (state-suits number devices state stands)
 
-  -- what a tree made short is cut short beside two sinks; one that did not fail made all
+  -- what a tree made short is stopped early beside two sinks; one that did not fail made all
   stops-by : (changes : List Change) (stop : Stop) (cause : FileStop) (a b : TreeState) (out err : SinkState) → stop ≡ stop_of cause
-      → AreOfTree changes → TreeEnded changes (tree_failed (Err stop)) a b
-      → AreCutShort (blame_of {T = Unit {0}} (Err stop)) (outside a out err) (outside b out err) changes
+      → AreOfTree changes → TreeEnded changes (stopped_by_tree (Err stop)) a b
+      → AreCutShort (result_blame {T = Unit {0}} (Err stop)) (outside a out err) (outside b out err) changes
   stops-by changes TreeFault cause a b out err is of ended =
-      let short = outside-of-tree changes true a b out err of ended in record { cut = short.cut; not_sure = short.not_sure }
+      let short = outside-of-tree changes true a b out err of ended in record { cut = short.cut; not_guaranteed = short.not_guaranteed }
   stops-by changes NoMemory cause a b out err is of ended =
       let done = outside-of-tree changes false a b out err of ended in
-      record { cut = record { made = changes; rest = []; parts = sym (append-nil changes); left = done.world }; not_sure = tt }
+      record { cut = record { made = changes; rest = []; parts = sym (append-nil changes); left = done.world }; not_guaranteed = tt }
   stops-by changes SinkFault cause a b out err is of ended = absurd (no-sink cause is)
 
   pub file-ends : (before : Bus T O E) (devices : MutBor Devices) (tree : MutBor T) (core : Core) (memory : List ℕ) (number : FileNumber) (part : FileAct)
       (byte : ℕ) (answer : Result (Unit {0}) Stop)
-      → FileEnded number part before.devices.now core.memory (tree_failed answer) (meaning.tree.state before.tree.now) (meaning.tree.state tree.now)
-      → FileAnswers number part before.devices.now core.memory (meaning.tree.state before.tree.now).told answer devices.now memory
-      → SameBus (told_on meaning.tree) before (record { devices = devices; tree = tree; out = before.out; err = before.err })
+      → FileEnded number part before.devices.now core.memory (stopped_by_tree answer) (meaning.tree.state before.tree.now) (meaning.tree.state tree.now)
+      → FileAnswers number part before.devices.now core.memory (meaning.tree.state before.tree.now).contents answer devices.now memory
+      → SameBus (contents_on meaning.tree) before (record { devices = devices; tree = tree; out = before.out; err = before.err })
       → ActEnds meaning before core (ActsOnFile number part) byte (record { devices = devices; tree = tree; out = before.out; err = before.err })
       (record core { memory = memory }) answer
   file-ends before devices tree core memory number part byte (Ok done) ended acted same = record {
@@ -231,8 +231,8 @@ module _ {T O E : Type 0} (meaning : Meaning T O E) where
           core = ap (λ bytes. record core { memory = bytes }) done.memory;
           devices = record {
             devices = done.devices;
-            files = state-files number outcome state (meaning.tree.state tree.now).told
-                (files-now outcome.changes state.root state.part state.parent (meaning.tree.state before.tree.now).told (meaning.tree.state tree.now).told
+            files = state-files number outcome state (meaning.tree.state tree.now).contents
+                (files-now outcome.changes state.root state.part state.parent (meaning.tree.state before.tree.now).contents (meaning.tree.state tree.now).contents
                 stands.files lie made.stands);
           };
           makes = record { world = all.world; remains = all.remains };
@@ -263,7 +263,7 @@ module _ {T O E : Type 0} (meaning : Meaning T O E) where
 
   -- a byte stored takes a state to act from to the state with one more store
   stands-stored : (asks : Bool) (before middle : Bus T O E) (port byte : ℕ) → Stored before middle port byte → (state : DeviceState)
-      → StandsTo meaning asks before state → StandsTo meaning asks middle (storing ((port, byte) ∷ []) state)
+      → RepresentsTo meaning asks before state → RepresentsTo meaning asks middle (storing ((port, byte) ∷ []) state)
   stands-stored true before middle port byte stored state stands = stored.devices.bus state stands
   stands-stored false before middle port byte stored state stands = stored.devices.devices state stands
 
@@ -273,14 +273,14 @@ module _ {T O E : Type 0} (meaning : Meaning T O E) where
   comes-stored false before middle now port byte stored state come = (come.0, come.1 ∙ stored.tree)
 
   keeps-stored : (asks : Bool) (before middle now : Bus T O E) (port byte : ℕ) (old new : Core) → Stored before middle port byte
-      → Keeps meaning asks middle old now new → Keeps meaning asks before old now new
+      → KeepsBus meaning asks middle old now new → KeepsBus meaning asks before old now new
   keeps-stored true before middle now port byte old new stored keeps = keeps
   keeps-stored false before middle now port byte old new stored keeps = (keeps.0, keeps.1 ∙ stored.tree)
 
   -- a write is a byte stored, and then the action of its port
   pub wrote_by_act : (before middle now : Bus T O E) (old new : Core) (port byte : ℕ) (action : Action) (answer : Result (Unit {0}) Stop)
       → action ≡ action_of port → Stored before middle port byte
-      → ActEnds meaning middle old action byte now new answer → OnOk answer (Wrote meaning before old port byte now new)
+      → ActEnds meaning middle old action byte now new answer → OnOk answer (PortWrote meaning before old port byte now new)
   wrote_by_act before middle now old new port byte action (Err stop) is stored acted = tt
   wrote_by_act before middle now old new port byte action (Ok done) is stored acted = record {
     does = λ state stands.
@@ -291,12 +291,12 @@ module _ {T O E : Type 0} (meaning : Meaning T O E) where
           devices = comes-stored asks before middle now port byte stored (effect state old port byte).devices does.devices;
           makes = makes-both meaning before middle now [] (effect state old port byte).changes (stored-makes before middle port byte stored) does.makes;
         });
-    same = same-again (told_on meaning.tree) before middle now stored.same acted.same;
+    same = same-again (contents_on meaning.tree) before middle now stored.same acted.same;
   }
 
   pub stopped_by_act : (before middle now : Bus T O E) (old new : Core) (port byte : ℕ) (action : Action) (answer : Result (Unit {0}) Stop)
       → action ≡ action_of port → Stored before middle port byte
-      → ActEnds meaning middle old action byte now new answer → IfErr answer (λ stop. Stopped meaning before old port byte stop now new)
+      → ActEnds meaning middle old action byte now new answer → IfErr answer (λ stop. WriteStopped meaning before old port byte stop now new)
   stopped_by_act before middle now old new port byte action (Ok done) is stored acted = tt
   stopped_by_act before middle now old new port byte action (Err stop) is stored acted = record {
     cut = λ state stands.
@@ -314,5 +314,5 @@ module _ {T O E : Type 0} (meaning : Meaning T O E) where
           reads = sym is ∙ wants.reads;
           folder = rw (stored.files wants.number) at (rw stored.tree at wants.folder);
         };
-    same = same-again (told_on meaning.tree) before middle now stored.same acted.same;
+    same = same-again (contents_on meaning.tree) before middle now stored.same acted.same;
   }

@@ -2,16 +2,16 @@ use Rattle.std.proofs.Common.{◌≡◌, ℕ, List, refl}
 use Rattle.screen_layers.specs.declared.Moved.{Moved}
 use Rattle.screen_layers.specs.Drawings.{moved_by_pixel, moved_by_sprite}
 use Rattle.screen_layers.specs.Pictures.{Picture, after_pixel, after_sprite}
-use Rattle.screen_layers.specs.Layers.{Layers, StandsFor as ScreenStandsFor}
+use Rattle.screen_layers.specs.Layers.{Layers, RepresentsPicture as ScreenRepresents}
 use Rattle.file_ports.specs.Device.{Suits}
 use Rattle.varvara_bus.specs.declared.devices.Devices.{Devices}
-use Rattle.varvara_bus.specs.State.{DeviceState, StandFor, storing}
+use Rattle.varvara_bus.specs.State.{DeviceState, DevicesRepresent, storing}
 use Rattle.varvara_bus.specs.Effect.{auto_in, x_in, y_in, addr_in, places_stored, pixel_drawn, moved_stored, sprite_drawn}
 
 -- devices whose screen was drawn on
 pub drawn_on : (devices : Devices) (screen : Layers) (state : DeviceState) (picture : Picture) (one : Suits devices.root devices.first_file)
-    (other : Suits devices.root devices.second_file) → StandFor devices state → ScreenStandsFor screen picture
-    → StandFor (record devices { screen = screen; first_suits = one; second_suits = other }) (record state { picture = picture })
+    (other : Suits devices.root devices.second_file) → DevicesRepresent devices state → ScreenRepresents screen picture
+    → DevicesRepresent (record devices { screen = screen; first_suits = one; second_suits = other }) (record state { picture = picture })
 drawn_on devices screen state picture one other stands drawn = record {
   page = stands.page;
   screen = drawn;

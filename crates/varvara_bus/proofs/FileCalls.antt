@@ -2,20 +2,20 @@
 use Rattle.std.proofs.Common.{◌≡◌, ℕ, ◌+◌, Bool, true, false, List, [], refl, ap, sym, subst, ◌∙◌}
 use Rattle.std.specs.Prelude.{Option, Some, None, Result, Ok, Err, is_none, if◌then◌else◌}
 use Rattle.std.specs.Option.{option_map}
-use Rattle.tree_io.specs.Files.{Nodes}
-use Rattle.tree_io.specs.Outside.{Change, files_by}
-use Rattle.tree_io.specs.State.{TreeState}
-use Rattle.tree_io.specs.Ended.{told_by, StandsAfter, TreeEnded}
-use Rattle.tree_io.specs.EndedLaws.{told_by-some, told_by-none}
+use Rattle.uxn_io_traits.specs.Files.{Nodes}
+use Rattle.uxn_io_traits.specs.Outside.{Change, files_by}
+use Rattle.uxn_io_traits.specs.State.{TreeState}
+use Rattle.uxn_io_traits.specs.Ended.{contents_after, StandsAfter, TreeEnded}
+use Rattle.uxn_io_traits.specs.EndedLaws.{contents_after-some, contents_after-none}
 use Rattle.file_ports.specs.declared.stop.FileStop.{FileStop}
 use Rattle.file_ports.specs.Device.{FileState, idle_at, Suits}
 use Rattle.file_ports.specs.Names.{path_named}
 use Rattle.file_ports.specs.RootPart.{LieIn}
-use Rattle.file_ports.specs.Actions.{FileAction, Name, Read, Write, Stat, Delete, Outcome, Seen, seen_of, acts, act, reads, stats, count_from}
-use Rattle.file_ports.specs.Answers.{Answers, outcome_by, changes_untold, changes_by, ActedOrStopped}
+use Rattle.file_ports.specs.Actions.{FileAction, Name, Read, Write, Stat, Delete, FileOutcome, Observed, observed_file, acts, act, reads, stats, count_from}
+use Rattle.file_ports.specs.AnswersAction.{AnswersAction, outcome_by, changes_unknown, changes_by, ActedOrStopped}
 use Rattle.file_ports.specs.PartLaws.{below-files_by, outcome-same}
-use Rattle.file_ports.specs.ActLaws.{lie-front, lie-none, parent-kept, rootless, act-nowhere, changes-of, path-kept}
-use Rattle.tree_io.specs.CallLaws.{ended-as}
+use Rattle.file_ports.specs.ActLaws.{lie-prefix, lie-none, parent-kept, rootless, act-nowhere, changes-of, path-kept}
+use Rattle.uxn_io_traits.specs.CallLaws.{ended-as}
 use Rattle.file_ports.specs.OutsideLaws.{still-there}
 use Rattle.input_ports.specs.Page.{short_stores}
 use Rattle.varvara_bus.specs.declared.devices.Devices.{Devices}
@@ -23,65 +23,65 @@ use Rattle.varvara_bus.specs.declared.files.Request.{Request}
 use Rattle.varvara_bus.specs.declared.ports.FileAct.{FileAct}
 use Rattle.varvara_bus.specs.declared.ports.FileNumber.{FileNumber}
 use Rattle.varvara_bus.specs.declared.ports.FileNumber.TheVariants.{First, Second}
-use Rattle.varvara_bus.specs.State.{DeviceState, StandFor, HasFiles, storing}
+use Rattle.varvara_bus.specs.State.{DeviceState, DevicesRepresent, HasFiles, storing}
 use Rattle.varvara_bus.specs.FileActs.{file_base, file_in, with_file, file_action, file_outcome, PortLeft}
 use Rattle.varvara_bus.specs.Bus.{FilesStay, file_held}
 use Rattle.varvara_bus.specs.Laws.{stand-part, held-file}
-use Rattle.varvara_bus.specs.FileCalls.{action_asked, Performed, FileActed}
+use Rattle.varvara_bus.specs.FileCalls.{action_requested, Performed, FileActed}
 
 -- ---- a device and its tree
 
--- beneath a root an action does what it does by the whole tree; of a tree that tells nothing this is known without a path alone
-outcome-known : (action : FileAction) (root : Option (List ℕ)) (part : Nodes) (parent : Bool) (device : FileState) (memory : List ℕ) (told : Option Nodes)
-    → ((seen : Option Seen) → acts action None device memory seen ≡ acts action root device memory seen)
-    → Suits root device → HasFiles told root part parent
-    → outcome_by action told device memory ≡ Some (act action root part parent device memory)
+-- beneath a root an action does what it does by the whole tree; of a tree of unknown contents this is known without a path alone
+outcome-known : (action : FileAction) (root : Option (List ℕ)) (part : Nodes) (parent : Bool) (device : FileState) (memory : List ℕ) (contents : Option Nodes)
+    → ((observed : Option Observed) → acts action None device memory observed ≡ acts action root device memory observed)
+    → Suits root device → HasFiles contents root part parent
+    → outcome_by action contents device memory ≡ Some (act action root part parent device memory)
 outcome-known action root part parent device memory None same fits has =
     let none : device.path ≡ None = rootless device (rw has.0 at fits) in
     ap (λ (path : Option (List ℕ)). if is_none path then Some (acts action None device memory None) else None) none
-    ∙ ap (λ (o : Outcome). Some o) (same None ∙ sym (act-nowhere action root part parent device memory none))
+    ∙ ap (λ (o : FileOutcome). Some o) (same None ∙ sym (act-nowhere action root part parent device memory none))
 outcome-known action root part parent device memory (Some nodes) same fits has =
-    ap (λ (o : Outcome). Some o)
-    (same (option_map (seen_of nodes) device.path) ∙ sym (outcome-same action root nodes device memory fits) ∙ rw has.0 (rw has.1 refl))
+    ap (λ (o : FileOutcome). Some o)
+    (same (option_map (observed_file nodes) device.path) ∙ sym (outcome-same action root nodes device memory fits) ∙ rw has.0 (rw has.1 refl))
 
-pub performs : (action : FileAction) (root : Option (List ℕ)) (device : FileState) (memory : List ℕ) (told : Option Nodes) (result : Result ℕ FileStop)
+pub performs : (action : FileAction) (root : Option (List ℕ)) (device : FileState) (memory : List ℕ) (contents : Option Nodes) (result : Result ℕ FileStop)
     (device_now : FileState) (memory_now : List ℕ)
-    → ((seen : Option Seen) → acts action None device memory seen ≡ acts action root device memory seen)
-    → Suits root device → ActedOrStopped action device memory told result device_now memory_now
-    → Performed action root device memory told result device_now memory_now
-performs action root device memory told (Ok value) device_now memory_now same fits acted = λ part parent has.
-    rw (outcome-known action root part parent device memory told same fits has) at acted.answers
-performs action root device memory told (Err stop) device_now memory_now same fits stopped = stopped
+    → ((observed : Option Observed) → acts action None device memory observed ≡ acts action root device memory observed)
+    → Suits root device → ActedOrStopped action device memory contents result device_now memory_now
+    → Performed action root device memory contents result device_now memory_now
+performs action root device memory contents (Ok value) device_now memory_now same fits acted = λ part parent has.
+    rw (outcome-known action root part parent device memory contents same fits has) at acted.answers
+performs action root device memory contents (Err stop) device_now memory_now same fits stopped = stopped
 
 -- a device goes on to suit its root
-pub goes-on : (action : FileAction) (root : Option (List ℕ)) (device : FileState) (memory : List ℕ) (told : Option Nodes) (result : Result ℕ FileStop)
-    (device_now : FileState) (memory_now : List ℕ) → Suits root device → ActedOrStopped action device memory told result device_now memory_now
+pub goes-on : (action : FileAction) (root : Option (List ℕ)) (device : FileState) (memory : List ℕ) (contents : Option Nodes) (result : Result ℕ FileStop)
+    (device_now : FileState) (memory_now : List ℕ) → Suits root device → ActedOrStopped action device memory contents result device_now memory_now
     → Suits root device_now
-goes-on action root device memory told result device_now memory_now fits acted =
-    rw (path-kept action device memory told result device_now memory_now acted) fits
+goes-on action root device memory contents result device_now memory_now fits acted =
+    rw (path-kept action device memory contents result device_now memory_now acted) fits
 
 -- a name asks nothing of the tree
-pub names : (at : ℕ) (root : Option (List ℕ)) (device device_now : FileState) (memory : List ℕ) (told : Option Nodes)
-    → device_now ≡ idle_at (path_named root memory at) → Performed (Name at) root device memory told (Ok 0) device_now memory
-names at root device device_now memory told is = λ part parent has. record { success = refl; device = is; memory = refl }
+pub names : (at : ℕ) (root : Option (List ℕ)) (device device_now : FileState) (memory : List ℕ) (contents : Option Nodes)
+    → device_now ≡ idle_at (path_named root memory at) → Performed (Name at) root device memory contents (Ok 0) device_now memory
+names at root device device_now memory contents is = λ part parent has. record { success = refl; device = is; memory = refl }
 
 -- without a path nothing is changed
 nowhere-none : (action : FileAction) (root : Option (List ℕ)) (device : FileState) (memory : List ℕ)
-    → changes_untold action None ≡ (acts action root device memory None).changes
+    → changes_unknown action None ≡ (acts action root device memory None).changes
 nowhere-none (Name at) root device memory = refl
 nowhere-none (Read at length) root device memory = refl
 nowhere-none (Write at length keep) root device memory = refl
 nowhere-none (Stat at length) root device memory = refl
 nowhere-none Delete root device memory = refl
 
--- changes by what is seen of a tree are those by the files of a state
-pub changes-known : (action : FileAction) (root : Option (List ℕ)) (part : Nodes) (parent : Bool) (device : FileState) (memory : List ℕ) (told : Option Nodes)
-    → Suits root device → HasFiles told root part parent
-    → changes_by action told device memory ≡ (act action root part parent device memory).changes
+-- changes by what is observed of a tree are those by the files of a state
+pub changes-known : (action : FileAction) (root : Option (List ℕ)) (part : Nodes) (parent : Bool) (device : FileState) (memory : List ℕ) (contents : Option Nodes)
+    → Suits root device → HasFiles contents root part parent
+    → changes_by action contents device memory ≡ (act action root part parent device memory).changes
 changes-known action root part parent device memory None fits has =
     let none : device.path ≡ None = rootless device (rw has.0 at fits) in
-    ap (changes_untold action) none ∙ nowhere-none action root device memory
-    ∙ ap (λ (o : Outcome). o.changes) (sym (act-nowhere action root part parent device memory none))
+    ap (changes_unknown action) none ∙ nowhere-none action root device memory
+    ∙ ap (λ (o : FileOutcome). o.changes) (sym (act-nowhere action root part parent device memory none))
 changes-known action root part parent device memory (Some nodes) fits has =
     changes-of action root nodes device memory fits ∙ rw has.0 (rw has.1 refl)
 
@@ -89,29 +89,29 @@ changes-known action root part parent device memory (Some nodes) fits has =
 
 -- the root part after changes in it
 pub files-now : (changes : List Change) (root : Option (List ℕ)) (part : Nodes) (parent : Bool) (before now : Option Nodes)
-    → HasFiles before root part parent → LieIn root changes → now ≡ told_by changes before → HasFiles now root (files_by part changes) parent
+    → HasFiles before root part parent → LieIn root changes → now ≡ contents_after changes before → HasFiles now root (files_by part changes) parent
 files-now changes root part parent None now has lie is =
     let none : changes ≡ [] = lie-none changes (rw has.0 at lie) in
-    rw is (rw (told_by-none changes) (rw none has))
+    rw is (rw (contents_after-none changes) (rw none has))
 files-now changes root part parent (Some nodes) now has lie is =
-    rw is (rw (told_by-some nodes changes)
+    rw is (rw (contents_after-some nodes changes)
     (rw has.0 (sym (below-files_by root changes nodes lie)), has.1 ∙ sym (parent-kept root changes nodes lie)))
 
 -- each file outside it is there still
-stays-by : (root : Option (List ℕ)) (changes : List Change) (before now : Option Nodes) → LieIn root changes → now ≡ told_by changes before
+stays-by : (root : Option (List ℕ)) (changes : List Change) (before now : Option Nodes) → LieIn root changes → now ≡ contents_after changes before
     → FilesStay root before now
-stays-by root changes None now lie is = rw is (rw (told_by-none changes) (record { stays = λ path outside there. tt }))
+stays-by root changes None now lie is = rw is (rw (contents_after-none changes) (record { stays = λ path outside there. tt }))
 stays-by root changes (Some nodes) now lie is =
-    rw is (rw (told_by-some nodes changes) (record { stays = λ path outside there. still-there root path changes nodes lie outside there }))
+    rw is (rw (contents_after-some nodes changes) (record { stays = λ path outside there. still-there root path changes nodes lie outside there }))
 
 pub files-stay : (root : Option (List ℕ)) (changes : List Change) (failed : Bool) (a b : TreeState) → LieIn root changes → TreeEnded changes failed a b
-    → FilesStay root a.told b.told
+    → FilesStay root a.contents b.contents
 files-stay root changes failed a b lie ended = by failed ended.stands
   where
-    by : (how : Bool) → StandsAfter changes how a.told b.told → FilesStay root a.told b.told
-    by false is = stays-by root changes a.told b.told lie is
-    by true front =
-        stays-by root front.made a.told b.told (lie-front root front.made front.rest (subst (LieIn root) front.parts lie)) front.told
+    by : (how : Bool) → StandsAfter changes how a.contents b.contents → FilesStay root a.contents b.contents
+    by false is = stays-by root changes a.contents b.contents lie is
+    by true prefix =
+        stays-by root prefix.made a.contents b.contents (lie-prefix root prefix.made prefix.rest (subst (LieIn root) prefix.parts lie)) prefix.contents
 
 -- ---- the devices of a machine
 
@@ -119,9 +119,9 @@ pub held-suits : (number : FileNumber) (devices : Devices) → Suits devices.roo
 held-suits First devices = devices.first_suits
 held-suits Second devices = devices.second_suits
 
--- devices stand for a state whatever its part of the tree
+-- devices represent a state whatever its part of the tree
 with_part : (number : FileNumber) (devices : Devices) (device : FileState) (state : DeviceState) (part : Nodes)
-    → StandFor devices (with_file number device state) → StandFor devices (with_file number device (record state { part = part }))
+    → DevicesRepresent devices (with_file number device state) → DevicesRepresent devices (with_file number device (record state { part = part }))
 with_part First devices device state part stands = stand-part devices (with_file First device state) part stands
 with_part Second devices device state part stands = stand-part devices (with_file Second device state) part stands
 
@@ -130,34 +130,34 @@ value_of (Ok value) = value
 value_of (Err stop) = 0
 
 -- what is asked is what the state says
-asked-is : (request : Request) (number : FileNumber) (part : FileAct) (root : Option (List ℕ)) (device : FileState) (state : DeviceState) (memory : List ℕ)
-    → action_asked request ≡ file_action part state.history (file_base number) → root ≡ state.root → device ≡ file_in number state
-    → act (action_asked request) root state.part state.parent device memory ≡ file_outcome number part state memory
-asked-is request number part root device state memory is same held = rw (is, same, held) refl
+requested-is : (request : Request) (number : FileNumber) (part : FileAct) (root : Option (List ℕ)) (device : FileState) (state : DeviceState) (memory : List ℕ)
+    → action_requested request ≡ file_action part state.history (file_base number) → root ≡ state.root → device ≡ file_in number state
+    → act (action_requested request) root state.part state.parent device memory ≡ file_outcome number part state memory
+requested-is request number part root device state memory is same held = rw (is, same, held) refl
 
 -- what became of the tree
 pub file-ended : (request : Request) (number : FileNumber) (part : FileAct) (devices : Devices) (state : DeviceState) (memory : List ℕ) (failed : Bool)
-    (a b : TreeState) → action_asked request ≡ file_action part state.history (file_base number) → StandFor devices state
-    → HasFiles a.told state.root state.part state.parent
-    → TreeEnded (changes_by (action_asked request) a.told (file_held number devices) memory) failed a b
+    (a b : TreeState) → action_requested request ≡ file_action part state.history (file_base number) → DevicesRepresent devices state
+    → HasFiles a.contents state.root state.part state.parent
+    → TreeEnded (changes_by (action_requested request) a.contents (file_held number devices) memory) failed a b
     → TreeEnded (file_outcome number part state memory).changes failed a b
 file-ended request number part devices state memory failed a b is stands has ended =
-    ended-as (changes_by (action_asked request) a.told (file_held number devices) memory) _ failed a b
-    (changes-known (action_asked request) devices.root state.part state.parent (file_held number devices) memory a.told (held-suits number devices)
-    (rw (sym stands.root) at has) ∙ ap (λ (o : Outcome). o.changes) (asked-is request number part devices.root (file_held number devices) state memory is stands.root (held-file number devices state stands))) ended
+    ended-as (changes_by (action_requested request) a.contents (file_held number devices) memory) _ failed a b
+    (changes-known (action_requested request) devices.root state.part state.parent (file_held number devices) memory a.contents (held-suits number devices)
+    (rw (sym stands.root) at has) ∙ ap (λ (o : FileOutcome). o.changes) (requested-is request number part devices.root (file_held number devices) state memory is stands.root (held-file number devices state stands))) ended
 
 -- and of the devices and memory
 pub file-acted : (request : Request) (number : FileNumber) (part : FileAct) (devices middle after : Devices) (state : DeviceState) (memory : List ℕ)
-    (told : Option Nodes) (success : ℕ) (memory_now : List ℕ) → action_asked request ≡ file_action part state.history (file_base number)
-    → StandFor devices state → HasFiles told state.root state.part state.parent
-    → Performed (action_asked request) devices.root (file_held number devices) memory told (Ok success) (file_held number middle) memory_now
-    → StandFor middle (with_file number (file_held number middle) state)
-    → ((s : DeviceState) → StandFor middle s → StandFor after (storing (short_stores (file_base number + 0x02) success) s))
+    (contents : Option Nodes) (success : ℕ) (memory_now : List ℕ) → action_requested request ≡ file_action part state.history (file_base number)
+    → DevicesRepresent devices state → HasFiles contents state.root state.part state.parent
+    → Performed (action_requested request) devices.root (file_held number devices) memory contents (Ok success) (file_held number middle) memory_now
+    → DevicesRepresent middle (with_file number (file_held number middle) state)
+    → ((s : DeviceState) → DevicesRepresent middle s → DevicesRepresent after (storing (short_stores (file_base number + 0x02) success) s))
     → FileActed number part state memory after memory_now
-file-acted request number part devices middle after state memory told success memory_now is stands has performed held stored =
+file-acted request number part devices middle after state memory contents success memory_now is stands has performed held stored =
     let outcome = file_outcome number part state memory in
-    let done : Answers outcome (Ok success) (file_held number middle) memory_now =
-    rw (asked-is request number part devices.root (file_held number devices) state memory is stands.root (held-file number devices state stands)) at (performed state.part state.parent (rw (sym stands.root) at has)) in
+    let done : AnswersAction outcome (Ok success) (file_held number middle) memory_now =
+    rw (requested-is request number part devices.root (file_held number devices) state memory is stands.root (held-file number devices state stands)) at (performed state.part state.parent (rw (sym stands.root) at has)) in
     record {
       memory = done.memory;
       devices = rw (← ap value_of done.success)
@@ -166,18 +166,18 @@ file-acted request number part devices middle after state memory told success me
     }
 
 -- reads and stats change nothing
-pub stat-changes : (at length : ℕ) (told : Option Nodes) (device : FileState) (memory : List ℕ) → [] ≡ changes_by (Stat at length) told device memory
+pub stat-changes : (at length : ℕ) (contents : Option Nodes) (device : FileState) (memory : List ℕ) → [] ≡ changes_by (Stat at length) contents device memory
 stat-changes at length None device memory = refl
 stat-changes at length (Some nodes) device memory = by device.path
   where
-    by : (path : Option (List ℕ)) → [] ≡ (stats at (count_from at length) device memory (option_map (seen_of nodes) path)).changes
+    by : (path : Option (List ℕ)) → [] ≡ (stats at (count_from at length) device memory (option_map (observed_file nodes) path)).changes
     by None = refl
     by (Some path) = refl
 
-pub read-changes : (at length : ℕ) (told : Option Nodes) (device : FileState) (memory : List ℕ) → [] ≡ changes_by (Read at length) told device memory
+pub read-changes : (at length : ℕ) (contents : Option Nodes) (device : FileState) (memory : List ℕ) → [] ≡ changes_by (Read at length) contents device memory
 read-changes at length None device memory = refl
 read-changes at length (Some nodes) device memory = by device.path
   where
-    by : (path : Option (List ℕ)) → [] ≡ (reads at (count_from at length) device memory (option_map (seen_of nodes) path)).changes
+    by : (path : Option (List ℕ)) → [] ≡ (reads at (count_from at length) device memory (option_map (observed_file nodes) path)).changes
     by None = refl
     by (Some path) = refl

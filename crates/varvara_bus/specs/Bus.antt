@@ -1,24 +1,24 @@
--- A bus: devices, a tree and two sinks that are lent to it, and its ports.
+-- A bus: devices, a tree and two sinks that are borrowed to it, and its ports.
 use Rattle.std.specs.Prelude.{◌≡◌, ℕ, ◌==◌, Bool, true, false, List, [], ◌∷◌, Option, Some, None, Result, Ok, Err}
 use Rattle.std.specs.Prelude.{IfSome, IsSome, slice_index, if◌then◌else◌}
-use Rattle.tree_io.specs.Files.{Nodes, file_at}
-use Rattle.tree_io.specs.Faults.{Counts, Blame}
-use Rattle.tree_io.specs.Outside.{Change, changed_by, IsCutOff}
-use Rattle.tree_io.specs.State.{Outside, outside}
-use Rattle.tree_io.specs.Taking.{Remains, WasNotSure}
-use Rattle.tree_io.specs.declared.sinks.Sink as sinks
-use Rattle.tree_io.specs.declared.trees.Tree as trees
+use Rattle.uxn_io_traits.specs.Files.{Nodes, file_at}
+use Rattle.uxn_io_traits.specs.Faults.{Counts, Blame}
+use Rattle.uxn_io_traits.specs.Outside.{Change, changed_by, IsCutOff}
+use Rattle.uxn_io_traits.specs.State.{Outside, outside}
+use Rattle.uxn_io_traits.specs.Taking.{Remains, WasNotGuaranteed}
+use Rattle.uxn_io_traits.specs.declared.sinks.Sink as sinks
+use Rattle.uxn_io_traits.specs.declared.trees.Tree as trees
 use Rattle.file_ports.specs.Device.{FileState, suits}
-use Rattle.file_ports.specs.Answers.{TakesNames}
+use Rattle.file_ports.specs.AnswersAction.{DeviceTakesNames}
 use Rattle.uxn_opcodes.specs.declared.Core.{Core}
 use Rattle.uxn_opcodes.specs.declared.Stop.{Stop}
 use Rattle.uxn_opcodes.specs.declared.Stop.TheVariants.{NoMemory}
-use Rattle.uxn_opcodes.specs.Ports.{Rules, blame_of}
+use Rattle.uxn_opcodes.specs.Ports.{Rules, result_blame}
 use Rattle.screen_layers.specs.Layers.{Layers}
 use Rattle.varvara_bus.specs.declared.bus.Bus.{Bus}
 use Rattle.varvara_bus.specs.declared.devices.Devices.{Devices}
-use Rattle.varvara_bus.specs.State.{DeviceState, StandFor, HasFiles, clock_of, storing}
-use Rattle.varvara_bus.specs.Reads.{read_of}
+use Rattle.varvara_bus.specs.State.{DeviceState, DevicesRepresent, HasFiles, device_clock, storing}
+use Rattle.varvara_bus.specs.ReadsPort.{read_of}
 use Rattle.varvara_bus.specs.declared.ports.Action.{Action}
 use Rattle.varvara_bus.specs.declared.ports.Action.TheVariants.{ActsOnFile}
 use Rattle.varvara_bus.specs.declared.ports.FileNumber.{FileNumber}
@@ -27,16 +27,16 @@ use Rattle.varvara_bus.specs.declared.ports.FileAct.TheVariants.{Read}
 use Rattle.varvara_bus.specs.FileActs.{PortLeft}
 use Rattle.varvara_bus.specs.Effect.{Effect, action_of, asks_tree, act, effect}
 
--- the same four are lent
-pub record SameLent {T O E : Type 0} (before now : Bus T O E) : Type 0 where
+-- the same four are borrowed
+pub record SameBorrowed {T O E : Type 0} (before now : Bus T O E) : Type 0 where
   pub devices : now.devices.ghost_name ≡ before.devices.ghost_name
   pub tree : now.tree.ghost_name ≡ before.tree.ghost_name
   pub out : now.out.ghost_name ≡ before.out.ghost_name
   pub err : now.err.ghost_name ≡ before.err.ghost_name
 
--- a file is at the path, where the tree tells its contents
-abbrev pub IsFileWhereTold : Option Nodes → List ℕ → Type 0
-IsFileWhereTold told path = IfSome told (λ nodes. IsSome (file_at nodes path))
+-- a file is at the path, where the contents are known
+abbrev pub IsFileWhereKnown : Option Nodes → List ℕ → Type 0
+IsFileWhereKnown contents path = IfSome contents (λ nodes. IsSome (file_at nodes path))
 
 -- a path lies outside the part of the tree that the program sees: it is neither the root nor beneath it
 abbrev pub IsOutside : Option (List ℕ) → List ℕ → Type 0
@@ -44,39 +44,39 @@ IsOutside root path = suits root (Some path) ≡ false
 
 -- each file outside the root part that was there is there still
 pub record FilesStay (root : Option (List ℕ)) (before now : Option Nodes) : Type 0 where
-  pub stays : (path : List ℕ) → IsOutside root path → IsFileWhereTold before path → IsFileWhereTold now path
+  pub stays : (path : List ℕ) → IsOutside root path → IsFileWhereKnown before path → IsFileWhereKnown now path
 
 -- the machine has a root
 abbrev pub HasRoot : Devices → Type 0
 HasRoot devices = IsSome devices.root
 
--- memory is wanting for the names of the folder at the path of a file device that is not reading
-pub record WantsFolder (device : FileState) (told : Option Nodes) : Type 0 where
+-- memory runs out for the names of the folder at the path of a file device that is not reading
+pub record WantsFolder (device : FileState) (contents : Option Nodes) : Type 0 where
   pub named : IsSome device.path
-  pub names : TakesNames device told
+  pub names : DeviceTakesNames device contents
 
 abbrev pub file_held : FileNumber → Devices → FileState
 file_held First devices = devices.first_file
 file_held Second devices = devices.second_file
 
 -- that comes of a read by one of the two alone
-pub record WantsNames (action : Action) (devices : Devices) (told : Option Nodes) : Type 0 where
+pub record WantsNames (action : Action) (devices : Devices) (contents : Option Nodes) : Type 0 where
   pub number : FileNumber
   pub reads : action ≡ ActsOnFile number Read
-  pub folder : WantsFolder (file_held number devices) told
+  pub folder : WantsFolder (file_held number devices) contents
 
--- what no write changes: what is lent, which files are outside the root part, the frames begun, the clock and the root
-pub record SameBus {T O E : Type 0} (told_tree : T → Option Nodes) (before now : Bus T O E) : Type 0 where
-  pub lent : SameLent before now
-  pub files : FilesStay before.devices.now.root (told_tree before.tree.now) (told_tree now.tree.now)
+-- what no write changes: what is borrowed, which files are outside the root part, the frames begun, the clock and the root
+pub record SameBus {T O E : Type 0} (contents_of_tree : T → Option Nodes) (before now : Bus T O E) : Type 0 where
+  pub borrowed : SameBorrowed before now
+  pub files : FilesStay before.devices.now.root (contents_of_tree before.tree.now) (contents_of_tree now.tree.now)
   pub frames : now.devices.now.time.frames ≡ before.devices.now.time.frames
-  pub clock : clock_of now.devices.now ≡ clock_of before.devices.now
+  pub clock : device_clock now.devices.now ≡ device_clock before.devices.now
   pub root : now.devices.now.root ≡ before.devices.now.root
 
--- a bus stands for what its devices stand for, with the root part of its tree
-pub record BusStandsFor {T O E : Type 0} (told_tree : T → Option Nodes) (bus : Bus T O E) (state : DeviceState) : Type 0 where
-  pub devices : StandFor bus.devices.now state
-  pub files : HasFiles (told_tree bus.tree.now) state.root state.part state.parent
+-- a bus represents what its devices represent, with the root part of its tree
+pub record BusRepresents {T O E : Type 0} (contents_of_tree : T → Option Nodes) (bus : Bus T O E) (state : DeviceState) : Type 0 where
+  pub devices : DevicesRepresent bus.devices.now state
+  pub files : HasFiles (contents_of_tree bus.tree.now) state.root state.part state.parent
 
 -- the bytes that were last stored in the ports, that of one port, and the number of frames begun, as the bus holds them
 abbrev pub held_page : {T O E : Type 0} → Bus T O E → List ℕ
@@ -92,55 +92,55 @@ frames_begun bus = bus.devices.now.time.frames
 abbrev pub screen_of : {T O E : Type 0} → Bus T O E → Layers
 screen_of bus = bus.devices.now.screen
 
--- nothing but what the devices stand for changes
+-- nothing but what the devices represent changes
 pub record ChangesDevices {T O E : Type 0} (before now : Bus T O E) : Type 0 where
-  pub lent : SameLent before now
+  pub borrowed : SameBorrowed before now
   pub tree : now.tree.now ≡ before.tree.now
   pub out : now.out.now ≡ before.out.now
   pub err : now.err.now ≡ before.err.now
-  pub clock : clock_of now.devices.now ≡ clock_of before.devices.now
+  pub clock : device_clock now.devices.now ≡ device_clock before.devices.now
   pub root : now.devices.now.root ≡ before.devices.now.root
 
--- each state that the devices stood for, whatever the tree tells, becomes what is given of it; so does each that the bus stood for
-pub record Becomes {T O E : Type 0} (told_tree : T → Option Nodes) (given : DeviceState → DeviceState) (before now : Bus T O E)
+-- each state that the devices represented, whatever the contents of the tree, becomes what is given of it; so does each that the bus represented
+pub record Becomes {T O E : Type 0} (contents_of_tree : T → Option Nodes) (given : DeviceState → DeviceState) (before now : Bus T O E)
     : Type 0 where
-  pub devices : (state : DeviceState) → StandFor before.devices.now state → StandFor now.devices.now (given state)
-  pub bus : (state : DeviceState) → BusStandsFor told_tree before state → BusStandsFor told_tree now (given state)
+  pub devices : (state : DeviceState) → DevicesRepresent before.devices.now state → DevicesRepresent now.devices.now (given state)
+  pub bus : (state : DeviceState) → BusRepresents contents_of_tree before state → BusRepresents contents_of_tree now (given state)
 
--- a read gives what the port reads in each state that the devices stand for, whatever the tree tells
-abbrev pub Reads : {T O E : Type 0} → Bus T O E → Core → ℕ → ℕ → Type 0
-Reads bus core port value = (state : DeviceState) → StandFor bus.devices.now state → value ≡ read_of state core port
+-- a read gives what the port reads in each state that the devices represent, whatever the contents of the tree
+abbrev pub ReadsPort : {T O E : Type 0} → Bus T O E → Core → ℕ → ℕ → Type 0
+ReadsPort bus core port value = (state : DeviceState) → DevicesRepresent bus.devices.now state → value ≡ read_of state core port
 
--- what a tree and two sinks tell, how they count their faults, and what they surely do
-pub record Meaning (T O E : Type 0) : Type 1 where
+-- the known contents of a tree and two sinks, how they count their faults, and what they are guaranteed to do
+pub record BusModel (T O E : Type 0) : Type 1 where
   pub tree : trees.Ghosts T
   pub out : sinks.Ghosts O
   pub err : sinks.Ghosts E
 
-abbrev pub meaning_of : {T O E : Type 0} → trees.Ghosts T → sinks.Ghosts O → sinks.Ghosts E → Meaning T O E
+abbrev pub meaning_of : {T O E : Type 0} → trees.Ghosts T → sinks.Ghosts O → sinks.Ghosts E → BusModel T O E
 meaning_of of_tree of_out of_err = record { tree = of_tree; out = of_out; err = of_err }
 
--- what a tree tells, by what its trait sees of it
-abbrev pub told_on : {T : Type 0} → trees.Ghosts T → T → Option Nodes
-told_on of_tree tree = (of_tree.state tree).told
+-- the known contents of a tree, by what its trait sees of it
+abbrev pub contents_on : {T : Type 0} → trees.Ghosts T → T → Option Nodes
+contents_on of_tree tree = (of_tree.state tree).contents
 
 -- who is to blame for a stop, if it stopped
 abbrev pub blame_for : Result (Unit {0}) Stop → Option Blame
 blame_for (Ok done) = None
-blame_for (Err stop) = Some (blame_of {T = Unit {0}} (Err stop))
+blame_for (Err stop) = Some (result_blame {T = Unit {0}} (Err stop))
 
 -- all of these changes were made outside
 pub record AreMade (before now : Outside) (changes : List Change) : Type 0 where
   pub world : now.world ≡ changed_by before.world changes
-  pub remains : Remains before.sure now.sure before.world.files changes
+  pub remains : Remains before.guaranteed now.guaranteed before.world.files changes
 
--- a front of them was made, and whoever is to blame did not surely make all of them
+-- a prefix of them was made, and whoever is to blame was not guaranteed to make all of them
 pub record AreCutShort (blame : Blame) (before now : Outside) (changes : List Change) : Type 0 where
   pub cut : IsCutOff before.world now.world changes
-  pub not_sure : WasNotSure blame before.sure before.world.files changes
+  pub not_guaranteed : WasNotGuaranteed blame before.guaranteed before.world.files changes
 
-module _ {T O E : Type 0} (meaning : Meaning T O E) where
-  -- what is outside, by what a bus is lent
+module _ {T O E : Type 0} (meaning : BusModel T O E) where
+  -- what is outside, by what a bus is borrowed
   abbrev pub outside_on : Bus T O E → Outside
   outside_on bus = outside (meaning.tree.state bus.tree.now) (meaning.out.state bus.out.now) (meaning.err.state bus.err.now)
 
@@ -148,28 +148,28 @@ module _ {T O E : Type 0} (meaning : Meaning T O E) where
   abbrev pub bus_faults : Bus T O E → Counts
   bus_faults bus = (outside_on bus).faults
 
-  -- these changes were made by a bus, or it stopped and a front of them was
+  -- these changes were made by a bus, or it stopped and a prefix of them was
   abbrev pub Makes : Bus T O E → Bus T O E → List Change → Type 0
   Makes before now changes = AreMade (outside_on before) (outside_on now) changes
 
   abbrev pub StopsShort : Bus T O E → Bus T O E → Stop → List Change → Type 0
-  StopsShort before now stop changes = AreCutShort (blame_of {T = Unit {0}} (Err stop)) (outside_on before) (outside_on now) changes
+  StopsShort before now stop changes = AreCutShort (result_blame {T = Unit {0}} (Err stop)) (outside_on before) (outside_on now) changes
 
   -- the bus and the core are as an effect says
   pub record HasEffect (before now : Bus T O E) (new : Core) (done : Effect) : Type 0 where
     pub core : new ≡ done.core
-    pub devices : BusStandsFor (told_on meaning.tree) now done.devices
+    pub devices : BusRepresents (contents_on meaning.tree) now done.devices
     pub makes : Makes before now done.changes
 
-  -- a state to act from: what the bus stands for where the tree is asked, and else what the devices stand for, whatever the tree tells
-  abbrev pub StandsTo : Bool → Bus T O E → DeviceState → Type 0
-  StandsTo true bus state = BusStandsFor (told_on meaning.tree) bus state
-  StandsTo false bus state = StandFor bus.devices.now state
+  -- a state to act from: what the bus represents where the tree is asked, and else what the devices represent, whatever the contents of the tree
+  abbrev pub RepresentsTo : Bool → Bus T O E → DeviceState → Type 0
+  RepresentsTo true bus state = BusRepresents (contents_on meaning.tree) bus state
+  RepresentsTo false bus state = DevicesRepresent bus.devices.now state
 
   -- the state that was come to; a tree that is not asked stays as it was
   abbrev pub ComesTo : Bool → Bus T O E → Bus T O E → DeviceState → Type 0
-  ComesTo true before now state = BusStandsFor (told_on meaning.tree) now state
-  ComesTo false before now state = StandFor now.devices.now state × (now.tree.now ≡ before.tree.now)
+  ComesTo true before now state = BusRepresents (contents_on meaning.tree) now state
+  ComesTo false before now state = DevicesRepresent now.devices.now state × (now.tree.now ≡ before.tree.now)
 
   -- what an action does that asks the tree, or does not
   pub record Does (asks : Bool) (before now : Bus T O E) (new : Core) (done : Effect) : Type 0 where
@@ -178,57 +178,57 @@ module _ {T O E : Type 0} (meaning : Meaning T O E) where
     pub makes : Makes before now done.changes
 
   -- a stop leaves the core as it was, but for what the tree was asked to put in memory; a tree that is not asked stays
-  abbrev pub Keeps : Bool → Bus T O E → Core → Bus T O E → Core → Type 0
-  Keeps true before old now new = new ≡ record old { memory = new.memory }
-  Keeps false before old now new = (new ≡ old) × (now.tree.now ≡ before.tree.now)
+  abbrev pub KeepsBus : Bool → Bus T O E → Core → Bus T O E → Core → Type 0
+  KeepsBus true before old now new = new ≡ record old { memory = new.memory }
+  KeepsBus false before old now new = (new ≡ old) × (now.tree.now ≡ before.tree.now)
 
   -- and the devices as they were, but for a file device that was to act
   abbrev pub Leaves : Action → DeviceState → Option Nodes → Core → Bus T O E → Core → Type 0
-  Leaves (ActsOnFile number part) state told old now new = PortLeft number part state old.memory told now.devices.now new.memory
-  Leaves _ state told old now new = StandFor now.devices.now state
+  Leaves (ActsOnFile number part) state contents old now new = PortLeft number part state old.memory contents now.devices.now new.memory
+  Leaves _ state contents old now new = DevicesRepresent now.devices.now state
 
   -- a write has its effect, from each state to act from
-  pub record Wrote (before : Bus T O E) (old : Core) (port byte : ℕ) (now : Bus T O E) (new : Core) : Type 0 where
-    pub does : (state : DeviceState) → StandsTo (asks_tree (action_of port)) before state
+  pub record PortWrote (before : Bus T O E) (old : Core) (port byte : ℕ) (now : Bus T O E) (new : Core) : Type 0 where
+    pub does : (state : DeviceState) → RepresentsTo (asks_tree (action_of port)) before state
         → Does (asks_tree (action_of port)) before now new (effect state old port byte)
-    pub same : SameBus (told_on meaning.tree) before now
+    pub same : SameBus (contents_on meaning.tree) before now
 
-  -- a write that stops has stored its byte and nothing else, and made a front of its changes; memory is wanting only where there is a root
-  pub record Stopped (before : Bus T O E) (old : Core) (port byte : ℕ) (stop : Stop) (now : Bus T O E) (new : Core) : Type 0 where
-    pub cut : (state : DeviceState) → StandsTo (asks_tree (action_of port)) before state
+  -- a write that stops has stored its byte and nothing else, and made a prefix of its changes; memory runs out only where there is a root
+  pub record WriteStopped (before : Bus T O E) (old : Core) (port byte : ℕ) (stop : Stop) (now : Bus T O E) (new : Core) : Type 0 where
+    pub cut : (state : DeviceState) → RepresentsTo (asks_tree (action_of port)) before state
         → StopsShort before now stop (effect state old port byte).changes
-    pub leaves : (state : DeviceState) → StandFor before.devices.now state
-        → Leaves (action_of port) (storing ((port, byte) ∷ []) state) (meaning.tree.state before.tree.now).told old now new
-    pub keeps : Keeps (asks_tree (action_of port)) before old now new
+    pub leaves : (state : DeviceState) → DevicesRepresent before.devices.now state
+        → Leaves (action_of port) (storing ((port, byte) ∷ []) state) (meaning.tree.state before.tree.now).contents old now new
+    pub keeps : KeepsBus (asks_tree (action_of port)) before old now new
     pub stored : (other : ℕ) → held now other ≡ (if other == port then byte else held before other)
     pub memory : stop ≡ NoMemory → HasRoot before.devices.now
-    pub names : stop ≡ NoMemory → WantsNames (action_of port) before.devices.now (meaning.tree.state before.tree.now).told
-    pub same : SameBus (told_on meaning.tree) before now
+    pub names : stop ≡ NoMemory → WantsNames (action_of port) before.devices.now (meaning.tree.state before.tree.now).contents
+    pub same : SameBus (contents_on meaning.tree) before now
 
   -- the rules of a bus's ports
   abbrev pub bus_rules : Rules (Bus T O E)
-  bus_rules = record { reads = Reads; wrote = Wrote; stopped = Stopped }
+  bus_rules = record { reads = ReadsPort; wrote = PortWrote; stopped = WriteStopped }
 
   -- what an action does once the byte is stored
-  pub record Acted (before : Bus T O E) (old : Core) (action : Action) (byte : ℕ) (now : Bus T O E) (new : Core) : Type 0 where
-    pub does : (state : DeviceState) → StandsTo (asks_tree action) before state
+  pub record PortActed (before : Bus T O E) (old : Core) (action : Action) (byte : ℕ) (now : Bus T O E) (new : Core) : Type 0 where
+    pub does : (state : DeviceState) → RepresentsTo (asks_tree action) before state
         → Does (asks_tree action) before now new (act action byte state old)
-    pub same : SameBus (told_on meaning.tree) before now
+    pub same : SameBus (contents_on meaning.tree) before now
 
   -- what an action leaves that stops
   pub record ActStopped (before : Bus T O E) (old : Core) (action : Action) (byte : ℕ) (stop : Stop) (now : Bus T O E) (new : Core)
       : Type 0 where
-    pub cut : (state : DeviceState) → StandsTo (asks_tree action) before state
+    pub cut : (state : DeviceState) → RepresentsTo (asks_tree action) before state
         → StopsShort before now stop (act action byte state old).changes
-    pub leaves : (state : DeviceState) → StandFor before.devices.now state
-        → Leaves action state (meaning.tree.state before.tree.now).told old now new
-    pub keeps : Keeps (asks_tree action) before old now new
+    pub leaves : (state : DeviceState) → DevicesRepresent before.devices.now state
+        → Leaves action state (meaning.tree.state before.tree.now).contents old now new
+    pub keeps : KeepsBus (asks_tree action) before old now new
     pub page : now.devices.now.page ≡ before.devices.now.page
     pub memory : stop ≡ NoMemory → HasRoot before.devices.now
-    pub names : stop ≡ NoMemory → WantsNames action before.devices.now (meaning.tree.state before.tree.now).told
-    pub same : SameBus (told_on meaning.tree) before now
+    pub names : stop ≡ NoMemory → WantsNames action before.devices.now (meaning.tree.state before.tree.now).contents
+    pub same : SameBus (contents_on meaning.tree) before now
 
   -- it did what it does, or it stopped
   abbrev pub ActEnds : Bus T O E → Core → Action → ℕ → Bus T O E → Core → Result (Unit {0}) Stop → Type 0
-  ActEnds before old action byte now new (Ok done) = Acted before old action byte now new
+  ActEnds before old action byte now new (Ok done) = PortActed before old action byte now new
   ActEnds before old action byte now new (Err stop) = ActStopped before old action byte stop now new

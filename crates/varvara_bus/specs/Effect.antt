@@ -1,6 +1,6 @@
 -- What a write to a port does (Varvara device reference).
 use Rattle.std.specs.Prelude.{ℕ, ◌==◌, Bool, true, false, List, [], ◌∷◌, ◌++◌, map, if◌then◌else◌}
-use Rattle.tree_io.specs.Outside.{Change, ToOut, ToErr}
+use Rattle.uxn_io_traits.specs.Outside.{Change, ToOut, ToErr}
 use Rattle.uxn_opcodes.specs.declared.Core.{Core}
 use Rattle.system_port.specs.Expansion.{expanded}
 use Rattle.system_port.specs.DebugText.{debug_text_of}
@@ -13,7 +13,7 @@ use Rattle.varvara_bus.specs.declared.ports.Voice.TheVariants.{First, Second, Th
 use Rattle.varvara_bus.specs.declared.ports.FileNumber.{FileNumber}
 use Rattle.varvara_bus.specs.declared.ports.FileNumber.TheVariants.{First as FirstFile, Second as SecondFile}
 use Rattle.varvara_bus.specs.declared.ports.FileAct.TheVariants.{Stat, Delete, Name, Read, Write}
-use Rattle.file_ports.specs.Actions.{Outcome}
+use Rattle.file_ports.specs.Actions.{FileOutcome}
 use Rattle.input_ports.specs.Page.{short_stores}
 use Rattle.screen_layers.specs.declared.Moved.{Moved}
 use Rattle.screen_layers.specs.Drawings.{moved_by_pixel, moved_by_sprite}
@@ -21,7 +21,7 @@ use Rattle.screen_layers.specs.Pictures.{after_pixel, after_sprite, resized}
 use Rattle.audio_mixer.specs.Sounds.{started_on}
 use Rattle.varvara_bus.specs.History.{Store, History, stored, stored_short}
 use Rattle.varvara_bus.specs.State.{DeviceState, storing}
-use Rattle.varvara_bus.specs.Voices.{number_of, base_of, note_at}
+use Rattle.varvara_bus.specs.Voices.{voice_number, base_of, note_at}
 use Rattle.varvara_bus.specs.FileActs.{file_outcome, file_acted}
 
 -- the ports whose write acts
@@ -91,12 +91,12 @@ y_in history = stored_short history 0x2a
 abbrev pub addr_in : History → ℕ
 addr_in history = stored_short history 0x2c
 
--- the screen is asked for the width that is stored, with the height that it has; or for the height, with its width
-abbrev pub width_asked : DeviceState → DeviceState
-width_asked state = record state { picture = resized state.picture (stored_short state.history 0x22) state.picture.height }
+-- the screen is requested the width that is stored, with the height that it has; or for the height, with its width
+abbrev pub width_requested : DeviceState → DeviceState
+width_requested state = record state { picture = resized state.picture (stored_short state.history 0x22) state.picture.height }
 
-abbrev pub height_asked : DeviceState → DeviceState
-height_asked state = record state { picture = resized state.picture state.picture.width (stored_short state.history 0x24) }
+abbrev pub height_requested : DeviceState → DeviceState
+height_requested state = record state { picture = resized state.picture state.picture.width (stored_short state.history 0x24) }
 
 -- a pixel is drawn at x and y, and the next x and y are stored
 abbrev pub places_stored : ℕ × ℕ → List Store
@@ -123,11 +123,11 @@ sprite_drawn control memory state =
 -- a voice starts the note that its ports hold
 abbrev pub note_started : Voice → DeviceState → DeviceState
 note_started voice state = record state {
-  sounds = started_on (number_of voice) (note_at state.history (base_of voice)) state.sounds;
+  sounds = started_on (voice_number voice) (note_at state.history (base_of voice)) state.sounds;
 }
 
 -- a file device has acted
-abbrev pub file_effect : FileNumber → Outcome → DeviceState → Core → Effect
+abbrev pub file_effect : FileNumber → FileOutcome → DeviceState → Core → Effect
 file_effect number outcome devices core = record {
   core = record core { memory = outcome.memory };
   devices = file_acted number outcome devices;
@@ -143,8 +143,8 @@ act SetsReturnPointer byte devices core = no_effect devices (record core { retur
 act PutsDebugText byte devices core = record (no_effect devices core) { changes = map (λ letter. ToErr letter) (debug_bytes byte core) }
 act PutsOut byte devices core = record (no_effect devices core) { changes = ToOut byte ∷ [] }
 act PutsErr byte devices core = record (no_effect devices core) { changes = ToErr byte ∷ [] }
-act AsksWidth byte devices core = no_effect (width_asked devices) core
-act AsksHeight byte devices core = no_effect (height_asked devices) core
+act AsksWidth byte devices core = no_effect (width_requested devices) core
+act AsksHeight byte devices core = no_effect (height_requested devices) core
 act DrawsPixel byte devices core = no_effect (pixel_drawn byte devices) core
 act DrawsSprite byte devices core = no_effect (sprite_drawn byte core.memory devices) core
 act (StartsNote voice) byte devices core = no_effect (note_started voice devices) core

@@ -2,11 +2,11 @@
 use Rattle.std.specs.Prelude.{◌≡◌, ◌≢◌, ℕ, Bool, true, false, List, [], ◌∷◌, ◌++◌, Option, Some}
 use Rattle.std.specs.Prelude.{None, is_some, IsTrue, IfSome, Err, refl}
 use Rattle.std.proofs.Common.{ap, sym, ◌∙◌}
-use Rattle.tree_io.specs.Files.{Nodes, kind_at}
-use Rattle.tree_io.specs.declared.trees.Kind.TheVariants.{Folder}
+use Rattle.uxn_io_traits.specs.Files.{Nodes, kind_at}
+use Rattle.uxn_io_traits.specs.declared.trees.Kind.TheVariants.{Folder}
 use Rattle.file_ports.specs.Device.{FileState, suits, Suits}
 use Rattle.file_ports.specs.RootPart.{below}
-use Rattle.file_ports.specs.PartLaws.{seen-same}
+use Rattle.file_ports.specs.PartLaws.{observed-same}
 use Rattle.file_ports.specs.ActLaws.{rootless}
 use Rattle.uxn_opcodes.specs.declared.Core.{Core}
 use Rattle.uxn_opcodes.specs.declared.Stop.TheVariants.{NoMemory}
@@ -19,13 +19,13 @@ use Rattle.varvara_bus.specs.declared.ports.Action.{Action}
 use Rattle.varvara_bus.specs.declared.ports.Action.TheVariants.{ActsOnFile}
 use Rattle.varvara_bus.specs.declared.ports.FileNumber.{FileNumber}
 use Rattle.varvara_bus.specs.declared.ports.FileAct.TheVariants.{Read}
-use Rattle.varvara_bus.specs.State.{DeviceState, StandFor, HasFiles}
+use Rattle.varvara_bus.specs.State.{DeviceState, DevicesRepresent, HasFiles}
 use Rattle.varvara_bus.specs.FileActs.{file_in}
 use Rattle.varvara_bus.specs.Effect.{action_of}
 use Rattle.varvara_bus.specs.Model.{varvara}
-use Rattle.varvara_bus.specs.Bus.{Meaning, BusStandsFor, WantsFolder, WantsNames, bus_rules, told_on}
+use Rattle.varvara_bus.specs.Bus.{BusModel, BusRepresents, WantsFolder, WantsNames, bus_rules, contents_on}
 use Rattle.varvara_bus.specs.Laws.{held-file, suits-file}
-use Rattle.varvara_bus.specs.InstructionLaws.{StandsSince, carries, starts, goes-on}
+use Rattle.varvara_bus.specs.InstructionLaws.{RepresentsSince, carries, starts, goes-on}
 
 -- an action takes the names of a folder where a file device reads that is not reading yet, and whose path is a folder's
 pub record TakesNames (action : Action) (devices : DeviceState) : Type 0 where
@@ -53,11 +53,11 @@ folder-in : (root path : Option (List ℕ)) (nodes : Nodes) → IsTrue (suits ro
     → IfSome path (λ p. kind_at nodes p ≡ Folder) → IfSome path (λ p. kind_at (below root nodes) p ≡ Folder)
 folder-in root None nodes in_root is = tt
 folder-in None (Some path) nodes in_root is = cc
-folder-in (Some root) (Some path) nodes in_root is = ap (λ seen. seen.kind) (seen-same root path nodes in_root) ∙ is
+folder-in (Some root) (Some path) nodes in_root is = ap (λ observed. observed.kind) (observed-same root path nodes in_root) ∙ is
 
--- so memory is wanting for the names that are seen in the root part
-wants-in : (root : Option (List ℕ)) (part : Nodes) (parent : Bool) (device : FileState) (told : Option Nodes) → Suits root device
-    → HasFiles told root part parent → WantsFolder device told → WantsFolder device (Some part)
+-- so memory runs out for the names that are observed in the root part
+wants-in : (root : Option (List ℕ)) (part : Nodes) (parent : Bool) (device : FileState) (contents : Option Nodes) → Suits root device
+    → HasFiles contents root part parent → WantsFolder device contents → WantsFolder device (Some part)
 wants-in root part parent device None in_root has wants =
     let none = rootless device (rw has.0 at in_root) in
     let no : false ≡ true = sym (ap is_some none) ∙ wants.named in
@@ -67,22 +67,22 @@ wants-in root part parent device (Some nodes) in_root has wants = record {
   names = record { looks = wants.names.looks; folder = rw has.0 (folder-in root device.path nodes in_root wants.names.folder) };
 }
 
-takes-in : (action : Action) (held : Devices) (told : Option Nodes) (devices : DeviceState) → StandFor held devices
-    → HasFiles told devices.root devices.part devices.parent → WantsNames action held told → TakesNames action devices
-takes-in action held told devices stands has wants = record {
+takes-in : (action : Action) (held : Devices) (contents : Option Nodes) (devices : DeviceState) → DevicesRepresent held devices
+    → HasFiles contents devices.root devices.part devices.parent → WantsNames action held contents → TakesNames action devices
+takes-in action held contents devices stands has wants = record {
   number = wants.number;
   reads = wants.reads;
-  folder = wants-in devices.root devices.part devices.parent (file_in wants.number devices) told
+  folder = wants-in devices.root devices.part devices.parent (file_in wants.number devices) contents
       (suits-file wants.number held devices stands) has (rw (held-file wants.number held devices stands) at wants.folder);
 }
 
-module _ {T O E : Type 0} (meaning : Meaning T O E) where
-  -- an instruction for which memory was wanting takes the names of a folder, in each state that the bus stood for
+module _ {T O E : Type 0} (meaning : BusModel T O E) where
+  -- an instruction for which memory ran out takes the names of a folder, in each state that the bus represented
   pub instruction-names : (core core_new : Core) (before now : Bus T O E) (devices : DeviceState)
-      → BusStandsFor (told_on meaning.tree) before devices → Instruction (bus_rules meaning) core before (Err NoMemory) core_new now
+      → BusRepresents (contents_on meaning.tree) before devices → Instruction (bus_rules meaning) core before (Err NoMemory) core_new now
       → InstructionTakesNames devices core
   instruction-names core core_new before now devices stands stopped =
-      let at = carried-stopped (bus_rules meaning) (StandsSince meaning before) varvara (carries meaning before) core before
+      let at = carried-stopped (bus_rules meaning) (RepresentsSince meaning before) varvara (carries meaning before) core before
       (record { devices = devices; changes = [] }) NoMemory core_new now (starts meaning before devices stands) stopped in
       record {
         before = at.before;
@@ -91,6 +91,6 @@ module _ {T O E : Type 0} (meaning : Meaning T O E) where
         after = at.after;
         goes_on = goes-on meaning core core_new before now NoMemory stopped;
         in_order = at.in_order;
-        takes = takes-in (action_of at.port) at.ports.devices.now (meaning.tree.state at.ports.tree.now).told
+        takes = takes-in (action_of at.port) at.ports.devices.now (meaning.tree.state at.ports.tree.now).contents
             (devices_after at.before devices core) at.same_ports.devices.devices at.same_ports.devices.files (at.stops.names refl);
       }

@@ -4,12 +4,12 @@ use Rattle.std.specs.Prelude.{Err, refl}
 use Rattle.std.proofs.Common.{ap, sym, ◌∙◌, append_assoc, inl, inr, arith}
 use Rattle.std.proofs.lemmas.Bool.Decides.{nat_tests}
 use Rattle.std.proofs.lemmas.List.{append-nil}
-use Rattle.tree_io.specs.Files.{Nodes}
+use Rattle.uxn_io_traits.specs.Files.{Nodes}
 use Rattle.std.specs.Option.{option_map}
-use Rattle.tree_io.specs.Outside.{Change, World, changed_by, files_by}
-use Rattle.tree_io.specs.ChangeLaws.{changed_by-append, cut-first, cut-later}
-use Rattle.tree_io.specs.ChangeLaws.{files-told}
-use Rattle.tree_io.specs.TakingLaws.{remains-all, remains-both, not-sure-first, not-sure-later}
+use Rattle.uxn_io_traits.specs.Outside.{Change, World, changed_by, files_by}
+use Rattle.uxn_io_traits.specs.ChangeLaws.{changed_by-append, cut-first, cut-later}
+use Rattle.uxn_io_traits.specs.ChangeLaws.{files-contents}
+use Rattle.uxn_io_traits.specs.TakingLaws.{remains-all, remains-both, not-guaranteed-first, not-guaranteed-later}
 use Rattle.uxn_opcodes.specs.declared.Core.{Core}
 use Rattle.uxn_opcodes.specs.declared.Stop.{Stop}
 use Rattle.uxn_opcodes.specs.declared.Stop.TheVariants.{NoMemory}
@@ -17,10 +17,10 @@ use Rattle.uxn_opcodes.specs.declared.Turn.{Turn}
 use Rattle.uxn_opcodes.specs.declared.Turn.TheVariants.{Ran, Broke}
 use Rattle.uxn_opcodes.specs.declared.rows.Access.{Access}
 use Rattle.uxn_opcodes.specs.declared.rows.Access.TheVariants.{Nothing, Read, Write}
-use Rattle.uxn_opcodes.specs.Ports.{blame_of}
+use Rattle.uxn_opcodes.specs.Ports.{result_blame}
 use Rattle.uxn_opcodes.specs.Rule.{opcode_at, begun}
-use Rattle.uxn_opcodes.specs.Instruction.{Written, WriteStops, writes_of, Finishes, Stops, Instruction}
-use Rattle.uxn_opcodes.specs.Model.{Machine, Carries, StandsAt, StopsAt, after_instruction, access_done, written_by}
+use Rattle.uxn_opcodes.specs.Instruction.{Written, WriteStops, writes_of, FinishesAccess, StopsInAccess, Instruction}
+use Rattle.uxn_opcodes.specs.Model.{Machine, Carries, RepresentsMachine, MachineStopsAt, after_instruction, access_done, written_by}
 use Rattle.uxn_opcodes.specs.Model.{writes_in, carried-ran, carried-broke, carried-stopped}
 use Rattle.varvara_bus.specs.declared.bus.Bus.{Bus}
 use Rattle.varvara_bus.specs.declared.ports.Action.{Action}
@@ -29,8 +29,8 @@ use Rattle.varvara_bus.specs.declared.ports.Action.TheVariants.{PutsDebugText, P
 use Rattle.varvara_bus.specs.declared.ports.Action.TheVariants.{AsksWidth, AsksHeight, DrawsPixel, DrawsSprite, StartsNote, ActsOnFile}
 use Rattle.varvara_bus.specs.State.{DeviceState, HasFiles, storing}
 use Rattle.varvara_bus.specs.Effect.{action_of, asks_tree, act, effect}
-use Rattle.varvara_bus.specs.Bus.{SameBus, BusStandsFor, HasRoot, Meaning, outside_on, Makes, StopsShort, HasEffect, told_on}
-use Rattle.varvara_bus.specs.Bus.{StandsTo, ComesTo, Wrote, bus_rules}
+use Rattle.varvara_bus.specs.Bus.{SameBus, BusRepresents, HasRoot, BusModel, outside_on, Makes, StopsShort, HasEffect, contents_on}
+use Rattle.varvara_bus.specs.Bus.{RepresentsTo, ComesTo, PortWrote, bus_rules}
 use Rattle.varvara_bus.specs.Model.{Devised, varvara, instruction_effect}
 
 -- writes only add to the changes made so far
@@ -99,24 +99,24 @@ changes-then devices core first after port byte goes_on in_order =
     }
 
 -- the same over nothing, and over two steps
-pub same-itself : {T O E : Type 0} (told_tree : T → Option Nodes) (bus : Bus T O E) → SameBus told_tree bus bus
-same-itself told_tree bus = record {
-  lent = record { devices = refl; tree = refl; out = refl; err = refl };
+pub same-itself : {T O E : Type 0} (contents_of_tree : T → Option Nodes) (bus : Bus T O E) → SameBus contents_of_tree bus bus
+same-itself contents_of_tree bus = record {
+  borrowed = record { devices = refl; tree = refl; out = refl; err = refl };
   files = record { stays = λ path outside there. there };
   frames = refl;
   clock = refl;
   root = refl;
 }
 
-pub same-again : {T O E : Type 0} (told_tree : T → Option Nodes) (a b c : Bus T O E) → SameBus told_tree a b → SameBus told_tree b c
-    → SameBus told_tree a c
-same-again told_tree a b c p q = record {
-  lent = record {
-    devices = q.lent.devices ∙ p.lent.devices;
-    tree = q.lent.tree ∙ p.lent.tree;
-    out = q.lent.out
-        ∙ p.lent.out;
-    err = q.lent.err ∙ p.lent.err;
+pub same-again : {T O E : Type 0} (contents_of_tree : T → Option Nodes) (a b c : Bus T O E) → SameBus contents_of_tree a b → SameBus contents_of_tree b c
+    → SameBus contents_of_tree a c
+same-again contents_of_tree a b c p q = record {
+  borrowed = record {
+    devices = q.borrowed.devices ∙ p.borrowed.devices;
+    tree = q.borrowed.tree ∙ p.borrowed.tree;
+    out = q.borrowed.out
+        ∙ p.borrowed.out;
+    err = q.borrowed.err ∙ p.borrowed.err;
   };
   files = record { stays = λ path outside there. (rw p.root at q.files).stays path outside (p.files.stays path outside there) };
   frames = q.frames ∙ p.frames;
@@ -124,76 +124,76 @@ same-again told_tree a b c p q = record {
   root = q.root ∙ p.root;
 }
 
-module _ {T O E : Type 0} (meaning : Meaning T O E) where
+module _ {T O E : Type 0} (meaning : BusModel T O E) where
   -- no changes were made
   pub makes-none : (bus : Bus T O E) → Makes meaning bus bus []
-  makes-none bus = record { world = refl; remains = remains-all (outside_on meaning bus).sure (meaning.tree.state bus.tree.now).told }
+  makes-none bus = record { world = refl; remains = remains-all (outside_on meaning bus).guaranteed (meaning.tree.state bus.tree.now).contents }
 
-  -- what the tree tells once changes were made
-  told-now : (before now : Bus T O E) (changes : List Change) → Makes meaning before now changes
-      → (told_on meaning.tree) now.tree.now ≡ option_map (λ nodes. files_by nodes changes) (meaning.tree.state before.tree.now).told
-  told-now before now changes makes = ap (λ (w : World). w.files) makes.world ∙ files-told (outside_on meaning before).world changes
+  -- the known contents of the tree once changes were made
+  contents-now : (before now : Bus T O E) (changes : List Change) → Makes meaning before now changes
+      → (contents_on meaning.tree) now.tree.now ≡ option_map (λ nodes. files_by nodes changes) (meaning.tree.state before.tree.now).contents
+  contents-now before now changes makes = ap (λ (w : World). w.files) makes.world ∙ files-contents (outside_on meaning before).world changes
 
   -- some, and then more
   pub makes-both : (before middle now : Bus T O E) (first more : List Change) → Makes meaning before middle first
       → Makes meaning middle now more → Makes meaning before now (first ++ more)
   makes-both before middle now first more p q = record {
     world = q.world ∙ ap (λ w. changed_by w more) p.world ∙ sym (changed_by-append (outside_on meaning before).world first more);
-    remains = remains-both (outside_on meaning before).sure (outside_on meaning middle).sure (outside_on meaning now).sure
-        (meaning.tree.state before.tree.now).told first more p.remains (rw (told-now before middle first p) at q.remains);
+    remains = remains-both (outside_on meaning before).guaranteed (outside_on meaning middle).guaranteed (outside_on meaning now).guaranteed
+        (meaning.tree.state before.tree.now).contents first more p.remains (rw (contents-now before middle first p) at q.remains);
   }
 
-  -- a front of them, or all of them and then a front of more
+  -- a prefix of them, or all of them and then a prefix of more
   pub stops-first : (before now : Bus T O E) (stop : Stop) (first more : List Change) → StopsShort meaning before now stop first
       → StopsShort meaning before now stop (first ++ more)
   stops-first before now stop first more short = record {
     cut = cut-first (outside_on meaning before).world (outside_on meaning now).world first more short.cut;
-    not_sure = not-sure-first (blame_of {T = Unit {0}} (Err stop)) (outside_on meaning before).sure (meaning.tree.state before.tree.now).told
-        first more short.not_sure;
+    not_guaranteed = not-guaranteed-first (result_blame {T = Unit {0}} (Err stop)) (outside_on meaning before).guaranteed (meaning.tree.state before.tree.now).contents
+        first more short.not_guaranteed;
   }
 
   pub stops-later : (before middle now : Bus T O E) (stop : Stop) (first more : List Change) → Makes meaning before middle first
       → StopsShort meaning middle now stop more → StopsShort meaning before now stop (first ++ more)
   stops-later before middle now stop first more p short = record {
     cut = cut-later (outside_on meaning before).world (outside_on meaning middle).world (outside_on meaning now).world first more p.world short.cut;
-    not_sure = not-sure-later (blame_of {T = Unit {0}} (Err stop)) (outside_on meaning before).sure (outside_on meaning middle).sure
-        (meaning.tree.state before.tree.now).told first more p.remains (rw (told-now before middle first p) at short.not_sure);
+    not_guaranteed = not-guaranteed-later (result_blame {T = Unit {0}} (Err stop)) (outside_on meaning before).guaranteed (outside_on meaning middle).guaranteed
+        (meaning.tree.state before.tree.now).contents first more p.remains (rw (contents-now before middle first p) at short.not_guaranteed);
   }
 
-  -- a bus stands to act from what it stands for, and then it stands for what is left
-  stands-to : (asks : Bool) (bus : Bus T O E) (state : DeviceState) → BusStandsFor (told_on meaning.tree) bus state
-      → StandsTo meaning asks bus state
+  -- a bus stands to act from what it represents, and then it represents what is left
+  stands-to : (asks : Bool) (bus : Bus T O E) (state : DeviceState) → BusRepresents (contents_on meaning.tree) bus state
+      → RepresentsTo meaning asks bus state
   stands-to true bus state stands = stands
   stands-to false bus state stands = stands.devices
 
   -- what asks nothing of the tree leaves the root part of a state
-  files-left : (action : Action) (byte : ℕ) (state : DeviceState) (core : Core) (told : Option Nodes) → asks_tree action ≡ false
-      → HasFiles told state.root state.part state.parent
-      → HasFiles told (act action byte state core).devices.root (act action byte state core).devices.part
+  files-left : (action : Action) (byte : ℕ) (state : DeviceState) (core : Core) (contents : Option Nodes) → asks_tree action ≡ false
+      → HasFiles contents state.root state.part state.parent
+      → HasFiles contents (act action byte state core).devices.root (act action byte state core).devices.part
       (act action byte state core).devices.parent
-  files-left Stores byte state core told none has = has
-  files-left Expands byte state core told none has = has
-  files-left SetsWorkingPointer byte state core told none has = has
-  files-left SetsReturnPointer byte state core told none has = has
-  files-left PutsDebugText byte state core told none has = has
-  files-left PutsOut byte state core told none has = has
-  files-left PutsErr byte state core told none has = has
-  files-left AsksWidth byte state core told none has = has
-  files-left AsksHeight byte state core told none has = has
-  files-left DrawsPixel byte state core told none has = has
-  files-left DrawsSprite byte state core told none has = has
-  files-left (StartsNote voice) byte state core told none has = has
-  files-left (ActsOnFile number part) byte state core told none has = cc
+  files-left Stores byte state core contents none has = has
+  files-left Expands byte state core contents none has = has
+  files-left SetsWorkingPointer byte state core contents none has = has
+  files-left SetsReturnPointer byte state core contents none has = has
+  files-left PutsDebugText byte state core contents none has = has
+  files-left PutsOut byte state core contents none has = has
+  files-left PutsErr byte state core contents none has = has
+  files-left AsksWidth byte state core contents none has = has
+  files-left AsksHeight byte state core contents none has = has
+  files-left DrawsPixel byte state core contents none has = has
+  files-left DrawsSprite byte state core contents none has = has
+  files-left (StartsNote voice) byte state core contents none has = has
+  files-left (ActsOnFile number part) byte state core contents none has = cc
 
   comes-to : (asks : Bool) (before now : Bus T O E) (state : DeviceState) → ComesTo meaning asks before now state
-      → (asks ≡ false → HasFiles (meaning.tree.state before.tree.now).told state.root state.part state.parent)
-      → BusStandsFor (told_on meaning.tree) now state
+      → (asks ≡ false → HasFiles (meaning.tree.state before.tree.now).contents state.root state.part state.parent)
+      → BusRepresents (contents_on meaning.tree) now state
   comes-to true before now state come files = come
   comes-to false before now state come files = record { devices = come.0; files = rw come.1 (files refl) }
 
-  -- so a write has its effect, from each state that the bus stood for
-  pub wrote-effect : (before now : Bus T O E) (core core_new : Core) (port byte : ℕ) → Wrote meaning before core port byte now core_new
-      → (state : DeviceState) → BusStandsFor (told_on meaning.tree) before state
+  -- so a write has its effect, from each state that the bus represented
+  pub wrote-effect : (before now : Bus T O E) (core core_new : Core) (port byte : ℕ) → PortWrote meaning before core port byte now core_new
+      → (state : DeviceState) → BusRepresents (contents_on meaning.tree) before state
       → HasEffect meaning before now core_new (effect state core port byte)
   unfolding effect
   wrote-effect before now core core_new port byte wrote state stands =
@@ -203,16 +203,16 @@ module _ {T O E : Type 0} (meaning : Meaning T O E) where
         core = done.core;
         devices = comes-to asks before now (effect state core port byte).devices done.devices
             (λ none. files-left (action_of port) byte (storing ((port, byte) ∷ []) state) core
-            (meaning.tree.state before.tree.now).told none stands.files);
+            (meaning.tree.state before.tree.now).contents none stands.files);
         makes = done.makes;
       }
 
   -- since a bus stood so, its devices became these, and these changes were made
-  pub record StandsSince (start now : Bus T O E) (so_far : Devised) : Type 0 where
-    pub devices : BusStandsFor (told_on meaning.tree) now so_far.devices
+  pub record RepresentsSince (start now : Bus T O E) (so_far : Devised) : Type 0 where
+    pub devices : BusRepresents (contents_on meaning.tree) now so_far.devices
     pub makes : Makes meaning start now so_far.changes
 
-  pub carries : (start : Bus T O E) → Carries (bus_rules meaning) (StandsSince start) varvara
+  pub carries : (start : Bus T O E) → Carries (bus_rules meaning) (RepresentsSince start) varvara
   carries start = record {
     reading = λ now so_far core port value stands reads. reads so_far.devices stands.devices.devices;
     writing = λ now so_far core port byte after core_after stands wrote.
@@ -226,25 +226,25 @@ module _ {T O E : Type 0} (meaning : Meaning T O E) where
         };
   }
 
-  pub starts : (start : Bus T O E) (devices : DeviceState) → BusStandsFor (told_on meaning.tree) start devices
-      → StandsSince start start (record { devices = devices; changes = [] })
+  pub starts : (start : Bus T O E) (devices : DeviceState) → BusRepresents (contents_on meaning.tree) start devices
+      → RepresentsSince start start (record { devices = devices; changes = [] })
   starts start devices stands = record { devices = stands; makes = makes-none start }
 
   carried : (before : Bus T O E) (core core_new : Core) (now : Bus T O E) (turn : Turn) (devices : DeviceState)
-      → BusStandsFor (told_on meaning.tree) before devices
+      → BusRepresents (contents_on meaning.tree) before devices
       → Instruction (bus_rules meaning) core before (Ok turn) core_new now
-      → StandsAt (bus_rules meaning) (StandsSince before) varvara core_new now (after_instruction varvara core
+      → RepresentsMachine (bus_rules meaning) (RepresentsSince before) varvara core_new now (after_instruction varvara core
       (record { devices = devices; changes = [] }))
   carried before core core_new now Ran devices stands ran =
-      carried-ran (bus_rules meaning) (StandsSince before) varvara (carries before) core before
+      carried-ran (bus_rules meaning) (RepresentsSince before) varvara (carries before) core before
       (record { devices = devices; changes = [] }) core_new now (starts before devices stands) ran
   carried before core core_new now Broke devices stands ran =
-      carried-broke (bus_rules meaning) (StandsSince before) varvara core before
+      carried-broke (bus_rules meaning) (RepresentsSince before) varvara core before
       (record { devices = devices; changes = [] }) core_new now (starts before devices stands) ran
 
-  -- an instruction that ran over a bus has its effect, from each state that the bus stood for
+  -- an instruction that ran over a bus has its effect, from each state that the bus represented
   pub instruction-done : (core core_new : Core) (before now : Bus T O E) (turn : Turn) (devices : DeviceState)
-      → BusStandsFor (told_on meaning.tree) before devices → Instruction (bus_rules meaning) core before (Ok turn) core_new now
+      → BusRepresents (contents_on meaning.tree) before devices → Instruction (bus_rules meaning) core before (Ok turn) core_new now
       → HasEffect meaning before now core_new (instruction_effect devices core)
   unfolding instruction_effect
   instruction-done core core_new before now turn devices stands ran =
@@ -256,9 +256,9 @@ module _ {T O E : Type 0} (meaning : Meaning T O E) where
   unfolding Instruction
   goes-on core core_new before now stop stopped = stopped.0
 
-  -- one that stopped at a write, after others, has made a front of its changes
+  -- one that stopped at a write, after others, has made a prefix of its changes
   stopped-at : (before now : Bus T O E) (core core_new : Core) (stop : Stop) (devices : DeviceState) → opcode_at core ≢ 0
-      → StopsAt (bus_rules meaning) (StandsSince before) varvara (writes_in (begun core).access) (begins_with devices core)
+      → MachineStopsAt (bus_rules meaning) (RepresentsSince before) varvara (writes_in (begun core).access) (begins_with devices core)
       stop core_new now
       → StopsShort meaning before now stop (instruction_effect devices core).changes
   stopped-at before now core core_new stop devices other at =
@@ -272,62 +272,62 @@ module _ {T O E : Type 0} (meaning : Meaning T O E) where
       (stands-to (asks_tree (action_of at.port)) at.ports (reached_by devices core at.before).ports.devices at.same_ports.devices))))
 
   pub instruction-cut : (core core_new : Core) (before now : Bus T O E) (stop : Stop) (devices : DeviceState)
-      → BusStandsFor (told_on meaning.tree) before devices → Instruction (bus_rules meaning) core before (Err stop) core_new now
+      → BusRepresents (contents_on meaning.tree) before devices → Instruction (bus_rules meaning) core before (Err stop) core_new now
       → StopsShort meaning before now stop (instruction_effect devices core).changes
   instruction-cut core core_new before now stop devices stands stopped =
       stopped-at before now core core_new stop devices (goes-on core core_new before now stop stopped)
-      (carried-stopped (bus_rules meaning) (StandsSince before) varvara (carries before) core before
+      (carried-stopped (bus_rules meaning) (RepresentsSince before) varvara (carries before) core before
       (record { devices = devices; changes = [] }) stop core_new now (starts before devices stands) stopped)
 
-  -- whatever became of an instruction, the same four are lent, and memory was wanting only where there is a root
-  same-root : (before now : Bus T O E) → SameBus (told_on meaning.tree) before now → HasRoot now.devices.now → HasRoot before.devices.now
+  -- whatever became of an instruction, the same four are borrowed, and memory ran out only where there is a root
+  same-root : (before now : Bus T O E) → SameBus (contents_on meaning.tree) before now → HasRoot now.devices.now → HasRoot before.devices.now
   same-root before now same has = rw same.root at has
 
-  unchanged : (before now : Bus T O E) → now ≡ before → SameBus (told_on meaning.tree) before now
-  unchanged before now is = rw is (same-itself (told_on meaning.tree) before)
+  unchanged : (before now : Bus T O E) → now ≡ before → SameBus (contents_on meaning.tree) before now
+  unchanged before now is = rw is (same-itself (contents_on meaning.tree) before)
 
   written-same : (writes : List (ℕ × ℕ)) (before : Bus T O E) (core : Core) (now : Bus T O E) (core_new : Core)
-      → Written (bus_rules meaning) writes before core now core_new → SameBus (told_on meaning.tree) before now
+      → Written (bus_rules meaning) writes before core now core_new → SameBus (contents_on meaning.tree) before now
   written-same [] before core now core_new written = unchanged before now written.0
   written-same (write ∷ writes) before core now core_new written =
-      same-again (told_on meaning.tree) before written.0 now written.1.1.0.same (written-same writes written.0 written.1.0 now core_new written.1.1.1)
+      same-again (contents_on meaning.tree) before written.0 now written.1.1.0.same (written-same writes written.0 written.1.0 now core_new written.1.1.1)
 
   stopped-same : (writes : List (ℕ × ℕ)) (before : Bus T O E) (core : Core) (stop : Stop) (now : Bus T O E) (core_new : Core)
       → WriteStops (bus_rules meaning) writes before core stop now core_new
-      → SameBus (told_on meaning.tree) before now × (stop ≡ NoMemory → HasRoot before.devices.now)
+      → SameBus (contents_on meaning.tree) before now × (stop ≡ NoMemory → HasRoot before.devices.now)
   stopped-same [] before core stop now core_new stopped = absurd stopped
   stopped-same (write ∷ writes) before core stop now core_new stopped = elim stopped [
     | inl here ↦ (here.same, here.memory)
     | inr later ↦
         let rest = stopped-same writes later.0 later.1.0 stop now core_new later.1.1.1 in (
-          same-again (told_on meaning.tree) before later.0 now later.1.1.0.same rest.0,
+          same-again (contents_on meaning.tree) before later.0 now later.1.1.0.same rest.0,
           λ wanting. same-root before later.0 later.1.1.0.same (rest.1 wanting),
         )
   ]
 
   finishes-same : (access : Access) (core core_new : Core) (before now : Bus T O E)
-      → Finishes (bus_rules meaning) access core before core_new now → SameBus (told_on meaning.tree) before now
-  unfolding Finishes
+      → FinishesAccess (bus_rules meaning) access core before core_new now → SameBus (contents_on meaning.tree) before now
+  unfolding FinishesAccess
   finishes-same Nothing core core_new before now done = unchanged before now done.1
   finishes-same (Read port mode) core core_new before now done = unchanged before now done.0
   finishes-same (Write port width value) core core_new before now done = written-same
       (writes_of width port value) before core now core_new done
 
   stops-same : (access : Access) (core : Core) (stop : Stop) (core_new : Core) (before now : Bus T O E)
-      → Stops (bus_rules meaning) access core before stop core_new now
-      → SameBus (told_on meaning.tree) before now × (stop ≡ NoMemory → HasRoot before.devices.now)
-  unfolding Stops
+      → StopsInAccess (bus_rules meaning) access core before stop core_new now
+      → SameBus (contents_on meaning.tree) before now × (stop ≡ NoMemory → HasRoot before.devices.now)
+  unfolding StopsInAccess
   stops-same Nothing core stop core_new before now stopped = absurd stopped
   stops-same (Read port mode) core stop core_new before now stopped = absurd stopped
   stops-same (Write port width value) core stop core_new before now stopped = stopped-same
       (writes_of width port value) before core stop now core_new stopped
 
-  pub instruction-lent : (core core_new : Core) (before now : Bus T O E) (result : Result Turn Stop)
-      → Instruction (bus_rules meaning) core before result core_new now → SameBus (told_on meaning.tree) before now
+  pub instruction-borrowed : (core core_new : Core) (before now : Bus T O E) (result : Result Turn Stop)
+      → Instruction (bus_rules meaning) core before result core_new now → SameBus (contents_on meaning.tree) before now
   unfolding Instruction
-  instruction-lent core core_new before now (Ok Broke) done = unchanged before now done.2
-  instruction-lent core core_new before now (Ok Ran) done = finishes-same (begun core).access (begun core).core core_new before now done.1
-  instruction-lent core core_new before now (Err stop) done = (stops-same (begun core).access
+  instruction-borrowed core core_new before now (Ok Broke) done = unchanged before now done.2
+  instruction-borrowed core core_new before now (Ok Ran) done = finishes-same (begun core).access (begun core).core core_new before now done.1
+  instruction-borrowed core core_new before now (Err stop) done = (stops-same (begun core).access
       (begun core).core stop core_new before now done.1).0
 
   pub instruction-fault : (core core_new : Core) (before now : Bus T O E) (stop : Stop)

@@ -9,13 +9,13 @@ use Rattle.std.proofs.lemmas.List.{get_or_past, get_or-replicate, length-replica
 use Rattle.input_ports.specs.declared.Input.{Input}
 use Rattle.input_ports.specs.declared.Input.TheVariants.{Key, Down, Up, Mouse, Press, Release, Scroll, DownOf, UpOf}
 use Rattle.input_ports.specs.Page.{buttons_port, bits_set, bits_cleared, with_bits, without_bits, stores_of, stores_after, with_stores}
-use Rattle.tree_io.specs.Files.{Nodes}
-use Rattle.tree_io.specs.Outside.{ToFile, files_by}
+use Rattle.uxn_io_traits.specs.Files.{Nodes}
+use Rattle.uxn_io_traits.specs.Outside.{ToFile, files_by}
 use Rattle.varvara_bus.specs.Bus.{file_held}
 use Rattle.file_ports.specs.Device.{suits, Suits}
 use Rattle.varvara_bus.specs.declared.devices.Devices.{Devices}
 use Rattle.varvara_bus.specs.History.{Store, at_first, stored}
-use Rattle.varvara_bus.specs.State.{DeviceState, storing, StandFor}
+use Rattle.varvara_bus.specs.State.{DeviceState, storing, DevicesRepresent}
 use Rattle.varvara_bus.specs.declared.ports.FileNumber.{FileNumber}
 use Rattle.varvara_bus.specs.declared.ports.FileNumber.TheVariants.{First as FirstFile, Second as SecondFile}
 use Rattle.varvara_bus.specs.FileActs.{file_in, piece_appended}
@@ -25,9 +25,9 @@ pub found : (page : List ℕ) (place byte port : ℕ) → place < length page
     → slice_index (slice_set page place byte) port ≡ (if port == place then byte else slice_index page port)
 found page place byte port within = grind (arith, nat_tests, common_steps)
 
--- devices with one more byte stored stand for the state with one more store
-pub stand-stored : (devices : Devices) (state : DeviceState) (port byte : ℕ) → port < length devices.page → StandFor devices state
-    → StandFor (record devices { page = slice_set devices.page port byte }) (storing ((port, byte) ∷ []) state)
+-- devices with one more byte stored represent the state with one more store
+pub stand-stored : (devices : Devices) (state : DeviceState) (port byte : ℕ) → port < length devices.page → DevicesRepresent devices state
+    → DevicesRepresent (record devices { page = slice_set devices.page port byte }) (storing ((port, byte) ∷ []) state)
 stand-stored devices state port byte within stands = record {
   page = λ p. found devices.page port byte p within ∙ ap (λ held. if p == port then byte else held) (stands.page p);
   screen = stands.screen;
@@ -41,7 +41,7 @@ stand-stored devices state port byte within stands = record {
 -- it does not matter how the file devices are known to suit the root
 pub stand-suited : (devices : Devices) (state : DeviceState)
     (one : Suits devices.root devices.first_file) (other : Suits devices.root devices.second_file)
-    → StandFor devices state → StandFor (record devices { first_suits = one; second_suits = other }) state
+    → DevicesRepresent devices state → DevicesRepresent (record devices { first_suits = one; second_suits = other }) state
 stand-suited devices state one other stands = record {
   page = stands.page;
   screen = stands.screen;
@@ -53,8 +53,8 @@ stand-suited devices state one other stands = record {
 }
 
 -- nor what lies in the root part
-pub stand-part : (devices : Devices) (state : DeviceState) (part : Nodes) → StandFor devices state
-    → StandFor devices (record state { part = part })
+pub stand-part : (devices : Devices) (state : DeviceState) (part : Nodes) → DevicesRepresent devices state
+    → DevicesRepresent devices (record state { part = part })
 stand-part devices state part stands = record {
   page = stands.page;
   screen = stands.screen;
@@ -66,12 +66,12 @@ stand-part devices state part stands = record {
 }
 
 -- the file devices that are held are those of the state, and suit its root
-pub held-file : (number : FileNumber) (devices : Devices) (state : DeviceState) → StandFor devices state
+pub held-file : (number : FileNumber) (devices : Devices) (state : DeviceState) → DevicesRepresent devices state
     → file_held number devices ≡ file_in number state
 held-file FirstFile devices state stands = stands.files.first
 held-file SecondFile devices state stands = stands.files.second
 
-pub suits-file : (number : FileNumber) (devices : Devices) (state : DeviceState) → StandFor devices state
+pub suits-file : (number : FileNumber) (devices : Devices) (state : DeviceState) → DevicesRepresent devices state
     → Suits state.root (file_in number state)
 suits-file FirstFile devices state stands = stands.files.first_suits
 suits-file SecondFile devices state stands = stands.files.second_suits
@@ -89,8 +89,8 @@ AreAtPorts (store ∷ stores) = (store.0 < 256) × AreAtPorts stores
 
 -- the same for bytes stored one after the other
 pub stand-storing : (devices : Devices) (state : DeviceState) (stores : List Store) → length devices.page ≡ 256 → AreAtPorts stores
-    → StandFor devices state
-    → StandFor (record devices { page = with_stores devices.page stores }) (storing stores state)
+    → DevicesRepresent devices state
+    → DevicesRepresent (record devices { page = with_stores devices.page stores }) (storing stores state)
 stand-storing devices state [] size ports stands = stands
 stand-storing devices state (store ∷ stores) size ports stands =
     stand-storing (record devices { page = slice_set devices.page store.0 store.1 }) (storing (store ∷ []) state) stores
@@ -154,15 +154,15 @@ settling-ports (DownOf player mask) = tt
 settling-ports (UpOf player mask) = tt
 
 -- devices that an input was stored at, and that it was settled at
-pub stand-applied : (devices : Devices) (state : DeviceState) (input : Input) → length devices.page ≡ 256 → StandFor devices state
-    → StandFor (record devices { page = with_stores devices.page (stores_of (slice_index devices.page) input) }) (storing (stores_of
+pub stand-applied : (devices : Devices) (state : DeviceState) (input : Input) → length devices.page ≡ 256 → DevicesRepresent devices state
+    → DevicesRepresent (record devices { page = with_stores devices.page (stores_of (slice_index devices.page) input) }) (storing (stores_of
     (stored state.history) input) state)
 stand-applied devices state input size stands =
     rw (← same_stores (slice_index devices.page) (stored state.history) input stands.page)
     (stand-storing devices state (stores_of (slice_index devices.page) input) size (input-ports (slice_index devices.page) input) stands)
 
-pub stand-settled : (devices : Devices) (state : DeviceState) (input : Input) → length devices.page ≡ 256 → StandFor devices state
-    → StandFor (record devices { page = with_stores devices.page (stores_after input) }) (storing (stores_after input) state)
+pub stand-settled : (devices : Devices) (state : DeviceState) (input : Input) → length devices.page ≡ 256 → DevicesRepresent devices state
+    → DevicesRepresent (record devices { page = with_stores devices.page (stores_after input) }) (storing (stores_after input) state)
 stand-settled devices state input size stands = stand-storing devices state (stores_after input) size (settling-ports input) stands
 
 -- a page of zeros of any size reads 0 everywhere

@@ -1,7 +1,7 @@
 pub mod History
 pub mod State
 pub mod Voices
-pub mod Reads
+pub mod ReadsPort
 pub mod FileActs
 pub mod Effect
 pub mod Bus

@@ -1,13 +1,13 @@
 -- The ports of a machine as a model, and what an instruction does over them.
 use Rattle.std.specs.Prelude.{List, [], ◌++◌}
-use Rattle.tree_io.specs.Outside.{Change}
+use Rattle.uxn_io_traits.specs.Outside.{Change}
 use Rattle.uxn_opcodes.specs.declared.Core.{Core}
 use Rattle.uxn_opcodes.specs.Model.{PortModel, Machine, after_instruction}
 use Rattle.varvara_bus.specs.State.{DeviceState}
-use Rattle.varvara_bus.specs.Reads.{read_of}
+use Rattle.varvara_bus.specs.ReadsPort.{read_of}
 use Rattle.varvara_bus.specs.Effect.{Effect, effect}
 
--- what the devices stand for, and the changes made so far
+-- what the devices represent, and the changes made so far
 pub record Devised : Type 0 where
   pub devices : DeviceState
   pub changes : List Change

@@ -9,11 +9,11 @@ use Rattle.varvara_bus.specs.declared.ports.VoicePart.TheVariants.{PositionHigh,
 use Rattle.varvara_bus.specs.History.{History, stored, stored_short}
 
 -- the number of a voice, and the first of its ports
-abbrev pub number_of : Voice → ℕ
-number_of First = 0
-number_of Second = 1
-number_of Third = 2
-number_of Fourth = 3
+abbrev pub voice_number : Voice → ℕ
+voice_number First = 0
+voice_number Second = 1
+voice_number Third = 2
+voice_number Fourth = 3
 
 abbrev pub base_of : Voice → ℕ
 base_of First = 0x30

@@ -1,25 +1,26 @@
 //! The bus: what the machine's ports are.
 ghost use Rattle.std.specs.Prelude.{◌≡◌, ℕ, slice_index, ◌+◌, ◌<◌, ◌≤◌, true, false, [], ◌∷◌, map, length, Err, IsOk, OnOk, OnErr, IfErr, is_err};
-ghost use Rattle.varvara_bus.specs.State.{DeviceState, StandFor, storing, next_frame, rendered};
+ghost use Rattle.varvara_bus.specs.State.{DeviceState, DevicesRepresent, storing, next_frame, rendered, screen_refreshed};
 ghost use Rattle.console_port.specs.Console.{event_byte};
 ghost use Rattle.screen_frame.specs.Colours.{colours_of};
 ghost use Rattle.screen_layers.specs.Layers as layers;
+ghost use Rattle.screen_layers.specs.Pictures.{marked_rows};
 ghost use Rattle.audio_mixer.specs.Sounds.{frame_of, endings};
 ghost use Rattle.audio_mixer.specs.Voices.{all_play_on};
 ghost use Rattle.input_ports.specs.Page.{stores_of, stores_after};
 ghost use Rattle.varvara_bus.specs.History.{stored, stored_short, colour_bytes};
-ghost use Rattle.tree_io.specs.Faults.{Ledger};
-ghost use Rattle.uxn_opcodes.specs.Ports.{blame_of};
-ghost use Rattle.tree_io.specs.Ended.{SinkEnded, Ended};
-ghost use Rattle.tree_io.specs.Outside.{ToFile};
+ghost use Rattle.uxn_io_traits.specs.Faults.{Ledger};
+ghost use Rattle.uxn_opcodes.specs.Ports.{result_blame};
+ghost use Rattle.uxn_io_traits.specs.Ended.{SinkEnded, Ended};
+ghost use Rattle.uxn_io_traits.specs.Outside.{ToFile};
 ghost use Rattle.varvara_bus.specs.Effect.{debug_bytes};
 ghost use Rattle.varvara_bus.specs.FileActs.{piece_appended};
 ghost use Rattle.varvara_bus.specs.Bus.{
-  BusStandsFor,
+  BusRepresents,
   SameBus,
   ChangesDevices,
   Becomes,
-  IsFileWhereTold,
+  IsFileWhereKnown,
   held,
   held_page,
   frames_begun,
@@ -29,7 +30,7 @@ ghost use Rattle.varvara_bus.specs.Bus.{
   outside_on,
   blame_for,
   ActEnds,
-  told_on,
+  contents_on,
 };
 
 use crate::devices::Devices;
@@ -45,7 +46,7 @@ use input_ports::Input;
 use screen_frame::Palette;
 use screen_layers::Screen;
 use system_port::{debug_text, expansion};
-use tree_io::{Failed, Path, Sink, Tree, append_all, put_all};
+use uxn_io_traits::{Failed, Path, Sink, Tree, append_all, put_all};
 use uxn_memory::Memory;
 use uxn_opcodes::{Core, Ports, Stop};
 
@@ -106,7 +107,7 @@ impl<'a, T: Tree, O: Sink, E: Sink> Bus<'a, T, O, E> {
     /// The byte last stored in a port.
     pub fn stored(&self, port: u8) -> u8
         ensures held { result ≡ held self.now port }
-        ensures stored { (state : DeviceState) → StandFor self.now.devices.now state → result ≡ stored state.history port }
+        ensures stored { (state : DeviceState) → DevicesRepresent self.now.devices.now state → result ≡ stored state.history port }
     {
         stored(self.devices, port)
     }
@@ -114,14 +115,14 @@ impl<'a, T: Tree, O: Sink, E: Sink> Bus<'a, T, O, E> {
     /// The short in a port and the next one, its high byte first.
     pub fn stored_short(&self, port: u8) -> u16
         requires { port < 255 }
-        ensures { (state : DeviceState) → StandFor self.now.devices.now state → result ≡ stored_short state.history port }
+        ensures { (state : DeviceState) → DevicesRepresent self.now.devices.now state → result ≡ stored_short state.history port }
     {
         stored_short(self.devices, port)
     }
 
     /// Stores a byte in a port, without acting.
     pub fn store(&mut self, port: u8, value: u8)
-        ensures devices { Becomes (told_on T.Tree) (λ state. storing ((port, value) ∷ []) state) self.old self.new }
+        ensures devices { Becomes (contents_on T.Tree) (λ state. storing ((port, value) ∷ []) state) self.old self.new }
         ensures others { ChangesDevices self.old self.new }
         ensures frames { frames_begun self.new ≡ frames_begun self.old }
     {
@@ -130,7 +131,7 @@ impl<'a, T: Tree, O: Sink, E: Sink> Bus<'a, T, O, E> {
 
     /// Stores an event of the console: its byte in port 12 and its kind in port 17.
     pub fn give(&mut self, value: u8, kind: EventKind)
-        ensures devices { Becomes (told_on T.Tree) (λ state. storing ((0x12, value) ∷ (0x17, event_byte kind) ∷ []) state) self.old self.new }
+        ensures devices { Becomes (contents_on T.Tree) (λ state. storing ((0x12, value) ∷ (0x17, event_byte kind) ∷ []) state) self.old self.new }
         ensures others { ChangesDevices self.old self.new }
         ensures frames { frames_begun self.new ≡ frames_begun self.old }
     {
@@ -139,7 +140,7 @@ impl<'a, T: Tree, O: Sink, E: Sink> Bus<'a, T, O, E> {
 
     /// Stores an input at its ports, as its vector finds them.
     pub fn apply(&mut self, input: &Input)
-        ensures devices { Becomes (told_on T.Tree) (λ state. storing (stores_of (stored state.history) input.now) state) self.old self.new }
+        ensures devices { Becomes (contents_on T.Tree) (λ state. storing (stores_of (stored state.history) input.now) state) self.old self.new }
         ensures others { ChangesDevices self.old self.new }
         ensures frames { frames_begun self.new ≡ frames_begun self.old }
     {
@@ -148,7 +149,7 @@ impl<'a, T: Tree, O: Sink, E: Sink> Bus<'a, T, O, E> {
 
     /// Stores 0 at the ports of an input that are 0 again after its vector.
     pub fn settle(&mut self, input: &Input)
-        ensures devices { Becomes (told_on T.Tree) (λ state. storing (stores_after input.now) state) self.old self.new }
+        ensures devices { Becomes (contents_on T.Tree) (λ state. storing (stores_after input.now) state) self.old self.new }
         ensures others { ChangesDevices self.old self.new }
         ensures frames { frames_begun self.new ≡ frames_begun self.old }
     {
@@ -158,7 +159,7 @@ impl<'a, T: Tree, O: Sink, E: Sink> Bus<'a, T, O, E> {
     /// Counts a frame that begins.
     pub fn frame_begins(&mut self)
         requires { frames_begun self.old < 1000000 }
-        ensures devices { Becomes (told_on T.Tree) (λ state. next_frame state) self.old self.new }
+        ensures devices { Becomes (contents_on T.Tree) (λ state. next_frame state) self.old self.new }
         ensures others { ChangesDevices self.old self.new }
         ensures frames { frames_begun self.new ≡ frames_begun self.old + 1 }
     {
@@ -168,7 +169,7 @@ impl<'a, T: Tree, O: Sink, E: Sink> Bus<'a, T, O, E> {
     /// How many frames have begun.
     pub fn frames(&self) -> u32
         ensures begun { result ≡ frames_begun self.now }
-        ensures frames { (state : DeviceState) → StandFor self.now.devices.now state → result ≡ state.frames }
+        ensures frames { (state : DeviceState) → DevicesRepresent self.now.devices.now state → result ≡ state.frames }
     {
         self.devices.time.frames
     }
@@ -176,15 +177,16 @@ impl<'a, T: Tree, O: Sink, E: Sink> Bus<'a, T, O, E> {
     /// The screen.
     pub fn screen(&self) -> &Screen
         ensures held { result.now ≡ screen_of self.now }
-        ensures screen { (state : DeviceState) → StandFor self.now.devices.now state → layers.StandsFor result.now state.picture }
+        ensures screen { (state : DeviceState) → DevicesRepresent self.now.devices.now state → layers.RepresentsPicture result.now state.picture }
     {
         &self.devices.screen
     }
 
     /// Composes the marked rows of the screen, takes their marks away, and says how many rows there were. It changes no pixel.
     pub fn refresh(&mut self) -> u16
+        ensures marked { (state : DeviceState) → DevicesRepresent self.old.devices.now state → result ≡ marked_rows state.picture }
         ensures screen { layers.Refreshes (screen_of self.old) (screen_of self.new) result }
-        ensures devices { Becomes (told_on T.Tree) (λ state. state) self.old self.new }
+        ensures devices { Becomes (contents_on T.Tree) (λ state. screen_refreshed state) self.old self.new }
         ensures held { (port : ℕ) → held self.new port ≡ held self.old port }
         ensures others { ChangesDevices self.old self.new }
         ensures frames { frames_begun self.new ≡ frames_begun self.old }
@@ -194,16 +196,16 @@ impl<'a, T: Tree, O: Sink, E: Sink> Bus<'a, T, O, E> {
 
     /// The four colours that ports 08 to 0d hold.
     pub fn palette(&self) -> Palette
-        ensures { (state : DeviceState) → StandFor self.now.devices.now state → result.colours ≡ colours_of (colour_bytes state.history) }
+        ensures { (state : DeviceState) → DevicesRepresent self.now.devices.now state → result.colours ≡ colours_of (colour_bytes state.history) }
     {
         palette(self.devices)
     }
 
     /// Renders a frame: 735 pairs of samples, left then right, and true for each voice whose note ended in it.
     pub fn audio_frame(&mut self, memory: &Memory, into: &mut [i16; 1470]) -> [bool; 4]
-        ensures frame { (state : DeviceState) → StandFor self.old.devices.now state → into.new ≡ frame_of memory.now state.sounds }
-        ensures ends { (state : DeviceState) → StandFor self.old.devices.now state → result ≡ endings 735 state.sounds }
-        ensures devices { Becomes (told_on T.Tree) (λ state. rendered state) self.old self.new }
+        ensures frame { (state : DeviceState) → DevicesRepresent self.old.devices.now state → into.new ≡ frame_of memory.now state.sounds }
+        ensures ends { (state : DeviceState) → DevicesRepresent self.old.devices.now state → result ≡ endings 735 state.sounds }
+        ensures devices { Becomes (contents_on T.Tree) (λ state. rendered state) self.old self.new }
         ensures others { ChangesDevices self.old self.new }
         ensures frames { frames_begun self.new ≡ frames_begun self.old }
     {
@@ -217,21 +219,21 @@ impl<'a, T: Tree, O: Sink, E: Sink> Bus<'a, T, O, E> {
         is_endless(self.devices)
     }
 
-    /// Lets a frame pass of which no samples are asked for and in which no note can end.
+    /// Lets a frame pass of which no samples are requested and in which no note can end.
     pub fn pass_frame(&mut self)
         requires { all_play_on self.old.devices.now.mixer ≡ true }
-        ensures ends { (state : DeviceState) → StandFor self.old.devices.now state
+        ensures ends { (state : DeviceState) → DevicesRepresent self.old.devices.now state
             → endings 735 state.sounds ≡ false ∷ false ∷ false ∷ false ∷ [] }
-        ensures devices { Becomes (told_on T.Tree) (λ state. rendered state) self.old self.new }
+        ensures devices { Becomes (contents_on T.Tree) (λ state. rendered state) self.old self.new }
         ensures others { ChangesDevices self.old self.new }
         ensures frames { frames_begun self.new ≡ frames_begun self.old }
     {
         pass_frame(self.devices);
     }
 
-    /// Appends the whole piece to the file at the path. After `TreeFault` a front of it was appended.
+    /// Appends the whole piece to the file at the path. After `TreeFault` a prefix of it was appended.
     pub fn append(&mut self, path: &Path, piece: &[u8]) -> Result<(), Stop>
-        requires { IsFileWhereTold (T.state self.old.tree.now).told path.now }
+        requires { IsFileWhereKnown (T.state self.old.tree.now).contents path.now }
         ensures ended { Ended (map (λ byte. ToFile path.now byte) piece.now) (blame_for result)
             (outside_on (meaning_of T.Tree O.Sink E.Sink) self.old) (outside_on (meaning_of T.Tree O.Sink E.Sink) self.new) }
         ensures err { OnErr result (result ≡ Err Stop.TreeFault) }
@@ -239,9 +241,9 @@ impl<'a, T: Tree, O: Sink, E: Sink> Bus<'a, T, O, E> {
 
         // The devices stay as they are, and each file that was there is there still.
         ensures devices { self.new.devices.now ≡ self.old.devices.now }
-        ensures stands { OnOk result ((state : DeviceState) → BusStandsFor (told_on T.Tree) self.old state
-            → BusStandsFor (told_on T.Tree) self.new (piece_appended path.now piece.now state)) }
-        ensures same { SameBus (told_on T.Tree) self.old self.new }
+        ensures stands { OnOk result ((state : DeviceState) → BusRepresents (contents_on T.Tree) self.old state
+            → BusRepresents (contents_on T.Tree) self.new (piece_appended path.now piece.now state)) }
+        ensures same { SameBus (contents_on T.Tree) self.old self.new }
     {
         append_all(self.tree, path, piece).map_err(|_| Stop::TreeFault)
     }
@@ -256,7 +258,7 @@ impl<'a, T: Tree, O: Sink, E: Sink> Ports for Bus<'a, T, O, E> {
 
     ghost stored = { held_page };
 
-    #[tactic(auto, unfolding(crate::specs::Reads::read_of))]
+    #[tactic(auto, unfolding(crate::specs::ReadsPort::read_of))]
     fn dei(&self, core: &Core, port: u8) -> u8 {
         match Source::of(port) {
             Source::Stored => stored(self.devices, port),
@@ -276,7 +278,7 @@ impl<'a, T: Tree, O: Sink, E: Sink> Ports for Bus<'a, T, O, E> {
 
     fn stored_page(&self) -> &[u8; 256]
         ensures held { result.now ≡ held_page self.now }
-        ensures stored { (state : DeviceState) → StandFor self.now.devices.now state
+        ensures stored { (state : DeviceState) → DevicesRepresent self.now.devices.now state
             → (port : ℕ) → slice_index result.now port ≡ stored state.history port }
     {
         &self.devices.page
@@ -289,7 +291,7 @@ impl<'a, T: Tree, O: Sink, E: Sink> Bus<'a, T, O, E> {
     fn act(&mut self, core: &mut Core, action: Action, value: u8) -> Result<(), Stop>
         ensures acted { ActEnds (meaning_of T.Tree O.Sink E.Sink) self.old core.old action value self.new core.new result }
         ensures ledger { Ledger (bus_faults (meaning_of T.Tree O.Sink E.Sink) self.old)
-            (bus_faults (meaning_of T.Tree O.Sink E.Sink) self.new) (blame_of result) }
+            (bus_faults (meaning_of T.Tree O.Sink E.Sink) self.new) (result_blame result) }
     {
         match action {
             Action::Stores => Ok(()),

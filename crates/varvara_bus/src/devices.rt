@@ -5,7 +5,7 @@ use crate::time::Time;
 use audio_mixer::Mixer;
 use file_ports::FileDevice;
 use screen_layers::Screen;
-use tree_io::Path;
+use uxn_io_traits::Path;
 
 /// What the devices hold.
 #[derive(Drop)]

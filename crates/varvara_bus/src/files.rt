@@ -1,18 +1,18 @@
 //! The ports of the file devices.
 ghost use Rattle.std.specs.Prelude.{◌≡◌, ◌≤◌};
-ghost use Rattle.tree_io.specs.Faults.{Counted};
-ghost use Rattle.tree_io.specs.Ended.{TreeEnded};
+ghost use Rattle.uxn_io_traits.specs.Faults.{Counted};
+ghost use Rattle.uxn_io_traits.specs.Ended.{TreeEnded};
 ghost use Rattle.file_ports.specs.Device.{Suits};
-ghost use Rattle.file_ports.specs.Answers.{changes_by, has_failed};
-ghost use Rattle.varvara_bus.specs.State.{DeviceState, StandFor, clock_of};
+ghost use Rattle.file_ports.specs.AnswersAction.{changes_by, has_failed};
+ghost use Rattle.varvara_bus.specs.State.{DeviceState, DevicesRepresent, device_clock};
 ghost use Rattle.varvara_bus.specs.FileActs.{with_file, file_action};
 ghost use Rattle.varvara_bus.specs.FileCalls.{
-  action_asked,
-  act_asked,
+  action_requested,
+  act_requested,
   Performed,
   FileAnswers,
   FileEnded,
-  tree_failed,
+  stopped_by_tree,
 };
 ghost use Rattle.varvara_bus.specs.Bus.{FilesStay, file_held};
 
@@ -20,7 +20,7 @@ use crate::devices::Devices;
 use crate::page::{store_short, stored, stored_short};
 use crate::ports::{FileAct, FileNumber};
 use file_ports::{FileDevice, FileStop};
-use tree_io::{Path, Tree};
+use uxn_io_traits::{Path, Tree};
 use uxn_memory::Memory;
 use uxn_opcodes::Stop;
 
@@ -35,10 +35,10 @@ pub(crate) enum Request {
 }
 
 /// What the ports of a file device ask of it, the first of which is given.
-fn asked(devices: &Devices, act: FileAct, base: u8) -> Request
+fn requested(devices: &Devices, act: FileAct, base: u8) -> Request
     requires { base ≤ 0xb0 }
-    ensures action { (state : DeviceState) → StandFor devices.now state → action_asked result ≡ file_action act state.history base }
-    ensures act { act_asked result ≡ act }
+    ensures action { (state : DeviceState) → DevicesRepresent devices.now state → action_requested result ≡ file_action act state.history base }
+    ensures act { act_requested result ≡ act }
 {
     let length = stored_short(devices, base + 0x0a);
     match act {
@@ -62,9 +62,9 @@ fn perform<T: Tree>(
     request: Request,
 ) -> Result<u16, FileStop>
     requires { Suits root device.old }
-    ensures tree { TreeEnded (changes_by (action_asked request) (T.state tree.old).told device.old memory.old) (has_failed result)
+    ensures tree { TreeEnded (changes_by (action_requested request) (T.state tree.old).contents device.old memory.old) (has_failed result)
         (T.state tree.old) (T.state tree.new) }
-    ensures acted { Performed (action_asked request) root device.old memory.old (T.state tree.old).told result device.new memory.new }
+    ensures acted { Performed (action_requested request) root device.old memory.old (T.state tree.old).contents result device.new memory.new }
     ensures suits { Suits root device.new }
 {
     match request {
@@ -87,15 +87,15 @@ fn perform_on<T: Tree>(
     number: FileNumber,
     request: Request,
 ) -> Result<u16, FileStop>
-    ensures tree { TreeEnded (changes_by (action_asked request) (T.state tree.old).told (file_held number devices.old) memory.old) (has_failed result)
+    ensures tree { TreeEnded (changes_by (action_requested request) (T.state tree.old).contents (file_held number devices.old) memory.old) (has_failed result)
         (T.state tree.old) (T.state tree.new) }
-    ensures acted { Performed (action_asked request) devices.old.root (file_held number devices.old) memory.old (T.state tree.old).told result
+    ensures acted { Performed (action_requested request) devices.old.root (file_held number devices.old) memory.old (T.state tree.old).contents result
         (file_held number devices.new) memory.new }
-    ensures stands { (state : DeviceState) → StandFor devices.old state
-        → StandFor devices.new (with_file number (file_held number devices.new) state) }
+    ensures stands { (state : DeviceState) → DevicesRepresent devices.old state
+        → DevicesRepresent devices.new (with_file number (file_held number devices.new) state) }
     ensures page { devices.new.page ≡ devices.old.page }
     ensures frames { devices.new.time.frames ≡ devices.old.time.frames }
-    ensures clock { clock_of devices.new ≡ clock_of devices.old }
+    ensures clock { device_clock devices.new ≡ device_clock devices.old }
     ensures root { devices.new.root ≡ devices.old.root }
 {
     let root = devices.root;
@@ -114,15 +114,15 @@ pub(crate) fn act_on_file<T: Tree>(
     number: FileNumber,
     act: FileAct,
 ) -> Result<(), Stop>
-    ensures tree { FileEnded number act devices.old memory.old (tree_failed result) (T.state tree.old) (T.state tree.new) }
-    ensures acted { FileAnswers number act devices.old memory.old (T.state tree.old).told result devices.new memory.new }
-    ensures counted { Counted (T.state tree.old).tally (T.state tree.new).tally (tree_failed result) }
-    ensures stay { FilesStay devices.old.root (T.state tree.old).told (T.state tree.new).told }
+    ensures tree { FileEnded number act devices.old memory.old (stopped_by_tree result) (T.state tree.old) (T.state tree.new) }
+    ensures acted { FileAnswers number act devices.old memory.old (T.state tree.old).contents result devices.new memory.new }
+    ensures counted { Counted (T.state tree.old).tally (T.state tree.new).tally (stopped_by_tree result) }
+    ensures stay { FilesStay devices.old.root (T.state tree.old).contents (T.state tree.new).contents }
     ensures frames { devices.new.time.frames ≡ devices.old.time.frames }
-    ensures clock { clock_of devices.new ≡ clock_of devices.old }
+    ensures clock { device_clock devices.new ≡ device_clock devices.old }
     ensures root { devices.new.root ≡ devices.old.root }
 {
-    let request = asked(devices, act, number.base());
+    let request = requested(devices, act, number.base());
     match perform_on(devices, tree, memory, number, request) {
         Ok(success) => {
             store_short(devices, number.base() + 0x02, success);

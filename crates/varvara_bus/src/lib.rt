@@ -1,4 +1,4 @@
-//! The ports of the computer: the devices behind them, lent a tree of files and two sinks.
+//! The ports of the computer: the devices behind them, borrowed a tree of files and two sinks.
 #![tactic(auto)]
 
 mod bus;

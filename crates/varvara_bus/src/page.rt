@@ -4,12 +4,12 @@ ghost use Rattle.console_port.specs.Console.{event_byte, given};
 ghost use Rattle.input_ports.specs.Page.{with_stores, stores_of, stores_after};
 ghost use Rattle.input_ports.specs.Page.{short_stores};
 ghost use Rattle.varvara_bus.specs.History.{at_first, stored, stored_short};
-ghost use Rattle.varvara_bus.specs.Reads.{byte_of, shown_by};
-ghost use Rattle.tree_io.specs.Files.{Nodes};
-ghost use Rattle.varvara_bus.specs.State.{DeviceState, StandFor, clock_of, new_state, storing};
+ghost use Rattle.varvara_bus.specs.ReadsPort.{time_byte, shown_by};
+ghost use Rattle.uxn_io_traits.specs.Files.{Nodes};
+ghost use Rattle.varvara_bus.specs.State.{DeviceState, DevicesRepresent, device_clock, new_state, storing};
 
 use crate::devices::Devices;
-use crate::ports::{TimePart, byte_of};
+use crate::ports::{TimePart, time_byte};
 use crate::time::{Clock, Time};
 use audio_mixer::Mixer;
 use console_port::{EventKind, give as give_page};
@@ -17,7 +17,7 @@ use file_ports::FileDevice;
 use input_ports::{Input, apply as apply_page, settle as settle_page};
 use screen_layers::Screen;
 use std::alloc::{AllocError, Global};
-use tree_io::Path;
+use uxn_io_traits::Path;
 
 impl Devices {
     /// New devices: all ports hold 0 but 22 to 25, which hold the size of the screen; nothing is drawn or heard, no file is
@@ -27,7 +27,7 @@ impl Devices {
         requires seconds_to { clock.seconds ≤ℤ pos 253370000000 }
         requires offset_from { neg_ℤ (pos 840) ≤ℤ clock.offset }
         requires offset_to { clock.offset ≤ℤ pos 840 }
-        ensures { IfOk result (λ devices. (part : Nodes) → (parent : Bool) → StandFor devices (new_state clock root part parent)) }
+        ensures { IfOk result (λ devices. (part : Nodes) → (parent : Bool) → DevicesRepresent devices (new_state clock root part parent)) }
     {
         let screen = Screen::new(alloc)?;
         Ok(Devices {
@@ -61,7 +61,7 @@ fn new_page() -> [u8; 256]
 #[inline(always)]
 pub(crate) fn stored(devices: &Devices, port: u8) -> u8
     ensures held { result ≡ slice_index devices.now.page port }
-    ensures stored { (state : DeviceState) → StandFor devices.now state → result ≡ stored state.history port }
+    ensures stored { (state : DeviceState) → DevicesRepresent devices.now state → result ≡ stored state.history port }
 {
     devices.page[usize::from(port)]
 }
@@ -70,10 +70,10 @@ pub(crate) fn stored(devices: &Devices, port: u8) -> u8
 #[inline(always)]
 pub(crate) fn store(devices: &mut Devices, port: u8, value: u8)
     ensures devices { devices.new ≡ record devices.old { page = slice_set devices.old.page port value } }
-    ensures stands { (state : DeviceState) → StandFor devices.old state → StandFor devices.new (storing ((port, value) ∷ []) state) }
+    ensures stands { (state : DeviceState) → DevicesRepresent devices.old state → DevicesRepresent devices.new (storing ((port, value) ∷ []) state) }
     ensures held { (other : ℕ) → slice_index devices.new.page other ≡ (if other == port then value else slice_index devices.old.page other) }
     ensures frames { devices.new.time.frames ≡ devices.old.time.frames }
-    ensures clock { clock_of devices.new ≡ clock_of devices.old }
+    ensures clock { device_clock devices.new ≡ device_clock devices.old }
     ensures root { devices.new.root ≡ devices.old.root }
 {
     devices.page[usize::from(port)] = value;
@@ -82,8 +82,8 @@ pub(crate) fn store(devices: &mut Devices, port: u8, value: u8)
 /// Stores an event of the console.
 pub(crate) fn give(devices: &mut Devices, value: u8, kind: EventKind)
     ensures devices { devices.new ≡ record devices.old { page = given devices.old.page value kind } }
-    ensures stands { (state : DeviceState) → StandFor devices.old state
-        → StandFor devices.new (storing ((0x12, value) ∷ (0x17, event_byte kind) ∷ []) state) }
+    ensures stands { (state : DeviceState) → DevicesRepresent devices.old state
+        → DevicesRepresent devices.new (storing ((0x12, value) ∷ (0x17, event_byte kind) ∷ []) state) }
 {
     give_page(&mut devices.page, value, kind);
 }
@@ -93,8 +93,8 @@ pub(crate) fn apply(devices: &mut Devices, input: &Input)
     ensures devices { devices.new ≡ record devices.old {
       page = with_stores devices.old.page (stores_of (slice_index devices.old.page) input.now);
     } }
-    ensures stands { (state : DeviceState) → StandFor devices.old state
-        → StandFor devices.new (storing (stores_of (stored state.history) input.now) state) }
+    ensures stands { (state : DeviceState) → DevicesRepresent devices.old state
+        → DevicesRepresent devices.new (storing (stores_of (stored state.history) input.now) state) }
 {
     apply_page(&mut devices.page, input);
 }
@@ -102,8 +102,8 @@ pub(crate) fn apply(devices: &mut Devices, input: &Input)
 /// Stores 0 at the ports of an input that are 0 again after its vector.
 pub(crate) fn settle(devices: &mut Devices, input: &Input)
     ensures devices { devices.new ≡ record devices.old { page = with_stores devices.old.page (stores_after input.now) } }
-    ensures stands { (state : DeviceState) → StandFor devices.old state
-        → StandFor devices.new (storing (stores_after input.now) state) }
+    ensures stands { (state : DeviceState) → DevicesRepresent devices.old state
+        → DevicesRepresent devices.new (storing (stores_after input.now) state) }
 {
     settle_page(&mut devices.page, input);
 }
@@ -112,7 +112,7 @@ pub(crate) fn settle(devices: &mut Devices, input: &Input)
 #[inline(always)]
 pub(crate) fn stored_short(devices: &Devices, port: u8) -> u16
     requires { port < 255 }
-    ensures { (state : DeviceState) → StandFor devices.now state → result ≡ stored_short state.history port }
+    ensures { (state : DeviceState) → DevicesRepresent devices.now state → result ≡ stored_short state.history port }
 {
     let high = devices.page[usize::from(port)];
     let low = devices.page[usize::from(port) + 1];
@@ -122,9 +122,9 @@ pub(crate) fn stored_short(devices: &Devices, port: u8) -> u16
 /// Stores a short in a port and the next one, its high byte first.
 pub(crate) fn store_short(devices: &mut Devices, port: u8, value: u16)
     requires { port < 255 }
-    ensures stands { (state : DeviceState) → StandFor devices.old state → StandFor devices.new (storing (short_stores port value) state) }
+    ensures stands { (state : DeviceState) → DevicesRepresent devices.old state → DevicesRepresent devices.new (storing (short_stores port value) state) }
     ensures frames { devices.new.time.frames ≡ devices.old.time.frames }
-    ensures clock { clock_of devices.new ≡ clock_of devices.old }
+    ensures clock { device_clock devices.new ≡ device_clock devices.old }
     ensures root { devices.new.root ≡ devices.old.root }
 {
     store(devices, port, (value / 256) as u8);
@@ -134,7 +134,7 @@ pub(crate) fn store_short(devices: &mut Devices, port: u8, value: u16)
 /// A byte of what the clock shows.
 #[inline(never)]
 pub(crate) fn shown(devices: &Devices, part: TimePart) -> u8
-    ensures { result ≡ byte_of part (shown_by (clock_of devices.now) devices.now.time.frames) }
+    ensures { result ≡ time_byte part (shown_by (device_clock devices.now) devices.now.time.frames) }
 {
-    byte_of(part, &devices.time.shown())
+    time_byte(part, &devices.time.shown())
 }

@@ -1,7 +1,7 @@
 //! Which ports do more than hold a byte.
 ghost use Rattle.std.specs.Prelude.{◌≡◌, ◌<◌, ◌≤◌};
-ghost use Rattle.varvara_bus.specs.Voices.{number_of, base_of};
-ghost use Rattle.varvara_bus.specs.Reads.{source_of, byte_of};
+ghost use Rattle.varvara_bus.specs.Voices.{voice_number, base_of};
+ghost use Rattle.varvara_bus.specs.ReadsPort.{port_source, time_byte};
 ghost use Rattle.varvara_bus.specs.FileActs.{file_base};
 ghost use Rattle.varvara_bus.specs.Effect.{action_of};
 
@@ -55,7 +55,7 @@ pub(crate) enum VoicePart {
 impl Voice {
     /// Its number, from 0 on.
     pub(crate) fn number(self) -> u8
-        ensures number { result ≡ number_of self }
+        ensures number { result ≡ voice_number self }
         ensures below { result < 4 }
     {
         match self {
@@ -96,8 +96,8 @@ pub(crate) enum TimePart {
 }
 
 /// A byte of what the clock shows; the year and the day of the year are shorts.
-pub(crate) fn byte_of(part: TimePart, shown: &CivilFields) -> u8
-    ensures { result ≡ byte_of part shown.now }
+pub(crate) fn time_byte(part: TimePart, shown: &CivilFields) -> u8
+    ensures { result ≡ time_byte part shown.now }
 {
     match part {
         TimePart::YearHigh => (shown.year / 256) as u8,
@@ -116,7 +116,7 @@ pub(crate) fn byte_of(part: TimePart, shown: &CivilFields) -> u8
 impl Source {
     #[inline(always)]
     pub(crate) fn of(port: u8) -> Source
-        ensures { result ≡ source_of port }
+        ensures { result ≡ port_source port }
     {
         match port {
             0x04 => Source::WorkingPointer,
@@ -170,9 +170,9 @@ pub(crate) enum Action {
     PutsOut,
     /// The byte is put on the error output.
     PutsErr,
-    /// The screen is asked for the width in ports 22 and 23.
+    /// The screen is requested the width in ports 22 and 23.
     AsksWidth,
-    /// The screen is asked for the height in ports 24 and 25.
+    /// The screen is requested the height in ports 24 and 25.
     AsksHeight,
     /// A pixel is coloured, or a part of the screen is filled.
     DrawsPixel,

@@ -1,11 +1,11 @@
 //! The ports of the screen.
 ghost use Rattle.std.specs.Prelude.{◌≡◌, ◌<◌};
-ghost use Rattle.varvara_bus.specs.State.{DeviceState, StandFor, clock_of};
-ghost use Rattle.varvara_bus.specs.Reads.{size_byte};
+ghost use Rattle.varvara_bus.specs.State.{DeviceState, DevicesRepresent, device_clock, screen_refreshed};
+ghost use Rattle.varvara_bus.specs.ReadsPort.{size_byte};
 ghost use Rattle.screen_frame.specs.Colours.{colours_of};
 ghost use Rattle.screen_layers.specs.Layers.{Refreshes};
 ghost use Rattle.varvara_bus.specs.History.{colour_bytes};
-ghost use Rattle.varvara_bus.specs.Effect.{width_asked, height_asked, pixel_drawn, sprite_drawn};
+ghost use Rattle.varvara_bus.specs.Effect.{width_requested, height_requested, pixel_drawn, sprite_drawn};
 
 use crate::devices::Devices;
 use crate::page::{store_short, stored, stored_short};
@@ -60,7 +60,7 @@ pub(crate) fn size_shown(devices: &Devices, part: SizePart) -> u8
 
 /// The four colours that are stored.
 pub(crate) fn palette(devices: &Devices) -> Palette
-    ensures { (state : DeviceState) → StandFor devices.now state → result.colours ≡ colours_of (colour_bytes state.history) }
+    ensures { (state : DeviceState) → DevicesRepresent devices.now state → result.colours ≡ colours_of (colour_bytes state.history) }
 {
     Palette::of(&[
         stored(devices, 0x08),
@@ -75,9 +75,9 @@ pub(crate) fn palette(devices: &Devices) -> Palette
 /// Asks the screen for the width that is stored, with the height that it has.
 #[inline(never)]
 pub(crate) fn ask_width(devices: &mut Devices)
-    ensures stands { (state : DeviceState) → StandFor devices.old state → StandFor devices.new (width_asked state) }
+    ensures stands { (state : DeviceState) → DevicesRepresent devices.old state → DevicesRepresent devices.new (width_requested state) }
     ensures frames { devices.new.time.frames ≡ devices.old.time.frames }
-    ensures clock { clock_of devices.new ≡ clock_of devices.old }
+    ensures clock { device_clock devices.new ≡ device_clock devices.old }
     ensures root { devices.new.root ≡ devices.old.root }
 {
     let width = stored_short(devices, WIDTH);
@@ -88,9 +88,9 @@ pub(crate) fn ask_width(devices: &mut Devices)
 /// Asks the screen for the height that is stored, with the width that it has.
 #[inline(never)]
 pub(crate) fn ask_height(devices: &mut Devices)
-    ensures stands { (state : DeviceState) → StandFor devices.old state → StandFor devices.new (height_asked state) }
+    ensures stands { (state : DeviceState) → DevicesRepresent devices.old state → DevicesRepresent devices.new (height_requested state) }
     ensures frames { devices.new.time.frames ≡ devices.old.time.frames }
-    ensures clock { clock_of devices.new ≡ clock_of devices.old }
+    ensures clock { device_clock devices.new ≡ device_clock devices.old }
     ensures root { devices.new.root ≡ devices.old.root }
 {
     let width = width_of(devices);
@@ -101,9 +101,9 @@ pub(crate) fn ask_height(devices: &mut Devices)
 /// Draws a pixel, or fills, and stores the next x and y.
 #[inline(never)]
 pub(crate) fn draw_pixel(devices: &mut Devices, control: u8)
-    ensures stands { (state : DeviceState) → StandFor devices.old state → StandFor devices.new (pixel_drawn control state) }
+    ensures stands { (state : DeviceState) → DevicesRepresent devices.old state → DevicesRepresent devices.new (pixel_drawn control state) }
     ensures frames { devices.new.time.frames ≡ devices.old.time.frames }
-    ensures clock { clock_of devices.new ≡ clock_of devices.old }
+    ensures clock { device_clock devices.new ≡ device_clock devices.old }
     ensures root { devices.new.root ≡ devices.old.root }
 {
     let x = stored_short(devices, X);
@@ -117,9 +117,9 @@ pub(crate) fn draw_pixel(devices: &mut Devices, control: u8)
 /// Draws tiles, and stores the next x, y and address.
 #[inline(never)]
 pub(crate) fn draw_sprite(devices: &mut Devices, memory: &Memory, control: u8)
-    ensures stands { (state : DeviceState) → StandFor devices.old state → StandFor devices.new (sprite_drawn control memory.now state) }
+    ensures stands { (state : DeviceState) → DevicesRepresent devices.old state → DevicesRepresent devices.new (sprite_drawn control memory.now state) }
     ensures frames { devices.new.time.frames ≡ devices.old.time.frames }
-    ensures clock { clock_of devices.new ≡ clock_of devices.old }
+    ensures clock { device_clock devices.new ≡ device_clock devices.old }
     ensures root { devices.new.root ≡ devices.old.root }
 {
     let x = stored_short(devices, X);
@@ -132,13 +132,13 @@ pub(crate) fn draw_sprite(devices: &mut Devices, memory: &Memory, control: u8)
     store_short(devices, ADDR, next.addr);
 }
 
-/// Composes the marked rows of the screen, and says how many there were.
+/// Composes the marked rows of the screen, takes their marks away, and says how many there were.
 pub(crate) fn refresh(devices: &mut Devices) -> u16
     ensures screen { Refreshes devices.old.screen devices.new.screen result }
     ensures others { devices.new ≡ record devices.old { screen = devices.new.screen } }
-    ensures stands { (state : DeviceState) → StandFor devices.old state → StandFor devices.new state }
+    ensures stands { (state : DeviceState) → DevicesRepresent devices.old state → DevicesRepresent devices.new (screen_refreshed state) }
     ensures frames { devices.new.time.frames ≡ devices.old.time.frames }
-    ensures clock { clock_of devices.new ≡ clock_of devices.old }
+    ensures clock { device_clock devices.new ≡ device_clock devices.old }
     ensures root { devices.new.root ≡ devices.old.root }
 {
     devices.screen.refresh()

@@ -2,8 +2,8 @@
 ghost use Rattle.std.specs.Prelude.{◌≡◌, ◌≤◌, true, false, [], ◌∷◌};
 ghost use Rattle.audio_mixer.specs.Voices.{all_play_on};
 ghost use Rattle.audio_mixer.specs.Sounds.{frame_of, endings};
-ghost use Rattle.varvara_bus.specs.State.{DeviceState, StandFor, clock_of, rendered};
-ghost use Rattle.varvara_bus.specs.Voices.{number_of, note_at, voice_byte};
+ghost use Rattle.varvara_bus.specs.State.{DeviceState, DevicesRepresent, device_clock, rendered};
+ghost use Rattle.varvara_bus.specs.Voices.{voice_number, note_at, voice_byte};
 ghost use Rattle.varvara_bus.specs.Effect.{note_started};
 
 use crate::devices::Devices;
@@ -15,7 +15,7 @@ use uxn_memory::Memory;
 /// The note that is stored at the ports of a voice, the first of which is given.
 fn note_at(devices: &Devices, base: u8) -> Start
     requires { base ≤ 0x60 }
-    ensures { (state : DeviceState) → StandFor devices.now state → result ≡ note_at state.history base }
+    ensures { (state : DeviceState) → DevicesRepresent devices.now state → result ≡ note_at state.history base }
 {
     Start {
         adsr: stored_short(devices, base + 0x08),
@@ -29,9 +29,9 @@ fn note_at(devices: &Devices, base: u8) -> Start
 /// Starts the note that is stored at the ports of a voice.
 #[inline(never)]
 pub(crate) fn start_note(devices: &mut Devices, voice: Voice)
-    ensures stands { (state : DeviceState) → StandFor devices.old state → StandFor devices.new (note_started voice state) }
+    ensures stands { (state : DeviceState) → DevicesRepresent devices.old state → DevicesRepresent devices.new (note_started voice state) }
     ensures frames { devices.new.time.frames ≡ devices.old.time.frames }
-    ensures clock { clock_of devices.new ≡ clock_of devices.old }
+    ensures clock { device_clock devices.new ≡ device_clock devices.old }
     ensures root { devices.new.root ≡ devices.old.root }
 {
     let note = note_at(devices, voice.base());
@@ -41,7 +41,7 @@ pub(crate) fn start_note(devices: &mut Devices, voice: Voice)
 /// A byte of what a voice shows.
 #[inline(never)]
 pub(crate) fn voice_shown(devices: &Devices, voice: Voice, part: VoicePart) -> u8
-    ensures { (state : DeviceState) → StandFor devices.now state → result ≡ voice_byte part (state.sounds (number_of voice)) }
+    ensures { (state : DeviceState) → DevicesRepresent devices.now state → result ≡ voice_byte part (state.sounds (voice_number voice)) }
 {
     let voice = voice.number();
     match part {
@@ -53,12 +53,12 @@ pub(crate) fn voice_shown(devices: &Devices, voice: Voice, part: VoicePart) -> u
 
 /// Renders a frame of samples, and says which voices' notes ended in it.
 pub(crate) fn render(devices: &mut Devices, memory: &Memory, into: &mut [i16; 1470]) -> [bool; 4]
-    ensures frame { (state : DeviceState) → StandFor devices.old state → into.new ≡ frame_of memory.now state.sounds }
-    ensures ends { (state : DeviceState) → StandFor devices.old state → result ≡ endings 735 state.sounds }
-    ensures stands { (state : DeviceState) → StandFor devices.old state → StandFor devices.new (rendered state) }
+    ensures frame { (state : DeviceState) → DevicesRepresent devices.old state → into.new ≡ frame_of memory.now state.sounds }
+    ensures ends { (state : DeviceState) → DevicesRepresent devices.old state → result ≡ endings 735 state.sounds }
+    ensures stands { (state : DeviceState) → DevicesRepresent devices.old state → DevicesRepresent devices.new (rendered state) }
     ensures page { devices.new.page ≡ devices.old.page }
     ensures frames { devices.new.time.frames ≡ devices.old.time.frames }
-    ensures clock { clock_of devices.new ≡ clock_of devices.old }
+    ensures clock { device_clock devices.new ≡ device_clock devices.old }
     ensures root { devices.new.root ≡ devices.old.root }
 {
     devices.mixer.render(memory, into)
@@ -71,13 +71,13 @@ pub(crate) fn is_endless(devices: &Devices) -> bool
     devices.mixer.is_endless()
 }
 
-/// Lets a frame pass of which no samples are asked for and in which no note can end.
+/// Lets a frame pass of which no samples are requested and in which no note can end.
 pub(crate) fn pass_frame(devices: &mut Devices)
     requires { all_play_on devices.old.mixer ≡ true }
-    ensures ends { (state : DeviceState) → StandFor devices.old state → endings 735 state.sounds ≡ false ∷ false ∷ false ∷ false ∷ [] }
-    ensures stands { (state : DeviceState) → StandFor devices.old state → StandFor devices.new (rendered state) }
+    ensures ends { (state : DeviceState) → DevicesRepresent devices.old state → endings 735 state.sounds ≡ false ∷ false ∷ false ∷ false ∷ [] }
+    ensures stands { (state : DeviceState) → DevicesRepresent devices.old state → DevicesRepresent devices.new (rendered state) }
     ensures frames { devices.new.time.frames ≡ devices.old.time.frames }
-    ensures clock { clock_of devices.new ≡ clock_of devices.old }
+    ensures clock { device_clock devices.new ≡ device_clock devices.old }
     ensures root { devices.new.root ≡ devices.old.root }
 {
     devices.mixer.pass();

@@ -2,41 +2,41 @@ use Rattle.std.proofs.Common.{◌≡◌, ◌≢◌, List, [], ◌++◌, refl, ap
 use Rattle.std.proofs.lemmas.List.{append-nil}
 use Rattle.std.proofs.lemmas.List.FromFn.{get_or-map-range_with_len, length-map-range_with_len}
 use Rattle.std.specs.Prelude.{Option, Ok, Err}
-use Rattle.tree_io.specs.Files.{Nodes}
-use Rattle.tree_io.specs.Outside.{Change}
-use Rattle.tree_io.specs.ChangeLaws.{cut-here}
+use Rattle.uxn_io_traits.specs.Files.{Nodes}
+use Rattle.uxn_io_traits.specs.Outside.{Change}
+use Rattle.uxn_io_traits.specs.ChangeLaws.{cut-here}
 use Rattle.uxn_opcodes.specs.declared.Core.{Core}
 use Rattle.uxn_opcodes.specs.declared.Stop.{Stop}
 use Rattle.uxn_opcodes.specs.declared.Stop.TheVariants.{NoMemory, TreeFault, SinkFault}
 use Rattle.uxn_opcodes.specs.declared.Turn.{Turn}
 use Rattle.uxn_opcodes.specs.declared.Turn.TheVariants.{Ran, Broke as Broken}
-use Rattle.uxn_opcodes.specs.Ports.{blame_of}
+use Rattle.uxn_opcodes.specs.Ports.{result_blame}
 use Rattle.uxn_opcodes.specs.Rule.{opcode_at}
 use Rattle.uxn_opcodes.specs.Instruction.{Instruction}
 use Rattle.varvara_bus.specs.declared.bus.Bus.{Bus}
 use Rattle.varvara_bus.specs.History.{stored}
 use Rattle.varvara_bus.specs.State.{DeviceState}
-use Rattle.varvara_bus.specs.Reads.{read_of}
-use Rattle.varvara_bus.specs.Bus.{BusStandsFor, Reads, Meaning, Makes, StopsShort, outside_on, held_page, bus_rules, told_on}
+use Rattle.varvara_bus.specs.ReadsPort.{read_of}
+use Rattle.varvara_bus.specs.Bus.{BusRepresents, ReadsPort, BusModel, Makes, StopsShort, outside_on, held_page, bus_rules, contents_on}
 use Rattle.varvara_bus.specs.InstructionLaws.{makes-none, makes-both, instruction-done}
 use Rattle.vector_loop.specs.State.{State, counting_instruction}
-use Rattle.vector_loop.specs.Trail.{Trail, stays, followed_by}
+use Rattle.vector_loop.specs.Trace.{Trace, stays, followed_by}
 use Rattle.vector_loop.specs.Vector.{instruction}
 use Rattle.vector_loop.specs.Watch.{Page, IsPage, page_in, ports_read, ports_stored, shown_all}
-use Rattle.vector_loop.specs.Follows.{Telling, Running, running, state_of, Follows, FollowsFrom}
-use Rattle.vector_loop.proofs.Trails.{shown_all-append, changes-append}
+use Rattle.vector_loop.specs.Follows.{Models, Running, running, running_state, Follows, FollowsFrom}
+use Rattle.vector_loop.proofs.Traces.{shown_all-append, changes-append}
 
 -- who is to blame for a stop, whatever would have been answered
-pub blame-same : (X Y : Type 0) (stop : Stop) → blame_of {T = X} (Err stop) ≡ blame_of {T = Y} (Err stop)
+pub blame-same : (X Y : Type 0) (stop : Stop) → result_blame {T = X} (Err stop) ≡ result_blame {T = Y} (Err stop)
 blame-same X Y NoMemory = refl
 blame-same X Y TreeFault = refl
 blame-same X Y SinkFault = refl
 
 -- what the ports of a bus read, and what was last stored in them
-pub is_page : {T O E : Type 0} (told_tree : T → Option Nodes) (bus : Bus T O E) (state : State) → BusStandsFor told_tree bus state.devices
-    → IsPage (Reads bus state.core) (held_page bus) (page_in state)
+pub is_page : {T O E : Type 0} (contents_of_tree : T → Option Nodes) (bus : Bus T O E) (state : State) → BusRepresents contents_of_tree bus state.devices
+    → IsPage (ReadsPort bus state.core) (held_page bus) (page_in state)
 unfolding ports_read ports_stored
-is_page told_tree bus state stands = record {
+is_page contents_of_tree bus state stands = record {
   size = length-map-range_with_len (read_of state.devices state.core) 0 256;
   shows = λ port byte within reads.
       reads state.devices stands.devices
@@ -47,79 +47,79 @@ is_page told_tree bus state stands = record {
       ∙ sym (get_or-map-range_with_len (stored state.devices.history) 0 256 port port 0 within (omega arith));
 }
 
-module _ {T O E : Type 0} (meaning : Meaning T O E) where
-  -- where memory was wanting to the watcher all was made so far, and nothing of what is to come
+module _ {T O E : Type 0} (meaning : BusModel T O E) where
+  -- when out of memory to the watcher all was made so far, and nothing of what is to come
   pub stops-here : (before now : Bus T O E) (first more : List Change) → Makes meaning before now first
       → StopsShort meaning before now NoMemory (first ++ more)
   stops-here before now first more makes = record {
     cut = cut-here (outside_on meaning before).world (outside_on meaning now).world first more makes.world;
-    not_sure = tt;
+    not_guaranteed = tt;
   }
 
-module _ {T O E W H : Type 0} (telling : Telling T O E W H) where
+module _ {T O E W H : Type 0} (models : Models T O E W H) where
   -- nothing is done yet
-  pub follows-nothing : (now : Running T O E W) (devices : DeviceState) → BusStandsFor (told_on telling.meaning.tree) now.bus devices
-      → Follows telling now now (stays (state_of now devices))
+  pub follows-nothing : (now : Running T O E W) (devices : DeviceState) → BusRepresents (contents_on models.meaning.tree) now.bus devices
+      → Follows models now now (stays (running_state now devices))
   follows-nothing now devices stands = search (rules, makes-none)
 
   -- the state that was reached is that of the machine
-  pub reached : (before middle : Running T O E W) (first : Trail) → Follows telling before middle first
-      → state_of middle first.last.devices ≡ first.last
+  pub reached : (before middle : Running T O E W) (first : Trace) → Follows models before middle first
+      → running_state middle first.last.devices ≡ first.last
   reached before middle first follows = ap (λ core. record { core = core; devices = first.last.devices; tally = middle.tally }) follows.core
       ∙ ap (λ tally. record { core = first.last.core; devices = first.last.devices; tally = tally }) follows.tally
 
   -- a part, and then another
-  pub follows-on : (before middle now : Running T O E W) (first second : Trail) → Follows telling before middle first
-      → Follows telling middle now second → Follows telling before now (followed_by first (λ s. second))
+  pub follows-on : (before middle now : Running T O E W) (first second : Trace) → Follows models before middle first
+      → Follows models middle now second → Follows models before now (followed_by first (λ s. second))
   follows-on before middle now first second one then = record {
     core = then.core;
     devices = then.devices;
     tally = then.tally;
-    makes = makes-both telling.meaning before.bus middle.bus now.bus first.changes second.changes one.makes then.makes;
+    makes = makes-both models.meaning before.bus middle.bus now.bus first.changes second.changes one.makes then.makes;
     changes = changes-append first.moments second.moments first.changes second.changes one.changes then.changes;
-    watcher = then.watcher ∙ ap (λ h. shown_all telling.shown h second.moments) one.watcher
-        ∙ sym (shown_all-append telling.shown (telling.held before.watcher) first.moments second.moments);
+    watcher = then.watcher ∙ ap (λ h. shown_all models.shown h second.moments) one.watcher
+        ∙ sym (shown_all-append models.shown (models.held before.watcher) first.moments second.moments);
   }
 
   -- a part, and then what follows it
-  pub follows-both : (before middle now : Running T O E W) (first : Trail) (rest : State → Trail)
-      → Follows telling before middle first → FollowsFrom telling middle now rest
-      → Follows telling before now (followed_by first rest)
-  follows-both before middle now first rest one more =
+  pub follows-both_counts : (before middle now : Running T O E W) (first : Trace) (rest : State → Trace)
+      → Follows models before middle first → FollowsFrom models middle now rest
+      → Follows models before now (followed_by first rest)
+  follows-both_counts before middle now first rest one more =
       follows-on before middle now first (rest first.last) one
       (rw (reached before middle first one) at (more.from first.last.devices one.devices))
 
   -- the watcher was shown the machine
   abbrev pub Watched : Running T O E W → W → Type 0
-  Watched now watcher_new = (page : Page) → IsPage (Reads now.bus now.core) (held_page now.bus) page
-      → telling.held watcher_new
-      ≡ telling.shown (telling.held now.watcher) now.core page (record { instructions = now.tally.instructions; address = now.core.at })
+  Watched now watcher_new = (page : Page) → IsPage (ReadsPort now.bus now.core) (held_page now.bus) page
+      → models.held watcher_new
+      ≡ models.shown (models.held now.watcher) now.core page (record { instructions = now.tally.instructions; address = now.core.at })
 
   -- one instruction, before which the watcher was shown the machine
   pub follows-instruction : (now : Running T O E W) (core_new : Core) (bus_new : Bus T O E) (watcher_new : W) (turn : Turn)
       → Watched now watcher_new
-      → Instruction (bus_rules telling.meaning) now.core now.bus (Ok turn) core_new bus_new
-      → FollowsFrom telling now (running core_new bus_new (counting_instruction now.tally) watcher_new) instruction
+      → Instruction (bus_rules models.meaning) now.core now.bus (Ok turn) core_new bus_new
+      → FollowsFrom models now (running core_new bus_new (counting_instruction now.tally) watcher_new) instruction
   follows-instruction now core_new bus_new watcher_new turn watched ran = record {
     from = λ devices stands.
-        let done = instruction-done telling.meaning now.core core_new now.bus bus_new turn devices stands ran in
+        let done = instruction-done models.meaning now.core core_new now.bus bus_new turn devices stands ran in
         record {
           core = done.core;
           devices = done.devices;
           tally = refl;
           makes = done.makes;
-          changes = ([], ([], (sym (append-nil (instruction (state_of now devices)).changes), tt)));
-          watcher = watched (page_in (state_of now devices)) (is_page (told_on telling.meaning.tree) now.bus (state_of now devices) stands);
+          changes = ([], ([], (sym (append-nil (instruction (running_state now devices)).changes), tt)));
+          watcher = watched (page_in (running_state now devices)) (is_page (contents_on models.meaning.tree) now.bus (running_state now devices) stands);
         };
   }
 
 -- what the result of an instruction says of its opcode
-pub not-break : {T O E : Type 0} (meaning : Meaning T O E) (core core_new : Core) (before now : Bus T O E)
+pub not-break : {T O E : Type 0} (meaning : BusModel T O E) (core core_new : Core) (before now : Bus T O E)
     → Instruction (bus_rules meaning) core before (Ok Ran) core_new now → opcode_at core ≢ 0
 unfolding Instruction
 not-break meaning core core_new before now ran = ran.0
 
-pub is-break : {T O E : Type 0} (meaning : Meaning T O E) (core core_new : Core) (before now : Bus T O E)
+pub is-break : {T O E : Type 0} (meaning : BusModel T O E) (core core_new : Core) (before now : Bus T O E)
     → Instruction (bus_rules meaning) core before (Ok Broken) core_new now → opcode_at core ≡ 0
 unfolding Instruction
 is-break meaning core core_new before now ran = ran.0

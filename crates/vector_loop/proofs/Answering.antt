@@ -1,114 +1,114 @@
 -- What a runner answers for parts of a run, one after the other, whether they were done or stopped.
 use Rattle.std.proofs.Common.{◌≡◌, ℕ, ◌+◌, ◌≤◌, ◌⊎◌, Bool, true, false, cond, List, refl, ap, subst, sym, ◌∙◌, arith, rules}
 use Rattle.std.specs.Prelude.{Option, Some, None, IfSome, Result, Ok, Err, OnOk, IfErr}
-use Rattle.tree_io.specs.Files.{Nodes}
-use Rattle.tree_io.specs.Faults.{Ledger}
+use Rattle.uxn_io_traits.specs.Files.{Nodes}
+use Rattle.uxn_io_traits.specs.Faults.{Ledger}
 use Rattle.uxn_opcodes.specs.declared.Core.{Core}
 use Rattle.uxn_opcodes.specs.declared.Stop.{Stop}
-use Rattle.uxn_opcodes.specs.Ports.{blame_of}
+use Rattle.uxn_opcodes.specs.Ports.{result_blame}
 use Rattle.varvara_bus.specs.declared.bus.Bus.{Bus}
 use Rattle.varvara_bus.specs.State.{DeviceState}
-use Rattle.tree_io.specs.FaultLaws.{ledger-same, ledger-kept, ledger-then}
-use Rattle.varvara_bus.specs.Bus.{SameLent, SameBus, FilesStay, HasRoot, IsOutside, ChangesDevices, BusStandsFor, bus_faults, frames_begun, told_on}
+use Rattle.uxn_io_traits.specs.FaultLaws.{ledger-same, ledger-kept, ledger-then}
+use Rattle.varvara_bus.specs.Bus.{SameBorrowed, SameBus, FilesStay, HasRoot, IsOutside, ChangesDevices, BusRepresents, bus_faults, frames_begun, contents_on}
 use Rattle.vector_loop.specs.declared.runner.Runner.{Runner}
 use Rattle.vector_loop.specs.declared.tally.Tally.{Tally}
 use Rattle.vector_loop.specs.State.{State, is_over}
-use Rattle.vector_loop.specs.Trail.{Trail, stays, makes, followed_by}
+use Rattle.vector_loop.specs.Trace.{Trace, stays, makes, followed_by}
 use Rattle.vector_loop.specs.Event.{unless_over}
 use Rattle.vector_loop.specs.Outputs.{IsOutput, appended_to}
 use Rattle.vector_loop.specs.Making.{MadeOrCut}
 use Rattle.vector_loop.specs.Watch.{MayRefuse}
-use Rattle.vector_loop.specs.Follows.{Telling, Running, running, state_of, FollowsFrom, FallsShortFrom, HasGrown}
+use Rattle.vector_loop.specs.Follows.{Models, Running, running, running_state, FollowsFrom, FallsShortFrom, HasGrown}
 use Rattle.vector_loop.specs.Stops.{StopsInFrom}
-use Rattle.vector_loop.specs.Answers.{Count, none, both, HasRoom, running_of, SameRunner, Reaches, Answers}
-use Rattle.vector_loop.specs.TrailLaws.{followed_by-again, followed_by-at, stays-after}
-use Rattle.vector_loop.proofs.Along.{blame-same, follows-nothing, follows-both}
+use Rattle.vector_loop.specs.Answers.{Count, none, both_counts, HasTallyRoom, running_of, SameRunner, ReachesResult, Answers}
+use Rattle.vector_loop.specs.TraceLaws.{followed_by-again, followed_by-at, stays-after}
+use Rattle.vector_loop.proofs.Along.{blame-same, follows-nothing, follows-both_counts}
 use Rattle.vector_loop.proofs.Stopping.{stopped-first, stopped-later, stopped-append, falls-short-from}
-use Rattle.vector_loop.proofs.Counting.{grown-both, grown-none, grown-within, room-left}
+use Rattle.vector_loop.proofs.Counting.{grown-both_counts, grown-none, grown-within, room-left}
 use Rattle.vector_loop.proofs.Makings.{makes-nothing, files-kept, same_faults, no-memory, the-stop}
 
 -- where the run is over nothing more is done, and else all
-over : (rest : State → Trail) (state : State) → is_over state ≡ true → unless_over rest state ≡ stays state
+over : (rest : State → Trace) (state : State) → is_over state ≡ true → unless_over rest state ≡ stays state
 unfolding unless_over
 over rest state is = ap (λ b. cond b (stays state) (rest state)) is
 
-not-over : (rest : State → Trail) (state : State) → is_over state ≡ false → unless_over rest state ≡ rest state
+not-over : (rest : State → Trace) (state : State) → is_over state ≡ false → unless_over rest state ≡ rest state
 unfolding unless_over
 not-over rest state is = ap (λ b. cond b (stays state) (rest state)) is
 
 -- an output that is there lies outside the root part
-output-outside : (output : Option (List ℕ)) (root : Option (List ℕ)) (told : Option Nodes) → IfSome output (IsOutput root told)
+output-outside : (output : Option (List ℕ)) (root : Option (List ℕ)) (contents : Option Nodes) → IfSome output (IsOutput root contents)
     → IfSome output (IsOutside root)
-output-outside None root told there = tt
-output-outside (Some path) root told there = there.outside
+output-outside None root contents there = tt
+output-outside (Some path) root contents there = there.outside
 
 -- what stays in one part of a run, and then in another
-files-both : (root root_then : Option (List ℕ)) (a b c : Option Nodes) → root_then ≡ root → FilesStay root a b → FilesStay root_then b c
+files-both_counts : (root root_then : Option (List ℕ)) (a b c : Option Nodes) → root_then ≡ root → FilesStay root a b → FilesStay root_then b c
     → FilesStay root a c
-files-both root root_then a b c same p q = search rules
+files-both_counts root root_then a b c same p q = search rules
 
--- memory is wanting still where there was a root before
+-- memory runs out still where there was a root before
 wanting-still : {T O E : Type 0} (refuses : Type 0) (before now : Bus T O E) → now.devices.now.root ≡ before.devices.now.root
     → refuses ⊎ HasRoot now.devices.now → refuses ⊎ HasRoot before.devices.now
 wanting-still refuses before now same wanting = rw same at wanting
 
-lent-both : {T O E : Type 0} (a b c : Bus T O E) → SameLent a b → SameLent b c → SameLent a c
-lent-both a b c p q = search rules
+borrowed-both_counts : {T O E : Type 0} (a b c : Bus T O E) → SameBorrowed a b → SameBorrowed b c → SameBorrowed a c
+borrowed-both_counts a b c p q = search rules
 
-module _ {T O E W : Type 0} (told_tree : T → Option Nodes) where
-  pub same-itself : (now : Runner T O E W) → SameRunner told_tree now now
+module _ {T O E W : Type 0} (contents_of_tree : T → Option Nodes) where
+  pub same-itself : (now : Runner T O E W) → SameRunner contents_of_tree now now
   same-itself now = search rules
 
-  same-both : (a b c : Runner T O E W) → SameRunner told_tree a b → SameRunner told_tree b c → SameRunner told_tree a c
-  same-both a b c p q = search (rules, lent-both, files-both)
+  same-both_counts : (a b c : Runner T O E W) → SameRunner contents_of_tree a b → SameRunner contents_of_tree b c → SameRunner contents_of_tree a c
+  same-both_counts a b c p q = search (rules, borrowed-both_counts, files-both_counts)
 
-module _ {T O E W H : Type 0} (telling : Telling T O E W H) where
-  reaches-where : {X : Type 0} (a b : Running T O E W) (part other : State → Trail) (r : Result X Stop)
-      → ((devices : DeviceState) → BusStandsFor (told_on telling.meaning.tree) a.bus devices → other (state_of a devices) ≡ part (state_of a devices))
-      → Reaches telling a b part r → Reaches telling a b other r
+module _ {T O E W H : Type 0} (models : Models T O E W H) where
+  reaches-where : {X : Type 0} (a b : Running T O E W) (part other : State → Trace) (r : Result X Stop)
+      → ((devices : DeviceState) → BusRepresents (contents_on models.meaning.tree) a.bus devices → other (running_state a devices) ≡ part (running_state a devices))
+      → ReachesResult models a b part r → ReachesResult models a b other r
   reaches-where a b part other (Ok x) same follows = record { from = λ devices stands. rw (same devices stands) (follows.from devices stands) }
   reaches-where a b part other (Err stop) same stopped = record {
     within = record { from = λ devices stands. rw (same devices stands) (stopped.within.from devices stands) };
     memory = stopped.memory;
   }
 
-  reaches-then : {X : Type 0} (a b c : Running T O E W) (part rest : State → Trail) (r : Result X Stop)
-      → b.bus.devices.now.root ≡ a.bus.devices.now.root → FollowsFrom telling a b part
-      → Reaches telling b c rest r → Reaches telling a c (λ s. followed_by (part s) rest) r
+  reaches-then : {X : Type 0} (a b c : Running T O E W) (part rest : State → Trace) (r : Result X Stop)
+      → b.bus.devices.now.root ≡ a.bus.devices.now.root → FollowsFrom models a b part
+      → ReachesResult models b c rest r → ReachesResult models a c (λ s. followed_by (part s) rest) r
   reaches-then a b c part rest (Ok x) root one more = record {
-    from = λ devices stands. follows-both telling a b c (part (state_of a devices)) rest (one.from devices stands) more;
+    from = λ devices stands. follows-both_counts models a b c (part (running_state a devices)) rest (one.from devices stands) more;
   }
   reaches-then a b c part rest (Err stop) root one more = record {
     within = record {
-      from = λ devices stands. stopped-later telling a b c stop (part (state_of a devices)) rest
+      from = λ devices stands. stopped-later models a b c stop (part (running_state a devices)) rest
           (one.from devices stands) more.within;
     };
-    memory = λ wanted. wanting-still (MayRefuse telling.may_refuse) a.bus b.bus root (more.memory wanted);
+    memory = λ wanted. wanting-still (MayRefuse models.may_refuse) a.bus b.bus root (more.memory wanted);
   }
 
   -- nothing is done
-  pub answers-nothing : {X : Type 0} (now : Runner T O E W) (x : X) → Answers telling now now stays none (Ok x)
+  pub answers-nothing : {X : Type 0} (now : Runner T O E W) (x : X) → Answers models now now stays none (Ok x)
   answers-nothing now x = search (arith, rules, follows-nothing, ledger-same, grown-none, same-itself)
 
   -- a part, and then another, whatever that answers
-  pub answers-then : {X Y : Type 0} (a b c : Runner T O E W) (part rest : State → Trail) (m n : Count) (x : X) (r : Result Y Stop)
-      → Answers telling a b part m (Ok x) → Answers telling b c rest n r → Answers telling a c (λ s. followed_by (part s) rest) (both m n) r
-  answers-then a b c part rest m n x r p q = search (arith, rules, reaches-then, ledger-then, grown-both, same-both)
+  pub answers-then : {X Y : Type 0} (a b c : Runner T O E W) (part rest : State → Trace) (m n : Count) (x : X) (r : Result Y Stop)
+      → Answers models a b part m (Ok x) → Answers models b c rest n r → Answers models a c (λ s. followed_by (part s) rest) (both_counts m n) r
+  answers-then a b c part rest m n x r p q = search (arith, rules, reaches-then, ledger-then, grown-both_counts, same-both_counts)
 
   -- another part is reached by another answer, for which the same one is to blame
-  answers-but : {X Y : Type 0} (a b : Runner T O E W) (part other : State → Trail) (m : Count) (r : Result X Stop) (s : Result Y Stop)
-      → Reaches telling (running_of a) (running_of b) other s → blame_of s ≡ blame_of r → Answers telling a b part m r
-      → Answers telling a b other m s
+  answers-but : {X Y : Type 0} (a b : Runner T O E W) (part other : State → Trace) (m : Count) (r : Result X Stop) (s : Result Y Stop)
+      → ReachesResult models (running_of a) (running_of b) other s → result_blame s ≡ result_blame r → Answers models a b part m r
+      → Answers models a b other m s
   answers-but a b part other m r s reaches blame p = search (rules, blame)
 
   -- a part that stopped, whatever would follow it
-  pub answers-first : {X Y : Type 0} (a b : Runner T O E W) (part rest : State → Trail) (m : Count) (stop : Stop)
-      → Answers telling {X = X} a b part m (Err stop) → Answers telling {X = Y} a b (λ s. followed_by (part s) rest) m (Err stop)
+  pub answers-first : {X Y : Type 0} (a b : Runner T O E W) (part rest : State → Trace) (m : Count) (stop : Stop)
+      → Answers models {X = X} a b part m (Err stop) → Answers models {X = Y} a b (λ s. followed_by (part s) rest) m (Err stop)
   answers-first {X = X} {Y = Y} a b part rest m stop p =
       answers-but {X = X} {Y = Y} a b part (λ s. followed_by (part s) rest) m (Err stop) (Err stop)
       (record {
         within = record {
-          from = λ devices stands. stopped-first telling (running_of a) (running_of b) stop (part (state_of (running_of a) devices)) rest
+          from = λ devices stands. stopped-first models (running_of a) (running_of b) stop (part (running_state (running_of a) devices)) rest
               (p.reaches.within.from devices stands);
         };
         memory = p.reaches.memory;
@@ -116,73 +116,73 @@ module _ {T O E W H : Type 0} (telling : Telling T O E W H) where
       (blame-same Y X stop) p
 
   -- the same stop, whatever would have been answered
-  pub answers-stopped : {X Y : Type 0} (a b : Runner T O E W) (part : State → Trail) (m : Count) (stop : Stop)
-      → Answers telling {X = X} a b part m (Err stop) → Answers telling {X = Y} a b part m (Err stop)
+  pub answers-stopped : {X Y : Type 0} (a b : Runner T O E W) (part : State → Trace) (m : Count) (stop : Stop)
+      → Answers models {X = X} a b part m (Err stop) → Answers models {X = Y} a b part m (Err stop)
   answers-stopped {X = X} {Y = Y} a b part m stop p =
       answers-but {X = X} {Y = Y} a b part part m (Err stop) (Err stop) p.reaches (blame-same Y X stop) p
 
   -- another value
-  pub answers-with : {X Y : Type 0} (a b : Runner T O E W) (part : State → Trail) (m : Count) (x : X) (y : Y)
-      → Answers telling a b part m (Ok x) → Answers telling a b part m (Ok y)
+  pub answers-with : {X Y : Type 0} (a b : Runner T O E W) (part : State → Trace) (m : Count) (x : X) (y : Y)
+      → Answers models a b part m (Ok x) → Answers models a b part m (Ok y)
   answers-with a b part m x y p = answers-but a b part part m (Ok x) (Ok y) p.reaches refl p
 
-  -- the same under another name, in the states that the bus stood for
-  pub answers-where : {X : Type 0} (a b : Runner T O E W) (part other : State → Trail) (m : Count) (r : Result X Stop)
-      → ((devices : DeviceState) → BusStandsFor (told_on telling.meaning.tree) a.bus.now devices
-      → other (state_of (running_of a) devices) ≡ part (state_of (running_of a) devices))
-      → Answers telling a b part m r → Answers telling a b other m r
+  -- the same under another name, in the states that the bus represented
+  pub answers-where : {X : Type 0} (a b : Runner T O E W) (part other : State → Trace) (m : Count) (r : Result X Stop)
+      → ((devices : DeviceState) → BusRepresents (contents_on models.meaning.tree) a.bus.now devices
+      → other (running_state (running_of a) devices) ≡ part (running_state (running_of a) devices))
+      → Answers models a b part m r → Answers models a b other m r
   answers-where a b part other m r same p = search (rules, answers-but, reaches-where)
 
   -- the same in every state
-  pub answers-as : {X : Type 0} (a b : Runner T O E W) (part other : State → Trail) (m : Count) (r : Result X Stop)
-      → ((s : State) → other s ≡ part s) → Answers telling a b part m r → Answers telling a b other m r
-  answers-as a b part other m r same p = answers-where a b part other m r (λ devices stands. same (state_of (running_of a) devices)) p
+  pub answers-as : {X : Type 0} (a b : Runner T O E W) (part other : State → Trace) (m : Count) (r : Result X Stop)
+      → ((s : State) → other s ≡ part s) → Answers models a b part m r → Answers models a b other m r
+  answers-as a b part other m r same p = answers-where a b part other m r (λ devices stands. same (running_state (running_of a) devices)) p
 
   -- the same with the budget of a runner before
-  pub answers-by : {X : Type 0} (a b : Runner T O E W) (part : ℕ → State → Trail) (m : Count) (r : Result X Stop) (budget : ℕ)
-      → a.budget ≡ budget → Answers telling a b (part a.budget) m r → Answers telling a b (part budget) m r
-  answers-by a b part m r budget same p = let P : ℕ → Type 0 = λ n. Answers telling a b (part n) m r in subst P same p
+  pub answers-by : {X : Type 0} (a b : Runner T O E W) (part : ℕ → State → Trace) (m : Count) (r : Result X Stop) (budget : ℕ)
+      → a.budget ≡ budget → Answers models a b (part a.budget) m r → Answers models a b (part budget) m r
+  answers-by a b part m r budget same p = let P : ℕ → Type 0 = λ n. Answers models a b (part n) m r in subst P same p
 
   -- no more is counted than a larger count
-  pub answers-within : {X : Type 0} (a b : Runner T O E W) (part : State → Trail) (m n : Count) (r : Result X Stop)
-      → m.vectors ≤ n.vectors → m.events ≤ n.events → Answers telling a b part m r → Answers telling a b part n r
+  pub answers-within : {X : Type 0} (a b : Runner T O E W) (part : State → Trace) (m n : Count) (r : Result X Stop)
+      → m.vectors ≤ n.vectors → m.events ≤ n.events → Answers models a b part m r → Answers models a b part n r
   answers-within a b part m n r p q d = search (arith, grown-within)
 
   -- where the run is over, and where it is not
-  pub answers-over : {X : Type 0} (now : Runner T O E W) (rest : State → Trail) (m : Count) (x : X) (is : Bool)
-      → ((devices : DeviceState) → BusStandsFor (told_on telling.meaning.tree) now.bus.now devices → is ≡ is_over (state_of (running_of now) devices))
-      → is ≡ true → Answers telling now now (unless_over rest) m (Ok x)
+  pub answers-over : {X : Type 0} (now : Runner T O E W) (rest : State → Trace) (m : Count) (x : X) (is : Bool)
+      → ((devices : DeviceState) → BusRepresents (contents_on models.meaning.tree) now.bus.now devices → is ≡ is_over (running_state (running_of now) devices))
+      → is ≡ true → Answers models now now (unless_over rest) m (Ok x)
   answers-over now rest m x is reads true_now = search (rules, arith, answers-within, answers-where, answers-nothing, over)
 
-  pub answers-not_over : {X : Type 0} (a b : Runner T O E W) (rest : State → Trail) (m : Count) (r : Result X Stop) (is : Bool)
-      → ((devices : DeviceState) → BusStandsFor (told_on telling.meaning.tree) a.bus.now devices → is ≡ is_over (state_of (running_of a) devices))
-      → is ≡ false → Answers telling a b rest m r → Answers telling a b (unless_over rest) m r
+  pub answers-not_over : {X : Type 0} (a b : Runner T O E W) (rest : State → Trace) (m : Count) (r : Result X Stop) (is : Bool)
+      → ((devices : DeviceState) → BusRepresents (contents_on models.meaning.tree) a.bus.now devices → is ≡ is_over (running_state (running_of a) devices))
+      → is ≡ false → Answers models a b rest m r → Answers models a b (unless_over rest) m r
   answers-not_over a b rest m r is reads false_now p = search (rules, answers-where, not-over)
 
-  -- what the devices stand for and the tally change, and nothing else; no instruction is run
+  -- what the devices represent and the tally change, and nothing else; no instruction is run
   pub answers-change : {X : Type 0} (a b : Runner T O E W) (prepare : State → State) (m : Count) (x : X)
       → record a { bus = b.bus; tally = b.tally } ≡ b → b.bus.ghost_name ≡ a.bus.ghost_name → ChangesDevices a.bus.now b.bus.now
       → frames_begun b.bus.now ≤ frames_begun a.bus.now + m.events → HasGrown a.tally b.tally m.vectors m.events a.budget
-      → ((devices : DeviceState) → BusStandsFor (told_on telling.meaning.tree) a.bus.now devices
-      → BusStandsFor (told_on telling.meaning.tree) b.bus.now (prepare (state_of (running_of a) devices)).devices)
-      → ((devices : DeviceState) → BusStandsFor (told_on telling.meaning.tree) a.bus.now devices
-      → state_of (running_of b) (prepare (state_of (running_of a) devices)).devices ≡ prepare (state_of (running_of a) devices))
-      → Answers telling a b (λ s. stays (prepare s)) m (Ok x)
+      → ((devices : DeviceState) → BusRepresents (contents_on models.meaning.tree) a.bus.now devices
+      → BusRepresents (contents_on models.meaning.tree) b.bus.now (prepare (running_state (running_of a) devices)).devices)
+      → ((devices : DeviceState) → BusRepresents (contents_on models.meaning.tree) a.bus.now devices
+      → running_state (running_of b) (prepare (running_state (running_of a) devices)).devices ≡ prepare (running_state (running_of a) devices))
+      → Answers models a b (λ s. stays (prepare s)) m (Ok x)
   answers-change a b prepare m x others_same bus others frames grown devices_now state_now = search (arith, rules, makes-nothing, ledger-kept, same_faults, files-kept)
 
-  -- what the devices stand for changes, and nothing else
+  -- what the devices represent changes, and nothing else
   pub answers-stored : {X : Type 0} (a b : Runner T O E W) (change : DeviceState → DeviceState) (x : X)
       → record a { bus = b.bus; tally = b.tally } ≡ b → b.tally ≡ a.tally → b.bus.ghost_name ≡ a.bus.ghost_name
       → ChangesDevices a.bus.now b.bus.now → frames_begun b.bus.now ≡ frames_begun a.bus.now
-      → ((devices : DeviceState) → BusStandsFor (told_on telling.meaning.tree) a.bus.now devices → BusStandsFor (told_on telling.meaning.tree) b.bus.now (change devices))
-      → Answers telling a b (λ s. stays (record s { devices = change s.devices })) none (Ok x)
+      → ((devices : DeviceState) → BusRepresents (contents_on models.meaning.tree) a.bus.now devices → BusRepresents (contents_on models.meaning.tree) b.bus.now (change devices))
+      → Answers models a b (λ s. stays (record s { devices = change s.devices })) none (Ok x)
   answers-stored a b change x others_same tally bus others frames devices_now = search (arith, rules, answers-change, grown-none)
 
   -- changes that a run makes itself are a part of it
   reaches-made : (a b : Runner T O E W) (output : Option (List ℕ)) (bytes : DeviceState → List ℕ) (r : Result (Unit {0}) Stop)
       → IfSome output (IsOutside a.bus.now.devices.now.root) → b.core.now ≡ a.core.now → b.tally ≡ a.tally → b.watcher.now ≡ a.watcher.now
-      → MadeOrCut telling.meaning a.bus.now b.bus.now (λ s. appended_to output (bytes s)) r
-      → Reaches telling (running_of a) (running_of b) (λ s. makes (appended_to output (bytes s.devices)) s) r
+      → MadeOrCut models.meaning a.bus.now b.bus.now (λ s. appended_to output (bytes s)) r
+      → ReachesResult models (running_of a) (running_of b) (λ s. makes (appended_to output (bytes s.devices)) s) r
   reaches-made a b output bytes (Ok x) outside core tally watcher made = record {
     from = λ devices stands. record {
       core = core;
@@ -190,49 +190,49 @@ module _ {T O E W H : Type 0} (telling : Telling T O E W H) where
       tally = tally;
       makes = let done = made.made devices stands in record { world = done.world; remains = done.remains };
       changes = tt;
-      watcher = ap telling.held watcher;
+      watcher = ap models.held watcher;
     };
   }
   reaches-made a b output bytes (Err stop) outside core tally watcher cut = record {
-    within = stopped-append telling (running_of a) (running_of b) stop output bytes outside core tally watcher
+    within = stopped-append models (running_of a) (running_of b) stop output bytes outside core tally watcher
         cut;
     memory = λ wanted. absurd (no-memory stop (the-stop (Err stop) stop refl cut.fault) wanted);
   }
 
   pub answers-made : (a b : Runner T O E W) (output : Option (List ℕ)) (bytes : DeviceState → List ℕ) (r : Result (Unit {0}) Stop)
-      → IfSome output (IsOutput a.bus.now.devices.now.root ((told_on telling.meaning.tree) a.bus.now.tree.now)) → record a { bus = b.bus } ≡ b → b.bus.ghost_name ≡ a.bus.ghost_name
-      → MadeOrCut telling.meaning a.bus.now b.bus.now
+      → IfSome output (IsOutput a.bus.now.devices.now.root ((contents_on models.meaning.tree) a.bus.now.tree.now)) → record a { bus = b.bus } ≡ b → b.bus.ghost_name ≡ a.bus.ghost_name
+      → MadeOrCut models.meaning a.bus.now b.bus.now
       (λ s. appended_to output (bytes s)) r
-      → Answers telling a b (λ s. makes (appended_to output (bytes s.devices)) s) none r
+      → Answers models a b (λ s. makes (appended_to output (bytes s.devices)) s) none r
   answers-made a b output bytes r there others_same bus made = search (arith, rules, reaches-made, output-outside, grown-none)
 
   -- what instructions answer, by what they leave of the bus
-  pub answers-ran : {X : Type 0} (a b : Runner T O E W) (part : State → Trail) (m : Count) (r : Result X Stop)
+  pub answers-ran : {X : Type 0} (a b : Runner T O E W) (part : State → Trace) (m : Count) (r : Result X Stop)
       → b.core.ghost_name ≡ a.core.ghost_name → b.bus.ghost_name ≡ a.bus.ghost_name → b.watcher.ghost_name ≡ a.watcher.ghost_name
-      → b.budget ≡ a.budget → Reaches telling (running_of a) (running_of b) part r
-      → Ledger (bus_faults telling.meaning a.bus.now) (bus_faults telling.meaning b.bus.now) (blame_of r)
-      → HasGrown a.tally b.tally m.vectors m.events a.budget → SameBus (told_on telling.meaning.tree) a.bus.now b.bus.now
-      → Answers telling a b part m r
+      → b.budget ≡ a.budget → ReachesResult models (running_of a) (running_of b) part r
+      → Ledger (bus_faults models.meaning a.bus.now) (bus_faults models.meaning b.bus.now) (result_blame r)
+      → HasGrown a.tally b.tally m.vectors m.events a.budget → SameBus (contents_on models.meaning.tree) a.bus.now b.bus.now
+      → Answers models a b part m r
   answers-ran a b part m r core bus watcher budget reaches ledger grown same = search (arith, rules)
 
   -- what room is left after a part
-  pub room-after : {X : Type 0} (a b : Runner T O E W) (part : State → Trail) (m n whole : Count) (r : Result X Stop)
-      → m.vectors + n.vectors ≤ whole.vectors → m.events + n.events ≤ whole.events → HasRoom a.tally a.budget whole
-      → Answers telling a b part m r → HasRoom b.tally b.budget n
+  pub room-after : {X : Type 0} (a b : Runner T O E W) (part : State → Trace) (m n whole : Count) (r : Result X Stop)
+      → m.vectors + n.vectors ≤ whole.vectors → m.events + n.events ≤ whole.events → HasTallyRoom a.tally a.budget whole
+      → Answers models a b part m r → HasTallyRoom b.tally b.budget n
   room-after a b part m n whole r p q room answers = rw answers.same.budget (room-left a.tally b.tally m n whole a.budget p q room answers.grown)
 
   -- a whole of which a part is done and the rest is to come
-  pub record Going (before now : Runner T O E W) (whole rest : State → Trail) (most : Count) : Type 0 where
-    pub part : State → Trail
-    pub done : Answers telling before now part most (Ok (tt {0}))
+  pub record Going (before now : Runner T O E W) (whole rest : State → Trace) (most : Count) : Type 0 where
+    pub part : State → Trace
+    pub done : Answers models before now part most (Ok (tt {0}))
     pub parts : (s : State) → whole s ≡ followed_by (part s) rest
 
-  pub going-start : (now : Runner T O E W) (whole : State → Trail) → Going now now whole whole none
+  pub going-start : (now : Runner T O E W) (whole : State → Trace) → Going now now whole whole none
   going-start now whole = record { part = stays; done = answers-nothing now (tt {0}); parts = λ s. refl }
 
   -- the first of the rest is done
-  pub going-on : {X : Type 0} (a b c : Runner T O E W) (whole rest part later : State → Trail) (m n : Count) (x : X)
-      → ((s : State) → rest s ≡ followed_by (part s) later) → Going a b whole rest m → Answers telling b c part n (Ok x) → Going a c whole later (both m n)
+  pub going-on : {X : Type 0} (a b c : Runner T O E W) (whole rest part later : State → Trace) (m n : Count) (x : X)
+      → ((s : State) → rest s ≡ followed_by (part s) later) → Going a b whole rest m → Answers models b c part n (Ok x) → Going a c whole later (both_counts m n)
   going-on a b c whole rest part later m n x next going done = record {
     part = λ s. followed_by (going.part s) part;
     done = answers-then a b c going.part part m n (tt {0}) (Ok (tt {0})) going.done (answers-with b c part n x (tt {0}) done);
@@ -241,39 +241,39 @@ module _ {T O E W H : Type 0} (telling : Telling T O E W H) where
   }
 
   -- whatever the rest answers, the whole does
-  pub going-answers : {X : Type 0} (a b c : Runner T O E W) (whole rest : State → Trail) (m n : Count) (r : Result X Stop) → Going a b whole rest m
-      → Answers telling b c rest n r → Answers telling a c whole (both m n) r
+  pub going-answers : {X : Type 0} (a b c : Runner T O E W) (whole rest : State → Trace) (m n : Count) (r : Result X Stop) → Going a b whole rest m
+      → Answers models b c rest n r → Answers models a c whole (both_counts m n) r
   going-answers a b c whole rest m n r going answers =
-      answers-as a c (λ s. followed_by (going.part s) rest) whole (both m n) r going.parts
+      answers-as a c (λ s. followed_by (going.part s) rest) whole (both_counts m n) r going.parts
       (answers-then a b c going.part rest m n (tt {0}) r going.done answers)
 
-  pub going-stopped : {X Y : Type 0} (a b c : Runner T O E W) (whole rest part later : State → Trail) (m n : Count) (stop : Stop)
-      → ((s : State) → rest s ≡ followed_by (part s) later) → Going a b whole rest m → Answers telling {X = X} b c part n (Err stop)
-      → Answers telling {X = Y} a c whole (both m n) (Err stop)
+  pub going-stopped : {X Y : Type 0} (a b c : Runner T O E W) (whole rest part later : State → Trace) (m n : Count) (stop : Stop)
+      → ((s : State) → rest s ≡ followed_by (part s) later) → Going a b whole rest m → Answers models {X = X} b c part n (Err stop)
+      → Answers models {X = Y} a c whole (both_counts m n) (Err stop)
   going-stopped a b c whole rest part later m n stop next going stopped =
       going-answers a b c whole rest m n (Err stop) going
       (answers-as b c (λ s. followed_by (part s) later) rest n (Err stop) next (answers-first b c part later n stop stopped))
 
-  pub going-end : {X : Type 0} (a b : Runner T O E W) (whole rest : State → Trail) (m : Count) (x : X) → ((s : State) → rest s ≡ stays s)
-      → Going a b whole rest m → Answers telling a b whole m (Ok x)
+  pub going-end : {X : Type 0} (a b : Runner T O E W) (whole rest : State → Trace) (m : Count) (x : X) → ((s : State) → rest s ≡ stays s)
+      → Going a b whole rest m → Answers models a b whole m (Ok x)
   going-end a b whole rest m x nothing going = search (rules, answers-with, answers-as, followed_by-at, stays-after)
 
   -- what a runner answered, by the answer, of the parts that it was made of
-  pub record Handed {X : Type 0} (before now : Running T O E W) (part : State → Trail) (r : Result X Stop) : Type 0 where
-    pub ok : OnOk r (FollowsFrom telling before now part)
-    pub stopped : IfErr r (λ stop. StopsInFrom telling before now stop part)
-    pub err : IfErr r (λ stop. FallsShortFrom telling before now stop part)
+  pub record Handed {X : Type 0} (before now : Running T O E W) (part : State → Trace) (r : Result X Stop) : Type 0 where
+    pub ok : OnOk r (FollowsFrom models before now part)
+    pub stopped : IfErr r (λ stop. StopsInFrom models before now stop part)
+    pub err : IfErr r (λ stop. FallsShortFrom models before now stop part)
 
-  handed-by : {X : Type 0} (before now : Running T O E W) (part : State → Trail) (r : Result X Stop) → Reaches telling before now part r
+  handed-by : {X : Type 0} (before now : Running T O E W) (part : State → Trace) (r : Result X Stop) → ReachesResult models before now part r
       → Handed before now part r
   handed-by before now part (Ok x) follows = record { ok = follows; stopped = tt; err = tt }
   handed-by before now part (Err stop) stopped = record {
     ok = tt;
     stopped = stopped.within;
-    err = falls-short-from telling before now stop part stopped.within;
+    err = falls-short-from models before now stop part stopped.within;
   }
 
-  pub handed : {X : Type 0} (a b : Runner T O E W) (core : Core) (bus : Bus T O E) (tally : Tally) (watcher : W) (part : State → Trail) (m : Count)
-      (r : Result X Stop) → core ≡ b.core.now → bus ≡ b.bus.now → tally ≡ b.tally → watcher ≡ b.watcher.now → Answers telling a b part m r
+  pub handed : {X : Type 0} (a b : Runner T O E W) (core : Core) (bus : Bus T O E) (tally : Tally) (watcher : W) (part : State → Trace) (m : Count)
+      (r : Result X Stop) → core ≡ b.core.now → bus ≡ b.bus.now → tally ≡ b.tally → watcher ≡ b.watcher.now → Answers models a b part m r
       → Handed (running_of a) (running core bus tally watcher) part r
   handed a b core bus tally watcher part m r c i t w answers = rw (c, i, t, w) (handed-by (running_of a) (running_of b) part r answers.reaches)

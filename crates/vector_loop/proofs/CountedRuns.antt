@@ -2,18 +2,18 @@
 use Rattle.std.proofs.Common.{◌≡◌, ℕ, suc, ◌+◌, List, [], ◌∷◌, ◌++◌, length, length-append, refl, ◌∙◌, arith}
 use Rattle.vector_loop.specs.declared.output.Outputs.{Outputs}
 use Rattle.vector_loop.specs.State.{State}
-use Rattle.vector_loop.specs.Trail.{Trail}
+use Rattle.vector_loop.specs.Trace.{Trace}
 use Rattle.vector_loop.specs.Counted.{AreCounted, IsCounted, CountingLaw}
 use Rattle.vector_loop.specs.RunLaws.{HoldsOn, run-holds}
 
-both : (count : ℕ) (first more : List State) → AreCounted count first → AreCounted (count + length first) more → AreCounted count (first ++ more)
-both count [] more one two = let none : count + 0 ≡ count = omega arith in rw none at two
-both count (state ∷ first) more one two =
+both_counts : (count : ℕ) (first more : List State) → AreCounted count first → AreCounted (count + length first) more → AreCounted count (first ++ more)
+both_counts count [] more one two = let none : count + 0 ≡ count = omega arith in rw none at two
+both_counts count (state ∷ first) more one two =
     let next : count + suc (length first) ≡ count + 1 + length first = omega arith in
-    (one.0, both (count + 1) first more one.1 (rw next at two))
+    (one.0, both_counts (count + 1) first more one.1 (rw next at two))
 
-recounted : (count other : ℕ) (trail : Trail) → count ≡ other → IsCounted count trail → IsCounted other trail
-recounted count other trail same counted = rw (← same) counted
+recounted : (count other : ℕ) (trace : Trace) → count ≡ other → IsCounted count trace → IsCounted other trace
+recounted count other trace same counted = rw (← same) counted
 
 part-counts : (outputs : Outputs) → HoldsOn outputs (λ state part. IsCounted state.tally.instructions part)
 part-counts outputs = record {
@@ -25,7 +25,7 @@ part-counts outputs = record {
       let two = recounted first.last.tally.instructions (state.tally.instructions + length first.moments) (rest first.last) one.last
       (more first.last) in
       record {
-        moments = both state.tally.instructions first.moments (rest first.last).moments one.moments two.moments;
+        moments = both_counts state.tally.instructions first.moments (rest first.last).moments one.moments two.moments;
         last = two.last ∙ omega (arith, length-append first.moments (rest first.last).moments);
       };
   alike = λ before now part alike counted. recounted now.tally.instructions before.tally.instructions part alike.count counted;

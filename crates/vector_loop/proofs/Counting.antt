@@ -11,10 +11,10 @@ use Rattle.vector_loop.specs.declared.tally.VectorEnd.TheVariants.{Broke, Cut}
 use Rattle.vector_loop.specs.Budget.{counting_ran}
 use Rattle.vector_loop.specs.State.{new_tally, counting_event}
 use Rattle.vector_loop.specs.Follows.{HasGrown, IsCompared}
-use Rattle.vector_loop.specs.Answers.{Count, HasRoom}
+use Rattle.vector_loop.specs.Answers.{Count, HasTallyRoom}
 
-pub grown-both : (a b c : Tally) (b1 g1 b2 g2 budget : ℕ) → HasGrown a b b1 g1 budget → HasGrown b c b2 g2 budget → HasGrown a c (b1 + b2) (g1 + g2) budget
-grown-both a b c b1 g1 b2 g2 budget p q = search arith
+pub grown-both_counts : (a b c : Tally) (b1 g1 b2 g2 budget : ℕ) → HasGrown a b b1 g1 budget → HasGrown b c b2 g2 budget → HasGrown a c (b1 + b2) (g1 + g2) budget
+grown-both_counts a b c b1 g1 b2 g2 budget p q = search arith
 
 pub grown-none : (a : Tally) (budget : ℕ) → HasGrown a a 0 0 budget
 grown-none a budget = search arith
@@ -24,12 +24,12 @@ grown-within a b b1 g1 b2 g2 budget p q h = let most = mul-le-mul_right budget p
 
 -- what room is left after so much was counted
 pub room-left : (a b : Tally) (m n whole : Count) (budget : ℕ) → m.vectors + n.vectors ≤ whole.vectors → m.events + n.events ≤ whole.events
-    → HasRoom a budget whole → HasGrown a b m.vectors m.events budget → HasRoom b budget n
+    → HasTallyRoom a budget whole → HasGrown a b m.vectors m.events budget → HasTallyRoom b budget n
 room-left a b m n whole budget p q r h =
     let most : (m.vectors + n.vectors) * budget ≤ whole.vectors * budget = mul-le-mul_right budget p in search arith
 
 -- a script's vectors and events can be counted from nothing
-pub room-new : (most : Count) (budget : ℕ) → 1 ≤ budget → most.vectors ≤ 9194305 → most.events ≤ 1000000 → budget < 2 ^ 32 → HasRoom new_tally budget most
+pub room-new : (most : Count) (budget : ℕ) → 1 ≤ budget → most.vectors ≤ 9194305 → most.events ≤ 1000000 → budget < 2 ^ 32 → HasTallyRoom new_tally budget most
 room-new most budget some p q r =
     let product : most.vectors * budget ≤ 9194305 * budget = mul-le-mul_right budget p in search arith
 

@@ -6,20 +6,20 @@ use Rattle.input_ports.specs.declared.Input.TheVariants.{Key, Down, Up, Mouse, P
 use Rattle.input_ports.specs.Page.{stores_of, stores_after, vector_of}
 use Rattle.uxn_opcodes.specs.declared.Stop.{Stop}
 use Rattle.varvara_bus.specs.History.{stored, stored_short}
-use Rattle.varvara_bus.specs.Reads.{read_of}
+use Rattle.varvara_bus.specs.ReadsPort.{read_of}
 use Rattle.play_script.specs.declared.script.Event.{Event}
 use Rattle.play_script.specs.declared.script.Event.TheVariants.{Frame, Expect}
 use Rattle.vector_loop.specs.declared.output.Outputs.{Outputs}
 use Rattle.vector_loop.specs.declared.runner.Runner.{Runner}
 use Rattle.vector_loop.specs.State.{State, with_stored, with_next_frame, with_counted, counting_event, counting_expect}
-use Rattle.vector_loop.specs.Trail.{Trail, stays, followed_by}
+use Rattle.vector_loop.specs.Trace.{Trace, stays, followed_by}
 use Rattle.vector_loop.specs.Vector.{vector}
-use Rattle.vector_loop.specs.Follows.{Telling}
+use Rattle.vector_loop.specs.Follows.{Models}
 use Rattle.vector_loop.specs.Event.{vector_at, vector_in, unless_over, shown_and_heard, frame, expected, happens, give}
-use Rattle.vector_loop.specs.Answers.{Count, both, of_vectors, of_events, Answers}
-use Rattle.vector_loop.proofs.Trails.{is_zero, is_not_zero}
+use Rattle.vector_loop.specs.Answers.{Count, both_counts, of_vectors, of_events, Answers}
+use Rattle.vector_loop.proofs.Traces.{is_zero, is_not_zero}
 use Rattle.vector_loop.proofs.Counting.{grown-counted}
-use Rattle.tree_io.specs.FaultLaws.{ledger-same}
+use Rattle.uxn_io_traits.specs.FaultLaws.{ledger-same}
 use Rattle.vector_loop.proofs.Makings.{makes-nothing}
 use Rattle.vector_loop.proofs.Answering.{same-itself, answers-then, answers-as, answers-within}
 
@@ -50,7 +50,7 @@ its-ports (UpOf player mask) = lit< tt
 abbrev pub applying : Input → State → State
 applying input state = with_stored (stores_of (stored state.devices.history) input) state
 
-abbrev pub settling : Input → State → Trail
+abbrev pub settling : Input → State → Trace
 settling input state = unless_over (λ after. stays (with_stored (stores_after input) after)) state
 
 give-is : (budget : ℕ) (outputs : Outputs) (event : Event) (state : State)
@@ -77,18 +77,18 @@ pub expect-given : (budget : ℕ) (outputs : Outputs) (port byte : ℕ) (state :
 unfolding give expected
 expect-given budget outputs port byte state = refl
 
-module _ {T O E W H : Type 0} (telling : Telling T O E W H) where
+module _ {T O E W H : Type 0} (models : Models T O E W H) where
   answers-counted : (a : Runner T O E W) (event : Event)
-      → Answers telling a (record a { tally = counting_event event a.tally }) (λ s. stays (with_counted event s)) one_event (Ok (tt {0}))
+      → Answers models a (record a { tally = counting_event event a.tally }) (λ s. stays (with_counted event s)) one_event (Ok (tt {0}))
   answers-counted a event = search (arith, rules, grown-counted, same-itself, ledger-same, makes-nothing)
 
   -- an event is counted, and then happens
   pub answers-given : {X : Type 0} (a c : Runner T O E W) (budget : ℕ) (outputs : Outputs) (event : Event) (n : ℕ) (r : Result X Stop) → n ≤ 5
-      → Answers telling (record a { tally = counting_event event a.tally }) c (happens budget outputs event) (of_vectors n) r
-      → Answers telling a c (give budget outputs event) (of_events 1) r
+      → Answers models (record a { tally = counting_event event a.tally }) c (happens budget outputs event) (of_vectors n) r
+      → Answers models a c (give budget outputs event) (of_events 1) r
   answers-given a c budget outputs event n r few p =
-      answers-within telling a c (give budget outputs event) (both one_event (of_vectors n)) (of_events 1) r (omega (arith, few)) (omega arith)
-      (answers-as telling a c (λ s. followed_by (stays (with_counted event s)) (happens budget outputs event)) (give budget outputs event)
-      (both one_event (of_vectors n)) r (give-is budget outputs event)
-      (answers-then telling a (record a { tally = counting_event event a.tally }) c (λ s. stays (with_counted event s)) (happens budget outputs event)
+      answers-within models a c (give budget outputs event) (both_counts one_event (of_vectors n)) (of_events 1) r (omega (arith, few)) (omega arith)
+      (answers-as models a c (λ s. followed_by (stays (with_counted event s)) (happens budget outputs event)) (give budget outputs event)
+      (both_counts one_event (of_vectors n)) r (give-is budget outputs event)
+      (answers-then models a (record a { tally = counting_event event a.tally }) c (λ s. stays (with_counted event s)) (happens budget outputs event)
       one_event (of_vectors n) (tt {0}) r (answers-counted a event) p))

@@ -3,10 +3,11 @@ use Rattle.std.proofs.Common.{◌≡◌, ℕ, ◌+◌, ◌*◌, ◌<◌, get_or,
 use Rattle.std.specs.Prelude.{ℤ}
 use Rattle.std.proofs.lemmas.List.FromFn.{get_or-range_with_len}
 use Rattle.audio_mixer.specs.Sounds.{frame_of, endings}
-use Rattle.audio_mixer.specs.Laws.{short_of, kept_frame}
+use Rattle.audio_mixer.specs.Laws.{sample_short, kept_frame}
 use Rattle.vector_loop.specs.declared.output.Outputs.{Outputs}
-use Rattle.vector_loop.specs.State.{State, with_rendered, is_over}
-use Rattle.vector_loop.specs.Trail.{Trail, stays, makes, followed_by}
+use Rattle.varvara_bus.specs.State.{DeviceState, screen_refreshed}
+use Rattle.vector_loop.specs.State.{State, with_rendered, with_refreshed, is_over}
+use Rattle.vector_loop.specs.Trace.{Trace, stays, makes, followed_by}
 use Rattle.vector_loop.specs.Outputs.{appended_to, samples_bytes, picture_bytes}
 use Rattle.vector_loop.specs.Event.{vector_in, unless_over, samples_kept, vector_where, ended_vectors, heard, shot}
 
@@ -32,21 +33,30 @@ unfolding heard
 heard-is budget outputs state = refl
 
 -- these samples are kept
-abbrev pub kept : Outputs → List ℤ → State → Trail
-kept outputs samples state = makes (appended_to outputs.samples (samples_bytes (map short_of samples))) state
+abbrev pub kept : Outputs → List ℤ → State → Trace
+kept outputs samples state = makes (appended_to outputs.samples (samples_bytes (map sample_short samples))) state
 
 -- what is heard, by the samples that were rendered and the voices that ended
 pub heard-as : (budget : ℕ) (outputs : Outputs) (state : State) (samples : List ℤ) (ended : List Bool) → samples ≡ frame_of state.core.memory state.devices.sounds → ended ≡ endings 735 state.devices.sounds
     → heard budget outputs state ≡ followed_by (kept outputs samples (with_rendered state)) (ended_vectors budget ended)
 heard-as budget outputs state samples ended is_frame is_ended =
-    let same : frame_of state.core.memory state.devices.sounds ≡ map short_of samples = sym (kept_frame state.core.memory state.devices.sounds) ∙ ap (map short_of) (sym is_frame) in
+    let same : frame_of state.core.memory state.devices.sounds ≡ map sample_short samples = sym (kept_frame state.core.memory state.devices.sounds) ∙ ap (map sample_short) (sym is_frame) in
     heard-is budget outputs state
     ∙ ap (λ s. followed_by (makes (appended_to outputs.samples (samples_bytes s)) (with_rendered state)) (ended_vectors budget (endings 735 state.devices.sounds))) same
     ∙ ap (λ e. followed_by (kept outputs samples (with_rendered state)) (ended_vectors budget e)) (sym is_ended)
 
-pub shot-is : (outputs : Outputs) (state : State) → shot outputs state ≡ makes (appended_to outputs.frames (picture_bytes state.devices)) state
+-- the picture that is shown is kept
+abbrev pub pictured : Outputs → State → Trace
+pictured outputs state = makes (appended_to outputs.frames (picture_bytes state.devices)) state
+
+-- a refresh leaves it
+refreshed-bytes : (devices : DeviceState) → picture_bytes (screen_refreshed devices) ≡ picture_bytes devices
+unfolding picture_bytes
+refreshed-bytes devices = refl
+
+pub shot-is : (outputs : Outputs) (state : State) → shot outputs state ≡ followed_by (stays (with_refreshed state)) (pictured outputs)
 unfolding shot
-shot-is outputs state = refl
+shot-is outputs state = ap (λ bytes. makes (appended_to outputs.frames bytes) (with_refreshed state)) (sym (refreshed-bytes state.devices))
 
 pub none-is : (path : Option (List ℕ)) → is_some path ≡ false → path ≡ None
 none-is None e = refl

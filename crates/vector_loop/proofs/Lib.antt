@@ -1,4 +1,4 @@
-pub mod Trails
+pub mod Traces
 pub mod Along
 pub mod Stopping
 pub mod Vectors
@@ -11,4 +11,4 @@ pub mod Makings
 pub mod Frames
 pub mod CountedRuns
 pub mod Taking
-pub mod Gifts
+pub mod PendingInputs

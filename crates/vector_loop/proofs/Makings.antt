@@ -5,30 +5,30 @@ use Rattle.std.proofs.lemmas.List.{map-append}
 use Rattle.std.proofs.lemmas.List.Concat.{flat_map-cons}
 use Rattle.std.specs.Prelude.{Option, Result, Ok, Err, OnOk, OnErr}
 use Rattle.std.specs.List.{flat_map, range_with_len}
-use Rattle.tree_io.specs.Ended.{Ended, Done}
-use Rattle.tree_io.specs.EndedLaws.{done-nothing, ended-then, ended-first}
-use Rattle.tree_io.specs.State.{Outside}
-use Rattle.tree_io.specs.Faults.{Ledger}
-use Rattle.tree_io.specs.Outside.{Change, ToFile}
-use Rattle.tree_io.specs.Files.{Nodes}
+use Rattle.uxn_io_traits.specs.Ended.{Ended, Done}
+use Rattle.uxn_io_traits.specs.EndedLaws.{done-nothing, ended-then, ended-first}
+use Rattle.uxn_io_traits.specs.State.{Outside}
+use Rattle.uxn_io_traits.specs.Faults.{Ledger}
+use Rattle.uxn_io_traits.specs.Outside.{Change, ToFile}
+use Rattle.uxn_io_traits.specs.Files.{Nodes}
 use Rattle.uxn_opcodes.specs.declared.Stop.{Stop}
 use Rattle.uxn_opcodes.specs.declared.Stop.TheVariants.{NoMemory, TreeFault}
-use Rattle.uxn_opcodes.specs.Ports.{blame_of}
+use Rattle.uxn_opcodes.specs.Ports.{result_blame}
 use Rattle.screen_frame.specs.Colours.{colours_of}
 use Rattle.screen_frame.specs.Ppm.{head_bytes}
 use Rattle.screen_layers.specs.Pictures.{picture_row_of}
 use Rattle.varvara_bus.specs.declared.bus.Bus.{Bus}
 use Rattle.varvara_bus.specs.History.{colour_bytes}
 use Rattle.varvara_bus.specs.State.{DeviceState}
-use Rattle.varvara_bus.specs.Bus.{ChangesDevices, FilesStay, IsOutside, BusStandsFor, Meaning, Makes, bus_faults, blame_for, SameBus, frames_begun, screen_of, outside_on, told_on}
+use Rattle.varvara_bus.specs.Bus.{ChangesDevices, FilesStay, IsOutside, BusRepresents, BusModel, Makes, bus_faults, blame_for, SameBus, frames_begun, screen_of, outside_on, contents_on}
 use Rattle.varvara_bus.specs.FileActs.{piece_appended}
 use Rattle.varvara_bus.specs.Laws.{appended-outside}
-use Rattle.tree_io.specs.FaultLaws.{ledger-same, ledger-then}
+use Rattle.uxn_io_traits.specs.FaultLaws.{ledger-same, ledger-then}
 use Rattle.varvara_bus.specs.InstructionLaws.{same-itself, same-again}
 use Rattle.vector_loop.specs.Making.{MadeOrCut}
 use Rattle.vector_loop.specs.Outputs.{picture_bytes}
 
--- a fault of the tree is no want of memory
+-- a fault of the tree is no running out of memory
 pub no-memory : (stop : Stop) → stop ≡ TreeFault → stop ≡ NoMemory → ⊥
 no-memory stop fault wanted = cc
 
@@ -39,7 +39,7 @@ the-stop answer stop is fault = cc
 abbrev pub to_file : List ℕ → List ℕ → List Change
 to_file path bytes = map (λ byte. ToFile path byte) bytes
 
--- the front of a row that was put into a buffer
+-- the prefix of a row that was put into a buffer
 pub row-taken : (row before now : List ℕ) (count : ℕ) → now ≡ row ++ drop count before → length now ≡ length before → count ≤ length before → take count now ≡ row
 row-taken row before now count is size within =
     let whole : length now ≡ length row + (length before - count) = ap length is ∙ length-append row (drop count before) ∙ ap (λ n. length row + n) (length-drop count before) in
@@ -67,21 +67,21 @@ rows-end row y height past =
     ap (λ n. flat_map row (range_with_len y n)) none
 
 -- where the tree is as it was each file is there still
-pub files-kept : {T O E : Type 0} (told_tree : T → Option Nodes) (before now : Bus T O E) → ChangesDevices before now
-    → FilesStay before.devices.now.root (told_tree before.tree.now) (told_tree now.tree.now)
-files-kept told_tree before now changes = record { stays = λ path outside there. rw changes.tree there }
+pub files-kept : {T O E : Type 0} (contents_of_tree : T → Option Nodes) (before now : Bus T O E) → ChangesDevices before now
+    → FilesStay before.devices.now.root (contents_of_tree before.tree.now) (contents_of_tree now.tree.now)
+files-kept contents_of_tree before now changes = record { stays = λ path outside there. rw changes.tree there }
 
-pub same_faults : {T O E : Type 0} (meaning : Meaning T O E) (a b : Bus T O E) → ChangesDevices a b → bus_faults meaning b ≡ bus_faults meaning a
+pub same_faults : {T O E : Type 0} (meaning : BusModel T O E) (a b : Bus T O E) → ChangesDevices a b → bus_faults meaning b ≡ bus_faults meaning a
 same_faults meaning a b others = rw (others.tree, others.out, others.err) refl
 
--- a piece appended outside the root part leaves each state that the bus stood for
-pub appended-still : {T O E : Type 0} (told_tree : T → Option Nodes) (a b : Bus T O E) (path piece : List ℕ) (r : Result (Unit {0}) Stop)
+-- a piece appended outside the root part leaves each state that the bus represented
+pub appended-still : {T O E : Type 0} (contents_of_tree : T → Option Nodes) (a b : Bus T O E) (path piece : List ℕ) (r : Result (Unit {0}) Stop)
     → IsOutside a.devices.now.root path
-    → OnOk r ((s : DeviceState) → BusStandsFor told_tree a s → BusStandsFor told_tree b (piece_appended path piece s))
-    → OnOk r ((s : DeviceState) → BusStandsFor told_tree a s → BusStandsFor told_tree b s)
-appended-still told_tree a b path piece (Ok x) outside stands = λ s stood.
+    → OnOk r ((s : DeviceState) → BusRepresents contents_of_tree a s → BusRepresents contents_of_tree b (piece_appended path piece s))
+    → OnOk r ((s : DeviceState) → BusRepresents contents_of_tree a s → BusRepresents contents_of_tree b s)
+appended-still contents_of_tree a b path piece (Ok x) outside stands = λ s stood.
     rw (appended-outside path piece s (rw stood.devices.root at outside)) at (stands s stood)
-appended-still told_tree a b path piece (Err stop) outside stands = tt
+appended-still contents_of_tree a b path piece (Err stop) outside stands = tt
 
 -- nothing is made of two parts only where nothing is of each
 none-of : {A : Type 0} (first more : List A) → first ++ more ≡ [] → (first ≡ []) × (more ≡ [])
@@ -93,8 +93,8 @@ some-put : (path bytes : List ℕ) → 0 < length bytes → to_file path bytes �
 some-put path [] some none = omega (arith, some)
 some-put path (byte ∷ bytes) some none = cc
 
-module _ {T O E : Type 0} (meaning : Meaning T O E) where
-  -- where nothing but what the devices stand for changes nothing is made
+module _ {T O E : Type 0} (meaning : BusModel T O E) where
+  -- where nothing but what the devices represent changes nothing is made
   done-still : (before now : Bus T O E) → ChangesDevices before now → Done [] (outside_on meaning before) (outside_on meaning now)
   done-still before now others = rw (others.tree, others.out, others.err) (done-nothing (outside_on meaning before))
 
@@ -103,28 +103,23 @@ module _ {T O E : Type 0} (meaning : Meaning T O E) where
 
   -- what the bus answered for a piece, with the stop that it names
   ended-ledger : (changes : List Change) (r : Result (Unit {0}) Stop) (before now : Outside) → Ended changes (blame_for r) before now
-      → Ledger before.faults now.faults (blame_of r)
+      → Ledger before.faults now.faults (result_blame r)
   ended-ledger changes (Ok x) before now done = done.ledger
   ended-ledger changes (Err stop) before now short = short.ledger
 
   pub appended : (a b : Bus T O E) (path bytes : List ℕ) (r : Result (Unit {0}) Stop)
       → Ended (to_file path bytes) (blame_for r) (outside_on meaning a) (outside_on meaning b)
-      → OnOk r ((s : DeviceState) → BusStandsFor (told_on meaning.tree) a s → BusStandsFor (told_on meaning.tree) b s) → OnErr r (r ≡ Err TreeFault)
-      → OnErr r (0 < length bytes) → b.devices.now ≡ a.devices.now → SameBus (told_on meaning.tree) a b
+      → OnOk r ((s : DeviceState) → BusRepresents (contents_on meaning.tree) a s → BusRepresents (contents_on meaning.tree) b s) → OnErr r (r ≡ Err TreeFault)
+      → OnErr r (0 < length bytes) → b.devices.now ≡ a.devices.now → SameBus (contents_on meaning.tree) a b
       → MadeOrCut meaning a b (λ s. to_file path bytes) r
   appended a b path bytes r ended kept fault some devices same = search (rules, some-put, ended-ledger)
-
-  -- the devices stand for the same still, and nothing else changed
-  pub made-kept : (a b : Bus T O E) → ChangesDevices a b → ((s : DeviceState) → BusStandsFor (told_on meaning.tree) a s → BusStandsFor (told_on meaning.tree) b s)
-      → frames_begun b ≡ frames_begun a → (screen_of b).height ≡ (screen_of a).height → MadeOrCut meaning a b (λ s. []) (Ok (tt {0}))
-  made-kept a b others kept frames height = search (rules, done-still a b others, files-kept)
 
   pub made-nothing : (bus : Bus T O E) → MadeOrCut meaning bus bus (λ s. []) (Ok (tt {0}))
   made-nothing bus = search (rules, done-nothing, ledger-same, same-itself)
 
-  -- the same changes, in the states that the bus stood for
+  -- the same changes, in the states that the bus represented
   pub made-where : (a b : Bus T O E) (changes other : DeviceState → List Change) (r : Result (Unit {0}) Stop)
-      → ((s : DeviceState) → BusStandsFor (told_on meaning.tree) a s → other s ≡ changes s)
+      → ((s : DeviceState) → BusRepresents (contents_on meaning.tree) a s → other s ≡ changes s)
       → MadeOrCut meaning a b changes r → MadeOrCut meaning a b other r
   made-where a b changes other r same p = search (rules, same)
 
@@ -152,14 +147,14 @@ module _ {T O E : Type 0} (meaning : Meaning T O E) where
   pub record Putting (before now : Bus T O E) (path : List ℕ) (whole rest : DeviceState → List ℕ) : Type 0 where
     pub done : DeviceState → List ℕ
     pub made : MadeOrCut meaning before now (λ s. to_file path (done s)) (Ok (tt {0}))
-    pub parts : (s : DeviceState) → BusStandsFor (told_on meaning.tree) before s → whole s ≡ done s ++ rest s
+    pub parts : (s : DeviceState) → BusRepresents (contents_on meaning.tree) before s → whole s ≡ done s ++ rest s
 
   pub putting-start : (bus : Bus T O E) (path : List ℕ) (whole : DeviceState → List ℕ) → Putting bus bus path whole whole
   putting-start bus path whole = record { done = λ s. []; made = made-nothing bus; parts = λ s stands. refl }
 
   -- the next of them
   pub putting-more : (a b c : Bus T O E) (path : List ℕ) (whole rest piece later : DeviceState → List ℕ)
-      → ((s : DeviceState) → BusStandsFor (told_on meaning.tree) a s → rest s ≡ piece s ++ later s)
+      → ((s : DeviceState) → BusRepresents (contents_on meaning.tree) a s → rest s ≡ piece s ++ later s)
       → Putting a b path whole rest → MadeOrCut meaning b c (λ s. to_file path (piece s)) (Ok (tt {0})) → Putting a c path whole later
   putting-more a b c path whole rest piece later next putting made = record {
     done = λ s. putting.done s ++ piece s;
@@ -172,7 +167,7 @@ module _ {T O E : Type 0} (meaning : Meaning T O E) where
 
   -- whatever the rest answers, the whole does
   pub putting-answers : (a b c : Bus T O E) (path : List ℕ) (whole rest : DeviceState → List ℕ) (more : DeviceState → List Change) (r : Result (Unit {0}) Stop)
-      → ((s : DeviceState) → BusStandsFor (told_on meaning.tree) a s → to_file path (rest s) ≡ more s)
+      → ((s : DeviceState) → BusRepresents (contents_on meaning.tree) a s → to_file path (rest s) ≡ more s)
       → Putting a b path whole rest → MadeOrCut meaning b c more r
       → MadeOrCut meaning a c (λ s. to_file path (whole s)) r
   putting-answers a b c path whole rest more r same putting made =
@@ -182,12 +177,12 @@ module _ {T O E : Type 0} (meaning : Meaning T O E) where
       (made-then a b c (λ s. to_file path (putting.done s)) more r putting.made made)
 
   pub putting-end : (a b : Bus T O E) (path : List ℕ) (whole rest : DeviceState → List ℕ)
-      → ((s : DeviceState) → BusStandsFor (told_on meaning.tree) a s → rest s ≡ []) → Putting a b path whole rest
+      → ((s : DeviceState) → BusRepresents (contents_on meaning.tree) a s → rest s ≡ []) → Putting a b path whole rest
       → MadeOrCut meaning a b (λ s. to_file path (whole s)) (Ok (tt {0}))
   putting-end a b path whole rest none putting = search (rules, putting-answers, made-nothing)
 
   pub putting-cut : (a b c : Bus T O E) (path : List ℕ) (whole rest piece later : DeviceState → List ℕ) (stop : Stop)
-      → ((s : DeviceState) → BusStandsFor (told_on meaning.tree) a s → rest s ≡ piece s ++ later s)
+      → ((s : DeviceState) → BusRepresents (contents_on meaning.tree) a s → rest s ≡ piece s ++ later s)
       → Putting a b path whole rest → MadeOrCut meaning b c (λ s. to_file path (piece s)) (Err stop)
       → MadeOrCut meaning a c (λ s. to_file path (whole s)) (Err stop)
   putting-cut a b c path whole rest piece later stop next putting cut =

@@ -5,11 +5,11 @@ use Rattle.uxn_opcodes.specs.declared.Core.{Core}
 use Rattle.uxn_opcodes.specs.declared.Stop.{Stop}
 use Rattle.uxn_opcodes.specs.declared.Stop.TheVariants.{NoMemory}
 use Rattle.varvara_bus.specs.declared.bus.Bus.{Bus}
-use Rattle.varvara_bus.specs.Bus.{Reads, held_page, told_on}
+use Rattle.varvara_bus.specs.Bus.{ReadsPort, held_page, contents_on}
 use Rattle.vector_loop.specs.State.{State}
-use Rattle.vector_loop.specs.Trail.{Trail}
+use Rattle.vector_loop.specs.Trace.{Trace}
 use Rattle.vector_loop.specs.Watch.{Page, IsPage, page_in, moment_of, shown_all}
-use Rattle.vector_loop.specs.Follows.{Telling, Running, running, state_of, FollowsFrom, FallsShortFrom, EndsFrom}
+use Rattle.vector_loop.specs.Follows.{Models, Running, running, running_state, FollowsFrom, FallsShortFrom, EndsFrom}
 use Rattle.vector_loop.specs.Stops.{RunStops}
 use Rattle.vector_loop.specs.declared.runner.Runner.{Runner}
 use Rattle.vector_loop.specs.declared.tally.Tally.{Tally}
@@ -17,61 +17,61 @@ use Rattle.vector_loop.specs.Answers.{Count, running_of, moment_in, Answers}
 use Rattle.vector_loop.proofs.Along.{is_page, reached}
 use Rattle.vector_loop.proofs.Stopping.{run-short}
 
-module _ {T O E W H : Type 0} (telling : Telling T O E W H) where
+module _ {T O E W H : Type 0} (models : Models T O E W H) where
   -- the end was shown, or not
-  ends-run : (before now : Running T O E W) (part : State → Trail) (watcher_new : W) → FollowsFrom telling before now part
-      → ((page : Page) → IsPage (Reads now.bus now.core) (held_page now.bus) page → telling.held watcher_new
-      ≡ telling.ended (telling.held now.watcher) now.core page (record { instructions = now.tally.instructions; address = now.core.at }))
-      → EndsFrom telling before (running now.core now.bus now.tally watcher_new) part
+  ends-run : (before now : Running T O E W) (part : State → Trace) (watcher_new : W) → FollowsFrom models before now part
+      → ((page : Page) → IsPage (ReadsPort now.bus now.core) (held_page now.bus) page → models.held watcher_new
+      ≡ models.ended (models.held now.watcher) now.core page (record { instructions = now.tally.instructions; address = now.core.at }))
+      → EndsFrom models before (running now.core now.bus now.tally watcher_new) part
   ends-run before now part watcher_new follows shown_end = record {
     from = λ devices stands.
         let f = follows.from devices stands in
-        let last = (part (state_of before devices)).last in
+        let last = (part (running_state before devices)).last in
         record {
           core = f.core;
           devices = f.devices;
           tally = f.tally;
           makes = f.makes;
-          watcher = shown_end (page_in (state_of now last.devices)) (is_page (told_on telling.meaning.tree) now.bus (state_of now last.devices) f.devices)
-              ∙ ap (λ h. telling.ended h now.core (page_in (state_of now last.devices)) (moment_of (state_of now last.devices))) f.watcher
-              ∙ ap (λ (s : State). telling.ended (shown_all telling.shown (telling.held before.watcher) (part (state_of before devices)).moments) s.core (page_in s) (moment_of s))
-              (reached telling before now (part (state_of before devices)) f);
+          watcher = shown_end (page_in (running_state now last.devices)) (is_page (contents_on models.meaning.tree) now.bus (running_state now last.devices) f.devices)
+              ∙ ap (λ h. models.ended h now.core (page_in (running_state now last.devices)) (moment_of (running_state now last.devices))) f.watcher
+              ∙ ap (λ (s : State). models.ended (shown_all models.shown (models.held before.watcher) (part (running_state before devices)).moments) s.core (page_in s) (moment_of s))
+              (reached models before now (part (running_state before devices)) f);
         };
   }
 
   -- the same of a runner that was asked to finish
   pub ends-handed : {X : Type 0} (a b c : Runner T O E W) (core : Core) (bus : Bus T O E) (tally : Tally) (watcher : W)
-      (part : State → Trail) (m : Count) (x : X) → Answers telling a b part m (Ok x)
-      → ((page : Page) → IsPage (Reads b.bus.now b.core.now) (held_page b.bus.now) page
-      → telling.held c.watcher.now ≡ telling.ended (telling.held b.watcher.now) b.core.now page (moment_in b))
+      (part : State → Trace) (m : Count) (x : X) → Answers models a b part m (Ok x)
+      → ((page : Page) → IsPage (ReadsPort b.bus.now b.core.now) (held_page b.bus.now) page
+      → models.held c.watcher.now ≡ models.ended (models.held b.watcher.now) b.core.now page (moment_in b))
       → record b { watcher = c.watcher } ≡ c → core ≡ c.core.now → bus ≡ c.bus.now → tally ≡ c.tally → watcher ≡ c.watcher.now
-      → EndsFrom telling (running_of a) (running core bus tally watcher) part
+      → EndsFrom models (running_of a) (running core bus tally watcher) part
   ends-handed a b c core bus tally watcher part m x answers shown_end others is_core is_bus is_tally is_watcher =
       let then : Runner T O E W → Running T O E W = λ r. running r.core.now r.bus.now r.tally c.watcher.now in
       rw (is_core, is_bus, is_tally, is_watcher)
       (rw (ap then others) at (ends-run (running_of a) (running_of b) part c.watcher.now answers.reaches shown_end))
 
   -- a run stopped before its end
-  pub run-stopped : {X : Type 0} (a b : Runner T O E W) (core : Core) (bus : Bus T O E) (watcher : W) (part : State → Trail) (m : Count) (stop : Stop)
-      → core ≡ b.core.now → bus ≡ b.bus.now → watcher ≡ b.watcher.now → Answers telling {X = X} a b part m (Err stop)
-      → RunStops telling (running_of a) core bus watcher stop part
+  pub run-stopped : {X : Type 0} (a b : Runner T O E W) (core : Core) (bus : Bus T O E) (watcher : W) (part : State → Trace) (m : Count) (stop : Stop)
+      → core ≡ b.core.now → bus ≡ b.bus.now → watcher ≡ b.watcher.now → Answers models {X = X} a b part m (Err stop)
+      → RunStops models (running_of a) core bus watcher stop part
   run-stopped a b core bus watcher part m stop is_core is_bus is_watcher answers = record {
     tally = b.tally;
     stops = inl (rw (is_core, is_bus, is_watcher) answers.reaches.within);
   }
 
-  pub run-fell : {X : Type 0} (a b : Runner T O E W) (core : Core) (bus : Bus T O E) (tally : Tally) (watcher : W) (part : State → Trail) (m : Count) (stop : Stop)
-      → core ≡ b.core.now → bus ≡ b.bus.now → watcher ≡ b.watcher.now → Answers telling {X = X} a b part m (Err stop)
-      → FallsShortFrom telling (running_of a) (running core bus tally watcher) stop part
+  pub run-fell : {X : Type 0} (a b : Runner T O E W) (core : Core) (bus : Bus T O E) (tally : Tally) (watcher : W) (part : State → Trace) (m : Count) (stop : Stop)
+      → core ≡ b.core.now → bus ≡ b.bus.now → watcher ≡ b.watcher.now → Answers models {X = X} a b part m (Err stop)
+      → FallsShortFrom models (running_of a) (running core bus tally watcher) stop part
   run-fell a b core bus tally watcher part m stop is_core is_bus is_watcher answers =
-      run-short telling (running_of a) core bus tally watcher part stop
+      run-short models (running_of a) core bus tally watcher part stop
       (run-stopped a b core bus watcher part m stop is_core is_bus is_watcher answers)
 
   -- all of it was done, and the watcher refused to be shown its end
-  pub end-refused : {X : Type 0} (a b c : Runner T O E W) (core : Core) (bus : Bus T O E) (watcher : W) (part : State → Trail) (m : Count) (x : X)
-      (stop : Stop) → Answers telling a b part m (Ok x) → telling.may_refuse (telling.held b.watcher.now) (telling.held c.watcher.now)
+  pub end-refused : {X : Type 0} (a b c : Runner T O E W) (core : Core) (bus : Bus T O E) (watcher : W) (part : State → Trace) (m : Count) (x : X)
+      (stop : Stop) → Answers models a b part m (Ok x) → models.may_refuse (models.held b.watcher.now) (models.held c.watcher.now)
       → stop ≡ NoMemory → record b { watcher = c.watcher } ≡ c → core ≡ c.core.now → bus ≡ c.bus.now → watcher ≡ c.watcher.now
-      → RunStops telling (running_of a) core bus watcher stop part
+      → RunStops models (running_of a) core bus watcher stop part
   end-refused a b c core bus watcher part m x stop answers may memory others is_core is_bus is_watcher = record {
     tally = b.tally;
     stops = inr (record {

@@ -8,17 +8,17 @@ use Rattle.uxn_opcodes.specs.declared.Stop.TheVariants.{NoMemory}
 use Rattle.uxn_opcodes.specs.Instruction.{Instruction}
 use Rattle.varvara_bus.specs.declared.bus.Bus.{Bus}
 use Rattle.varvara_bus.specs.State.{DeviceState}
-use Rattle.varvara_bus.specs.Bus.{BusStandsFor, IsOutside, StopsShort, bus_rules, told_on}
+use Rattle.varvara_bus.specs.Bus.{BusRepresents, IsOutside, StopsShort, bus_rules, contents_on}
 use Rattle.varvara_bus.specs.InstructionLaws.{makes-none, stops-first, stops-later, instruction-cut}
 use Rattle.varvara_bus.specs.Folders.{instruction-names}
 use Rattle.vector_loop.specs.declared.tally.Tally.{Tally}
 use Rattle.vector_loop.specs.State.{State}
-use Rattle.vector_loop.specs.Trail.{Trail, stays, makes, followed_by}
-use Rattle.vector_loop.specs.TrailLaws.{followed_by-again, followed_by-at, stays-after}
-use Rattle.vector_loop.specs.Folders.{TakesNames, takes-first, takes-later}
+use Rattle.vector_loop.specs.Trace.{Trace, stays, makes, followed_by}
+use Rattle.vector_loop.specs.TraceLaws.{followed_by-again, followed_by-at, stays-after}
+use Rattle.vector_loop.specs.Folders.{TraceTakesNames, names-first, takes-later}
 use Rattle.vector_loop.specs.Vector.{instruction}
 use Rattle.vector_loop.specs.Watch.{MayRefuse, page_in}
-use Rattle.vector_loop.specs.Follows.{Telling, Running, running, state_of, Follows, FallsShort, FallsShortFrom}
+use Rattle.vector_loop.specs.Follows.{Models, Running, running, running_state, Follows, FallsShort, FallsShortFrom}
 use Rattle.vector_loop.specs.Making.{MadeOrCut}
 use Rattle.vector_loop.specs.Outputs.{appended_to}
 use Rattle.vector_loop.specs.Stops.{WatcherRefused, InstructionStopped, StepStopped, StopsIn, StopsInFrom, RunStops}
@@ -30,10 +30,10 @@ or-else : {A B C : Type 0} → (B → C) → A ⊎ B → A ⊎ C
 or-else f (inl a) = inl a
 or-else f (inr b) = inr (f b)
 
-module _ {T O E W H : Type 0} (telling : Telling T O E W H) where
+module _ {T O E W H : Type 0} (models : Models T O E W H) where
   -- the step that stopped was within the part, whatever would follow it
-  pub stopped-first : (before now : Running T O E W) (stop : Stop) (first : Trail) (rest : State → Trail)
-      → StopsIn telling before now stop first → StopsIn telling before now stop (followed_by first rest)
+  pub stopped-first : (before now : Running T O E W) (stop : Stop) (first : Trace) (rest : State → Trace)
+      → StopsIn models before now stop first → StopsIn models before now stop (followed_by first rest)
   stopped-first before now stop first rest within = record {
     done = within.done;
     here = within.here;
@@ -47,36 +47,36 @@ module _ {T O E W H : Type 0} (telling : Telling T O E W H) where
   }
 
   -- a part was done, and the step was within what follows it
-  stopped-on : (before middle now : Running T O E W) (stop : Stop) (first : Trail) (rest : State → Trail)
-      → Follows telling before middle first → StopsIn telling middle now stop (rest first.last)
-      → StopsIn telling before now stop (followed_by first rest)
+  stopped-on : (before middle now : Running T O E W) (stop : Stop) (first : Trace) (rest : State → Trace)
+      → Follows models before middle first → StopsIn models middle now stop (rest first.last)
+      → StopsIn models before now stop (followed_by first rest)
   stopped-on before middle now stop first rest one within =
-      let left : State → Trail = λ s. followed_by within.step within.later in
+      let left : State → Trace = λ s. followed_by within.step within.later in
       record {
         done = followed_by first (λ s. within.done);
         here = within.here;
-        follows = follows-on telling before middle within.here first within.done one within.follows;
+        follows = follows-on models before middle within.here first within.done one within.follows;
         step = within.step;
         later = within.later;
         parts = followed_by-at first rest (λ s. followed_by within.done left) within.parts ∙ sym (followed_by-again first (λ s. within.done) left);
         stopped = within.stopped;
       }
 
-  pub stopped-later : (before middle now : Running T O E W) (stop : Stop) (first : Trail) (rest : State → Trail)
-      → Follows telling before middle first → StopsInFrom telling middle now stop rest
-      → StopsIn telling before now stop (followed_by first rest)
+  pub stopped-later : (before middle now : Running T O E W) (stop : Stop) (first : Trace) (rest : State → Trace)
+      → Follows models before middle first → StopsInFrom models middle now stop rest
+      → StopsIn models before now stop (followed_by first rest)
   stopped-later before middle now stop first rest one more =
       stopped-on before middle now stop first rest one
-      (rw (reached telling before middle first one) at (more.from first.last.devices one.devices))
+      (rw (reached models before middle first one) at (more.from first.last.devices one.devices))
 
   -- the first step of a part stopped
-  stopped-here : (now after : Running T O E W) (stop : Stop) (devices : DeviceState) (step : Trail) (later : State → Trail)
-      → BusStandsFor (told_on telling.meaning.tree) now.bus devices → StepStopped telling now after stop (state_of now devices) step
-      → StopsIn telling now after stop (followed_by step later)
+  stopped-here : (now after : Running T O E W) (stop : Stop) (devices : DeviceState) (step : Trace) (later : State → Trace)
+      → BusRepresents (contents_on models.meaning.tree) now.bus devices → StepStopped models now after stop (running_state now devices) step
+      → StopsIn models now after stop (followed_by step later)
   stopped-here now after stop devices step later stands stopped = record {
-    done = stays (state_of now devices);
+    done = stays (running_state now devices);
     here = now;
-    follows = follows-nothing telling now devices stands;
+    follows = follows-nothing models now devices stands;
     step = step;
     later = later;
     parts = refl;
@@ -84,44 +84,44 @@ module _ {T O E W H : Type 0} (telling : Telling T O E W H) where
   }
 
   -- an instruction stopped, before which the watcher was shown the machine
-  pub stopped-instruction : (now : Running T O E W) (core_new : Core) (bus_new : Bus T O E) (watcher_new : W) (stop : Stop) (later : State → Trail)
-      → Watched telling now watcher_new
-      → Instruction (bus_rules telling.meaning) now.core now.bus (Err stop) core_new bus_new
-      → StopsInFrom telling now (running core_new bus_new now.tally watcher_new) stop (λ s. followed_by (instruction s) later)
+  pub stopped-instruction : (now : Running T O E W) (core_new : Core) (bus_new : Bus T O E) (watcher_new : W) (stop : Stop) (later : State → Trace)
+      → Watched models now watcher_new
+      → Instruction (bus_rules models.meaning) now.core now.bus (Err stop) core_new bus_new
+      → StopsInFrom models now (running core_new bus_new now.tally watcher_new) stop (λ s. followed_by (instruction s) later)
   stopped-instruction now core_new bus_new watcher_new stop later watched stopped = record {
     from = λ devices stands.
-        let state = state_of now devices in
+        let state = running_state now devices in
         stopped-here now (running core_new bus_new now.tally watcher_new) stop devices (instruction state) later stands
         (inl (
           refl,
           inr (record {
             stops = stopped;
             tally = refl;
-            watcher = watched (page_in state) (is_page (told_on telling.meaning.tree) now.bus state stands);
-            made = instruction-cut telling.meaning now.core core_new now.bus bus_new stop devices stands stopped;
-            names = λ wanted. instruction-names telling.meaning now.core core_new now.bus bus_new devices stands (rw wanted at stopped);
+            watcher = watched (page_in state) (is_page (contents_on models.meaning.tree) now.bus state stands);
+            made = instruction-cut models.meaning now.core core_new now.bus bus_new stop devices stands stopped;
+            names = λ wanted. instruction-names models.meaning now.core core_new now.bus bus_new devices stands (rw wanted at stopped);
           }),
         ));
   }
 
   -- the watcher refused to be shown the machine before an instruction
-  pub refused-instruction : (now : Running T O E W) (watcher_new : W) (later : State → Trail)
-      → telling.may_refuse (telling.held now.watcher) (telling.held watcher_new)
-      → StopsInFrom telling now (running now.core now.bus now.tally watcher_new) NoMemory (λ s. followed_by (instruction s) later)
+  pub refused-instruction : (now : Running T O E W) (watcher_new : W) (later : State → Trace)
+      → models.may_refuse (models.held now.watcher) (models.held watcher_new)
+      → StopsInFrom models now (running now.core now.bus now.tally watcher_new) NoMemory (λ s. followed_by (instruction s) later)
   refused-instruction now watcher_new later may = record {
     from = λ devices stands.
-        stopped-here now (running now.core now.bus now.tally watcher_new) NoMemory devices (instruction (state_of now devices)) later stands
+        stopped-here now (running now.core now.bus now.tally watcher_new) NoMemory devices (instruction (running_state now devices)) later stands
         (inl (refl, inl (record { left = may; memory = refl; core = refl; bus = refl; tally = refl })));
   }
 
   -- a picture or samples were not appended whole
   pub stopped-append : (now after : Running T O E W) (stop : Stop) (output : Option (List ℕ)) (bytes : DeviceState → List ℕ)
       → IfSome output (IsOutside now.bus.devices.now.root) → after.core ≡ now.core → after.tally ≡ now.tally → after.watcher ≡ now.watcher
-      → MadeOrCut telling.meaning now.bus after.bus (λ s. appended_to output (bytes s)) (Err stop)
-      → StopsInFrom telling now after stop (λ s. makes (appended_to output (bytes s.devices)) s)
+      → MadeOrCut models.meaning now.bus after.bus (λ s. appended_to output (bytes s)) (Err stop)
+      → StopsInFrom models now after stop (λ s. makes (appended_to output (bytes s.devices)) s)
   stopped-append now after stop output bytes outside core tally watcher cut = record {
     from = λ devices stands.
-        let state = state_of now devices in
+        let state = running_state now devices in
         let step = makes (appended_to output (bytes devices)) state in
         rw (← stays-after step)
         (stopped-here now after stop devices step stays stands
@@ -132,7 +132,7 @@ module _ {T O E W H : Type 0} (telling : Telling T O E W H) where
           some = cut.some devices stands;
           outside = outside;
           fault = the-stop (Err stop) stop refl cut.fault;
-          made = let short = cut.made devices stands in record { cut = short.cut; not_sure = short.not_sure };
+          made = let short = cut.made devices stands in record { cut = short.cut; not_guaranteed = short.not_guaranteed };
           core = core;
           devices = cut.devices devices stands;
           tally = tally;
@@ -140,18 +140,18 @@ module _ {T O E W H : Type 0} (telling : Telling T O E W H) where
         })));
   }
 
-  -- so not all of the trail was done
-  FallsAt : Running T O E W → Running T O E W → Stop → Trail → Type 0
-  FallsAt here now stop step = StopsShort telling.meaning here.bus now.bus stop step.changes
-      × (stop ≡ NoMemory → MayRefuse telling.may_refuse ⊎ TakesNames step)
+  -- so not all of the trace was done
+  FallsAt : Running T O E W → Running T O E W → Stop → Trace → Type 0
+  FallsAt here now stop step = StopsShort models.meaning here.bus now.bus stop step.changes
+      × (stop ≡ NoMemory → MayRefuse models.may_refuse ⊎ TraceTakesNames step)
 
-  falls-instruction : (here now : Running T O E W) (stop : Stop) (state : State) (step : Trail) → step ≡ instruction state
-      → WatcherRefused telling here now stop ⊎ InstructionStopped telling here now stop state
+  falls-instruction : (here now : Running T O E W) (stop : Stop) (state : State) (step : Trace) → step ≡ instruction state
+      → WatcherRefused models here now stop ⊎ InstructionStopped models here now stop state
       → FallsAt here now stop step
   unfolding FallsAt
   falls-instruction here now stop state step is (inl refused) = (
     rw (is, refused.memory, refused.bus)
-        (stops-here telling.meaning here.bus here.bus [] (instruction state).changes (makes-none telling.meaning here.bus)),
+        (stops-here models.meaning here.bus here.bus [] (instruction state).changes (makes-none models.meaning here.bus)),
     λ wanted. inl (record { before = _; now = _; is = refused.left }),
   )
   falls-instruction here now stop state step is (inr stopped) = (
@@ -159,49 +159,49 @@ module _ {T O E W H : Type 0} (telling : Telling T O E W H) where
     λ wanted. inr (rw is (record { before = []; moment = state; after = []; in_order = refl; takes = stopped.names wanted })),
   )
 
-  falls-at : (here now : Running T O E W) (stop : Stop) (state : State) (step : Trail) → StepStopped telling here now stop state step
+  falls-at : (here now : Running T O E W) (stop : Stop) (state : State) (step : Trace) → StepStopped models here now stop state step
       → FallsAt here now stop step
   unfolding FallsAt
   falls-at here now stop state step (inl one) = falls-instruction here now stop state step one.0 one.1
   falls-at here now stop state step (inr cut) = (cut.made, λ wanted. absurd (no-memory stop cut.fault wanted))
 
-  pub falls-short : (before now : Running T O E W) (stop : Stop) (trail : Trail) → StopsIn telling before now stop trail
-      → FallsShort telling before now stop trail
+  pub falls-short : (before now : Running T O E W) (stop : Stop) (trace : Trace) → StopsIn models before now stop trace
+      → FallsShort models before now stop trace
   unfolding FallsAt
-  falls-short before now stop trail within =
+  falls-short before now stop trace within =
       let falls = falls-at within.here now stop within.done.last within.step within.stopped in
-      let rest : State → Trail = λ s. followed_by within.step within.later in
+      let rest : State → Trace = λ s. followed_by within.step within.later in
       rw within.parts (record {
-        made = stops-later telling.meaning before.bus within.here.bus now.bus stop within.done.changes (rest within.done.last).changes
+        made = stops-later models.meaning before.bus within.here.bus now.bus stop within.done.changes (rest within.done.last).changes
             within.follows.makes
-            (stops-first telling.meaning within.here.bus now.bus stop within.step.changes (within.later within.step.last).changes falls.0);
-        names = λ wanted. or-else (λ takes. takes-later within.done rest (takes-first within.step within.later takes)) (falls.1 wanted);
+            (stops-first models.meaning within.here.bus now.bus stop within.step.changes (within.later within.step.last).changes falls.0);
+        names = λ wanted. or-else (λ takes. takes-later within.done rest (names-first within.step within.later takes)) (falls.1 wanted);
       })
 
-  pub falls-short-from : (before now : Running T O E W) (stop : Stop) (part : State → Trail)
-      → StopsInFrom telling before now stop part → FallsShortFrom telling before now stop part
+  pub falls-short-from : (before now : Running T O E W) (stop : Stop) (part : State → Trace)
+      → StopsInFrom models before now stop part → FallsShortFrom models before now stop part
   falls-short-from before now stop part stops = record {
-    from = λ devices stands. falls-short before now stop (part (state_of before devices)) (stops.from devices stands);
+    from = λ devices stands. falls-short before now stop (part (running_state before devices)) (stops.from devices stands);
   }
 
   -- nor was all of a run done, whatever was counted
-  pub run-short : (before : Running T O E W) (core : Core) (bus : Bus T O E) (tally : Tally) (watcher : W) (part : State → Trail) (stop : Stop)
-      → RunStops telling before core bus watcher stop part
-      → FallsShortFrom telling before (running core bus tally watcher) stop part
+  pub run-short : (before : Running T O E W) (core : Core) (bus : Bus T O E) (tally : Tally) (watcher : W) (part : State → Trace) (stop : Stop)
+      → RunStops models before core bus watcher stop part
+      → FallsShortFrom models before (running core bus tally watcher) stop part
   run-short before core bus tally watcher part stop stops = elim stops.stops [
     | inl within ↦ record {
       from = λ devices stands.
           let short = falls-short before (running core bus stops.tally watcher) stop
-          (part (state_of before devices)) (within.from devices stands) in
+          (part (running_state before devices)) (within.from devices stands) in
           record { made = short.made; names = short.names };
     }
     | inr end ↦ record {
       from = λ devices stands.
-          let changes = (part (state_of before devices)).changes in
+          let changes = (part (running_state before devices)).changes in
           let makes = (end.follows.from devices stands).makes in
           record {
             made = rw (end.refused.memory, end.refused.bus, ← append-nil changes)
-                (stops-here telling.meaning before.bus end.here.bus changes [] makes);
+                (stops-here models.meaning before.bus end.here.bus changes [] makes);
             names = λ wanted. inl (record { before = _; now = _; is = end.refused.left });
           };
     }

@@ -1,14 +1,14 @@
 -- What a part of a run answers: it was done, or it stopped.
 use Rattle.std.specs.Prelude.{◌≡◌, ℕ, ◌+◌, ◌-◌, ◌*◌, ◌^◌, ◌<◌, ◌≤◌, ◌⊎◌, Option, Result, Ok, Err, IfOk}
-use Rattle.tree_io.specs.Files.{Nodes}
-use Rattle.tree_io.specs.Faults.{Ledger}
+use Rattle.uxn_io_traits.specs.Files.{Nodes}
+use Rattle.uxn_io_traits.specs.Faults.{Ledger}
 use Rattle.uxn_opcodes.specs.declared.Core.{Core}
 use Rattle.uxn_opcodes.specs.declared.Stop.{Stop}
 use Rattle.uxn_opcodes.specs.declared.Stop.TheVariants.{NoMemory}
-use Rattle.uxn_opcodes.specs.Ports.{blame_of}
+use Rattle.uxn_opcodes.specs.Ports.{result_blame}
 use Rattle.varvara_bus.specs.declared.bus.Bus.{Bus}
 use Rattle.varvara_bus.specs.State.{DeviceState}
-use Rattle.varvara_bus.specs.Bus.{SameLent, SameBus, BusStandsFor, FilesStay, HasRoot, frames_begun, bus_faults, bus_rules, told_on}
+use Rattle.varvara_bus.specs.Bus.{SameBorrowed, SameBus, BusRepresents, FilesStay, HasRoot, frames_begun, bus_faults, bus_rules, contents_on}
 use Rattle.vector_loop.specs.declared.output.Outputs.{Outputs}
 use Rattle.vector_loop.specs.declared.runner.Runner.{Runner}
 use Rattle.vector_loop.specs.declared.tally.Tally.{Tally}
@@ -16,11 +16,11 @@ use Rattle.vector_loop.specs.declared.tally.VectorEnd.{VectorEnd}
 use Rattle.vector_loop.specs.declared.watch.Moment.{Moment}
 use Rattle.vector_loop.specs.State.{State}
 use Rattle.vector_loop.specs.Watch.{MayRefuse}
-use Rattle.vector_loop.specs.Trail.{Trail}
+use Rattle.vector_loop.specs.Trace.{Trace}
 use Rattle.vector_loop.specs.Vector.{instructions, ends_by}
-use Rattle.vector_loop.specs.Budget.{RanWhole, with_break, counting_run}
+use Rattle.vector_loop.specs.Budget.{RanWhole, budget_with_break, counting_run}
 use Rattle.vector_loop.specs.Outputs.{OutputsThere}
-use Rattle.vector_loop.specs.Follows.{Telling, Running, running, state_of, FollowsFrom, HasGrown}
+use Rattle.vector_loop.specs.Follows.{Models, Running, running, running_state, FollowsFrom, HasGrown}
 use Rattle.vector_loop.specs.Stops.{StopsInFrom}
 
 -- how much a part counts at most
@@ -39,11 +39,11 @@ abbrev pub of_events : ℕ → Count
 of_events number = record { vectors = number * 5; events = number }
 
 -- one count and then another
-abbrev pub both : Count → Count → Count
-both m n = record { vectors = m.vectors + n.vectors; events = m.events + n.events }
+abbrev pub both_counts : Count → Count → Count
+both_counts m n = record { vectors = m.vectors + n.vectors; events = m.events + n.events }
 
 -- there is a budget, and so much more can be counted, where anything is to be
-pub record HasRoom (tally : Tally) (budget : ℕ) (most : Count) : Type 0 where
+pub record HasTallyRoom (tally : Tally) (budget : ℕ) (most : Count) : Type 0 where
   pub runs : 1 ≤ budget
   pub instructions : tally.instructions + most.vectors * budget < 2 ^ 64
   pub vectors : tally.vectors + most.vectors < 2 ^ 64
@@ -62,50 +62,50 @@ running_of runner = running runner.core.now runner.bus.now runner.tally runner.w
 abbrev pub moment_in : {T O E W : Type 0} → Runner T O E W → Moment
 moment_in runner = record { instructions = runner.tally.instructions; address = runner.core.now.at }
 
--- each output that is asked for is there
+-- each output that is requested is there
 abbrev pub HasOutputs : {T O E W : Type 0} → (T → Option Nodes) → Outputs → Runner T O E W → Type 0
-HasOutputs told_tree outputs runner = OutputsThere outputs runner.bus.now.devices.now.root (told_tree runner.bus.now.tree.now)
+HasOutputs contents_of_tree outputs runner = OutputsThere outputs runner.bus.now.devices.now.root (contents_of_tree runner.bus.now.tree.now)
 
--- what no part of a run changes: what is lent, the budget, the root, and which files are there outside the root part
-pub record SameRunner {T O E W : Type 0} (told_tree : T → Option Nodes) (before now : Runner T O E W) : Type 0 where
+-- what no part of a run changes: what is borrowed, the budget, the root, and which files are there outside the root part
+pub record SameRunner {T O E W : Type 0} (contents_of_tree : T → Option Nodes) (before now : Runner T O E W) : Type 0 where
   pub core : now.core.ghost_name ≡ before.core.ghost_name
   pub bus : now.bus.ghost_name ≡ before.bus.ghost_name
   pub watcher : now.watcher.ghost_name ≡ before.watcher.ghost_name
   pub budget : now.budget ≡ before.budget
-  pub lent : SameLent before.bus.now now.bus.now
+  pub borrowed : SameBorrowed before.bus.now now.bus.now
   pub root : now.bus.now.devices.now.root ≡ before.bus.now.devices.now.root
-  pub files : FilesStay before.bus.now.devices.now.root (told_tree before.bus.now.tree.now) (told_tree now.bus.now.tree.now)
+  pub files : FilesStay before.bus.now.devices.now.root (contents_of_tree before.bus.now.tree.now) (contents_of_tree now.bus.now.tree.now)
 
-module _ {T O E W H : Type 0} (telling : Telling T O E W H) where
-  -- a part stopped within; memory was wanting only to the watcher, or where there is a root
-  pub record Stopped (before now : Running T O E W) (part : State → Trail) (stop : Stop) : Type 0 where
-    pub within : StopsInFrom telling before now stop part
-    pub memory : stop ≡ NoMemory → MayRefuse telling.may_refuse ⊎ HasRoot before.bus.devices.now
+module _ {T O E W H : Type 0} (models : Models T O E W H) where
+  -- a part stopped within; memory ran out only to the watcher, or where there is a root
+  pub record RunStopped (before now : Running T O E W) (part : State → Trace) (stop : Stop) : Type 0 where
+    pub within : StopsInFrom models before now stop part
+    pub memory : stop ≡ NoMemory → MayRefuse models.may_refuse ⊎ HasRoot before.bus.devices.now
 
   -- all of a part was done, or it stopped, by the answer
-  abbrev pub Reaches : {X : Type 0} → Running T O E W → Running T O E W → (State → Trail) → Result X Stop → Type 0
-  Reaches before now part (Ok _) = FollowsFrom telling before now part
-  Reaches before now part (Err stop) = Stopped before now part stop
+  abbrev pub ReachesResult : {X : Type 0} → Running T O E W → Running T O E W → (State → Trace) → Result X Stop → Type 0
+  ReachesResult before now part (Ok _) = FollowsFrom models before now part
+  ReachesResult before now part (Err stop) = RunStopped before now part stop
 
   -- what a runner answers that was to do a part: who is to blame counted a fault, and no more was counted than this
-  pub record Answers {X : Type 0} (before now : Runner T O E W) (part : State → Trail) (most : Count) (result : Result X Stop)
+  pub record Answers {X : Type 0} (before now : Runner T O E W) (part : State → Trace) (most : Count) (result : Result X Stop)
       : Type 0 where
-    pub reaches : Reaches (running_of before) (running_of now) part result
-    pub ledger : Ledger (bus_faults telling.meaning before.bus.now) (bus_faults telling.meaning now.bus.now) (blame_of result)
+    pub reaches : ReachesResult (running_of before) (running_of now) part result
+    pub ledger : Ledger (bus_faults models.meaning before.bus.now) (bus_faults models.meaning now.bus.now) (result_blame result)
     pub grown : HasGrown before.tally now.tally most.vectors most.events before.budget
     pub frames : frames_begun now.bus.now ≤ frames_begun before.bus.now + most.events
-    pub same : SameRunner (told_on telling.meaning.tree) before now
+    pub same : SameRunner (contents_on models.meaning.tree) before now
 
   -- what the instructions of a vector came to, of whose budget so much was left before the last one: all of it was done and it ended as it
   -- does, or it stopped; and so many are counted as ran whole
   pub record RanTo (before : Running T O E W) (core : Core) (bus : Bus T O E) (watcher : W) (budget left : ℕ) (end : Result VectorEnd Stop)
       : Type 0 where
     pub within : left ≤ budget
-    pub whole : RanWhole (bus_rules telling.meaning) (MayRefuse telling.may_refuse) budget before.core before.bus end core bus
-        (with_break end (budget - left))
-    pub reaches : Reaches before (running core bus (counting_run end (with_break end (budget - left)) before.tally) watcher)
+    pub whole : RanWhole (bus_rules models.meaning) (MayRefuse models.may_refuse) budget before.core before.bus end core bus
+        (budget_with_break end (budget - left))
+    pub reaches : ReachesResult before (running core bus (counting_run end (budget_with_break end (budget - left)) before.tally) watcher)
         (instructions budget) end
-    pub ends : IfOk end (λ how. (devices : DeviceState) → BusStandsFor (told_on telling.meaning.tree) before.bus devices
-        → how ≡ ends_by budget (state_of before devices))
-    pub ledger : Ledger (bus_faults telling.meaning before.bus) (bus_faults telling.meaning bus) (blame_of end)
-    pub same : SameBus (told_on telling.meaning.tree) before.bus bus
+    pub ends : IfOk end (λ how. (devices : DeviceState) → BusRepresents (contents_on models.meaning.tree) before.bus devices
+        → how ≡ ends_by budget (running_state before devices))
+    pub ledger : Ledger (bus_faults models.meaning before.bus) (bus_faults models.meaning bus) (result_blame end)
+    pub same : SameBus (contents_on models.meaning.tree) before.bus bus

@@ -2,12 +2,12 @@
 use Rattle.std.specs.Prelude.{◌≡◌, ℕ, List, [], ◌∷◌, Option, Some, None}
 use Rattle.std.specs.Str.{bytes_eq}
 use Rattle.std.proofs.Common.{false}
-use Rattle.tree_io.specs.Outside.{Change, ToOut, ToErr, Creates, ToFile, Removes}
+use Rattle.uxn_io_traits.specs.Outside.{Change, ToOut, ToErr, Creates, ToFile, Removes}
 use Rattle.play_script.specs.Scripts.{ScriptView}
-use Rattle.varvara_bus.specs.Touching.{Spares, Each, each-append, each-map, StandsApart, instruction-spares}
+use Rattle.varvara_bus.specs.Touching.{Spares, Each, each-append, each-map, IsSeparateFrom, instruction-spares}
 use Rattle.vector_loop.specs.declared.output.Outputs.{Outputs}
 use Rattle.vector_loop.specs.State.{State}
-use Rattle.vector_loop.specs.Trail.{Trail}
+use Rattle.vector_loop.specs.Trace.{Trace}
 use Rattle.vector_loop.specs.Outputs.{appended_to}
 use Rattle.vector_loop.specs.Run.{run}
 use Rattle.vector_loop.specs.RunLaws.{HoldsOn, run-holds}
@@ -28,15 +28,15 @@ spares-adds path (Creates other ∷ changes) spares = (spares.0, spares-adds pat
 spares-adds path (ToFile other byte ∷ changes) spares = (tt, spares-adds path changes spares.1)
 spares-adds path (Removes other ∷ changes) spares = (spares.0, spares-adds path changes spares.1)
 
--- this holds of each change of a trail, and a path stands apart still
-abbrev pub Keeps : (Change → Type 0) → List ℕ → Trail → Type 0
-Keeps P path trail = Each P trail.changes × StandsApart path trail.last.devices
+-- this holds of each change of a trace, and a path stands apart still
+abbrev pub KeepsAppending : (Change → Type 0) → List ℕ → Trace → Type 0
+KeepsAppending P path trace = Each P trace.changes × IsSeparateFrom path trace.last.devices
 
 -- what holds of each change that leaves the path alone, and of each change of an output, holds of each change of a run
 module _ (path : List ℕ) (P : Change → Type 0) (spares : (changes : List Change) → Each (Spares path) changes → Each P changes)
     (outputs : Outputs) (frames : (bytes : List ℕ) → Each P (appended_to outputs.frames bytes))
     (samples : (bytes : List ℕ) → Each P (appended_to outputs.samples bytes)) where
-  part-keeps : HoldsOn outputs (λ state part. StandsApart path state.devices → Keeps P path part)
+  part-keeps : HoldsOn outputs (λ state part. IsSeparateFrom path state.devices → KeepsAppending P path part)
   part-keeps = record {
     nothing = λ state apart. (tt, apart);
     one = λ state apart. let done = instruction-spares path state.devices state.core apart in (spares _ done.0, done.1);
@@ -49,10 +49,10 @@ module _ (path : List ℕ) (P : Change → Type 0) (spares : (changes : List Cha
     alike = λ before now part alike keeps apart. keeps (rw (alike.root, alike.first, alike.second) apart);
   }
 
-  pub run-keeps : (budget : ℕ) (script : ScriptView) (state : State) → StandsApart path state.devices
+  pub run-keeps : (budget : ℕ) (script : ScriptView) (state : State) → IsSeparateFrom path state.devices
       → Each P (run budget outputs script state).changes
   run-keeps budget script state apart =
-      (run-holds outputs (λ state part. StandsApart path state.devices → Keeps P path part) part-keeps budget script state apart).0
+      (run-holds outputs (λ state part. IsSeparateFrom path state.devices → KeepsAppending P path part) part-keeps budget script state apart).0
 
 -- bytes that are appended to an output add to the file at a path, or leave it alone
 appended-adds : (path : List ℕ) (output : Option (List ℕ)) (bytes : List ℕ) → Each (Adds path) (appended_to output bytes)
@@ -61,7 +61,7 @@ appended-adds path (Some file) bytes = each-map (Adds path) (λ byte. ToFile fil
 
 -- at a path outside the root part a run makes nothing and takes nothing away: it adds bytes to the file that is there, or leaves it alone
 abbrev pub AppendsOnly : Type 0
-AppendsOnly = (path : List ℕ) (budget : ℕ) (outputs : Outputs) (script : ScriptView) (state : State) → StandsApart path state.devices
+AppendsOnly = (path : List ℕ) (budget : ℕ) (outputs : Outputs) (script : ScriptView) (state : State) → IsSeparateFrom path state.devices
     → Each (Adds path) (run budget outputs script state).changes
 
 pub run-adds : AppendsOnly

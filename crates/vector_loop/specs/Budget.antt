@@ -1,5 +1,6 @@
 -- The instructions of a vector over any ports: how many ran whole, and what ended them (Varvara device reference; profile: the budget).
-use Rattle.std.specs.Prelude.{◌≡◌, ℕ, zero, suc, ◌+◌, ◌≤◌, ◌⊎◌, Result, Ok, Err, refl}
+use Rattle.std.specs.Prelude.{◌≡◌, ℕ, zero, suc, ◌+◌, ◌<◌, ◌≤◌, ◌⊎◌, Result, Ok, Err, refl}
+use Rattle.std.proofs.Common.{arith}
 use Rattle.uxn_opcodes.specs.declared.Core.{Core}
 use Rattle.uxn_opcodes.specs.declared.Stop.{Stop}
 use Rattle.uxn_opcodes.specs.declared.Stop.TheVariants.{NoMemory}
@@ -12,10 +13,10 @@ use Rattle.vector_loop.specs.declared.tally.VectorEnd.TheVariants.{Broke, Cut}
 use Rattle.vector_loop.specs.State.{counting_vector}
 
 -- BRK is an instruction that ran, and one at which a vector stops has not
-abbrev pub with_break : Result VectorEnd Stop → ℕ → ℕ
-with_break (Ok Broke) number = number + 1
-with_break (Ok Cut) number = number
-with_break (Err stop) number = number
+abbrev pub budget_with_break : Result VectorEnd Stop → ℕ → ℕ
+budget_with_break (Ok Broke) number = number + 1
+budget_with_break (Ok Cut) number = number
+budget_with_break (Err stop) number = number
 
 -- each instruction that ran is counted, and a cut; and before them a vector, as it begins
 abbrev pub counting_run : Result VectorEnd Stop → ℕ → Tally → Tally
@@ -28,29 +29,30 @@ counting_ran end number tally = counting_run end number (counting_vector tally)
 
 module _ {S : Type 0} (rules : Rules S) where
   -- so many instructions ran, one after the other, and none of them was BRK
-  abbrev pub RunsOn : ℕ → Core → S → Core → S → Type 0
-  RunsOn zero core ports core_new ports_new = (core_new ≡ core) × (ports_new ≡ ports)
-  RunsOn (suc number) core ports core_new ports_new =
-      (middle : Core) × ((between : S) × (RunsOn number core ports middle between × Instruction rules middle between (Ok Ran) core_new ports_new))
+  abbrev pub RunsWithin : ℕ → Core → S → Core → S → Type 0
+  RunsWithin zero core ports core_new ports_new = (core_new ≡ core) × (ports_new ≡ ports)
+  RunsWithin (suc number) core ports core_new ports_new =
+      (middle : Core) × ((between : S) × (RunsWithin number core ports middle between × Instruction rules middle between (Ok Ran) core_new ports_new))
 
-  -- then came BRK, or as many had run as may, or an instruction stopped, or the watcher refused before one
+  -- then came BRK, or as many had run as may, or an instruction stopped, or the watcher refused before one: but for the second, fewer
+  -- had run
   abbrev pub EndsBy : Type 0 → Result VectorEnd Stop → (number most : ℕ) → Core → S → Core → S → Type 0
-  EndsBy refuses (Ok Broke) number most core ports core_new ports_new = Instruction rules core ports (Ok Break) core_new ports_new
+  EndsBy refuses (Ok Broke) number most core ports core_new ports_new =
+      (number < most) × Instruction rules core ports (Ok Break) core_new ports_new
   EndsBy refuses (Ok Cut) number most core ports core_new ports_new = (number ≡ most) × ((core_new ≡ core) × (ports_new ≡ ports))
   EndsBy refuses (Err stop) number most core ports core_new ports_new =
-      Instruction rules core ports (Err stop) core_new ports_new
-      ⊎ ((stop ≡ NoMemory) × (refuses × ((core_new ≡ core) × (ports_new ≡ ports))))
+      (number < most) × (Instruction rules core ports (Err stop) core_new ports_new
+      ⊎ ((stop ≡ NoMemory) × (refuses × ((core_new ≡ core) × (ports_new ≡ ports)))))
 
-  -- so many instructions ran whole until a vector ended or stopped, at most the budget
+  -- so many instructions ran whole until a vector ended or stopped
   pub record RanWhole (refuses : Type 0) (most : ℕ) (core : Core) (ports : S) (result : Result VectorEnd Stop) (core_new : Core)
       (ports_new : S) (whole : ℕ) : Type 0 where
     pub before : ℕ
     pub middle : Core
     pub between : S
-    pub runs : RunsOn before core ports middle between
+    pub runs : RunsWithin before core ports middle between
     pub ends : EndsBy refuses result before most middle between core_new ports_new
-    pub number : whole ≡ with_break result before
-    pub within : whole ≤ most
+    pub number : whole ≡ budget_with_break result before
 
   -- and exactly so many are counted
   pub record CountsWhole (refuses : Type 0) (most : ℕ) (core : Core) (ports : S) (result : Result VectorEnd Stop) (core_new : Core)
@@ -59,10 +61,17 @@ module _ {S : Type 0} (rules : Rules S) where
     pub ran : RanWhole refuses most core ports result core_new ports_new whole
     pub counted : tally_new ≡ counting_ran result whole tally
 
-  pub runs-none : (number : ℕ) (core : Core) (ports : S) → number ≡ 0 → RunsOn number core ports core ports
+  -- no more than may
+  pub ran-within : (refuses : Type 0) (most : ℕ) (core : Core) (ports : S) (result : Result VectorEnd Stop) (core_new : Core) (ports_new : S)
+      (whole : ℕ) → RanWhole refuses most core ports result core_new ports_new whole → whole ≤ most
+  ran-within refuses most core ports (Ok Broke) core_new ports_new whole ran = omega (arith, ran.number, ran.ends.0)
+  ran-within refuses most core ports (Ok Cut) core_new ports_new whole ran = omega (arith, ran.number, ran.ends.0)
+  ran-within refuses most core ports (Err stop) core_new ports_new whole ran = omega (arith, ran.number, ran.ends.0)
+
+  pub runs-none : (number : ℕ) (core : Core) (ports : S) → number ≡ 0 → RunsWithin number core ports core ports
   runs-none number core ports none = rw none (refl, refl)
 
   pub runs-more : (number more : ℕ) (core middle core_new : Core) (ports between ports_new : S) → more ≡ suc number
-      → RunsOn number core ports middle between → Instruction rules middle between (Ok Ran) core_new ports_new
-      → RunsOn more core ports core_new ports_new
+      → RunsWithin number core ports middle between → Instruction rules middle between (Ok Ran) core_new ports_new
+      → RunsWithin more core ports core_new ports_new
   runs-more number more core middle core_new ports between ports_new one runs ran = rw one (middle, (between, (runs, ran)))

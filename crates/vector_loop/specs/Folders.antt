@@ -3,19 +3,19 @@ use Rattle.std.specs.Prelude.{◌≡◌, List, ◌∷◌, ◌++◌}
 use Rattle.std.proofs.Common.{ap, sym, ◌∙◌, append_assoc}
 use Rattle.varvara_bus.specs.Folders.{InstructionTakesNames}
 use Rattle.vector_loop.specs.State.{State}
-use Rattle.vector_loop.specs.Trail.{Trail, followed_by}
+use Rattle.vector_loop.specs.Trace.{Trace, followed_by}
 
 -- one of its instructions does
-pub record TakesNames (trail : Trail) : Type 0 where
+pub record TraceTakesNames (trace : Trace) : Type 0 where
   pub before : List State
   pub moment : State
   pub after : List State
-  pub in_order : trail.moments ≡ before ++ moment ∷ after
+  pub in_order : trace.moments ≡ before ++ moment ∷ after
   pub takes : InstructionTakesNames moment.devices moment.core
 
 -- so do a part and what follows it, where the one or the other does
-pub takes-first : (first : Trail) (rest : State → Trail) → TakesNames first → TakesNames (followed_by first rest)
-takes-first first rest takes = record {
+pub names-first : (first : Trace) (rest : State → Trace) → TraceTakesNames first → TraceTakesNames (followed_by first rest)
+names-first first rest takes = record {
   before = takes.before;
   moment = takes.moment;
   after = takes.after ++ (rest first.last).moments;
@@ -24,7 +24,7 @@ takes-first first rest takes = record {
   takes = takes.takes;
 }
 
-pub takes-later : (first : Trail) (rest : State → Trail) → TakesNames (rest first.last) → TakesNames (followed_by first rest)
+pub takes-later : (first : Trace) (rest : State → Trace) → TraceTakesNames (rest first.last) → TraceTakesNames (followed_by first rest)
 takes-later first rest takes = record {
   before = first.moments ++ takes.before;
   moment = takes.moment;

@@ -1,6 +1,6 @@
 pub mod State
-pub mod Trail
-pub mod TrailLaws
+pub mod Trace
+pub mod TraceLaws
 pub mod Folders
 pub mod Vector
 pub mod Budget
@@ -12,7 +12,7 @@ pub mod Making
 pub mod Outputs
 pub mod Event
 pub mod Run
-pub mod Gifts
+pub mod PendingInputs
 pub mod Places
 pub mod StepLaws
 pub mod Touching

@@ -7,7 +7,7 @@ use Rattle.play_script.specs.Scripts.{ScriptView}
 use Rattle.varvara_bus.specs.History.{Store}
 use Rattle.vector_loop.specs.declared.output.Outputs.{Outputs}
 use Rattle.vector_loop.specs.State.{State, with_stored}
-use Rattle.vector_loop.specs.Trail.{Trail, followed_by}
+use Rattle.vector_loop.specs.Trace.{Trace, followed_by}
 use Rattle.vector_loop.specs.Vector.{vector}
 use Rattle.vector_loop.specs.Answers.{Count}
 use Rattle.vector_loop.specs.Event.{give_each, console, give}
@@ -29,7 +29,7 @@ unfoldable pub arguments_given : List (List ℕ) → List ConsoleByte
 arguments_given [] = []
 arguments_given (text ∷ texts) = (argument_bytes text ++ (10, kind_before (length texts)) ∷ []) ++ arguments_given texts
 
-abbrev pub console_byte : ℕ → ConsoleByte → State → Trail
+abbrev pub console_byte : ℕ → ConsoleByte → State → Trace
 console_byte budget given = console budget given.0 given.1
 
 -- with arguments port 17 holds the kind of input in the reset vector
@@ -38,7 +38,7 @@ made_ready [] = []
 made_ready (text ∷ texts) = (0x17, event_byte event_kind.Input) ∷ []
 
 -- the whole run from a state on
-unfoldable pub run : ℕ → Outputs → ScriptView → State → Trail
+unfoldable pub run : ℕ → Outputs → ScriptView → State → Trace
 run budget outputs script state =
     followed_by (vector budget 0x0100 (with_stored (made_ready script.arguments) state)) (λ reset.
     followed_by (give_each (console_byte budget) (arguments_given script.arguments) reset)

@@ -11,12 +11,12 @@ use Rattle.play_script.specs.declared.script.Event.{Event}
 use Rattle.play_script.specs.declared.script.Event.TheVariants.{Input, EndInput, Frame, Device, Shot, Expect}
 use Rattle.play_script.specs.Scripts.{ScriptView}
 use Rattle.varvara_bus.specs.History.{Store, stored, stored_short}
-use Rattle.varvara_bus.specs.Reads.{read_of}
+use Rattle.varvara_bus.specs.ReadsPort.{read_of}
 use Rattle.vector_loop.specs.declared.tally.Tally.{Tally}
 use Rattle.vector_loop.specs.declared.output.Outputs.{Outputs}
 use Rattle.vector_loop.specs.State.{State, counting_cut, counting_event, counting_expect, with_stored, with_next_frame}
-use Rattle.vector_loop.specs.State.{with_rendered, with_counted, is_over}
-use Rattle.vector_loop.specs.Trail.{Trail, stays, makes, followed_by}
+use Rattle.vector_loop.specs.State.{with_rendered, with_refreshed, with_counted, is_over}
+use Rattle.vector_loop.specs.Trace.{Trace, stays, makes, followed_by}
 use Rattle.vector_loop.specs.Outputs.{appended_to, picture_bytes, samples_bytes}
 use Rattle.vector_loop.specs.Vector.{at_break, instruction, instructions, begun_at, vector}
 use Rattle.vector_loop.specs.Event.{vector_in, unless_over, give_each, console, device, expected, samples_kept, vector_where, ended_vectors}
@@ -35,14 +35,14 @@ pub record Alike (before now : State) : Type 0 where
 
 -- what holds of a part, by the state that it begins from: of nothing, of an instruction, of what is appended to an output, of a part and
 -- what follows it, and from a state where it does from one that is alike
-pub record HoldsOn (outputs : Outputs) (Q : State → Trail → Type 0) : Type 0 where
+pub record HoldsOn (outputs : Outputs) (Q : State → Trace → Type 0) : Type 0 where
   pub nothing : (state : State) → Q state (stays state)
   pub one : (state : State) → Q state (instruction state)
   pub frames : (bytes : List ℕ) (state : State) → Q state (makes (appended_to outputs.frames bytes) state)
   pub samples : (bytes : List ℕ) (state : State) → Q state (makes (appended_to outputs.samples bytes) state)
-  pub then : (state : State) (first : Trail) (rest : State → Trail) → Q state first → ((s : State) → Q s (rest s))
+  pub then : (state : State) (first : Trace) (rest : State → Trace) → Q state first → ((s : State) → Q s (rest s))
       → Q state (followed_by first rest)
-  pub alike : (before now : State) (part : Trail) → Alike before now → Q now part → Q before part
+  pub alike : (before now : State) (part : Trace) → Alike before now → Q now part → Q before part
 
 alike-devices : (state : State) (stores : List Store) → Alike state (with_stored stores state)
 alike-devices state stores =
@@ -64,12 +64,12 @@ expect-alike : (hit : Bool) (state : State) → Alike state (record state { tall
 expect-alike true state = alike-tally state (counting_expect true state.tally) refl
 expect-alike false state = alike-tally state (counting_expect false state.tally) refl
 
-module _ (outputs : Outputs) (Q : State → Trail → Type 0) (holds : HoldsOn outputs Q) where
+module _ (outputs : Outputs) (Q : State → Trace → Type 0) (holds : HoldsOn outputs Q) where
   -- of a part, from every state
-  abbrev All : (State → Trail) → Type 0
+  abbrev All : (State → Trace) → Type 0
   All part = (state : State) → Q state (part state)
 
-  stored-holds : (stores : List Store) (part : State → Trail) → All part → All (λ s. part (with_stored stores s))
+  stored-holds : (stores : List Store) (part : State → Trace) → All part → All (λ s. part (with_stored stores s))
   stored-holds stores part all state =
       holds.alike state (with_stored stores state) (part (with_stored stores state)) (alike-devices state stores) (all (with_stored stores state))
 
@@ -100,7 +100,7 @@ module _ (outputs : Outputs) (Q : State → Trail → Type 0) (holds : HoldsOn o
         | false ↦ vector-holds budget address state
       ]
 
-  unless_over-holds : (rest : State → Trail) → All rest → All (unless_over rest)
+  unless_over-holds : (rest : State → Trace) → All rest → All (unless_over rest)
   unfolding unless_over
   unless_over-holds rest all state = elim (is_over state) as (λ b. Q state (cond b (stays state) (rest state))) [
     | true ↦ holds.nothing state
@@ -115,12 +115,12 @@ module _ (outputs : Outputs) (Q : State → Trail → Type 0) (holds : HoldsOn o
   unfolding device
   device-holds budget input state =
       let stores = stores_of (stored state.devices.history) input in
-      let settles : State → Trail = λ after. stays (with_stored (stores_after input) after) in
+      let settles : State → Trace = λ after. stays (with_stored (stores_after input) after) in
       holds.then state (vector_in budget (vector_of input) (with_stored stores state)) (unless_over settles)
       (stored-holds stores (vector_in budget (vector_of input)) (vector_in-holds budget (vector_of input)) state)
       (unless_over-holds settles (stored-holds (stores_after input) stays holds.nothing))
 
-  each-holds : {X : Type 0} (given : X → State → Trail) (items : List X) → ((item : X) → All (given item)) → All (give_each given items)
+  each-holds : {X : Type 0} (given : X → State → Trace) (items : List X) → ((item : X) → All (given item)) → All (give_each given items)
   unfolding give_each
   each-holds given [] all state = holds.nothing state
   each-holds given (first ∷ rest) all state =
@@ -156,7 +156,11 @@ module _ (outputs : Outputs) (Q : State → Trail → Type 0) (holds : HoldsOn o
 
   shot-holds : All (shot outputs)
   unfolding shot
-  shot-holds state = holds.frames (picture_bytes state.devices) state
+  shot-holds state =
+      let bytes = picture_bytes state.devices in
+      holds.alike state (with_refreshed state) (makes (appended_to outputs.frames bytes) (with_refreshed state))
+      (record { memory = refl; working = refl; returns = refl; root = refl; first = refl; second = refl; count = refl })
+      (holds.frames bytes (with_refreshed state))
 
   expected-holds : (port byte : ℕ) → All (expected port byte)
   unfolding expected

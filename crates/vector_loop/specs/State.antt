@@ -2,12 +2,12 @@
 use Rattle.std.specs.Prelude.{◌+◌, ◌==◌, Bool, true, false, not, List}
 use Rattle.uxn_opcodes.specs.declared.Core.{Core}
 use Rattle.varvara_bus.specs.History.{Store, stored}
-use Rattle.varvara_bus.specs.State.{DeviceState, storing, next_frame, rendered}
+use Rattle.varvara_bus.specs.State.{DeviceState, storing, next_frame, rendered, screen_refreshed}
 use Rattle.play_script.specs.declared.script.Event.{Event}
 use Rattle.play_script.specs.declared.script.Event.TheVariants.{Frame, Shot}
 use Rattle.vector_loop.specs.declared.tally.Tally.{Tally}
 
--- the core, what the devices stand for, and what was counted so far
+-- the core, what the devices represent, and what was counted so far
 pub record State : Type 0 where
   pub core : Core
   pub devices : DeviceState
@@ -17,7 +17,7 @@ pub record State : Type 0 where
 abbrev pub new_tally : Tally
 new_tally = record { instructions = 0; vectors = 0; cuts = 0; events = 0; frames = 0; shots = 0; expects = 0; misses = 0 }
 
--- bytes are stored in ports, a frame begins, and its samples are rendered
+-- bytes are stored in ports, a frame begins, its samples are rendered, and the screen is refreshed
 abbrev pub with_stored : List Store → State → State
 with_stored stores state = record state { devices = storing stores state.devices }
 
@@ -26,6 +26,9 @@ with_next_frame state = record state { devices = next_frame state.devices }
 
 abbrev pub with_rendered : State → State
 with_rendered state = record state { devices = rendered state.devices }
+
+abbrev pub with_refreshed : State → State
+with_refreshed state = record state { devices = screen_refreshed state.devices }
 
 -- the byte in port 0f is not 0, which ends the run
 abbrev pub is_over : State → Bool

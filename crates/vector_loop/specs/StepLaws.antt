@@ -8,28 +8,28 @@ use Rattle.play_script.specs.declared.script.Event.{Event}
 use Rattle.play_script.specs.declared.script.Event.TheVariants.{Input, EndInput, Frame, Device, Shot, Expect}
 use Rattle.play_script.specs.Scripts.{ScriptView}
 use Rattle.varvara_bus.specs.History.{stored_short}
-use Rattle.vector_loop.specs.declared.gift.Gift.{Gift}
-use Rattle.vector_loop.specs.declared.gift.Gift.TheVariants.{OfArgument, OfEvent}
+use Rattle.vector_loop.specs.declared.pending_input.PendingInput.{PendingInput}
+use Rattle.vector_loop.specs.declared.pending_input.PendingInput.TheVariants.{OfArgument, OfEvent}
 use Rattle.vector_loop.specs.declared.output.Outputs.{Outputs}
 use Rattle.vector_loop.specs.State.{State, with_stored, is_over}
-use Rattle.vector_loop.specs.Trail.{Trail, stays, followed_by}
+use Rattle.vector_loop.specs.Trace.{Trace, stays, followed_by}
 use Rattle.vector_loop.specs.Vector.{at_break, instruction, instructions, begun_at, vector}
 use Rattle.vector_loop.specs.Event.{vector_in, unless_over, give_each, console, give}
 use Rattle.vector_loop.specs.Run.{ConsoleByte, console_byte, arguments_given, made_ready, run}
-use Rattle.vector_loop.specs.Gifts.{of_argument, gifts_of, given, console_of, counted_by}
-use Rattle.vector_loop.specs.Places.{Place, place, HasEnded, cut_at, one_instruction, instruction_step, come_to, holding, vector_begins}
-use Rattle.vector_loop.specs.Places.{giving_by, idle_step, step_of, step, after_steps, run_begun, vector_left, run_left, whole_run, StepsAre}
-use Rattle.vector_loop.specs.TrailLaws.{followed_by-again, followed_by-at, stays-after}
+use Rattle.vector_loop.specs.PendingInputs.{of_argument, pending_inputs_of, given, console_byte_of, counted_input}
+use Rattle.vector_loop.specs.Places.{Place, place, PlaceHasEnded, cut_at, one_instruction, instruction_step, come_to, holding, vector_begins}
+use Rattle.vector_loop.specs.Places.{giving_by, idle_step, next_place, step, after_steps, run_begun, vector_left, run_left, whole_run, StepsAre}
+use Rattle.vector_loop.specs.TraceLaws.{followed_by-again, followed_by-at, stays-after}
 
 -- an instruction, and then what is left of the vector and the rest
-goes_on : (less : ℕ) (done : Trail) (rest : State → Trail)
+goes_on : (less : ℕ) (done : Trace) (rest : State → Trace)
     → followed_by done (λ s. followed_by (followed_by (instruction done.last) (instructions less)) rest)
     ≡ followed_by (followed_by done (λ s. record (instruction s) { last = cut_at less (instruction s).last }))
     (λ s. followed_by (vector_left less s) rest)
 unfolding instructions
 goes_on zero done rest =
     let one = instruction done.last in
-    let cut : Trail = record one { last = cut_at zero one.last } in
+    let cut : Trace = record one { last = cut_at zero one.last } in
     let ended : followed_by one (instructions zero) ≡ cut = ap (λ changes. record cut { changes = changes }) (append-nil one.changes) in
     ap (λ t. followed_by done (λ s. followed_by t rest)) ended ∙ sym (followed_by-again done (λ s. cut) rest)
 goes_on (suc less) done rest =
@@ -37,15 +37,15 @@ goes_on (suc less) done rest =
     ap (λ t. followed_by done (λ s. t)) (followed_by-again one (instructions (suc less)) rest)
     ∙ sym (followed_by-again done (λ s. one) (λ s. followed_by (instructions (suc less) s) rest))
 
-instruction-keeps : (budget : ℕ) (outputs : Outputs) (less : ℕ) (done : Trail) (gifts : List Gift)
-    → whole_run budget outputs (place done (suc less) gifts) ≡ whole_run budget outputs (instruction_step less done gifts)
+instruction-keeps : (budget : ℕ) (outputs : Outputs) (less : ℕ) (done : Trace) (pending_inputs : List PendingInput)
+    → whole_run budget outputs (place done (suc less) pending_inputs) ≡ whole_run budget outputs (instruction_step less done pending_inputs)
 unfolding instruction_step instructions
-instruction-keeps budget outputs less done gifts =
-    let rest = give_each (given budget outputs) gifts in
+instruction-keeps budget outputs less done pending_inputs =
+    let rest = give_each (given budget outputs) pending_inputs in
     let one = instruction done.last in
     elim (at_break done.last) as (λ b. followed_by done (λ s. followed_by (cond b one (followed_by one (instructions less))) rest)
     ≡ followed_by (followed_by done (λ s. record one { last = cond b one.last (cut_at less one.last) }))
-    (run_left budget outputs (cond b 0 less) gifts)) [
+    (run_left budget outputs (cond b 0 less) pending_inputs)) [
       | true ↦ sym (followed_by-again done (λ s. one) rest)
       | false ↦ goes_on less done rest
     ]
@@ -56,25 +56,25 @@ unfolding vector
 vector-begun zero address state some = absurd (omega (arith, some))
 vector-begun (suc less) address state some = refl
 
-begins-keeps : (budget : ℕ) (outputs : Outputs) (held : State) (done : Trail) (gifts : List Gift) → 1 ≤ budget
-    → followed_by done (λ s. followed_by (vector_in budget 0x10 held) (give_each (given budget outputs) gifts))
-    ≡ whole_run budget outputs (vector_begins budget held done gifts)
+begins-keeps : (budget : ℕ) (outputs : Outputs) (held : State) (done : Trace) (pending_inputs : List PendingInput) → 1 ≤ budget
+    → followed_by done (λ s. followed_by (vector_in budget 0x10 held) (give_each (given budget outputs) pending_inputs))
+    ≡ whole_run budget outputs (vector_begins budget held done pending_inputs)
 unfolding vector_begins vector_in
-begins-keeps budget outputs held done gifts some =
+begins-keeps budget outputs held done pending_inputs some =
     let address = stored_short held.devices.history 0x10 in
-    let rest = give_each (given budget outputs) gifts in
+    let rest = give_each (given budget outputs) pending_inputs in
     elim (address == 0) as (λ b. followed_by done (λ s. followed_by (cond b (stays held) (vector budget address held)) rest)
-    ≡ whole_run budget outputs (cond b (place (come_to held done) 0 gifts) (place (come_to (begun_at address held) done) budget gifts))) [
+    ≡ whole_run budget outputs (cond b (place (come_to held done) 0 pending_inputs) (place (come_to (begun_at address held) done) budget pending_inputs))) [
       | true ↦ refl
       | false ↦ ap (λ t. followed_by done (λ s. followed_by t rest)) (vector-begun budget address held some)
     ]
 
 -- what is for the console is held there, and then its vector is run
-HoldsFirst : ℕ → Outputs → Gift → State → Option ConsoleByte → Type 0
-HoldsFirst budget outputs gift state (Some byte) = given budget outputs gift state ≡ vector_in budget 0x10 (holding byte (counted_by gift state))
-HoldsFirst budget outputs gift state None = Unit {0}
+HoldsFirst : ℕ → Outputs → PendingInput → State → Option ConsoleByte → Type 0
+HoldsFirst budget outputs pending_input state (Some byte) = given budget outputs pending_input state ≡ vector_in budget 0x10 (holding byte (counted_input pending_input state))
+HoldsFirst budget outputs pending_input state None = Unit {0}
 
-holds_first : (budget : ℕ) (outputs : Outputs) (gift : Gift) (state : State) → HoldsFirst budget outputs gift state (console_of gift)
+holds_first : (budget : ℕ) (outputs : Outputs) (pending_input : PendingInput) (state : State) → HoldsFirst budget outputs pending_input state (console_byte_of pending_input)
 unfolding HoldsFirst console give
 holds_first budget outputs (OfArgument byte kind) state = refl
 holds_first budget outputs (OfEvent (Input byte)) state = refl
@@ -84,38 +84,38 @@ holds_first budget outputs (OfEvent (Device input)) state = tt
 holds_first budget outputs (OfEvent Shot) state = tt
 holds_first budget outputs (OfEvent (Expect port byte)) state = tt
 
-giving-keeps : (budget : ℕ) (outputs : Outputs) (gift : Gift) (byte : Option ConsoleByte) (done : Trail) (gifts : List Gift) → 1 ≤ budget
-    → HoldsFirst budget outputs gift done.last byte
-    → followed_by done (λ s. followed_by (given budget outputs gift done.last) (give_each (given budget outputs) gifts))
-    ≡ whole_run budget outputs (giving_by budget outputs gift byte done gifts)
+giving-keeps : (budget : ℕ) (outputs : Outputs) (pending_input : PendingInput) (byte : Option ConsoleByte) (done : Trace) (pending_inputs : List PendingInput) → 1 ≤ budget
+    → HoldsFirst budget outputs pending_input done.last byte
+    → followed_by done (λ s. followed_by (given budget outputs pending_input done.last) (give_each (given budget outputs) pending_inputs))
+    ≡ whole_run budget outputs (giving_by budget outputs pending_input byte done pending_inputs)
 unfolding HoldsFirst
-giving-keeps budget outputs gift (Some byte) done gifts some holds =
-    ap (λ t. followed_by done (λ s. followed_by t (give_each (given budget outputs) gifts))) holds
-    ∙ begins-keeps budget outputs (holding byte (counted_by gift done.last)) done gifts some
-giving-keeps budget outputs gift None done gifts some holds =
-    sym (followed_by-again done (given budget outputs gift) (give_each (given budget outputs) gifts))
+giving-keeps budget outputs pending_input (Some byte) done pending_inputs some holds =
+    ap (λ t. followed_by done (λ s. followed_by t (give_each (given budget outputs) pending_inputs))) holds
+    ∙ begins-keeps budget outputs (holding byte (counted_input pending_input done.last)) done pending_inputs some
+giving-keeps budget outputs pending_input None done pending_inputs some holds =
+    sym (followed_by-again done (given budget outputs pending_input) (give_each (given budget outputs) pending_inputs))
 
-idle-by : (budget : ℕ) (outputs : Outputs) (gift : Gift) (done : Trail) (gifts : List Gift) → 1 ≤ budget
+idle-by : (budget : ℕ) (outputs : Outputs) (pending_input : PendingInput) (done : Trace) (pending_inputs : List PendingInput) → 1 ≤ budget
     → (is_over done.last ≡ true) ⊎ (is_over done.last ≡ false)
-    → whole_run budget outputs (place done 0 (gift ∷ gifts)) ≡ whole_run budget outputs (idle_step budget outputs done (gift ∷ gifts))
+    → whole_run budget outputs (place done 0 (pending_input ∷ pending_inputs)) ≡ whole_run budget outputs (idle_step budget outputs done (pending_input ∷ pending_inputs))
 unfolding give_each unless_over
-idle-by budget outputs gift done gifts some (inl over) =
-    let here = place done 0 (gift ∷ gifts) in
-    let next = giving_by budget outputs gift (console_of gift) done gifts in
+idle-by budget outputs pending_input done pending_inputs some (inl over) =
+    let here = place done 0 (pending_input ∷ pending_inputs) in
+    let next = giving_by budget outputs pending_input (console_byte_of pending_input) done pending_inputs in
     sym (ap (λ b. whole_run budget outputs (cond b here next)) over)
-idle-by budget outputs gift done gifts some (inr goes) =
-    let here = place done 0 (gift ∷ gifts) in
-    let next = giving_by budget outputs gift (console_of gift) done gifts in
-    let rest = give_each (given budget outputs) gifts in
-    ap (λ b. followed_by done (λ s. followed_by (cond b (stays done.last) (given budget outputs gift done.last)) rest)) goes
-    ∙ giving-keeps budget outputs gift (console_of gift) done gifts some (holds_first budget outputs gift done.last)
+idle-by budget outputs pending_input done pending_inputs some (inr goes) =
+    let here = place done 0 (pending_input ∷ pending_inputs) in
+    let next = giving_by budget outputs pending_input (console_byte_of pending_input) done pending_inputs in
+    let rest = give_each (given budget outputs) pending_inputs in
+    ap (λ b. followed_by done (λ s. followed_by (cond b (stays done.last) (given budget outputs pending_input done.last)) rest)) goes
+    ∙ giving-keeps budget outputs pending_input (console_byte_of pending_input) done pending_inputs some (holds_first budget outputs pending_input done.last)
     ∙ sym (ap (λ b. whole_run budget outputs (cond b here next)) goes)
 
-step-of-keeps : (budget : ℕ) (outputs : Outputs) (left : ℕ) (done : Trail) (gifts : List Gift) → 1 ≤ budget
-    → whole_run budget outputs (place done left gifts) ≡ whole_run budget outputs (step_of budget outputs left done gifts)
+step-of-keeps : (budget : ℕ) (outputs : Outputs) (left : ℕ) (done : Trace) (pending_inputs : List PendingInput) → 1 ≤ budget
+    → whole_run budget outputs (place done left pending_inputs) ≡ whole_run budget outputs (next_place budget outputs left done pending_inputs)
 step-of-keeps budget outputs zero done [] some = refl
-step-of-keeps budget outputs zero done (gift ∷ gifts) some = idle-by budget outputs gift done gifts some (cases_Bool (is_over done.last))
-step-of-keeps budget outputs (suc less) done gifts some = instruction-keeps budget outputs less done gifts
+step-of-keeps budget outputs zero done (pending_input ∷ pending_inputs) some = idle-by budget outputs pending_input done pending_inputs some (cases_Bool (is_over done.last))
+step-of-keeps budget outputs (suc less) done pending_inputs some = instruction-keeps budget outputs less done pending_inputs
 
 steps-keep : (budget : ℕ) (outputs : Outputs) (begun : Place) (count : ℕ) → 1 ≤ budget
     → whole_run budget outputs begun ≡ whole_run budget outputs (after_steps budget outputs count begun)
@@ -123,10 +123,10 @@ unfolding step
 steps-keep budget outputs begun zero some = refl
 steps-keep budget outputs begun (suc count) some =
     let now = after_steps budget outputs count begun in
-    steps-keep budget outputs begun count some ∙ step-of-keeps budget outputs now.left now.done now.gifts some
+    steps-keep budget outputs begun count some ∙ step-of-keeps budget outputs now.left now.done now.pending_inputs some
 
 -- the whole run, as it begins
-each-append : {X : Type 0} (given : X → State → Trail) (first more : List X) (state : State)
+each-append : {X : Type 0} (given : X → State → Trace) (first more : List X) (state : State)
     → give_each given (first ++ more) state ≡ followed_by (give_each given first state) (give_each given more)
 unfolding give_each
 each-append given [] more state = refl
@@ -136,7 +136,7 @@ each-append given (x ∷ first) more state =
     (each-append given first more item.last)
     ∙ sym (followed_by-again item (give_each given first) (give_each given more))
 
-each-map : {X Y : Type 0} (given : Y → State → Trail) (made : X → Y) (xs : List X) (state : State)
+each-map : {X Y : Type 0} (given : Y → State → Trace) (made : X → Y) (xs : List X) (state : State)
     → give_each given (map made xs) state ≡ give_each (λ x. given (made x)) xs state
 unfolding give_each
 each-map given made [] state = refl
@@ -144,10 +144,10 @@ each-map given made (x ∷ xs) state =
     let first = unless_over (given (made x)) state in
     followed_by-at first (give_each given (map made xs)) (give_each (λ y. given (made y)) xs) (each-map given made xs first.last)
 
-gifts-given : (budget : ℕ) (outputs : Outputs) (bytes : List ConsoleByte) (events : List Event) (state : State)
+pending_inputs-given : (budget : ℕ) (outputs : Outputs) (bytes : List ConsoleByte) (events : List Event) (state : State)
     → give_each (given budget outputs) (map of_argument bytes ++ map OfEvent events) state
     ≡ followed_by (give_each (console_byte budget) bytes state) (give_each (give budget outputs) events)
-gifts-given budget outputs bytes events state =
+pending_inputs-given budget outputs bytes events state =
     let first = give_each (console_byte budget) bytes state in
     each-append (given budget outputs) (map of_argument bytes) (map OfEvent events) state
     ∙ ap (λ t. followed_by t (give_each (given budget outputs) (map OfEvent events))) (each-map (given budget outputs) of_argument bytes state)
@@ -155,46 +155,46 @@ gifts-given budget outputs bytes events state =
     (each-map (given budget outputs) OfEvent events first.last)
 
 -- what a script gives, behind the reset vector
-pub run-gifts : (budget : ℕ) (outputs : Outputs) (script : ScriptView) (state : State)
+pub run-pending_inputs : (budget : ℕ) (outputs : Outputs) (script : ScriptView) (state : State)
     → run budget outputs script state
-    ≡ followed_by (vector budget 0x0100 (with_stored (made_ready script.arguments) state)) (give_each (given budget outputs) (gifts_of script))
+    ≡ followed_by (vector budget 0x0100 (with_stored (made_ready script.arguments) state)) (give_each (given budget outputs) (pending_inputs_of script))
 unfolding run
-run-gifts budget outputs script state =
+run-pending_inputs budget outputs script state =
     let reset = vector budget 0x0100 (with_stored (made_ready script.arguments) state) in
-    sym (followed_by-at reset (give_each (given budget outputs) (gifts_of script))
+    sym (followed_by-at reset (give_each (given budget outputs) (pending_inputs_of script))
     (λ s. followed_by (give_each (console_byte budget) (arguments_given script.arguments) s) (give_each (give budget outputs) script.events))
-    (gifts-given budget outputs (arguments_given script.arguments) script.events reset.last))
+    (pending_inputs-given budget outputs (arguments_given script.arguments) script.events reset.last))
 
 run-begins : (budget : ℕ) (outputs : Outputs) (script : ScriptView) (state : State) → 1 ≤ budget
     → whole_run budget outputs (run_begun budget script state) ≡ run budget outputs script state
 run-begins budget outputs script state some =
-    ap (λ t. followed_by t (give_each (given budget outputs) (gifts_of script)))
+    ap (λ t. followed_by t (give_each (given budget outputs) (pending_inputs_of script)))
     (sym (vector-begun budget 0x0100 (with_stored (made_ready script.arguments) state) some))
-    ∙ sym (run-gifts budget outputs script state)
+    ∙ sym (run-pending_inputs budget outputs script state)
 
 -- nothing is left of a run that is over
-over-nothing : {X : Type 0} (given : X → State → Trail) (xs : List X) (state : State) → is_over state ≡ true
+over-nothing : {X : Type 0} (given : X → State → Trace) (xs : List X) (state : State) → is_over state ≡ true
     → give_each given xs state ≡ stays state
 unfolding give_each unless_over
 over-nothing given [] state over = refl
 over-nothing given (x ∷ xs) state over =
     ap (λ b. followed_by (cond b (stays state) (given x state)) (give_each given xs)) over ∙ over-nothing given xs state over
 
-pub ended-nothing : (budget : ℕ) (outputs : Outputs) (left : ℕ) (gifts : List Gift) (state : State) → left ≡ 0
-    → (is_over state ≡ true) ⊎ (gifts ≡ []) → run_left budget outputs left gifts state ≡ stays state
+pub ended-nothing : (budget : ℕ) (outputs : Outputs) (left : ℕ) (pending_inputs : List PendingInput) (state : State) → left ≡ 0
+    → (is_over state ≡ true) ⊎ (pending_inputs ≡ []) → run_left budget outputs left pending_inputs state ≡ stays state
 unfolding give_each
-ended-nothing budget outputs zero gifts state idle (inl over) = over-nothing (given budget outputs) gifts state over
-ended-nothing budget outputs zero gifts state idle (inr none) = ap (λ g. give_each (given budget outputs) g state) none
-ended-nothing budget outputs (suc less) gifts state idle over = absurd (omega (arith, idle))
+ended-nothing budget outputs zero pending_inputs state idle (inl over) = over-nothing (given budget outputs) pending_inputs state over
+ended-nothing budget outputs zero pending_inputs state idle (inr none) = ap (λ g. give_each (given budget outputs) g state) none
+ended-nothing budget outputs (suc less) pending_inputs state idle over = absurd (omega (arith, idle))
 
-ended-whole : (budget : ℕ) (outputs : Outputs) (now : Place) → HasEnded now → now.done ≡ whole_run budget outputs now
+ended-whole : (budget : ℕ) (outputs : Outputs) (now : Place) → PlaceHasEnded now → now.done ≡ whole_run budget outputs now
 ended-whole budget outputs now ended =
-    sym (followed_by-at now.done (run_left budget outputs now.left now.gifts) stays
-    (ended-nothing budget outputs now.left now.gifts now.done.last ended.0 ended.1) ∙ stays-after now.done)
+    sym (followed_by-at now.done (run_left budget outputs now.left now.pending_inputs) stays
+    (ended-nothing budget outputs now.left now.pending_inputs now.done.last ended.0 ended.1) ∙ stays-after now.done)
 
 -- a run is over after some number of steps
 abbrev Ends : ℕ → Outputs → Place → Type 0
-Ends budget outputs now = (count : ℕ) × HasEnded (after_steps budget outputs count now)
+Ends budget outputs now = (count : ℕ) × PlaceHasEnded (after_steps budget outputs count now)
 
 step-first : (budget : ℕ) (outputs : Outputs) (count : ℕ) (now : Place)
     → after_steps budget outputs count (step budget outputs now) ≡ step budget outputs (after_steps budget outputs count now)
@@ -203,49 +203,49 @@ step-first budget outputs (suc count) now = ap (step budget outputs) (step-first
 
 ends-later : (budget : ℕ) (outputs : Outputs) (now : Place) → Ends budget outputs (step budget outputs now) → Ends budget outputs now
 ends-later budget outputs now ends =
-    let P : Place → Type 0 = λ p. HasEnded p in
+    let P : Place → Type 0 = λ p. PlaceHasEnded p in
     (suc ends.0, subst P (step-first budget outputs ends.0 now) ends.1)
 
--- where a run with these gifts left ends, whatever was done
-abbrev EndsIdle : ℕ → Outputs → List Gift → Type 0
-EndsIdle budget outputs gifts = (done : Trail) → Ends budget outputs (place done 0 gifts)
+-- where a run with these pending inputs left ends, whatever was done
+abbrev EndsIdle : ℕ → Outputs → List PendingInput → Type 0
+EndsIdle budget outputs pending_inputs = (done : Trace) → Ends budget outputs (place done 0 pending_inputs)
 
-vector-ends : (budget : ℕ) (outputs : Outputs) (gifts : List Gift) → EndsIdle budget outputs gifts → (left : ℕ) (done : Trail)
-    → Ends budget outputs (place done left gifts)
+vector-ends : (budget : ℕ) (outputs : Outputs) (pending_inputs : List PendingInput) → EndsIdle budget outputs pending_inputs → (left : ℕ) (done : Trace)
+    → Ends budget outputs (place done left pending_inputs)
 unfolding step instruction_step
-vector-ends budget outputs gifts idle zero done = idle done
-vector-ends budget outputs gifts idle (suc less) done =
+vector-ends budget outputs pending_inputs idle zero done = idle done
+vector-ends budget outputs pending_inputs idle (suc less) done =
     let now = followed_by done (one_instruction less) in
-    ends-later budget outputs (place done (suc less) gifts)
-    (elim (at_break done.last) as (λ b. Ends budget outputs (place now (cond b 0 less) gifts)) [
+    ends-later budget outputs (place done (suc less) pending_inputs)
+    (elim (at_break done.last) as (λ b. Ends budget outputs (place now (cond b 0 less) pending_inputs)) [
       | true ↦ idle now
-      | false ↦ vector-ends budget outputs gifts idle less now
+      | false ↦ vector-ends budget outputs pending_inputs idle less now
     ])
 
-giving-ends : (budget : ℕ) (outputs : Outputs) (gift : Gift) (byte : Option ConsoleByte) (done : Trail) (gifts : List Gift)
-    → EndsIdle budget outputs gifts → Ends budget outputs (giving_by budget outputs gift byte done gifts)
+giving-ends : (budget : ℕ) (outputs : Outputs) (pending_input : PendingInput) (byte : Option ConsoleByte) (done : Trace) (pending_inputs : List PendingInput)
+    → EndsIdle budget outputs pending_inputs → Ends budget outputs (giving_by budget outputs pending_input byte done pending_inputs)
 unfolding vector_begins
-giving-ends budget outputs gift (Some byte) done gifts idle =
-    let held = holding byte (counted_by gift done.last) in
+giving-ends budget outputs pending_input (Some byte) done pending_inputs idle =
+    let held = holding byte (counted_input pending_input done.last) in
     let address = stored_short held.devices.history 0x10 in
     let next = come_to (begun_at address held) done in
-    elim (address == 0) as (λ b. Ends budget outputs (cond b (place (come_to held done) 0 gifts) (place next budget gifts))) [
+    elim (address == 0) as (λ b. Ends budget outputs (cond b (place (come_to held done) 0 pending_inputs) (place next budget pending_inputs))) [
       | true ↦ idle (come_to held done)
-      | false ↦ vector-ends budget outputs gifts idle budget next
+      | false ↦ vector-ends budget outputs pending_inputs idle budget next
     ]
-giving-ends budget outputs gift None done gifts idle = idle (followed_by done (given budget outputs gift))
+giving-ends budget outputs pending_input None done pending_inputs idle = idle (followed_by done (given budget outputs pending_input))
 
-idle-ends : (budget : ℕ) (outputs : Outputs) (gifts : List Gift) → EndsIdle budget outputs gifts
+idle-ends : (budget : ℕ) (outputs : Outputs) (pending_inputs : List PendingInput) → EndsIdle budget outputs pending_inputs
 unfolding step
 idle-ends budget outputs [] done = (0, (refl, inr refl))
-idle-ends budget outputs (gift ∷ gifts) done =
-    let here = place done 0 (gift ∷ gifts) in
-    let next = giving_by budget outputs gift (console_of gift) done gifts in
+idle-ends budget outputs (pending_input ∷ pending_inputs) done =
+    let here = place done 0 (pending_input ∷ pending_inputs) in
+    let next = giving_by budget outputs pending_input (console_byte_of pending_input) done pending_inputs in
     elim (cases_Bool (is_over done.last)) [
       | inl over ↦ (0, (refl, inl over))
       | inr goes ↦
           let P : Place → Type 0 = λ p. Ends budget outputs p in
-          let ends = giving-ends budget outputs gift (console_of gift) done gifts (idle-ends budget outputs gifts) in
+          let ends = giving-ends budget outputs pending_input (console_byte_of pending_input) done pending_inputs (idle-ends budget outputs pending_inputs) in
           ends-later budget outputs here (subst P (sym (ap (λ b. cond b here next) goes)) ends)
     ]
 
@@ -257,5 +257,5 @@ steps-are budget outputs script state some =
     record {
       parts = parts;
       end = λ count ended. ended-whole budget outputs (after_steps budget outputs count begun) ended ∙ parts count;
-      ends = vector-ends budget outputs (gifts_of script) (idle-ends budget outputs (gifts_of script)) budget begun.done;
+      ends = vector-ends budget outputs (pending_inputs_of script) (idle-ends budget outputs (pending_inputs_of script)) budget begun.done;
     }

@@ -2,9 +2,9 @@
 use Rattle.std.specs.Prelude.{◌≡◌, ℕ, false, List, Option, Some, None, IfSome}
 use Rattle.std.specs.Str.{bytes_eq}
 use Rattle.play_script.specs.Scripts.{ScriptView}
-use Rattle.varvara_bus.specs.Touching.{Spares, Each, each-map, StandsApart}
+use Rattle.varvara_bus.specs.Touching.{Spares, Each, each-map, IsSeparateFrom}
 use Rattle.vector_loop.specs.State.{State}
-use Rattle.tree_io.specs.Outside.{ToFile}
+use Rattle.uxn_io_traits.specs.Outside.{ToFile}
 use Rattle.vector_loop.specs.declared.output.Outputs.{Outputs}
 use Rattle.vector_loop.specs.Outputs.{appended_to}
 use Rattle.vector_loop.specs.Run.{run}
@@ -21,7 +21,7 @@ module _ (path : List ℕ) where
 
   -- a whole run leaves every path alone that stands apart, but those of its outputs
   pub run-leaves : (budget : ℕ) (outputs : Outputs) (script : ScriptView) (state : State) → IsOther outputs.frames → IsOther outputs.samples
-      → StandsApart path state.devices → Each (Spares path) (run budget outputs script state).changes
+      → IsSeparateFrom path state.devices → Each (Spares path) (run budget outputs script state).changes
   run-leaves budget outputs script state frames samples apart =
       run-keeps path (Spares path) (λ changes spares. spares) outputs (appended-spares outputs.frames frames)
       (appended-spares outputs.samples samples) budget script state apart

@@ -3,7 +3,7 @@ use Rattle.std.specs.Prelude.{◌≡◌, ℕ, ◌<◌, List, [], ◌∷◌, leng
 use Rattle.std.specs.List.{range_with_len}
 use Rattle.uxn_opcodes.specs.declared.Core.{Core}
 use Rattle.varvara_bus.specs.History.{stored as stored_by}
-use Rattle.varvara_bus.specs.Reads.{read_of}
+use Rattle.varvara_bus.specs.ReadsPort.{read_of}
 use Rattle.vector_loop.specs.declared.watch.Moment.{Moment}
 use Rattle.vector_loop.specs.State.{State}
 
@@ -34,7 +34,7 @@ page_in state = record { read = ports_read 256 state; stored = ports_stored 256 
 abbrev pub moment_of : State → Moment
 moment_of state = record { instructions = state.tally.instructions; address = state.core.at }
 
--- memory may be wanting to a watcher: there is something that it may hold then, by what it held before
+-- memory may run out to a watcher: there is something that it may hold then, by what it held before
 pub record MayRefuse {H : Type 0} (refuses : H → H → Type 0) : Type 0 where
   pub before : H
   pub now : H

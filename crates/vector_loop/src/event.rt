@@ -1,18 +1,18 @@
 //! Events.
 ghost use Rattle.std.specs.Prelude.{◌≡◌, ◌==◌, ◌+◌, ◌*◌, ◌^◌, ◌-◌, ◌<◌, ◌≤◌, ◌⊎◌, OnOk, IfErr};
 ghost use Rattle.play_script.specs.declared.script.Event.TheVariants as events;
-ghost use Rattle.tree_io.specs.Faults.{Ledger};
-ghost use Rattle.uxn_opcodes.specs.Ports.{blame_of};
-ghost use Rattle.varvara_bus.specs.Bus.{BusStandsFor, SameLent, FilesStay, HasRoot, meaning_of, frames_begun, bus_faults, told_on};
-ghost use Rattle.varvara_bus.specs.Reads.{read_of};
+ghost use Rattle.uxn_io_traits.specs.Faults.{Ledger};
+ghost use Rattle.uxn_opcodes.specs.Ports.{result_blame};
+ghost use Rattle.varvara_bus.specs.Bus.{BusRepresents, SameBorrowed, FilesStay, HasRoot, meaning_of, frames_begun, bus_faults, contents_on};
+ghost use Rattle.varvara_bus.specs.ReadsPort.{read_of};
 ghost use Rattle.varvara_bus.specs.State.{DeviceState};
 ghost use Rattle.vector_loop.specs.State.{counting_expect, is_over};
 ghost use Rattle.vector_loop.specs.Event.{vector_in, console, device, happens, give};
 ghost use Rattle.vector_loop.specs.Outputs.{OutputsThere};
-ghost use Rattle.vector_loop.specs.Follows.{running, telling_of, state_of, FollowsFrom, FallsShortFrom, HasGrown, IsCompared};
+ghost use Rattle.vector_loop.specs.Follows.{running, models_of, running_state, FollowsFrom, FallsShortFrom, HasGrown, IsCompared};
 ghost use Rattle.vector_loop.specs.Stops.{StopsInFrom, ShotLeaves};
 ghost use Rattle.vector_loop.specs.Watch.{MayRefuse};
-ghost use Rattle.vector_loop.specs.Answers.{of_vectors, of_events, HasRoom, HasOutputs, running_of, Answers};
+ghost use Rattle.vector_loop.specs.Answers.{of_vectors, of_events, HasTallyRoom, HasOutputs, running_of, Answers};
 
 use crate::output::{Outputs, keep_picture};
 use crate::runner::Runner;
@@ -21,7 +21,7 @@ use crate::watch::Watcher;
 use console_port::EventKind;
 use input_ports::{Input, vector_port};
 use play_script::Event;
-use tree_io::{Sink, Tree};
+use uxn_io_traits::{Sink, Tree};
 use uxn_opcodes::{Core, Ports, Stop};
 use varvara_bus::Bus;
 
@@ -34,8 +34,8 @@ const STATE: u8 = 0x0f;
 impl<'r, 'a, T: Tree, O: Sink, E: Sink, W: Watcher> Runner<'r, 'a, T, O, E, W> {
     /// Whether the run is over: the byte in the port of the state is not 0.
     pub(crate) fn is_over(&self) -> bool
-        ensures { (devices : DeviceState) → BusStandsFor (told_on T.Tree) self.now.bus.now devices
-            → result ≡ is_over (state_of (running_of self.now) devices) }
+        ensures { (devices : DeviceState) → BusRepresents (contents_on T.Tree) self.now.bus.now devices
+            → result ≡ is_over (running_state (running_of self.now) devices) }
     {
         self.bus.stored(STATE) != 0
     }
@@ -43,8 +43,8 @@ impl<'r, 'a, T: Tree, O: Sink, E: Sink, W: Watcher> Runner<'r, 'a, T, O, E, W> {
     /// Runs the vector whose address is in two ports, unless it is 0.
     pub(crate) fn run_vector_in(&mut self, port: u8) -> Result<(), Stop>
         requires port { port < 255 }
-        requires room { HasRoom self.old.tally self.old.budget (of_vectors 1) }
-        ensures { Answers (telling_of T.Tree O.Sink E.Sink W.Watcher) self.old self.new
+        requires room { HasTallyRoom self.old.tally self.old.budget (of_vectors 1) }
+        ensures { Answers (models_of T.Tree O.Sink E.Sink W.Watcher) self.old self.new
             (vector_in self.old.budget port) (of_vectors 1) result }
     {
         let at = self.bus.stored_short(port);
@@ -57,8 +57,8 @@ impl<'r, 'a, T: Tree, O: Sink, E: Sink, W: Watcher> Runner<'r, 'a, T, O, E, W> {
 
     /// Gives the console a byte of a kind.
     pub(crate) fn give_console(&mut self, byte: u8, kind: EventKind) -> Result<(), Stop>
-        requires { HasRoom self.old.tally self.old.budget (of_vectors 1) }
-        ensures { Answers (telling_of T.Tree O.Sink E.Sink W.Watcher) self.old self.new
+        requires { HasTallyRoom self.old.tally self.old.budget (of_vectors 1) }
+        ensures { Answers (models_of T.Tree O.Sink E.Sink W.Watcher) self.old self.new
             (console self.old.budget byte kind) (of_vectors 1) result }
     {
         self.bus.give(byte, kind);
@@ -67,8 +67,8 @@ impl<'r, 'a, T: Tree, O: Sink, E: Sink, W: Watcher> Runner<'r, 'a, T, O, E, W> {
 
     /// Gives the controller or the mouse an input, which is settled after its vector.
     fn give_device(&mut self, input: &Input) -> Result<(), Stop>
-        requires { HasRoom self.old.tally self.old.budget (of_vectors 1) }
-        ensures { Answers (telling_of T.Tree O.Sink E.Sink W.Watcher) self.old self.new
+        requires { HasTallyRoom self.old.tally self.old.budget (of_vectors 1) }
+        ensures { Answers (models_of T.Tree O.Sink E.Sink W.Watcher) self.old self.new
             (device self.old.budget input.now) (of_vectors 1) result }
     {
         self.bus.apply(input);
@@ -83,12 +83,12 @@ impl<'r, 'a, T: Tree, O: Sink, E: Sink, W: Watcher> Runner<'r, 'a, T, O, E, W> {
     /// Gives an event: its ports are stored, its vector is run unless it is 0, and what is 0 again after the vector is
     /// stored, unless the state is then not 0.
     pub(crate) fn give_event(&mut self, event: &Event, outputs: &Outputs) -> Result<(), Stop>
-        requires outputs { HasOutputs (told_on T.Tree) outputs.now self.old }
+        requires outputs { HasOutputs (contents_on T.Tree) outputs.now self.old }
         requires frames { event.now ≡ events.Frame → frames_begun self.old.bus.now < 1000000 }
-        requires room { HasRoom self.old.tally self.old.budget (of_events 1) }
-        ensures answers { Answers (telling_of T.Tree O.Sink E.Sink W.Watcher) self.old self.new
+        requires room { HasTallyRoom self.old.tally self.old.budget (of_events 1) }
+        ensures answers { Answers (models_of T.Tree O.Sink E.Sink W.Watcher) self.old self.new
             (give self.old.budget outputs.now event.now) (of_events 1) result }
-        ensures shot { event.now ≡ events.Shot → ShotLeaves (told_on T.Tree) (running_of self.old) (running_of self.new) }
+        ensures shot { event.now ≡ events.Shot → ShotLeaves (contents_on T.Tree) (running_of self.old) (running_of self.new) }
     {
         self.tally.events += 1;
         match event {
@@ -106,6 +106,7 @@ impl<'r, 'a, T: Tree, O: Sink, E: Sink, W: Watcher> Runner<'r, 'a, T, O, E, W> {
             }
             Event::Shot => {
                 self.tally.shots += 1;
+                let _ = self.bus.refresh();
                 keep_picture(self.bus, &outputs.frames)
             }
         }
@@ -122,7 +123,7 @@ fn compare<'a, T: Tree, O: Sink, E: Sink>(
 )
     requires expects { tally.old.expects < 2 ^ 64 - 1 }
     requires misses { tally.old.misses < 2 ^ 64 - 1 }
-    ensures counted { (devices : DeviceState) → BusStandsFor (told_on T.Tree) bus.now devices
+    ensures counted { (devices : DeviceState) → BusRepresents (contents_on T.Tree) bus.now devices
         → tally.new ≡ counting_expect (read_of devices core.now port == byte) tally.old }
     ensures grown { IsCompared tally.old tally.new }
 {
@@ -144,7 +145,7 @@ pub fn run_event<'a, T: Tree, O: Sink, E: Sink, W: Watcher>(
     tally: &mut Tally,
     watcher: &mut W,
 ) -> Result<(), Stop>
-    requires outputs { OutputsThere outputs.now bus.old.devices.now.root (T.state bus.old.tree.now).told }
+    requires outputs { OutputsThere outputs.now bus.old.devices.now.root (T.state bus.old.tree.now).contents }
     requires frames { event.now ≡ events.Frame → frames_begun bus.old < 1000000 }
     requires budget { 1 ≤ budget }
     requires instructions { tally.old.instructions ≤ 2 ^ 61 }
@@ -156,29 +157,29 @@ pub fn run_event<'a, T: Tree, O: Sink, E: Sink, W: Watcher>(
     requires expect_count { tally.old.expects ≤ 2 ^ 61 }
     requires miss_count { tally.old.misses ≤ 2 ^ 61 }
 
-    // From each state that the bus stood for, all of the event was done, or a front of what it does.
-    ensures ok { OnOk result (FollowsFrom (telling_of T.Tree O.Sink E.Sink W.Watcher)
+    // From each state that the bus represented, all of the event was done, or a prefix of what it does.
+    ensures ok { OnOk result (FollowsFrom (models_of T.Tree O.Sink E.Sink W.Watcher)
         (running core.old bus.old tally.old watcher.old) (running core.new bus.new tally.new watcher.new) (give budget outputs.now event.now)) }
-    ensures err { IfErr result (λ stop. FallsShortFrom (telling_of T.Tree O.Sink E.Sink W.Watcher)
+    ensures err { IfErr result (λ stop. FallsShortFrom (models_of T.Tree O.Sink E.Sink W.Watcher)
         (running core.old bus.old tally.old watcher.old) (running core.new bus.new tally.new watcher.new) stop (give budget outputs.now event.now)) }
     ensures grown { HasGrown tally.old tally.new 5 1 budget }
 
     // Where it stopped, all was done up to one instruction, or up to the picture or the samples that were appended.
-    ensures stopped { IfErr result (λ stop. StopsInFrom (telling_of T.Tree O.Sink E.Sink W.Watcher)
+    ensures stopped { IfErr result (λ stop. StopsInFrom (models_of T.Tree O.Sink E.Sink W.Watcher)
         (running core.old bus.old tally.old watcher.old) (running core.new bus.new tally.new watcher.new) stop (give budget outputs.now event.now)) }
 
-    // A shot is counted and changes nothing else of the machine, whatever is answered.
-    ensures shot { event.now ≡ events.Shot → ShotLeaves (told_on T.Tree)
+    // A shot is counted and refreshes the screen, and changes nothing else of the machine, whatever is answered.
+    ensures shot { event.now ≡ events.Shot → ShotLeaves (contents_on T.Tree)
         (running core.old bus.old tally.old watcher.old) (running core.new bus.new tally.new watcher.new) }
 
-    // A fault comes only where its count rose; memory is wanting only to the watcher, or beneath a root where the event takes
+    // A fault comes only where its count rose; memory runs out only to the watcher, or beneath a root where the event takes
     // the names of a folder.
     ensures ledger { Ledger (bus_faults (meaning_of T.Tree O.Sink E.Sink) bus.old)
-        (bus_faults (meaning_of T.Tree O.Sink E.Sink) bus.new) (blame_of result) }
+        (bus_faults (meaning_of T.Tree O.Sink E.Sink) bus.new) (result_blame result) }
     ensures memory { IfErr result (λ stop. stop ≡ Stop.NoMemory → MayRefuse W.may_refuse ⊎ HasRoot bus.old.devices.now) }
-    ensures lent { SameLent bus.old bus.new }
+    ensures borrowed { SameBorrowed bus.old bus.new }
     ensures root { bus.new.devices.now.root ≡ bus.old.devices.now.root }
-    ensures files { FilesStay bus.old.devices.now.root (T.state bus.old.tree.now).told (T.state bus.new.tree.now).told }
+    ensures files { FilesStay bus.old.devices.now.root (T.state bus.old.tree.now).contents (T.state bus.new.tree.now).contents }
     ensures begun { frames_begun bus.new ≤ frames_begun bus.old + 1 }
 {
     let mut runner = Runner {

@@ -2,7 +2,7 @@
 ghost use Rattle.vector_loop.specs.Counted.{CountingLaw};
 ghost use Rattle.vector_loop.specs.Places.{StepLaw};
 
-/// Each moment of a run is that before one more instruction than the moment in front of it, and the end is that behind all of them.
+/// Each moment of a run is that before one more instruction than the moment before it, and the end is that behind all of them.
 pub fn the_moments_of_a_run_are_counted()
     ensures { CountingLaw }
 {}

@@ -1,14 +1,14 @@
 //! The files that a run appends to: pictures and samples.
 ghost use Rattle.std.specs.Prelude.{◌≡◌, ◌*◌, ◌<◌, IfSome, length, map};
 ghost use Rattle.screen_layers.specs.Pictures.{picture_row_of};
-ghost use Rattle.audio_mixer.specs.Laws.{short_of};
-ghost use Rattle.tree_io.specs.Outside.{ToFile};
+ghost use Rattle.audio_mixer.specs.Laws.{sample_short};
+ghost use Rattle.uxn_io_traits.specs.Outside.{ToFile};
 ghost use Rattle.varvara_bus.specs.Bus.{meaning_of, screen_of};
 ghost use Rattle.vector_loop.specs.Making.{MadeOrCut};
 ghost use Rattle.vector_loop.specs.Outputs.{IsOutput, appended_to, picture_bytes, samples_bytes};
 
 use screen_frame::{Palette, ppm_head};
-use tree_io::{Path, Sink, Tree};
+use uxn_io_traits::{Path, Sink, Tree};
 use uxn_opcodes::Stop;
 use varvara_bus::Bus;
 
@@ -33,7 +33,7 @@ fn append_to<'a, T: Tree, O: Sink, E: Sink>(
     path: &Path,
     bytes: &[u8],
 ) -> Result<(), Stop>
-    requires there { IsOutput bus.old.devices.now.root (T.state bus.old.tree.now).told path.now }
+    requires there { IsOutput bus.old.devices.now.root (T.state bus.old.tree.now).contents path.now }
     ensures { MadeOrCut (meaning_of T.Tree O.Sink E.Sink) bus.old bus.new
         (λ state. map (λ byte. ToFile path.now byte) bytes.now) result }
 {
@@ -48,7 +48,7 @@ fn append_row<'a, T: Tree, O: Sink, E: Sink>(
     y: u16,
     row: &mut [u8; 6141],
 ) -> Result<(), Stop>
-    requires there { IsOutput bus.old.devices.now.root (T.state bus.old.tree.now).told path.now }
+    requires there { IsOutput bus.old.devices.now.root (T.state bus.old.tree.now).contents path.now }
     requires row { y < (screen_of bus.old).height }
     ensures { MadeOrCut (meaning_of T.Tree O.Sink E.Sink) bus.old bus.new
         (λ state. map (λ byte. ToFile path.now byte) (picture_row_of palette.now.colours state.picture y)) result }
@@ -62,7 +62,7 @@ fn append_picture<'a, T: Tree, O: Sink, E: Sink>(
     bus: &mut Bus<'a, T, O, E>,
     path: &Path,
 ) -> Result<(), Stop>
-    requires there { IsOutput bus.old.devices.now.root (T.state bus.old.tree.now).told path.now }
+    requires there { IsOutput bus.old.devices.now.root (T.state bus.old.tree.now).contents path.now }
     ensures { MadeOrCut (meaning_of T.Tree O.Sink E.Sink) bus.old bus.new
         (λ state. map (λ byte. ToFile path.now byte) (picture_bytes state)) result }
 {
@@ -78,28 +78,25 @@ fn append_picture<'a, T: Tree, O: Sink, E: Sink>(
     Ok(())
 }
 
-/// Appends the picture that is shown to an output, where it is asked for.
+/// Appends the picture that is shown to an output, where it is requested.
 pub(crate) fn keep_picture<'a, T: Tree, O: Sink, E: Sink>(
     bus: &mut Bus<'a, T, O, E>,
     output: &Option<Path>,
 ) -> Result<(), Stop>
-    requires there { IfSome output.now (IsOutput bus.old.devices.now.root (T.state bus.old.tree.now).told) }
+    requires there { IfSome output.now (IsOutput bus.old.devices.now.root (T.state bus.old.tree.now).contents) }
     ensures { MadeOrCut (meaning_of T.Tree O.Sink E.Sink) bus.old bus.new
         (λ state. appended_to output.now (picture_bytes state)) result }
 {
     match output {
         None => Ok(()),
-        Some(path) => {
-            let _ = bus.refresh();
-            append_picture(bus, path)
-        }
+        Some(path) => append_picture(bus, path),
     }
 }
 
 /// Puts samples into a buffer as signed shorts, the low byte first.
 fn put_samples(samples: &[i16], into: &mut [u8])
     requires room { length into.old ≡ 2 * length samples.now }
-    ensures { into.new ≡ samples_bytes (map short_of samples.now) }
+    ensures { into.new ≡ samples_bytes (map sample_short samples.now) }
 {
     for i in 0..samples.len() {
         let short = samples[i].cast_unsigned();
@@ -108,15 +105,15 @@ fn put_samples(samples: &[i16], into: &mut [u8])
     }
 }
 
-/// Appends the samples of a frame to an output, where it is asked for.
+/// Appends the samples of a frame to an output, where it is requested.
 pub(crate) fn keep_samples<'a, T: Tree, O: Sink, E: Sink>(
     bus: &mut Bus<'a, T, O, E>,
     output: &Option<Path>,
     samples: &[i16; 1470],
 ) -> Result<(), Stop>
-    requires there { IfSome output.now (IsOutput bus.old.devices.now.root (T.state bus.old.tree.now).told) }
+    requires there { IfSome output.now (IsOutput bus.old.devices.now.root (T.state bus.old.tree.now).contents) }
     ensures { MadeOrCut (meaning_of T.Tree O.Sink E.Sink) bus.old bus.new
-        (λ state. appended_to output.now (samples_bytes (map short_of samples.now))) result }
+        (λ state. appended_to output.now (samples_bytes (map sample_short samples.now))) result }
 {
     match output {
         None => Ok(()),

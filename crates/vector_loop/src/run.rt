@@ -1,41 +1,41 @@
 //! Whole runs.
 ghost use Rattle.std.specs.Prelude.{◌≡◌, ◌+◌, ◌≤◌, ◌⊎◌, length, OnOk, OnErr, IfOk, IfErr};
-ghost use Rattle.tree_io.specs.Faults.{Ledger};
-ghost use Rattle.uxn_opcodes.specs.Ports.{blame_of};
+ghost use Rattle.uxn_io_traits.specs.Faults.{Ledger};
+ghost use Rattle.uxn_opcodes.specs.Ports.{result_blame};
 ghost use Rattle.play_script.specs.Held.{bytes_in};
 ghost use Rattle.varvara_bus.specs.State.{DeviceState, storing};
 ghost use Rattle.varvara_bus.specs.Bus.{
-  SameLent,
+  SameBorrowed,
   FilesStay,
   HasRoot,
-  BusStandsFor,
-  Reads,
+  BusRepresents,
+  ReadsPort,
   ChangesDevices,
   meaning_of,
   frames_begun,
   bus_faults,
   held_page,
-  told_on,
+  contents_on,
 };
 ghost use Rattle.vector_loop.specs.State.{new_tally};
 ghost use Rattle.vector_loop.specs.Outputs.{OutputsThere};
 ghost use Rattle.vector_loop.specs.Watch.{Page, IsPage, MayRefuse};
 ghost use Rattle.vector_loop.specs.Event.{unless_over, give_each};
 ghost use Rattle.vector_loop.specs.Run.{made_ready, most_of, run};
-ghost use Rattle.vector_loop.specs.Gifts.{given, count_of, counts_of};
-ghost use Rattle.vector_loop.specs.Follows.{running, telling_of, FallsShortFrom, EndsFrom};
+ghost use Rattle.vector_loop.specs.PendingInputs.{given, input_count, counts_of};
+ghost use Rattle.vector_loop.specs.Follows.{running, models_of, FallsShortFrom, EndsFrom};
 ghost use Rattle.vector_loop.specs.Stops.{RunStops};
-ghost use Rattle.vector_loop.specs.Answers.{HasRoom, HasOutputs, moment_in, Answers};
+ghost use Rattle.vector_loop.specs.Answers.{HasTallyRoom, HasOutputs, moment_in, Answers};
 
-use crate::gift::Gift;
-use crate::giver::Giver;
+use crate::input_queue::InputQueue;
 use crate::output::Outputs;
+use crate::pending_input::PendingInput;
 use crate::runner::Runner;
 use crate::tally::Tally;
 use crate::watch::{Moment, Watcher};
 use console_port::{EventKind, KIND};
 use play_script::Script;
-use tree_io::{Bytes, Sink, Tree};
+use uxn_io_traits::{Bytes, Sink, Tree};
 use uxn_opcodes::{Core, Stop};
 use varvara_bus::Bus;
 
@@ -44,52 +44,52 @@ const RESET: u16 = 0x0100;
 
 impl<'r, 'a, T: Tree, O: Sink, E: Sink, W: Watcher> Runner<'r, 'a, T, O, E, W> {
     /// Gives one thing, unless the run is over.
-    fn give_gift(&mut self, gift: Gift, outputs: &Outputs) -> Result<(), Stop>
-        requires outputs { HasOutputs (told_on T.Tree) outputs.now self.old }
-        requires frames { frames_begun self.old.bus.now + (count_of gift).events ≤ 1000000 }
-        requires room { HasRoom self.old.tally self.old.budget (count_of gift) }
-        ensures { Answers (telling_of T.Tree O.Sink E.Sink W.Watcher) self.old self.new
-            (unless_over (given self.old.budget outputs.now gift)) (count_of gift) result }
+    fn deliver(&mut self, pending_input: PendingInput, outputs: &Outputs) -> Result<(), Stop>
+        requires outputs { HasOutputs (contents_on T.Tree) outputs.now self.old }
+        requires frames { frames_begun self.old.bus.now + (input_count pending_input).events ≤ 1000000 }
+        requires room { HasTallyRoom self.old.tally self.old.budget (input_count pending_input) }
+        ensures { Answers (models_of T.Tree O.Sink E.Sink W.Watcher) self.old self.new
+            (unless_over (given self.old.budget outputs.now pending_input)) (input_count pending_input) result }
     {
         if self.is_over() {
             return Ok(());
         }
-        match gift {
-            Gift::OfArgument(byte, kind) => self.give_console(byte, kind),
-            Gift::OfEvent(event) => self.give_event(&event, outputs),
+        match pending_input {
+            PendingInput::OfArgument(byte, kind) => self.give_console(byte, kind),
+            PendingInput::OfEvent(event) => self.give_event(&event, outputs),
         }
     }
 
     /// Gives all that is left of a script, one thing after the other, each unless the run is over.
-    fn give_all(&mut self, mut giver: Giver<'_>, outputs: &Outputs) -> Result<(), Stop>
-        requires outputs { HasOutputs (told_on T.Tree) outputs.now self.old }
-        requires frames { frames_begun self.old.bus.now + (counts_of giver).events ≤ 1000000 }
-        requires room { HasRoom self.old.tally self.old.budget (counts_of giver) }
-        ensures { Answers (telling_of T.Tree O.Sink E.Sink W.Watcher) self.old self.new
-            (give_each (given self.old.budget outputs.now) giver.entry) (counts_of giver.entry) result }
+    fn give_all(&mut self, mut input_queue: InputQueue<'_>, outputs: &Outputs) -> Result<(), Stop>
+        requires outputs { HasOutputs (contents_on T.Tree) outputs.now self.old }
+        requires frames { frames_begun self.old.bus.now + (counts_of input_queue).events ≤ 1000000 }
+        requires room { HasTallyRoom self.old.tally self.old.budget (counts_of input_queue) }
+        ensures { Answers (models_of T.Tree O.Sink E.Sink W.Watcher) self.old self.new
+            (give_each (given self.old.budget outputs.now) input_queue.entry) (counts_of input_queue.entry) result }
     {
-        while let Some(gift) = giver.take() {
-            self.give_gift(gift, outputs)?;
+        while let Some(pending_input) = input_queue.take() {
+            self.deliver(pending_input, outputs)?;
         }
         Ok(())
     }
 
     /// Runs the reset vector, and gives the arguments and the events of a script.
     fn run(&mut self, script: &Script, outputs: &Outputs) -> Result<(), Stop>
-        requires outputs { HasOutputs (told_on T.Tree) outputs.now self.old }
+        requires outputs { HasOutputs (contents_on T.Tree) outputs.now self.old }
         requires frames { frames_begun self.old.bus.now + length script.now.events ≤ 1000000 }
-        requires room { HasRoom self.old.tally self.old.budget (most_of script.now) }
-        ensures { Answers (telling_of T.Tree O.Sink E.Sink W.Watcher) self.old self.new
+        requires room { HasTallyRoom self.old.tally self.old.budget (most_of script.now) }
+        ensures { Answers (models_of T.Tree O.Sink E.Sink W.Watcher) self.old self.new
             (run self.old.budget outputs.now script.now) (most_of script.now) result }
     {
         make_ready(self.bus, script.args());
         self.run_vector(RESET)?;
-        self.give_all(Giver::new(script), outputs)
+        self.give_all(InputQueue::new(script), outputs)
     }
 
     /// Shows the watcher the end of the run.
     fn finish(&mut self) -> Result<(), Stop>
-        ensures ok { OnOk result ((page : Page) → IsPage (Reads self.old.bus.now self.old.core.now) (held_page self.old.bus.now) page
+        ensures ok { OnOk result ((page : Page) → IsPage (ReadsPort self.old.bus.now self.old.core.now) (held_page self.old.bus.now) page
             → W.held self.new.watcher.now ≡ W.ended (W.held self.old.watcher.now) self.old.core.now page (moment_in self.old)) }
         ensures err { IfErr result (λ stop. stop ≡ Stop.NoMemory) }
         ensures refused { OnErr result (W.may_refuse (W.held self.old.watcher.now) (W.held self.new.watcher.now)) }
@@ -108,8 +108,8 @@ impl<'r, 'a, T: Tree, O: Sink, E: Sink, W: Watcher> Runner<'r, 'a, T, O, E, W> {
 
 /// Tells the program by port 17 whether arguments will come.
 fn make_ready<'a, T: Tree, O: Sink, E: Sink>(bus: &mut Bus<'a, T, O, E>, arguments: &[Bytes])
-    ensures devices { (state : DeviceState) → BusStandsFor (told_on T.Tree) bus.old state
-        → BusStandsFor (told_on T.Tree) bus.new (storing (made_ready (bytes_in arguments.now)) state) }
+    ensures devices { (state : DeviceState) → BusRepresents (contents_on T.Tree) bus.old state
+        → BusRepresents (contents_on T.Tree) bus.new (storing (made_ready (bytes_in arguments.now)) state) }
     ensures others { ChangesDevices bus.old bus.new }
     ensures frames { frames_begun bus.new ≡ frames_begun bus.old }
 {
@@ -128,27 +128,27 @@ pub fn run_script<'a, T: Tree, O: Sink, E: Sink, W: Watcher>(
     budget: u32,
     watcher: &mut W,
 ) -> Result<Tally, Stop>
-    requires outputs { OutputsThere outputs.now bus.old.devices.now.root (T.state bus.old.tree.now).told }
+    requires outputs { OutputsThere outputs.now bus.old.devices.now.root (T.state bus.old.tree.now).contents }
     requires frames { frames_begun bus.old ≡ 0 }
     requires budget { 1 ≤ budget }
 
-    // From each state that the bus stood for, all of the run was done, or a front of what it does.
-    ensures ok { IfOk result (λ tally. EndsFrom (telling_of T.Tree O.Sink E.Sink W.Watcher)
+    // From each state that the bus represented, all of the run was done, or a prefix of what it does.
+    ensures ok { IfOk result (λ tally. EndsFrom (models_of T.Tree O.Sink E.Sink W.Watcher)
         (running core.old bus.old new_tally watcher.old) (running core.new bus.new tally watcher.new) (run budget outputs.now script.now)) }
-    ensures err { IfErr result (λ stop. FallsShortFrom (telling_of T.Tree O.Sink E.Sink W.Watcher)
+    ensures err { IfErr result (λ stop. FallsShortFrom (models_of T.Tree O.Sink E.Sink W.Watcher)
         (running core.old bus.old new_tally watcher.old) (running core.new bus.new new_tally watcher.new) stop (run budget outputs.now script.now)) }
 
     // Where it stopped, all was done up to one instruction, or to the picture or the samples that were appended, or to the end.
-    ensures stopped { IfErr result (λ stop. RunStops (telling_of T.Tree O.Sink E.Sink W.Watcher)
+    ensures stopped { IfErr result (λ stop. RunStops (models_of T.Tree O.Sink E.Sink W.Watcher)
         (running core.old bus.old new_tally watcher.old) core.new bus.new watcher.new stop (run budget outputs.now script.now)) }
 
-    // A fault comes only where its count rose; memory is wanting only to the watcher, or beneath a root where the run takes
+    // A fault comes only where its count rose; memory runs out only to the watcher, or beneath a root where the run takes
     // the names of a folder.
     ensures ledger { Ledger (bus_faults (meaning_of T.Tree O.Sink E.Sink) bus.old)
-        (bus_faults (meaning_of T.Tree O.Sink E.Sink) bus.new) (blame_of result) }
+        (bus_faults (meaning_of T.Tree O.Sink E.Sink) bus.new) (result_blame result) }
     ensures memory { IfErr result (λ stop. stop ≡ Stop.NoMemory → MayRefuse W.may_refuse ⊎ HasRoot bus.old.devices.now) }
-    ensures lent { SameLent bus.old bus.new }
-    ensures files { OnOk result (FilesStay bus.old.devices.now.root (T.state bus.old.tree.now).told (T.state bus.new.tree.now).told) }
+    ensures borrowed { SameBorrowed bus.old bus.new }
+    ensures files { OnOk result (FilesStay bus.old.devices.now.root (T.state bus.old.tree.now).contents (T.state bus.new.tree.now).contents) }
 {
     script.known();
     let tally = Tally {

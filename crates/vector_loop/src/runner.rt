@@ -2,7 +2,7 @@
 
 use crate::tally::Tally;
 use crate::watch::Watcher;
-use tree_io::{Sink, Tree};
+use uxn_io_traits::{Sink, Tree};
 use uxn_opcodes::Core;
 use varvara_bus::Bus;
 

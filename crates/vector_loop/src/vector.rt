@@ -1,20 +1,20 @@
 //! The run of a vector.
 ghost use Rattle.std.specs.Prelude.{◌≡◌, ◌≢◌, ◌+◌, ◌*◌, ◌^◌, ◌<◌, ◌≤◌, ◌-◌, ◌⊎◌, true, false, Ok, IfOk, OnOk, IfErr};
-ghost use Rattle.tree_io.specs.Faults.{Ledger};
-ghost use Rattle.uxn_opcodes.specs.Ports.{blame_of};
+ghost use Rattle.uxn_io_traits.specs.Faults.{Ledger};
+ghost use Rattle.uxn_opcodes.specs.Ports.{result_blame};
 ghost use Rattle.varvara_bus.specs.State.{DeviceState};
-ghost use Rattle.varvara_bus.specs.Bus.{BusStandsFor, SameBus, HasRoot, meaning_of, bus_faults, bus_rules, told_on};
+ghost use Rattle.varvara_bus.specs.Bus.{BusRepresents, SameBus, HasRoot, meaning_of, bus_faults, bus_rules, contents_on};
 ghost use Rattle.vector_loop.specs.Vector.{vector, vector_end};
-ghost use Rattle.vector_loop.specs.Follows.{running, telling_of, state_of, FollowsFrom, FallsShortFrom};
+ghost use Rattle.vector_loop.specs.Follows.{running, models_of, running_state, FollowsFrom, FallsShortFrom};
 ghost use Rattle.vector_loop.specs.Stops.{StopsInFrom};
 ghost use Rattle.vector_loop.specs.Watch.{MayRefuse};
-ghost use Rattle.vector_loop.specs.Budget.{with_break, counting_run, CountsWhole};
-ghost use Rattle.vector_loop.specs.Answers.{of_vectors, HasRoom, running_of, Answers, RanTo};
+ghost use Rattle.vector_loop.specs.Budget.{budget_with_break, counting_run, CountsWhole};
+ghost use Rattle.vector_loop.specs.Answers.{of_vectors, HasTallyRoom, running_of, Answers, RanTo};
 
 use crate::runner::Runner;
 use crate::tally::{Tally, VectorEnd};
 use crate::watch::{Moment, Watcher};
-use tree_io::{Sink, Tree};
+use uxn_io_traits::{Sink, Tree};
 use uxn_opcodes::{Core, Stop, Turn, step};
 use varvara_bus::Bus;
 
@@ -37,7 +37,7 @@ fn run_instructions<'a, T: Tree, O: Sink, E: Sink, W: Watcher>(
 ) -> Ran
     requires budget { 1 ≤ budget }
     requires room { tally.now.instructions + budget < 2 ^ 64 }
-    ensures { RanTo (telling_of T.Tree O.Sink E.Sink W.Watcher) (running core.old bus.old tally.now watcher.old)
+    ensures { RanTo (models_of T.Tree O.Sink E.Sink W.Watcher) (running core.old bus.old tally.now watcher.old)
         core.new bus.new watcher.new budget result.left result.end }
 {
     let start = tally.instructions;
@@ -81,9 +81,9 @@ fn run_instructions<'a, T: Tree, O: Sink, E: Sink, W: Watcher>(
 
 /// Counts the instructions of a vector, so many of which ran before its end.
 fn count_run(tally: &mut Tally, end: Result<VectorEnd, Stop>, before: u64)
-    requires instructions { tally.old.instructions + with_break end before < 2 ^ 64 }
+    requires instructions { tally.old.instructions + budget_with_break end before < 2 ^ 64 }
     requires cuts { tally.old.cuts + 1 < 2 ^ 64 }
-    ensures { tally.new ≡ counting_run end (with_break end before) tally.old }
+    ensures { tally.new ≡ counting_run end (budget_with_break end before) tally.old }
 {
     match end {
         Ok(VectorEnd::Broke) => tally.instructions += before + 1,
@@ -98,14 +98,14 @@ fn count_run(tally: &mut Tally, end: Result<VectorEnd, Stop>, before: u64)
 impl<'r, 'a, T: Tree, O: Sink, E: Sink, W: Watcher> Runner<'r, 'a, T, O, E, W> {
     /// Runs instructions from an address on, up to and with the first BRK, or as many as the budget allows.
     pub(crate) fn run_vector(&mut self, at: u16) -> Result<VectorEnd, Stop>
-        requires { HasRoom self.old.tally self.old.budget (of_vectors 1) }
-        ensures answers { Answers (telling_of T.Tree O.Sink E.Sink W.Watcher) self.old self.new
+        requires { HasTallyRoom self.old.tally self.old.budget (of_vectors 1) }
+        ensures answers { Answers (models_of T.Tree O.Sink E.Sink W.Watcher) self.old self.new
             (vector self.old.budget at) (of_vectors 1) result }
-        ensures end { IfOk result (λ end. (devices : DeviceState) → BusStandsFor (told_on T.Tree) self.old.bus.now devices
-            → end ≡ vector_end self.old.budget at (state_of (running_of self.old) devices)) }
+        ensures end { IfOk result (λ end. (devices : DeviceState) → BusRepresents (contents_on T.Tree) self.old.bus.now devices
+            → end ≡ vector_end self.old.budget at (running_state (running_of self.old) devices)) }
         ensures counted { CountsWhole (bus_rules (meaning_of T.Tree O.Sink E.Sink)) (MayRefuse W.may_refuse) self.old.budget
             (record self.old.core.now { at = at }) self.old.bus.now result self.new.core.now self.new.bus.now self.old.tally self.new.tally }
-        ensures same { SameBus (told_on T.Tree) self.old.bus.now self.new.bus.now }
+        ensures same { SameBus (contents_on T.Tree) self.old.bus.now self.new.bus.now }
     {
         self.core.at = at;
         self.tally.vectors += 1;
@@ -131,27 +131,28 @@ pub fn run_vector<'a, T: Tree, O: Sink, E: Sink, W: Watcher>(
     requires vectors { tally.old.vectors ≤ 2 ^ 62 }
     requires cuts { tally.old.cuts ≤ 2 ^ 62 }
 
-    // From each state that the bus stood for, all of the vector was done, or a front of what it does.
-    ensures ok { OnOk result (FollowsFrom (telling_of T.Tree O.Sink E.Sink W.Watcher)
+    // From each state that the bus represented, all of the vector was done, or a prefix of what it does.
+    ensures ok { OnOk result (FollowsFrom (models_of T.Tree O.Sink E.Sink W.Watcher)
         (running core.old bus.old tally.old watcher.old) (running core.new bus.new tally.new watcher.new) (vector budget at)) }
-    ensures end { IfOk result (λ end. (devices : DeviceState) → BusStandsFor (told_on T.Tree) bus.old devices
-        → end ≡ vector_end budget at (state_of (running core.old bus.old tally.old watcher.old) devices)) }
-    ensures err { IfErr result (λ stop. FallsShortFrom (telling_of T.Tree O.Sink E.Sink W.Watcher)
+    ensures end { IfOk result (λ end. (devices : DeviceState) → BusRepresents (contents_on T.Tree) bus.old devices
+        → end ≡ vector_end budget at (running_state (running core.old bus.old tally.old watcher.old) devices)) }
+    ensures err { IfErr result (λ stop. FallsShortFrom (models_of T.Tree O.Sink E.Sink W.Watcher)
         (running core.old bus.old tally.old watcher.old) (running core.new bus.new tally.new watcher.new) stop (vector budget at)) }
 
     // Where it stopped, all was done up to one instruction, before which the watcher refused, or which stopped at a write.
-    ensures stopped { IfErr result (λ stop. StopsInFrom (telling_of T.Tree O.Sink E.Sink W.Watcher)
+    ensures stopped { IfErr result (λ stop. StopsInFrom (models_of T.Tree O.Sink E.Sink W.Watcher)
         (running core.old bus.old tally.old watcher.old) (running core.new bus.new tally.new watcher.new) stop (vector budget at)) }
 
-    // Whatever the ports are and whatever is answered, at most `budget` instructions ran whole, and exactly so many are counted.
+    // Whatever the ports are and whatever is answered, at most `budget` instructions ran whole, fewer where it stopped, and exactly
+    // so many are counted.
     ensures counted { CountsWhole (bus_rules (meaning_of T.Tree O.Sink E.Sink)) (MayRefuse W.may_refuse) budget
         (record core.old { at = at }) bus.old result core.new bus.new tally.old tally.new }
 
-    // Memory is wanting only to the watcher or where there is a root, and a fault comes only where its count rose.
+    // Memory runs out only to the watcher or where there is a root, and a fault comes only where its count rose.
     ensures ledger { Ledger (bus_faults (meaning_of T.Tree O.Sink E.Sink) bus.old)
-        (bus_faults (meaning_of T.Tree O.Sink E.Sink) bus.new) (blame_of result) }
+        (bus_faults (meaning_of T.Tree O.Sink E.Sink) bus.new) (result_blame result) }
     ensures memory { IfErr result (λ stop. stop ≡ Stop.NoMemory → MayRefuse W.may_refuse ⊎ HasRoot bus.old.devices.now) }
-    ensures same { SameBus (told_on T.Tree) bus.old bus.new }
+    ensures same { SameBus (contents_on T.Tree) bus.old bus.new }
 {
     let mut runner = Runner {
         core,

@@ -33,16 +33,16 @@ pub trait Watcher {
     /// What it holds after it was shown the end of the run.
     ghost ended: { Held → Core → Page → Moment → Held };
 
-    /// What it may hold where memory was wanting to it, by what it held before.
+    /// What it may hold when out of memory to it, by what it held before.
     ghost may_refuse: { Held → Held → Type 0 };
 
-    /// Is shown the machine before an instruction. Errors with want of memory.
+    /// Is shown the machine before an instruction. Errors when out of memory.
     fn before<P: Ports>(&mut self, core: &Core, ports: &P, moment: Moment) -> Result<(), AllocError>
         ensures ok { OnOk result ((page : Page) → IsPage (P.rules.reads ports.now core.now) (P.stored ports.now) page
             → held self.new ≡ shown (held self.old) core.now page moment) }
         ensures err { OnErr result (may_refuse (held self.old) (held self.new)) };
 
-    /// Is shown the machine at the end of the run. Errors with want of memory.
+    /// Is shown the machine at the end of the run. Errors when out of memory.
     fn finish<P: Ports>(&mut self, core: &Core, ports: &P, moment: Moment) -> Result<(), AllocError>
         ensures ok { OnOk result ((page : Page) → IsPage (P.rules.reads ports.now core.now) (P.stored ports.now) page
             → held self.new ≡ ended (held self.old) core.now page moment) }

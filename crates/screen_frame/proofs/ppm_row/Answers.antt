@@ -9,15 +9,15 @@ loop-i-preserved c =
     let i = c.loop-i.i in
     let colour = λ (k : ℕ) (wide : List ℕ) (h : k < length row) (e : wide ≡ slice_index_or c.wide-wide.result (slice_index row k) []).
     ap (λ w. take 3 w) e ∙ c.wide-wide.ensures (slice_index row k) (c.requires.values k 0 h) in
-    let one = row_two colours row c.loop-i.into c.put_two.new.into c.wide_of.result c.wide_of-in-loop-i.result i (3 * i) refl (omega arith) c.put_two.ensures.front
-    (colour i _ (omega arith) c.wide_of.ensures) (colour (i + 1) _ (omega arith) c.wide_of-in-loop-i.ensures) c.loop-i.invariant.front in
+    let one = row_two colours row c.loop-i.into c.put_two.new.into c.wide_of.result c.wide_of-in-loop-i.result i (3 * i) refl (omega arith) c.put_two.ensures.prefix
+    (colour i _ (omega arith) c.wide_of.ensures) (colour (i + 1) _ (omega arith) c.wide_of-in-loop-i.ensures) c.loop-i.invariant.prefix in
     let third : i + 2 + 1 ≡ i + 3 = omega arith in
-    let two = row_two colours row c.put_two.new.into c.put_two-in-loop-i.new.into c.wide_of-in-loop-i-2.result c.wide_of-in-loop-i-3.result (i + 2) (3 * i + 6) (omega arith) (omega arith) c.put_two-in-loop-i.ensures.front
+    let two = row_two colours row c.put_two.new.into c.put_two-in-loop-i.new.into c.wide_of-in-loop-i-2.result c.wide_of-in-loop-i-3.result (i + 2) (3 * i + 6) (omega arith) (omega arith) c.put_two-in-loop-i.ensures.prefix
     (colour (i + 2) _ (omega arith) c.wide_of-in-loop-i-2.ensures) (rw third (colour (i + 3) _ (omega arith) c.wide_of-in-loop-i-3.ensures)) one in
     let pixels : i + 4 ≡ i + 2 + 2 = omega arith in
     record {
       within = omega arith;
-      front = rw pixels two;
+      prefix = rw pixels two;
     }
 
 pub loop-at-preserved : goal.loop-at-preserved

@@ -9,7 +9,7 @@ abbrev pub invariant-loop-i : goal.invariant-loop-i
 invariant-loop-i l =
     record {
       within : l.i ≤ length l.row;
-      front : take (3 * l.i) l.into ≡ row_bytes l.palette.colours (take l.i l.row);
+      prefix : take (3 * l.i) l.into ≡ row_bytes l.palette.colours (take l.i l.row);
     }
 
 abbrev pub invariant-loop-at : goal.invariant-loop-at

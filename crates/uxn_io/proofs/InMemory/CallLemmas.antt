@@ -1,53 +1,53 @@
--- A tree in memory does what it is sure of.
+-- A tree in memory does what it guarantees.
 use Rattle.std.proofs.Common.{◌≡◌, ℕ, ◌+◌, ◌<◌, ◌≤◌, Bool, true, false, List, Option, Some, length, take, ap, sym, ◌∙◌, arith}
 use Rattle.std.proofs.lemmas.Bool.Decides.{nat_tests}
-use Rattle.tree_io.specs.CallLaws.{takes-some, created-takes, appended-takes, appended-left, removed-left}
-use Rattle.tree_io.specs.Changes.{makes_file, new_files}
-use Rattle.tree_io.specs.Ended.{creating, removing, appending}
-use Rattle.tree_io.specs.Files.{Nodes}
+use Rattle.uxn_io_traits.specs.CallLaws.{takes-some, created-takes, appended-takes, appended-left, removed-left}
+use Rattle.uxn_io_traits.specs.Changes.{makes_file, new_files}
+use Rattle.uxn_io_traits.specs.Ended.{creating, removing, appending}
+use Rattle.uxn_io_traits.specs.Files.{Nodes}
 use Rattle.uxn_io.specs.InMemory.Places.{Places}
-use Rattle.uxn_io.specs.InMemory.Trees.{TreeInMemory, is_listed_later, sure_of, lacks_place, lacks_room, removed}
-use Rattle.tree_io.specs.Outside.{Change}
-use Rattle.tree_io.specs.Taking.{TreeTakes, TreeLeft}
+use Rattle.uxn_io.specs.InMemory.Trees.{TreeInMemory, is_listed_later, guaranteed_of, lacks_place, lacks_room, removed}
+use Rattle.uxn_io_traits.specs.Outside.{Change}
+use Rattle.uxn_io_traits.specs.Taking.{TreeTakes, TreeLeft}
 
--- where it is sure of any call none is listed later
-none-listed : (tree : TreeInMemory) → 0 < (sure_of tree).files → is_listed_later tree ≡ false
+-- where it guarantees any call none is listed later
+none-listed : (tree : TreeInMemory) → 0 < (guaranteed_of tree).files → is_listed_later tree ≡ false
 none-listed tree some = grind (arith, nat_tests)
 
-pub takes-unlisted : (tree : TreeInMemory) (nodes : Nodes) (changes : List Change) → TreeTakes (sure_of tree) nodes changes
+pub takes-unlisted : (tree : TreeInMemory) (nodes : Nodes) (changes : List Change) → TreeTakes (guaranteed_of tree) nodes changes
     → is_listed_later tree ≡ false
-takes-unlisted tree nodes changes takes = none-listed tree (takes-some (sure_of tree) nodes changes takes)
+takes-unlisted tree nodes changes takes = none-listed tree (takes-some (guaranteed_of tree) nodes changes takes)
 
-files-of : (tree : TreeInMemory) → is_listed_later tree ≡ false → (sure_of tree).files ≡ tree.held.free + 1
+files-of : (tree : TreeInMemory) → is_listed_later tree ≡ false → (guaranteed_of tree).files ≡ tree.held.free + 1
 files-of tree unlisted = grind (arith, nat_tests)
 
--- a place is there for a file that it surely makes, and room for what it surely appends
-pub has-place : (tree : TreeInMemory) (path : List ℕ) → TreeTakes (sure_of tree) tree.held.nodes (creating (Some tree.held.nodes) path)
+-- a place is there for a file that it is guaranteed to make, and room for what it is guaranteed to append
+pub has-place : (tree : TreeInMemory) (path : List ℕ) → TreeTakes (guaranteed_of tree) tree.held.nodes (creating (Some tree.held.nodes) path)
     → lacks_place tree.held path ≡ true → ⊥
 has-place tree path takes lacks =
-    let sure = created-takes path tree.held.nodes (sure_of tree) takes in
+    let guaranteed = created-takes path tree.held.nodes (guaranteed_of tree) takes in
     let files = files-of tree (takes-unlisted tree tree.held.nodes _ takes) in
-    grind (arith, nat_tests, sure, files)
+    grind (arith, nat_tests, guaranteed, files)
 
-pub has-room : (tree : TreeInMemory) (path piece : List ℕ) → TreeTakes (sure_of tree) tree.held.nodes (appending path piece)
+pub has-room : (tree : TreeInMemory) (path piece : List ℕ) → TreeTakes (guaranteed_of tree) tree.held.nodes (appending path piece)
     → lacks_room tree.held path piece ≡ true → ⊥
 has-room tree path piece takes lacks =
-    let sure = appended-takes path (sure_of tree) tree.held.nodes piece takes in
-    grind (arith, nat_tests, sure)
+    let guaranteed = appended-takes path (guaranteed_of tree) tree.held.nodes piece takes in
+    grind (arith, nat_tests, guaranteed)
 
 -- what is left then
 pub append-left : (tree now : TreeInMemory) (path text : List ℕ) → is_listed_later tree ≡ false → is_listed_later now ≡ false
     → now.held.free ≡ tree.held.free → now.held.room ≡ tree.held.room
-    → TreeLeft (sure_of tree) (sure_of now) tree.held.nodes (appending path text)
+    → TreeLeft (guaranteed_of tree) (guaranteed_of now) tree.held.nodes (appending path text)
 append-left tree now path text none none_now free room =
     let before = files-of tree none in
     let after = files-of now none_now in
-    appended-left path (sure_of tree) (sure_of now) tree.held.nodes text (omega (arith, before, after, free)) (omega (arith, room))
+    appended-left path (guaranteed_of tree) (guaranteed_of now) tree.held.nodes text (omega (arith, before, after, free)) (omega (arith, room))
 
 pub remove-left : (tree now : TreeInMemory) (path : List ℕ) → is_listed_later tree ≡ false → is_listed_later now ≡ false
-    → now.held ≡ removed tree.held path → TreeLeft (sure_of tree) (sure_of now) tree.held.nodes (removing (Some tree.held.nodes) path)
+    → now.held ≡ removed tree.held path → TreeLeft (guaranteed_of tree) (guaranteed_of now) tree.held.nodes (removing (Some tree.held.nodes) path)
 remove-left tree now path none none_now is =
     let before = files-of tree none in
     let after = files-of now none_now in
-    removed-left path tree.held.nodes (sure_of tree) (sure_of now) (grind (arith, before, after, ap (λ (held : Places). held.free) is))
+    removed-left path tree.held.nodes (guaranteed_of tree) (guaranteed_of now) (grind (arith, before, after, ap (λ (held : Places). held.free) is))
     (omega (arith, ap (λ (held : Places). held.room) is))

@@ -3,9 +3,9 @@ use Rattle.std.proofs.Common.{◌≡◌, ℕ, true, false, inl, inr, List, Optio
 use Rattle.std.specs.Ordering.{nat_cmp, eq_by_cmp}
 use Rattle.std.specs.Cmp.Lexicographic.{slice_cmp}
 use Rattle.std.specs.FinMap as map
-use Rattle.tree_io.specs.Files.{Node, File, Nodes, IsTree, is_folder, is_folder_at, has_parent}
-use Rattle.tree_io.specs.PathText.{path_of, parent_of}
-use Rattle.tree_io.specs.NodeLaws.{same_or_other, put_other, taken_other, get_taken}
+use Rattle.uxn_io_traits.specs.Files.{Node, File, Nodes, IsTree, is_folder, is_folder_at, has_parent}
+use Rattle.uxn_io_traits.specs.PathText.{path_of, parent_of}
+use Rattle.uxn_io_traits.specs.NodeLaws.{same_or_other, put_other, taken_other, get_taken}
 
 -- a folder is still there
 folder_kept : (nodes new : Nodes) (path : List ℕ) (parent : Option (List ℕ)) → ((q : List ℕ) → eq_by_cmp (slice_cmp nat_cmp) q path ≡ false → map.get new q ≡ map.get nodes q) → is_folder (map.get nodes path) ≡ false → is_folder_at nodes parent ≡ true → is_folder_at new parent ≡ true

@@ -8,21 +8,21 @@ use Rattle.std.specs.Cmp.Lexicographic.{slice_cmp}
 use Rattle.std.specs.FinMap as map
 use Rattle.std.specs.Coded.{Coded, code_by, coded×, coded_ℕ, coded_list, coded_option}
 use Rattle.std.specs.FinMap.Entries.{is_sorted, by_order}
-use Rattle.uxn_io.specs.declared.memory.trees.Node.{Node as HeldNode}
-use Rattle.tree_io.specs.ByteList.{ByteList, HasRoom}
-use Rattle.tree_io.specs.PathText.{path_of}
-use Rattle.tree_io.specs.Files.{Node, File, Folder, Nodes, IsTree}
+use Rattle.uxn_io.specs.declared.memory.trees.Node.{Node as StoredNode}
+use Rattle.uxn_io_traits.specs.ByteList.{ByteList, HasRoom}
+use Rattle.uxn_io_traits.specs.PathText.{path_of}
+use Rattle.uxn_io_traits.specs.Files.{Node, File, Folder, Nodes, IsTree}
 
--- what a node that is held stands for
-abbrev pub node_of : HeldNode → Node
+-- what a node that is held represents
+abbrev pub node_of : StoredNode → Node
 node_of node = if node.folder then Folder else File node.bytes.list
 
--- what a list of nodes with their paths stands for
-abbrev pub entry_of : List ℕ × HeldNode → List ℕ × Node
-entry_of held = (held.0, node_of held.1)
+-- what a list of nodes with their paths represents
+abbrev pub place_entry : List ℕ × StoredNode → List ℕ × Node
+place_entry held = (held.0, node_of held.1)
 
-abbrev pub nodes_of : List (List ℕ × HeldNode) → Nodes
-nodes_of held = map.from_entries (list_map entry_of held)
+abbrev pub nodes_of : List (List ℕ × StoredNode) → Nodes
+nodes_of held = map.from_entries (list_map place_entry held)
 
 -- what stands at each path, how many places are free, and the room for bytes in each file
 pub record Places : Type 0 where
@@ -31,11 +31,11 @@ pub record Places : Type 0 where
   pub room : ℕ
 
 -- the paths rise
-abbrev pub AreOrdered : List (List ℕ × HeldNode) → Type 0
-AreOrdered held = T (is_sorted (slice_cmp nat_cmp) (list_map entry_of held))
+abbrev pub AreOrdered : List (List ℕ × StoredNode) → Type 0
+AreOrdered held = T (is_sorted (slice_cmp nat_cmp) (list_map place_entry held))
 
 -- a place in use has a path, and the room
-pub record IsPlace (room : ℕ) (held : List ℕ × HeldNode) : Type 0 where
+pub record IsPlace (room : ℕ) (held : List ℕ × StoredNode) : Type 0 where
   pub path : path_of held.0 ≡ Ok held.0
   pub fits : HasRoom room held.1.bytes
 
@@ -45,7 +45,7 @@ pub record IsFree (room : ℕ) (bytes : ByteList) : Type 0 where
   pub fits : HasRoom room bytes
 
 -- how the nodes are held: both lists have room for all places, used and free
-pub record ArePlaces (held : List (List ℕ × HeldNode)) (free : List ByteList) (room for_used for_free : ℕ) : Type 0 where
+pub record ArePlaces (held : List (List ℕ × StoredNode)) (free : List ByteList) (room for_used for_free : ℕ) : Type 0 where
   pub ordered : AreOrdered held
   pub tree : IsTree (nodes_of held)
   pub places : All (IsPlace room) held
@@ -54,11 +54,11 @@ pub record ArePlaces (held : List (List ℕ × HeldNode)) (free : List ByteList)
   pub spares_fit : length held + length free ≤ for_free
 
 -- a place whose file has lost its bytes, or got more at their end
-abbrev pub emptied : List ℕ × HeldNode → List ℕ × HeldNode
+abbrev pub emptied : List ℕ × StoredNode → List ℕ × StoredNode
 emptied held =
     (held.0, record { folder = held.1.folder; bytes = record { list = []; spare = held.1.bytes.spare + length held.1.bytes.list } })
 
-abbrev pub grown : List ℕ → List ℕ × HeldNode → List ℕ × HeldNode
+abbrev pub grown : List ℕ → List ℕ × StoredNode → List ℕ × StoredNode
 grown more held = (
   held.0,
   record {
@@ -72,7 +72,7 @@ abbrev pub next : Result ℕ ℕ → Result ℕ ℕ
 next (Ok at) = Ok (suc at)
 next (Err at) = Err (suc at)
 
-abbrev pub place_of : List ℕ → List (List ℕ × HeldNode) → Result ℕ ℕ
+abbrev pub place_of : List ℕ → List (List ℕ × StoredNode) → Result ℕ ℕ
 place_of path [] = Err 0
 place_of path (held ∷ more) = by_order (slice_cmp nat_cmp path held.0) (Err 0) (Ok 0) (next (place_of path more))
 

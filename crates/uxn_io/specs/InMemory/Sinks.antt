@@ -3,9 +3,9 @@ use Rattle.std.specs.Prelude.{ℕ, ◌+◌, ◌-◌, ◌==◌, ◌&&◌, ◌||�
 use Rattle.std.specs.Prelude.{◌++◌, Some}
 use Rattle.std.specs.Prelude.{length, take, Result, Ok, Err, if◌then◌else◌}
 use Rattle.std.specs.List.{list_any}
-use Rattle.tree_io.specs.declared.sinks.Failed.{Failed}
-use Rattle.tree_io.specs.Faults.{one_more}
-use Rattle.tree_io.specs.State.{SinkState}
+use Rattle.uxn_io_traits.specs.declared.sinks.Failed.{Failed}
+use Rattle.uxn_io_traits.specs.Faults.{one_more}
+use Rattle.uxn_io_traits.specs.State.{SinkState}
 
 -- the bytes taken, the room for bytes in all, the numbers of the calls that fail, how many calls there
 -- were and how many of them failed
@@ -17,12 +17,12 @@ pub record SinkInMemory : Type 0 where
   pub faults : ℕ
 
 -- where no later call is listed, none fails while room is there
-abbrev pub sure_of : SinkInMemory → ℕ
-sure_of sink = if list_any (λ n. nat_le sink.calls n) sink.fails then 0 else sink.room - length sink.taken + 1
+abbrev pub guaranteed_of : SinkInMemory → ℕ
+guaranteed_of sink = if list_any (λ n. nat_le sink.calls n) sink.fails then 0 else sink.room - length sink.taken + 1
 
--- it tells what it has taken, and is exact
+-- what it has taken is known, and is exact
 abbrev pub state_of : SinkInMemory → SinkState
-state_of sink = record { told = Some sink.taken; tally = record { faults = sink.faults; exact = true }; sure = sure_of sink }
+state_of sink = record { contents = Some sink.taken; tally = record { faults = sink.faults; exact = true }; guaranteed = guaranteed_of sink }
 
 -- a put fails where its number is listed, or it has bytes and no room is left
 abbrev pub fails_at : SinkInMemory → List ℕ → Bool

@@ -6,16 +6,16 @@ use Rattle.std.specs.Prelude.{is_some, refl, if◌then◌else◌}
 use Rattle.std.specs.List.{list_any, list_all}
 use Rattle.std.specs.Str.{bytes_eq}
 use Rattle.std.specs.Coded.{Coded, code_by, coded×, coded_ℕ, coded_list}
-use Rattle.tree_io.specs.declared.sinks.Failed.{Failed}
-use Rattle.uxn_io.specs.declared.memory.trees.Node.{Node as HeldNode}
+use Rattle.uxn_io_traits.specs.declared.sinks.Failed.{Failed}
+use Rattle.uxn_io.specs.declared.memory.trees.Node.{Node as StoredNode}
 use Rattle.uxn_io.specs.declared.memory.trees.TreeCall.{TreeCall}
 use Rattle.uxn_io.specs.declared.memory.trees.TreeCall.TheVariants.{Kind, Read, Create, Append, Remove, Names}
-use Rattle.tree_io.specs.Files.{Nodes, file_at, bytes_at, bytes_from, has_parent}
-use Rattle.tree_io.specs.Changes.{can_create, makes_file, with_created, new_files, with_appended, with_removed}
+use Rattle.uxn_io_traits.specs.Files.{Nodes, file_at, file_bytes_at, file_bytes_from, has_parent}
+use Rattle.uxn_io_traits.specs.Changes.{can_create, makes_file, with_created, new_files, with_appended, with_removed}
 use Rattle.uxn_io.specs.InMemory.Places.{Places, nodes_of, places_code}
-use Rattle.tree_io.specs.Faults.{one_more}
-use Rattle.tree_io.specs.Room.{Room}
-use Rattle.tree_io.specs.State.{TreeState}
+use Rattle.uxn_io_traits.specs.Faults.{one_more}
+use Rattle.uxn_io_traits.specs.Room.{Room}
+use Rattle.uxn_io_traits.specs.State.{TreeState}
 
 -- how many calls of each variant there were
 pub record Calls : Type 0 where
@@ -29,13 +29,13 @@ pub record Calls : Type 0 where
 abbrev pub no_calls : Calls
 no_calls = record { kind = 0; read = 0; create = 0; append = 0; remove = 0; names = 0 }
 
-abbrev pub number_of : TreeCall → Calls → ℕ
-number_of Kind calls = calls.kind
-number_of Read calls = calls.read
-number_of Create calls = calls.create
-number_of Append calls = calls.append
-number_of Remove calls = calls.remove
-number_of Names calls = calls.names
+abbrev pub call_number : TreeCall → Calls → ℕ
+call_number Kind calls = calls.kind
+call_number Read calls = calls.read
+call_number Create calls = calls.create
+call_number Append calls = calls.append
+call_number Remove calls = calls.remove
+call_number Names calls = calls.names
 
 -- one call more
 abbrev pub with_call : TreeCall → Calls → Calls
@@ -66,47 +66,47 @@ same_call _ _ = false
 
 -- the next call of this variant is among those that fail
 abbrev pub is_listed : TreeInMemory → TreeCall → Bool
-is_listed tree call = list_any (λ e. same_call e.0 call && e.1 == number_of call tree.calls) tree.fails
+is_listed tree call = list_any (λ e. same_call e.0 call && e.1 == call_number call tree.calls) tree.fails
 
 -- some later call is
 abbrev pub is_listed_later : TreeInMemory → Bool
-is_listed_later tree = list_any (λ e. nat_le (number_of e.0 tree.calls) e.1) tree.fails
+is_listed_later tree = list_any (λ e. nat_le (call_number e.0 tree.calls) e.1) tree.fails
 
 -- where no later call is listed, none fails while places and room are there
-abbrev pub sure_of : TreeInMemory → Room
-sure_of tree = record { files = if is_listed_later tree then 0 else tree.held.free + 1; bytes = tree.held.room }
+abbrev pub guaranteed_of : TreeInMemory → Room
+guaranteed_of tree = record { files = if is_listed_later tree then 0 else tree.held.free + 1; bytes = tree.held.room }
 
--- it tells what stands at each path, and is exact
+-- what stands at each path is known, and is exact
 abbrev pub state_of : TreeInMemory → TreeState
 state_of tree = record {
-  told = Some tree.held.nodes;
+  contents = Some tree.held.nodes;
   tally = record { faults = tree.faults; exact = true };
   refusals = tree.refusals;
-  sure = sure_of tree;
+  guaranteed = guaranteed_of tree;
 }
 
 -- the tree after a call that failed, and after one that left these places
 abbrev pub failed : TreeCall → TreeInMemory → TreeInMemory
 failed call tree = record tree { calls = with_call call tree.calls; faults = one_more tree.faults }
 
-abbrev pub answered : TreeCall → Places → TreeInMemory → TreeInMemory
-answered call held tree = record tree { held = held; calls = with_call call tree.calls }
+abbrev pub call_answered : TreeCall → Places → TreeInMemory → TreeInMemory
+call_answered call held tree = record tree { held = held; calls = with_call call tree.calls }
 
 -- a call fails where something is lacking for it, or it is listed: what it answers, and the tree after it
 abbrev pub answer_of : {A : Type 0} → TreeCall → TreeInMemory → Bool → A → Result A Failed
 answer_of call tree lacking answer = if lacking || is_listed tree call then Err (record {}) else Ok answer
 
 abbrev pub after : TreeCall → TreeInMemory → Bool → Places → TreeInMemory
-after call tree lacking held = if lacking || is_listed tree call then failed call tree else answered call held tree
+after call tree lacking held = if lacking || is_listed tree call then failed call tree else call_answered call held tree
 
 -- how many bytes `read` puts into a buffer: as many as there are and fit
 abbrev pub read_count : Nodes → List ℕ → ℕ → List ℕ → ℕ
-read_count nodes path from into = min (length into) (length (bytes_from nodes path from))
+read_count nodes path from into = min (length into) (length (file_bytes_from nodes path from))
 
 -- the buffer after `read`
 abbrev pub read_into : Nodes → List ℕ → ℕ → List ℕ → List ℕ
 read_into nodes path from into =
-    take (read_count nodes path from into) (bytes_from nodes path from) ++ drop (read_count nodes path from into) into
+    take (read_count nodes path from into) (file_bytes_from nodes path from) ++ drop (read_count nodes path from into) into
 
 -- `create` wants a place for a file that it makes
 abbrev pub lacks_place : Places → List ℕ → Bool
@@ -119,16 +119,16 @@ created held path = record held { nodes = with_created path held.nodes; free = h
 abbrev pub after_create : TreeInMemory → List ℕ → TreeInMemory
 after_create tree path =
     if lacks_place tree.held path || is_listed tree Create then failed Create tree
-    else if can_create tree.held.nodes path then answered Create (created tree.held path) tree
-    else record (answered Create (created tree.held path) tree) { refusals = one_more tree.refusals }
+    else if can_create tree.held.nodes path then call_answered Create (created tree.held path) tree
+    else record (call_answered Create (created tree.held path) tree) { refusals = one_more tree.refusals }
 
 -- how many bytes of a piece `append` takes: as many as the room has
 abbrev pub fitting : Places → List ℕ → List ℕ → ℕ
-fitting held path piece = min (length piece) (held.room - length (bytes_at held.nodes path))
+fitting held path piece = min (length piece) (held.room - length (file_bytes_at held.nodes path))
 
 -- `append` wants room for a byte, unless the piece is empty
 abbrev pub lacks_room : Places → List ℕ → List ℕ → Bool
-lacks_room held path piece = nat_lt 0 (length piece) && nat_le held.room (length (bytes_at held.nodes path))
+lacks_room held path piece = nat_lt 0 (length piece) && nat_le held.room (length (file_bytes_at held.nodes path))
 
 abbrev pub appended : Places → List ℕ → List ℕ → Places
 appended held path piece = record held { nodes = with_appended path (take (fitting held path piece) piece) held.nodes }
@@ -139,16 +139,16 @@ removed held path =
     record held { nodes = with_removed path held.nodes; free = if is_some (file_at held.nodes path) then held.free + 1 else held.free }
 
 -- a file has no more bytes than the room, and a folder none
-abbrev pub fits : ℕ → HeldNode → Bool
+abbrev pub fits : ℕ → StoredNode → Bool
 fits room node = if node.folder then length node.bytes.list == 0 else nat_le (length node.bytes.list) room
 
 -- the entry's path stands once, its parent is there as a folder, and its node fits
-abbrev pub is_sound : List (List ℕ × HeldNode) → ℕ → List ℕ × HeldNode → Bool
+abbrev pub is_sound : List (List ℕ × StoredNode) → ℕ → List ℕ × StoredNode → Bool
 is_sound nodes room entry =
     (count_by (λ e. bytes_eq e.0 entry.0) nodes == 1) && has_parent (nodes_of nodes) entry.0 && fits room entry.1
 
 -- a tree in memory can hold these nodes, with this room in each file
-abbrev pub can_hold : List (List ℕ × HeldNode) → ℕ → Bool
+abbrev pub can_hold : List (List ℕ × StoredNode) → ℕ → Bool
 can_hold nodes room = list_all (is_sound nodes room) nodes
 
 -- codes, by which proofs tell values apart

@@ -3,19 +3,19 @@ ghost use Rattle.std.specs.Prelude.{◌≡◌, ◌≢◌, ℕ, ◌+◌, ◌-◌,
 ghost use Rattle.std.specs.List.{All, filter_map, insert};
 ghost use Rattle.std.specs.Option.{option_copied};
 ghost use Rattle.std.specs.FinMap as map;
-ghost use Rattle.tree_io.specs.Files.{IsTree, kind_at, kind_of, file_at, bytes_at, is_folder, is_folder_at, has_parent};
-ghost use Rattle.tree_io.specs.PathText.{path_of};
-ghost use Rattle.tree_io.specs.Changes.{can_create};
-ghost use Rattle.tree_io.specs.Children.{children, entry_in, IsEntry};
-ghost use Rattle.tree_io.specs.ByteList.{HasRoom};
-ghost use Rattle.uxn_io.specs.InMemory.Places.{node_of, entry_of, nodes_of, place_of, emptied, grown, IsPlace, IsFree, AreOrdered};
+ghost use Rattle.uxn_io_traits.specs.Files.{IsTree, kind_at, kind_of, file_at, file_bytes_at, is_folder, is_folder_at, has_parent};
+ghost use Rattle.uxn_io_traits.specs.PathText.{path_of};
+ghost use Rattle.uxn_io_traits.specs.Changes.{can_create};
+ghost use Rattle.uxn_io_traits.specs.Children.{children, entry_in, IsEntry};
+ghost use Rattle.uxn_io_traits.specs.ByteList.{HasRoom};
+ghost use Rattle.uxn_io.specs.InMemory.Places.{node_of, place_entry, nodes_of, place_of, emptied, grown, IsPlace, IsFree, AreOrdered};
 ghost use Rattle.uxn_io.specs.InMemory.Trees.{can_hold, created, lacks_place, appended, fitting, lacks_room, removed};
 
 use super::trees::Node;
 use std::alloc::{AllocError, Global};
 use std::cmp::Ordering;
 use std::marker::Model;
-use tree_io::{Bytes, Entry, Kind, Path};
+use uxn_io_traits::{Bytes, Entry, Kind, Path};
 
 /// The nodes in the order of their paths, and free places for files. Each place has room for the same
 /// number of bytes, so that no change takes memory.
@@ -75,7 +75,7 @@ impl Places {
 
     /// The bytes of the file at a path: none where no file is there.
     pub(crate) fn bytes(&self, path: &Path) -> &[u8]
-        ensures { result.now ≡ bytes_at self.now.nodes path.now }
+        ensures { result.now ≡ file_bytes_at self.now.nodes path.now }
     {
         bytes_there(&self.used, path)
     }
@@ -166,7 +166,7 @@ impl Places {
         }
     }
 
-    /// The children of a folder, in the order of their names. Errors with want of memory.
+    /// The children of a folder, in the order of their names. Errors when out of memory.
     pub(crate) fn children(&self, alloc: Global, folder: &Path) -> Result<Vec<Entry>, AllocError>
         ensures children { IfOk result (λ entries. entries.items ≡ children self.now.nodes folder.now) }
         ensures entries { IfOk result (λ entries. All IsEntry entries.items) }
@@ -227,7 +227,7 @@ fn kind_of(node: &Node) -> Kind
 
 /// The bytes of the file at a path: none where no file is there.
 fn bytes_there<'a>(used: &'a [(Path, Node)], path: &Path) -> &'a [u8]
-    ensures { result.now ≡ bytes_at (nodes_of used.now) path.now }
+    ensures { result.now ≡ file_bytes_at (nodes_of used.now) path.now }
 {
     match lookup(used, path) {
         Some(node) => {
@@ -282,7 +282,7 @@ fn append_at(used: &mut Vec<(Path, Node)>, at: usize, more: &[u8])
 
 /// The children of a folder, in the order in which the nodes are held.
 fn children(alloc: Global, used: &[(Path, Node)], folder: &Path) -> Result<Vec<Entry>, AllocError>
-    ensures children { IfOk result (λ entries. entries.items ≡ filter_map (λ held. entry_in folder.now (entry_of held)) used.now) }
+    ensures children { IfOk result (λ entries. entries.items ≡ filter_map (λ held. entry_in folder.now (place_entry held)) used.now) }
     ensures entries { IfOk result (λ entries. All IsEntry entries.items) }
 {
     let mut entries = Vec::new(alloc);
@@ -296,7 +296,7 @@ fn children(alloc: Global, used: &[(Path, Node)], folder: &Path) -> Result<Vec<E
 
 /// What is listed of a node, if it lies in the folder.
 fn entry_in(folder: &Path, held: &(Path, Node)) -> Option<Entry>
-    ensures entry { result ≡ entry_in folder.now (entry_of held.now) }
+    ensures entry { result ≡ entry_in folder.now (place_entry held.now) }
     ensures is_entry { IfSome result IsEntry }
 {
     let name = held.0.name_in(folder)?;

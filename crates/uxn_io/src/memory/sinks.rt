@@ -1,12 +1,12 @@
 //! A sink in memory, which fails on demand.
 ghost use Rattle.std.specs.Prelude.{◌≡◌, ◌<◌, ◌≤◌, ◌==◌, false, [], length, take, IfOk, OnErr};
 ghost use Rattle.std.specs.List.{list_any};
-ghost use Rattle.tree_io.specs.Ended.{SinkEnded, SinkFailed};
+ghost use Rattle.uxn_io_traits.specs.Ended.{SinkEnded, SinkFailed};
 ghost use Rattle.uxn_io.specs.InMemory.Sinks.{state_of, fails_at, put_answer, after_put};
 
 use std::alloc::{AllocError, Global};
 use std::marker::Model;
-use tree_io::{Failed, Sink};
+use uxn_io_traits::{Failed, Sink};
 
 /// A sink that keeps what it takes, up to a room in bytes.
 #[derive(Drop)]
@@ -31,7 +31,7 @@ impl Model for MemSink {
 
 impl MemSink {
     /// A sink with room for so many bytes, whose calls with the listed numbers, from 0, fail. It takes
-    /// all its memory now. Errors with want of memory.
+    /// all its memory now. Errors when out of memory.
     pub fn new(alloc: Global, room: usize, fails: &[u32]) -> Result<MemSink, AllocError>
         ensures { IfOk result (λ sink. sink ≡ record { taken = []; room = room; fails = fails.now; calls = 0; faults = 0 }) }
     {

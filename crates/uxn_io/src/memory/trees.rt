@@ -4,16 +4,16 @@ ghost use Rattle.std.specs.List.{All, list_any};
 ghost use Rattle.std.specs.Str.{bytes_eq};
 ghost use Rattle.std.specs.Option.{option_copied};
 ghost use Rattle.std.specs.FinMap as map;
-ghost use Rattle.tree_io.specs.Faults.{Counted, one_more};
-ghost use Rattle.tree_io.specs.Files.{IsTree, kind_at, file_at, bytes_at, bytes_from, is_folder, Reads};
-ghost use Rattle.tree_io.specs.Changes.{can_create};
-ghost use Rattle.tree_io.specs.Children.{children, IsEntry, has_failed as names_failed};
-ghost use Rattle.tree_io.specs.Ended.{TreeLooked, TreeEnded, Refused, creating, removing, appending, portion, has_refused};
+ghost use Rattle.uxn_io_traits.specs.Faults.{Counted, one_more};
+ghost use Rattle.uxn_io_traits.specs.Files.{IsTree, kind_at, file_at, file_bytes_at, file_bytes_from, is_folder, GivesBytes};
+ghost use Rattle.uxn_io_traits.specs.Changes.{can_create};
+ghost use Rattle.uxn_io_traits.specs.Children.{children, IsEntry, has_failed as names_failed};
+ghost use Rattle.uxn_io_traits.specs.Ended.{TreeLooked, TreeEnded, Refused, creating, removing, appending, portion, has_refused};
 ghost use Rattle.uxn_io.specs.InMemory.Places.{node_of, nodes_of};
 ghost use Rattle.uxn_io.specs.declared.memory.trees.TreeCall.{TreeCall};
 ghost use Rattle.uxn_io.specs.InMemory.Trees.{
   no_calls,
-  number_of,
+  call_number,
   with_call,
   state_of,
   same_call,
@@ -37,7 +37,7 @@ ghost use Rattle.uxn_io.specs.InMemory.Trees.{
 use super::places::{Places, has_parent};
 use std::alloc::{AllocError, Global};
 use std::marker::Model;
-use tree_io::{Bytes, Entry, Failed, Kind, NamesStop, Path, Tree};
+use uxn_io_traits::{Bytes, Entry, Failed, Kind, NamesStop, Path, Tree};
 
 /// The calls of a tree.
 #[derive(Clone, Copy, PartialEq, Eq)]
@@ -100,8 +100,8 @@ impl Calls {
     }
 
     /// The number of the next call of a variant, from 0.
-    fn number_of(&self, call: TreeCall) -> u64
-        ensures { result ≡ number_of call self.now }
+    fn call_number(&self, call: TreeCall) -> u64
+        ensures { result ≡ call_number call self.now }
     {
         match call {
             TreeCall::Kind => self.kind,
@@ -116,7 +116,7 @@ impl Calls {
     /// Counts a call.
     fn count(&mut self, call: TreeCall)
         ensures after { self.new ≡ with_call call self.old }
-        ensures later { (other : TreeCall) → number_of other self.old ≤ number_of other self.new }
+        ensures later { (other : TreeCall) → call_number other self.old ≤ call_number other self.new }
     {
         match call {
             TreeCall::Kind => add_one(&mut self.kind),
@@ -160,7 +160,7 @@ impl Model for MemTree {
 impl MemTree {
     /// A tree of these nodes, with places for so many more files and room for so many bytes in each file.
     /// The calls with a listed variant and number, from 0, fail. It takes all its memory now, and its
-    /// further calls none, but for the list that `names` gives. Errors with want of memory.
+    /// further calls none, but for the list that `names` gives. Errors when out of memory.
     pub fn new(
         alloc: Global,
         nodes: &[(Path, Node)],
@@ -207,10 +207,10 @@ impl MemTree {
         ensures after { self.new ≡ after call self.old lacking self.old.held }
         ensures held { self.new.held ≡ self.old.held }
         ensures counted { Counted (state_of self.old).tally (state_of self.new).tally result }
-        ensures sure { is_listed_later self.old ≡ false → result ≡ lacking }
+        ensures guaranteed { is_listed_later self.old ≡ false → result ≡ lacking }
         ensures later { is_listed_later self.old ≡ false → is_listed_later self.new ≡ false }
     {
-        let listed = is_listed(&self.fails, call, self.calls.number_of(call));
+        let listed = is_listed(&self.fails, call, self.calls.call_number(call));
         let fails = lacking || listed;
         self.calls.count(call);
         if fails {
@@ -228,8 +228,8 @@ impl Tree for MemTree {
 
     /// Tells what is there.
     fn kind(&mut self, path: &Path) -> Result<Kind, Failed>
-        ensures answer { IfOk result (λ kind. IfSome (state_of self.old).told (λ nodes. kind ≡ kind_at nodes path.now)) }
-        ensures shape { OnOk result (IfSome (state_of self.old).told IsTree) }
+        ensures answer { IfOk result (λ kind. IfSome (state_of self.old).contents (λ nodes. kind ≡ kind_at nodes path.now)) }
+        ensures shape { OnOk result (IfSome (state_of self.old).contents IsTree) }
         ensures looked { TreeLooked (is_err result) (state_of self.old) (state_of self.new) }
 
         ensures exact { result ≡ answer_of TreeCall.Kind self.old false (kind_at self.old.held.nodes path.now) }
@@ -245,7 +245,7 @@ impl Tree for MemTree {
     fn read(&mut self, path: &Path, from: u64, into: &mut [u8]) -> Result<usize, Failed>
         ensures count { IfOk result (λ n. n ≤ length into.old) }
         ensures rest { IfOk result (λ n. drop n into.new ≡ drop n into.old) }
-        ensures answer { IfOk result (λ n. IfSome (state_of self.old).told (λ nodes. Reads (bytes_from nodes path.now from) into.old into.new n)) }
+        ensures answer { IfOk result (λ n. IfSome (state_of self.old).contents (λ nodes. GivesBytes (file_bytes_from nodes path.now from) into.old into.new n)) }
         ensures looked { TreeLooked (is_err result) (state_of self.old) (state_of self.new) }
 
         ensures exact { result ≡ answer_of TreeCall.Read self.old false (read_count self.old.held.nodes path.now from into.old) }
@@ -260,8 +260,8 @@ impl Tree for MemTree {
 
     /// Makes an empty file, in a free place where nothing was.
     fn create(&mut self, path: &Path) -> Result<bool, Failed>
-        ensures answer { IfOk result (λ made. IfSome (state_of self.old).told (λ nodes. made ≡ can_create nodes path.now)) }
-        ensures ended { TreeEnded (creating (state_of self.old).told path.now) (is_err result) (state_of self.old) (state_of self.new) }
+        ensures answer { IfOk result (λ made. IfSome (state_of self.old).contents (λ nodes. made ≡ can_create nodes path.now)) }
+        ensures ended { TreeEnded (creating (state_of self.old).contents path.now) (is_err result) (state_of self.old) (state_of self.new) }
         ensures refused { Refused (has_refused result) (state_of self.old) (state_of self.new) }
 
         ensures exact { result ≡ answer_of TreeCall.Create self.old (lacks_place self.old.held path.now) (can_create self.old.held.nodes path.now) }
@@ -280,7 +280,7 @@ impl Tree for MemTree {
 
     /// Takes as much of the piece as the room has.
     fn append(&mut self, path: &Path, piece: &[u8]) -> Result<usize, Failed>
-        requires { IfSome (state_of self.old).told (λ nodes. IsSome (file_at nodes path.now)) }
+        requires { IfSome (state_of self.old).contents (λ nodes. IsSome (file_at nodes path.now)) }
         ensures count { IfOk result (λ n. n ≤ length piece.now) }
         ensures some { IfOk result (λ n. 0 < length piece.now → 0 < n) }
         ensures ended { TreeEnded (appending path.now (portion result piece.now)) (is_err result) (state_of self.old) (state_of self.new) }
@@ -298,8 +298,8 @@ impl Tree for MemTree {
 
     /// Takes a file away, and frees its place.
     fn remove(&mut self, path: &Path) -> Result<bool, Failed>
-        ensures answer { IfOk result (λ gone. IfSome (state_of self.old).told (λ nodes. gone ≡ is_some (file_at nodes path.now))) }
-        ensures ended { TreeEnded (removing (state_of self.old).told path.now) (is_err result) (state_of self.old) (state_of self.new) }
+        ensures answer { IfOk result (λ gone. IfSome (state_of self.old).contents (λ nodes. gone ≡ is_some (file_at nodes path.now))) }
+        ensures ended { TreeEnded (removing (state_of self.old).contents path.now) (is_err result) (state_of self.old) (state_of self.new) }
         ensures refused { Refused false (state_of self.old) (state_of self.new) }
 
         ensures exact { result ≡ answer_of TreeCall.Remove self.old false (is_some (file_at self.old.held.nodes path.now)) }
@@ -311,10 +311,10 @@ impl Tree for MemTree {
         Ok(self.held.remove(path))
     }
 
-    /// Lists the children. Want of memory is no fault.
+    /// Lists the children. Running out of memory is no fault.
     fn names(&mut self, alloc: Global, folder: &Path) -> Result<Vec<Entry>, NamesStop>
-        requires { IfSome (state_of self.old).told (λ nodes. IsTrue (is_folder (map.get nodes folder.now))) }
-        ensures answer { IfOk result (λ entries. IfSome (state_of self.old).told (λ nodes. entries.items ≡ children nodes folder.now)) }
+        requires { IfSome (state_of self.old).contents (λ nodes. IsTrue (is_folder (map.get nodes folder.now))) }
+        ensures answer { IfOk result (λ entries. IfSome (state_of self.old).contents (λ nodes. entries.items ≡ children nodes folder.now)) }
         ensures looked { TreeLooked (names_failed result) (state_of self.old) (state_of self.new) }
         ensures entries { IfOk result (λ entries. All IsEntry entries.items) }
 
@@ -331,7 +331,7 @@ impl Tree for MemTree {
     }
 }
 
-/// Puts as many bytes from a place on as there are and fit at the front of the buffer, and says how many.
+/// Puts as many bytes from a place on as there are and fit at the start of the buffer, and says how many.
 fn copy_from(bytes: &[u8], from: u64, into: &mut [u8]) -> usize
     ensures count { result ≡ min (length into.old) (length (drop from bytes.now)) }
     ensures into { into.new ≡ take result (drop from bytes.now) ++ drop result into.old }

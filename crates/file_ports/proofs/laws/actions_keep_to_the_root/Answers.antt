@@ -4,7 +4,7 @@ use Rattle.file_ports.proofs.laws.actions_keep_to_the_root.Goals as goal
 
 pub returns : goal.returns
 returns c = record {
-  seen = outcome-same;
+  observed = outcome-same;
   changes = act-lies;
   suits = act-suits;
   part = below-files_by;

@@ -1,6 +1,6 @@
 use Rattle.std.proofs.Common.{◌≡◌, Err, rules, false}
-use Rattle.tree_io.specs.EndedLaws.{looked-then}
-use Rattle.file_ports.specs.Answers.{has_failed}
+use Rattle.uxn_io_traits.specs.EndedLaws.{looked-then}
+use Rattle.file_ports.specs.AnswersAction.{has_failed}
 use Rattle.file_ports.proofs.reading.look.Goals as goal
 
 pub returns-in_err-listing-in-Folder-clause-tree : goal.returns-in_err-listing-in-Folder-clause-tree

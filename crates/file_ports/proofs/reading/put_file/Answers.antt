@@ -1,8 +1,8 @@
 use Rattle.std.proofs.Common.{◌≡◌, ◌+◌, [], true, false, Err, rules, ◌++◌, ℕ, ap, take, drop, refl, sym, arith}
 use Rattle.std.proofs.lemmas.List.{length-take, length-append, take-append-le}
-use Rattle.tree_io.specs.EndedLaws.{looked-nothing, looked-then}
+use Rattle.uxn_io_traits.specs.EndedLaws.{looked-nothing, looked-then}
 use Rattle.file_ports.proofs.MemoryLemmas.{with_nothing}
-use Rattle.file_ports.proofs.ReadLemmas.{gives_nothing, told_more, told_end, put_more, front_put}
+use Rattle.file_ports.proofs.ReadLemmas.{gives_nothing, known_more, known_end, put_more, prefix_put}
 use Rattle.file_ports.proofs.reading.put_file.Goals as goal
 
 pub loop-done-preserved : goal.loop-done-preserved
@@ -13,9 +13,9 @@ loop-done-preserved g c =
     let size = length-take c.min-wanted.result chunk in
     record {
       within = omega (arith, c.in_ok-taken.ensures.count, size);
-      told =
-          told_more _ _ c.args.path.now c.args.memory.now c.loop-done.memory c.put.new.self (take taken (into ++ drop c.min-wanted.result chunk)) (take c.min-wanted.result chunk) into c.args.place c.args.at c.loop-done.done taken _
-          (omega arith) (ap (λ (n : ℕ). c.args.place + n) c.from-in-loop-done.ensures) c.loop-done.invariant.tree.told c.loop-done.invariant.told c.in_ok-taken.ensures.answer
+      contents =
+          known_more _ _ c.args.path.now c.args.memory.now c.loop-done.memory c.put.new.self (take taken (into ++ drop c.min-wanted.result chunk)) (take c.min-wanted.result chunk) into c.args.place c.args.at c.loop-done.done taken _
+          (omega arith) (ap (λ (n : ℕ). c.args.place + n) c.from-in-loop-done.ensures) c.loop-done.invariant.tree.contents c.loop-done.invariant.contents c.in_ok-taken.ensures.answer
           (take-append-le taken into (drop c.min-wanted.result chunk) (omega (arith, c.in_ok-taken.ensures.count, size))) c.put.ensures;
       put =
           put_more c.args.memory.now c.loop-done.memory c.put.new.self (take taken (into ++ drop c.min-wanted.result chunk)) c.args.at c.loop-done.done taken
@@ -26,8 +26,8 @@ loop-done-preserved g c =
 pub returns-then-taken-eq0-clause-piece : goal.returns-then-taken-eq0-clause-piece
 returns-then-taken-eq0-clause-piece g c =
     let size = length-take c.min-wanted.result c.loop-done.chunk in
-    told_end _ _ c.args.path.now c.args.memory.now c.loop-done.memory (take c.min-wanted.result c.loop-done.chunk) c.read.new.into c.args.place c.args.at c.loop-done.done c.in_ok-taken.taken c.args.count _
-    (ap (λ (n : ℕ). c.args.place + n) c.from-in-loop-done.ensures) c.loop-done.invariant.tree.told c.loop-done.invariant.told c.in_ok-taken.ensures.answer c.if-taken-eq0.true (omega (arith, size)) c.loop-done.invariant.within
+    known_end _ _ c.args.path.now c.args.memory.now c.loop-done.memory (take c.min-wanted.result c.loop-done.chunk) c.read.new.into c.args.place c.args.at c.loop-done.done c.in_ok-taken.taken c.args.count _
+    (ap (λ (n : ℕ). c.args.place + n) c.from-in-loop-done.ensures) c.loop-done.invariant.tree.contents c.loop-done.invariant.contents c.in_ok-taken.ensures.answer c.if-taken-eq0.true (omega (arith, size)) c.loop-done.invariant.within
 
 pub returns-then-taken-eq0-clause-tree : goal.returns-then-taken-eq0-clause-tree
 returns-then-taken-eq0-clause-tree g c =
@@ -43,7 +43,7 @@ loop-done-init g c =
     let none = sym (with_nothing c.args.memory.now c.args.at) in
     record {
       within = omega arith;
-      told = gives_nothing _ c.args.memory.now c.args.at;
+      contents = gives_nothing _ c.args.memory.now c.args.at;
       put = record { put = []; count = refl; memory = none };
       tree = looked-nothing _;
     }
@@ -51,4 +51,4 @@ loop-done-init g c =
 pub returns-in_err-taken-clause-stopped : goal.returns-in_err-taken-clause-stopped
 returns-in_err-taken-clause-stopped g c =
     let result : c.from_residual.result ≡ Err c.in_err-taken.field-0.0 = search rules in
-    rw result (front_put _ c.args.path.now c.args.memory.now c.loop-done.memory c.args.place c.args.at c.loop-done.done c.args.count c.loop-done.invariant.within c.loop-done.invariant.put c.loop-done.invariant.told)
+    rw result (prefix_put _ c.args.path.now c.args.memory.now c.loop-done.memory c.args.place c.args.at c.loop-done.done c.args.count c.loop-done.invariant.within c.loop-done.invariant.put c.loop-done.invariant.contents)

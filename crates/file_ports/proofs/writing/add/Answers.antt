@@ -1,6 +1,6 @@
 use Rattle.std.proofs.Common.{◌≡◌, Err, rules, true, false}
-use Rattle.tree_io.specs.Ended.{appending}
-use Rattle.tree_io.specs.EndedLaws.{refused-on}
+use Rattle.uxn_io_traits.specs.Ended.{appending}
+use Rattle.uxn_io_traits.specs.EndedLaws.{refused-on}
 use Rattle.file_ports.proofs.ChangeLemmas.{added-first, added-none, added-all}
 use Rattle.file_ports.proofs.writing.add.Goals as goal
 

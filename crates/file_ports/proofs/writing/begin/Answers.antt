@@ -1,6 +1,6 @@
 use Rattle.std.proofs.Common.{◌≡◌, [], true, false, Err, rules, inl, inr}
-use Rattle.tree_io.specs.Ended.{has_refused}
-use Rattle.tree_io.specs.EndedLaws.{looked-ended, tree-first, refused-looked}
+use Rattle.uxn_io_traits.specs.Ended.{has_refused}
+use Rattle.uxn_io_traits.specs.EndedLaws.{looked-ended, tree-first, refused-looked}
 use Rattle.file_ports.proofs.ChangeLemmas.{file_made, begin-quiet, begin-new}
 use Rattle.file_ports.proofs.writing.begin.Goals as goal
 

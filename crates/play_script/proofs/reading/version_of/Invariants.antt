@@ -1,5 +1,5 @@
 use Rattle.std.proofs.Common.{◌≡◌, length}
-use Rattle.line_texts.specs.Lines.{lines_of}
+use Rattle.text_lines.specs.Lines.{lines_of}
 use Rattle.play_script.specs.Scripts.{version_in}
 use Rattle.play_script.proofs.reading.version_of.Given as goal
 

@@ -1,12 +1,11 @@
 use Rattle.std.proofs.Common.{◌≡◌, ◌+◌, ◌/◌, arith}
 use Rattle.screen_layers.specs.Drawings.{tile_of}
-use Rattle.screen_layers.proofs.SpriteLemmas.{sprite-none, none-drawn, tile-drawn, sprite-more, one-drawn}
+use Rattle.screen_layers.proofs.SpriteLemmas.{sprite-none, tile-drawn, sprite-more}
 use Rattle.screen_layers.proofs.Screen.sprite.Goals as goal
 
 pub loop-i-init : goal.loop-i-init
 loop-i-init c = record {
   drawn = λ picture stands. sprite-none c.args.self.now _ picture stands;
-  marked = λ since marked. none-drawn c.args.self.now _ since marked;
 }
 
 pub loop-i-preserved : goal.loop-i-preserved
@@ -19,15 +18,9 @@ loop-i-preserved c =
     (rw c.of-look.ensures.two_bits at c.place_of-place.ensures.at) c.tile.ensures in
     record {
       drawn = λ picture stands. sprite-more c.loop-i.self c.tile.new.self drawing c.loop-i.i draws picture (c.loop-i.invariant.drawn picture stands);
-      marked = λ since marked. one-drawn c.loop-i.self c.tile.new.self drawing c.loop-i.i draws since (c.loop-i.invariant.marked since marked);
     }
 
 pub returns-clause-drawn : goal.returns-clause-drawn
 returns-clause-drawn c = λ picture stands.
     let whole : c.loop-i.i ≡ c.args.auto / 16 + 1 = omega arith in
     rw whole at (c.loop-i.invariant.drawn picture stands)
-
-pub returns-clause-marked : goal.returns-clause-marked
-returns-clause-marked c = λ since marked.
-    let whole : c.loop-i.i ≡ c.args.auto / 16 + 1 = omega arith in
-    rw whole at (c.loop-i.invariant.marked since marked)

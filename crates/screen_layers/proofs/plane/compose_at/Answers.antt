@@ -18,4 +18,4 @@ pub returns-clause-length : goal.returns-clause-length
 returns-clause-length c = length-put_mid _ _ c.args.pixels.now c.compose_row.new.into (omega (arith, c.compose_row.ensures.count)) (omega (arith, c.start-start.ensures.within c.requires.row))
 
 pub returns-clause-colours : goal.returns-clause-colours
-returns-clause-colours c = λ front back each. All-put_mid (λ colour. colour < 4) _ _ c.args.pixels.now c.compose_row.new.into each (c.compose_row.ensures.colours front back)
+returns-clause-colours c = λ prefix back each. All-put_mid (λ colour. colour < 4) _ _ c.args.pixels.now c.compose_row.new.into each (c.compose_row.ensures.colours prefix back)

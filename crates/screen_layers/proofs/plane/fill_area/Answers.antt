@@ -12,10 +12,10 @@ loop-y-preserved c =
     let size = c.loop-y.invariant.length in
     let within = c.start-start-in-loop-y.ensures.within (omega arith) in
     record {
-      painted = fill-more c.args.pixels.now c.loop-y.pixels c.fill_span-in-loop-y.new.span c.args.size.width c.args.size.height c.args.area.left c.args.area.right c.args.area.top c.loop-y.y c.args.colour _ _
-          (omega arith) (omega arith) (omega arith) (omega arith) (omega arith) (omega arith) c.fill_span-in-loop-y.ensures c.loop-y.invariant.painted;
-      length = length-put_mid _ _ c.loop-y.pixels c.fill_span-in-loop-y.new.span (c.fill_span-in-loop-y.auto.span ∙ length-span _ _ c.loop-y.pixels (omega arith)) (omega arith) ∙ size;
-      colours = λ fits each. fill-colours c.loop-y.pixels c.fill_span-in-loop-y.new.span c.args.colour _ _ fits c.fill_span-in-loop-y.ensures (c.loop-y.invariant.colours fits each);
+      painted = fill-more c.args.pixels.now c.loop-y.pixels c.fill_piece.new.piece c.args.size.width c.args.size.height c.args.area.left c.args.area.right c.args.area.top c.loop-y.y c.args.colour _ _
+          (omega arith) (omega arith) (omega arith) (omega arith) (omega arith) (omega arith) c.fill_piece.ensures c.loop-y.invariant.painted;
+      length = length-put_mid _ _ c.loop-y.pixels c.fill_piece.new.piece (c.fill_piece.auto.piece ∙ length-span _ _ c.loop-y.pixels (omega arith)) (omega arith) ∙ size;
+      colours = λ fits each. fill-colours c.loop-y.pixels c.fill_piece.new.piece c.args.colour _ _ fits c.fill_piece.ensures (c.loop-y.invariant.colours fits each);
     }
 
 pub returns-then-area-size-clause-painted : goal.returns-then-area-size-clause-painted

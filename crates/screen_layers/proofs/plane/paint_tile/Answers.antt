@@ -1,6 +1,6 @@
 use Rattle.std.proofs.Common.{◌≡◌, arith, ◌∙◌, refl}
 use Rattle.screen_layers.specs.Control.{tile_size}
-use Rattle.screen_layers.specs.Drawings.{bytes_at}
+use Rattle.screen_layers.specs.Drawings.{tile_bytes_at}
 use Rattle.screen_layers.proofs.Spans.{length-span, length-put_mid}
 use Rattle.screen_layers.proofs.TileLemmas.{rows-more, rows-off, rows-end, rows-colours}
 use Rattle.screen_layers.proofs.plane.paint_tile.Goals as goal
@@ -8,7 +8,7 @@ use Rattle.screen_layers.proofs.plane.paint_tile.Goals.{then-y-size, else-y-size
 
 pub loop-row-preserved : goal.loop-row-preserved
 loop-row-preserved c =
-    let bytes = bytes_at c.args.memory.now c.args.place.at (tile_size c.args.look.now.two_bits) in
+    let bytes = tile_bytes_at c.args.memory.now c.args.place.at (tile_size c.args.look.now.two_bits) in
     let size = c.loop-row.invariant.length in
     elim c.if-y-size.branch [
       | then-y-size w ↦
@@ -34,5 +34,5 @@ pub returns-clause-painted : goal.returns-clause-painted
 returns-clause-painted c =
     let whole : c.loop-row.row ≡ 8 = omega arith in
     rows-end c.args.pixels.now c.loop-row.pixels c.args.size.width c.args.size.height c.args.place.x c.args.place.y
-    (bytes_at c.args.memory.now c.args.place.at (tile_size c.args.look.now.two_bits)) c.args.look.now.columns c.args.look.now.flip_y c.args.look.now.inks
+    (tile_bytes_at c.args.memory.now c.args.place.at (tile_size c.args.look.now.two_bits)) c.args.look.now.columns c.args.look.now.flip_y c.args.look.now.inks
     (rw whole at c.loop-row.invariant.painted)

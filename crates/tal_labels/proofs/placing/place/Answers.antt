@@ -13,8 +13,8 @@ use Rattle.tal_labels.specs.declared.placer.Placer.{Placer}
 use Rattle.tal_labels.specs.Answers.{FindsNone}
 use Rattle.tal_labels.specs.Adding.{added_fault}
 use Rattle.tal_labels.specs.Shapes.{shape_fault}
-use Rattle.tal_labels.specs.Placing.{Layout, layout_of, judged_place, placing_fault, place_fault}
-use Rattle.tal_labels.specs.Placers.{Kept, IsKept, WereAdded, PlacesNext, kept_by}
+use Rattle.tal_labels.specs.Placing.{Layout, layout_of, validated_place, placing_fault, place_fault}
+use Rattle.tal_labels.specs.Placers.{PlacerModel, PlacerIsMaintained, WereAdded, PlacesNext, kept_by}
 use Rattle.tal_labels.proofs.AddingLemmas.{place-later, place-here}
 use Rattle.tal_labels.proofs.CallerLemmas.{lie_apart}
 use Rattle.tal_labels.proofs.placing.place.Goals as goal
@@ -28,20 +28,20 @@ unfolding place_fault
 stopped_shape source words (Refused found) e = rw e refl
 stopped_shape source words NoMemory e = tt
 
-stopped_place : (source : List ℕ) (words : List Expanded) (k : ℕ) (new : Kept) (stop : AsmStop) → shape_fault source words ≡ None → k < length words
-    → phase_fault (each (judged_place source) (take k words) (drop k words)) ≡ placing_fault source words
+stopped_place : (source : List ℕ) (words : List Expanded) (k : ℕ) (new : PlacerModel) (stop : AsmStop) → shape_fault source words ≡ None → k < length words
+    → phase_fault (each (validated_place source) (take k words) (drop k words)) ≡ placing_fault source words
     → PlacesNext source (take k words) (get_or words k no_word) (Err stop) new → Gives (λ layout. layout) (Err stop) (place_fault source words) (layout_of source words)
 stopped_place source words k new (Refused found) shaped within so e = placing_next source words (Some found) shaped (sym so ∙ place-here source words k found shaped within e)
 stopped_place source words k new NoMemory shaped within so e = tt
 
 -- after the last word
-ended : (source : List ℕ) (words : List Expanded) (k : ℕ) (placer : Placer) → length words ≤ k → IsKept source (take k words) (kept_by placer) → placer.is_faulty ≡ false → shape_fault source words ≡ None
-    → phase_fault (each (judged_place source) (take k words) (drop k words)) ≡ placing_fault source words
+ended : (source : List ℕ) (words : List Expanded) (k : ℕ) (placer : Placer) → length words ≤ k → PlacerIsMaintained source (take k words) (kept_by placer) → placer.is_faulty ≡ false → shape_fault source words ≡ None
+    → phase_fault (each (validated_place source) (take k words) (drop k words)) ≡ placing_fault source words
     → (o : Option Layout) → ((source : List ℕ) (words : List Expanded) → WereAdded source words placer → o ≡ cond (is_some (place_fault source words)) None (Some (layout_of source words)))
     → (o ≡ Some (layout_of source words)) × (place_fault source words ≡ None) × (placing_fault source words ≡ None)
 ended source words k placer past kept flag shaped so o e =
     let whole = rw (take_all k words past) at kept in
-    let placed : placing_fault source words ≡ None = sym so ∙ ap phase_fault (each-end (judged_place source) words k past) in
+    let placed : placing_fault source words ≡ None = sym so ∙ ap phase_fault (each-end (validated_place source) words k past) in
     let sound = placing_next source words None shaped placed in
     (rw sound at (e source words (record { faulty = rw whole.sound flag; kept = λ _. whole })), sound, placed)
 

@@ -1,13 +1,13 @@
 use Rattle.std.proofs.Common.{◌≡◌, false, take, drop}
 use Rattle.tal_words.specs.Faults.{phase_fault}
 use Rattle.tal_words.specs.Order.{each}
-use Rattle.tal_labels.specs.Placing.{judged_place, placing_fault}
-use Rattle.tal_labels.specs.Placers.{IsKept, kept_by}
+use Rattle.tal_labels.specs.Placing.{validated_place, placing_fault}
+use Rattle.tal_labels.specs.Placers.{PlacerIsMaintained, kept_by}
 use Rattle.tal_labels.proofs.placing.place.Given as goal
 
 abbrev pub invariant-loop-word : goal.invariant-loop-word
 invariant-loop-word l = record {
-  kept : IsKept l.source (take l.word-index l.words) (kept_by l.placer);
+  kept : PlacerIsMaintained l.source (take l.word-index l.words) (kept_by l.placer);
   flag : l.placer.is_faulty ≡ false;
-  sound : phase_fault (each (judged_place l.source) (take l.word-index l.words) (drop l.word-index l.words)) ≡ placing_fault l.source l.words;
+  sound : phase_fault (each (validated_place l.source) (take l.word-index l.words) (drop l.word-index l.words)) ≡ placing_fault l.source l.words;
 }

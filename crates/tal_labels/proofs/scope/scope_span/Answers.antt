@@ -10,9 +10,9 @@ use Rattle.tal_words.specs.Source.{bytes_at}
 use Rattle.tal_labels.proofs.LabelNames.{not_empty}
 use Rattle.tal_labels.proofs.scope.scope_span.Goals as goal
 
--- what is taken from a front is taken from the whole
-take-front : (n m : ℕ) (xs : List ℕ) → n ≤ length (take m xs) → take n xs ≡ take n (take m xs)
-take-front n m xs h = rw (take-append-drop m xs) at (take-append-le n (take m xs) (drop m xs) h)
+-- what is taken from a prefix is taken from the whole
+take-prefix : (n m : ℕ) (xs : List ℕ) → n ≤ length (take m xs) → take n xs ≡ take n (take m xs)
+take-prefix n m xs h = rw (take-append-drop m xs) at (take-append-le n (take m xs) (drop m xs) h)
 
 take-own : (n : ℕ) (xs : List ℕ) → take (length (take n xs)) xs ≡ take n xs
 take-own n xs = rw (take-append-drop n xs) at (take-append_seam (take n xs) (drop n xs))
@@ -28,7 +28,7 @@ part source word n some e =
     let read : name ≡ take more (drop (word.start + 1) source) =
     ap (λ k. drop 1 (take k (drop word.start source))) size ∙ drop-take 1 more (drop word.start source) ∙ ap (take more) (drop-drop 1 word.start source) in
     let short : n ≤ length (take more (drop (word.start + 1) source)) = omega (arith, e, ap length read, length-take (prefix_len (λ byte. not (byte == 47)) name) name) in
-    rw (count, take-front n more (drop (word.start + 1) source) short, ← read, e) (take-own (prefix_len (λ byte. not (byte == 47)) name) name)
+    rw (count, take-prefix n more (drop (word.start + 1) source) short, ← read, e) (take-own (prefix_len (λ byte. not (byte == 47)) name) name)
 
 pub split_at-requires : goal.split_at-requires
 split_at-requires c = omega (arith, ap length c.text.ensures, not_empty _ LabelDef c.requires refl)

@@ -1,5 +1,5 @@
 use Rattle.tal_words.specs.Opcodes.{name_of_op}
-use Rattle.tree_io.specs.NumberText.{hex_of_short}
+use Rattle.uxn_io_traits.specs.NumberText.{hex_of_short}
 use Rattle.tal_listing.proofs.DisassemblyLemmas.{line_text}
 use Rattle.tal_listing.proofs.disassembly.append_instruction.Goals as goal
 

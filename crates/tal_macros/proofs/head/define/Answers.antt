@@ -1,6 +1,6 @@
 use Rattle.std.proofs.Common.{◌≡◌, [], ◌∷◌, ◌++◌, drop, refl, ap, ◌∙◌, arith}
 use Rattle.tal_macros.specs.Expansion.{body_named}
-use Rattle.tal_macros.specs.Bodies.{body_words, known_of}
+use Rattle.tal_macros.specs.Bodies.{body_words, known_macros}
 use Rattle.tal_macros.proofs.HeadLemmas.{head-refuses, head-continues, body-refuses}
 use Rattle.tal_macros.proofs.Known.{known-insert}
 use Rattle.tal_macros.proofs.head.define.Goals as goal
@@ -24,10 +24,10 @@ pub returns : goal.returns
 returns c =
     let closed = c.in-Ok.ensures in
     let words = c.args.words.now in
-    let known = known_of words c.args.macros.now.entries in
+    let known = known_macros words c.args.macros.now.entries in
     let name = c.name_of-name.ensures ∙ ap (drop 1) c.text.ensures in
     let key : c.in_ok-key.key.items ≡ c.name_of-name.result.now = c.in_ok-key.ensures.items in
-    let inserted = ap (known_of words) c.in_ok-insert.ensures.entries
+    let inserted = ap (known_macros words) c.in_ok-insert.ensures.entries
     ∙ known-insert words _ c.args.macros.now.entries c.in_ok-key.key c.in-Ok.closed.body (λ one other. refl) (ap (body_named known) (key ∙ name) ∙ closed.new)
     ∙ ap (λ text. known ++ record { name = text; body = body_words words c.in-Ok.closed.body } ∷ []) (key ∙ name) in
     record {

@@ -5,12 +5,12 @@ use Rattle.tal_rom.specs.Rom.{trimmed}
 use Rattle.tal_rom.proofs.Zeros.{stripped}
 use Rattle.tal_rom.proofs.rom.without_last_zeros.Goals as goal
 
-pub loop-front-preserved : goal.loop-front-preserved
-loop-front-preserved c =
-    let rest = c.loop-front.rest.now in
+pub loop-prefix-preserved : goal.loop-prefix-preserved
+loop-prefix-preserved c =
+    let rest = c.loop-prefix.rest.now in
     let cut = c.in-Some.ensures.cases in
     let zeros : drop (length rest - 256) rest ≡ replicate 256 0 = (slice_eq-Decides Decides-eqb (drop (length rest - 256) rest) (replicate 256 0) true (sym cut.0)).0 refl in
     record {
-      shorter = omega (arith, cut.2, c.loop-front.invariant.shorter);
-      same = ap trimmed cut.1 ∙ stripped rest (length rest - 256) 256 zeros ∙ c.loop-front.invariant.same;
+      shorter = omega (arith, cut.2, c.loop-prefix.invariant.shorter);
+      same = ap trimmed cut.1 ∙ stripped rest (length rest - 256) 256 zeros ∙ c.loop-prefix.invariant.same;
     }

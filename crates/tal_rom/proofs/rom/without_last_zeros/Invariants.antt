@@ -2,11 +2,11 @@ use Rattle.std.proofs.Common.{◌≡◌, ◌≤◌, length}
 use Rattle.tal_rom.specs.Rom.{trimmed}
 use Rattle.tal_rom.proofs.rom.without_last_zeros.Given as goal
 
-abbrev pub invariant-loop-front : goal.invariant-loop-front
-invariant-loop-front l = record {
+abbrev pub invariant-loop-prefix : goal.invariant-loop-prefix
+invariant-loop-prefix l = record {
   shorter : length l.rest ≤ length l.bytes;
   same : trimmed l.rest ≡ trimmed l.bytes;
 }
 
-abbrev pub decreases-loop-front : goal.decreases-loop-front
-decreases-loop-front l = length l.rest
+abbrev pub decreases-loop-prefix : goal.decreases-loop-prefix
+decreases-loop-prefix l = length l.rest

@@ -1,7 +1,7 @@
 use Rattle.uxn_cli.proofs.Common.{rules, subst, request, map, PassesNoneOver}
 use Rattle.std.proofs.Common.{string_bytes}
 use Rattle.uxn_cli.proofs.ClauseLemmas.{has_statuses, ends_early}
-use Rattle.uxn_cli.proofs.FrontLemmas.{is_cut_short}
+use Rattle.uxn_cli.proofs.PrefixLemmas.{is_cut_short}
 use Rattle.uxn_cli.proofs.IsolationLemmas.{gives_the_same}
 use Rattle.uxn_cli.proofs.OthersLemmas.{leaves_the_rest}
 use Rattle.uxn_cli.proofs.entry.uxn.Goals as goal
@@ -21,7 +21,7 @@ returns-clause-cut_off g c = let fact = is_cut_short _ c.status_of.ensures.comes
 pub returns-clause-same : goal.returns-clause-same
 returns-clause-same g c = let fact = gives_the_same c.a_source_looks_at_its_files_alone.ensures _ c.status_of.ensures.comes in search (rules, fact)
 
--- no call of `create` that was refused is passed over
+-- no call of `create` that was refused is ignored
 pub returns-clause-refusals : goal.returns-clause-refusals
 returns-clause-refusals g c =
     subst (λ tree. PassesNoneOver (request (map string_bytes c.args.words.now)) (g.T.Tree.state c.args.tree.now) (g.T.Tree.state tree) c.status_of.result)

@@ -1,4 +1,4 @@
-use Rattle.uxn_cli.proofs.Common.{◌≡◌, ◌∙◌, ap, refl, subst, Trail, HasRunAlone, lone_trail, workload_trail, workload_text, run_summary, trail_summary}
+use Rattle.uxn_cli.proofs.Common.{◌≡◌, ◌∙◌, ap, refl, subst, Trace, HasRunAlone, lone_trace, workload_trace, workload_text, run_summary, trace_summary}
 use Rattle.std.proofs.lemmas.Result.{IfOk-weaker}
 use Rattle.uxn_workload.specs.Summary.{summary_text}
 use Rattle.uxn_cli.proofs.generating.run_workload.Goals as goal
@@ -9,10 +9,10 @@ run_alone-requires-clause-devices c = rw c.in_ok-machine.ensures.script c.in_ok-
 pub returns : goal.returns
 unfolding workload_text
 returns c =
-    let trail : lone_trail c.in_ok-machine.machine.core c.in_ok-machine.machine.script ≡ workload_trail c.args.rom.now c.args.script =
+    let trace : lone_trace c.in_ok-machine.machine.core c.in_ok-machine.machine.script ≡ workload_trace c.args.rom.now c.args.script =
     rw (c.in_ok-machine.ensures.script, c.in_ok-machine.ensures.core) refl in
-    let Ran : Trail → Type 0 = λ t. HasRunAlone t c.in_ok-end.end c.run_alone.new.out.taken in
-    let ran = subst Ran trail c.in_ok-end.ensures in
-    let told : run_summary c.args.source.now c.args.rom.now c.in_ok-end.end c.run_alone.new.out.taken ≡ trail_summary c.args.source.now c.args.rom.now (workload_trail c.args.rom.now c.args.script) =
+    let Ran : Trace → Type 0 = λ t. HasRunAlone t c.in_ok-end.end c.run_alone.new.out.taken in
+    let ran = subst Ran trace c.in_ok-end.ensures in
+    let contents : run_summary c.args.source.now c.args.rom.now c.in_ok-end.end c.run_alone.new.out.taken ≡ trace_summary c.args.source.now c.args.rom.now (workload_trace c.args.rom.now c.args.script) =
     rw (ran.ends, ran.bytes) refl in
-    IfOk-weaker c.sum_up.result _ _ (λ text is. is ∙ ap summary_text told) c.sum_up.ensures
+    IfOk-weaker c.sum_up.result _ _ (λ text is. is ∙ ap summary_text contents) c.sum_up.ensures

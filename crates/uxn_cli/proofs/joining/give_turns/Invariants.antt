@@ -1,8 +1,8 @@
-use Rattle.uxn_cli.proofs.Common.{◌≡◌, false, length, GoesOn}
+use Rattle.uxn_cli.proofs.Common.{◌≡◌, false, length, LineGoesOn}
 use Rattle.uxn_cli.proofs.joining.give_turns.Given as goal
 
 abbrev pub invariant-loop : goal.invariant-loop
 invariant-loop g l = record {
-  way : GoesOn l.fn.line (g.O.Sink.state l.fn.out) l.line (g.O.Sink.state l.out) false;
+  way : LineGoesOn l.fn.line (g.O.Sink.state l.fn.out) l.line (g.O.Sink.state l.out) false;
   machines : length l.line.members.items ≡ length l.fn.line.members.items;
 }

@@ -1,5 +1,5 @@
 use Rattle.uxn_cli.proofs.Common.{◌≡◌, ◌∙◌, ap, sym, subst, length, All, length-map, job_of_joined}
-use Rattle.tree_io.specs.ByteList.{ByteList}
+use Rattle.uxn_io_traits.specs.ByteList.{ByteList}
 use Rattle.setup_lines.specs.Limits.{AreTurns}
 use Rattle.uxn_cli.proofs.joining.run_line.Goals as goal
 

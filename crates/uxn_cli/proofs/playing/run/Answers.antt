@@ -1,5 +1,5 @@
 use Rattle.uxn_cli.proofs.Common.{◌≡◌, ◌∙◌, ap, rules, Err, Ok, subst, MakesOutputs}
-use Rattle.task_files.specs.Outputs.{paths_of}
+use Rattle.uxn_task_files.specs.Outputs.{paths_of}
 use Rattle.uxn_cli.proofs.RunLemmas.{does-unmade, does-run, ready-files, ready-outputs}
 use Rattle.uxn_cli.proofs.playing.run.Goals as goal
 

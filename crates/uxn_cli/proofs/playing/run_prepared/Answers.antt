@@ -7,4 +7,4 @@ returns-in-Some-clause-runs g c =
     rw c.in-Some.is (c.debug_made.ensures.runs _ _ (rw c.labels_of-labels.ensures at c.new-debugger.ensures))
 
 pub returns-clause-runs : goal.returns-clause-runs
-returns-clause-runs g c = rw c.in-None.is (runs-as _ _ _ _ _ _ _ _ _ (λ trail. sym (append-nil _)) (λ never. absurd never.is) c.run_made.ensures.runs)
+returns-clause-runs g c = rw c.in-None.is (runs-as _ _ _ _ _ _ _ _ _ (λ trace. sym (append-nil _)) (λ never. absurd never.is) c.run_made.ensures.runs)

@@ -1,4 +1,4 @@
-use Rattle.uxn_cli.proofs.Common.{told_on, ◌≡◌, ◌∙◌, refl, ap, rules, arith, Err, false, exit_code_of, first_devices, reference_trail}
+use Rattle.uxn_cli.proofs.Common.{contents_on, ◌≡◌, ◌∙◌, refl, ap, rules, arith, Err, false, exit_code_of, first_devices, reference_trace}
 use Rattle.std.specs.FinMap as fin
 use Rattle.uxn_cli.proofs.RunLemmas.{at-start}
 use Rattle.uxn_cli.proofs.running.run_machine.Goals as goal
@@ -7,16 +7,16 @@ pub run_script-requires-clause-frames : goal.run_script-requires-clause-frames
 run_script-requires-clause-frames g c = ap (λ devices. devices.time.frames) c.new-bus.ensures.devices_now ∙ (c.requires.devices fin.empty false).frames
 
 pub returns-clause-runs : goal.returns-clause-runs
-unfolding reference_trail
+unfolding reference_trace
 returns-clause-runs g c =
     let devices = c.new-bus.ensures.devices_now in
     let ledger = c.in_ok-tally.ensures.ledger in
     let stay = c.in_ok-tally.ensures.files in
     record {
-      from = λ home root files.
+      from = λ root_view root files.
           let machine = c.args.machine.now in
-          let stands = at-start (told_on g.T.Tree) c.new-bus.result machine.devices c.args.host.now.tree.now machine.script home devices c.new-bus.ensures.tree_now root c.requires.devices files in
-          let ends = c.in_ok-tally.ensures.ok.from (first_devices machine.script home) stands in
+          let stands = at-start (contents_on g.T.Tree) c.new-bus.result machine.devices c.args.host.now.tree.now machine.script root_view devices c.new-bus.ensures.tree_now root c.requires.devices files in
+          let ends = c.in_ok-tally.ensures.ok.from (first_devices machine.script root_view) stands in
           let w = ends.makes.world in
           let r = ends.makes.remains in
           record {
@@ -31,29 +31,29 @@ returns-clause-runs g c =
     }
 
 pub returns-clause-watcher : goal.returns-clause-watcher
-unfolding reference_trail
-returns-clause-watcher g c = λ home root files.
+unfolding reference_trace
+returns-clause-watcher g c = λ root_view root files.
     let machine = c.args.machine.now in
-    let stands = at-start (told_on g.T.Tree) c.new-bus.result machine.devices c.args.host.now.tree.now machine.script home
+    let stands = at-start (contents_on g.T.Tree) c.new-bus.result machine.devices c.args.host.now.tree.now machine.script root_view
     c.new-bus.ensures.devices_now c.new-bus.ensures.tree_now root c.requires.devices files in
-    (c.in_ok-tally.ensures.ok.from (first_devices machine.script home) stands).watcher
+    (c.in_ok-tally.ensures.ok.from (first_devices machine.script root_view) stands).watcher
 
 pub returns-in_err-tally-clause-runs : goal.returns-in_err-tally-clause-runs
-unfolding reference_trail
+unfolding reference_trace
 returns-in_err-tally-clause-runs g c =
     let result : c.from_residual.result ≡ Err c.in_err-tally.field-0.0 = search rules in
     let devices = c.new-bus.ensures.devices_now in
     let ledger = c.in_err-tally.ensures.ledger in
     let memory = c.in_err-tally.ensures.memory in
     rw result (record {
-      from = λ home root files.
+      from = λ root_view root files.
           let machine = c.args.machine.now in
-          let stands = at-start (told_on g.T.Tree) c.new-bus.result machine.devices c.args.host.now.tree.now machine.script home devices c.new-bus.ensures.tree_now root c.requires.devices files in
-          let short = c.in_err-tally.ensures.err.from (first_devices machine.script home) stands in
+          let stands = at-start (contents_on g.T.Tree) c.new-bus.result machine.devices c.args.host.now.tree.now machine.script root_view devices c.new-bus.ensures.tree_now root c.requires.devices files in
+          let short = c.in_err-tally.ensures.err.from (first_devices machine.script root_view) stands in
           let cut = short.made.cut in
-          let not_sure = short.made.not_sure in
+          let not_guaranteed = short.made.not_guaranteed in
           record {
-            made = record { cut = search (rules, cut); ledger = search (rules, ledger); not_sure = search (rules, not_sure) };
+            made = record { cut = search (rules, cut); ledger = search (rules, ledger); not_guaranteed = search (rules, not_guaranteed) };
             ends = tt;
             names = short.names;
           };

@@ -1,7 +1,7 @@
-use Rattle.uxn_cli.proofs.Common.{◌≡◌, ◌∙◌, ap, sym, subst, rules, Err, false, is_err, outside-of-tree, asked_output, state_exit, report_text, AreNew}
+use Rattle.uxn_cli.proofs.Common.{◌≡◌, ◌∙◌, ap, sym, subst, rules, Err, false, is_err, outside-of-tree, requested_output, state_exit, report_text, AreNew}
 use Rattle.uxn_cli.proofs.Common.{role_path}
 use Rattle.std.specs.FinMap as fin
-use Rattle.uxn_words.specs.declared.role.Role.TheVariants as role
+use Rattle.uxn_arguments.specs.declared.role.Role.TheVariants as role
 use Rattle.uxn_cli.proofs.ChangeLemmas.{filled-of-tree}
 use Rattle.uxn_cli.proofs.RunLemmas.{runs-at, runs-first, runs-then, shown-then, stays-if}
 use Rattle.uxn_cli.proofs.running.run_made.Goals as goal
@@ -30,12 +30,12 @@ returns-clause-runs g c =
     let held = (c.requires.devices fin.empty false).root in
     let version = c.args.machine.script.version in
     let runs = runs-at _ _ _ _ _ _ _ _ held (rw c.settings_of.ensures at c.in_ok-end.ensures.runs) in
-    rw (c.or.ensures, c.and.ensures) (runs-then _ _ _ _ _ (role_path c.args.task.now role.Report) _ (λ trail. report_text version (state_exit trail.last) trail.last.tally) _ _ c.in_ok-end.end runs
-    (λ home root files. ap (λ end. report_text version end.exit end.tally) (runs.from home root files).ends) c.write_text.result
-    (outside-of-tree _ (is_err c.write_text.result) _ _ (g.O.Sink.state c.run_machine.new.host.out.now) (g.E.Sink.state c.run_machine.new.host.err.now) (filled-of-tree (asked_output (role_path c.args.task.now role.Report) (report_text version c.in_ok-end.end.exit c.in_ok-end.end.tally)))
+    rw (c.or.ensures, c.and.ensures) (runs-then _ _ _ _ _ (role_path c.args.task.now role.Report) _ (λ trace. report_text version (state_exit trace.last) trace.last.tally) _ _ c.in_ok-end.end runs
+    (λ root_view root files. ap (λ end. report_text version end.exit end.tally) (runs.from root_view root files).ends) c.write_text.result
+    (outside-of-tree _ (is_err c.write_text.result) _ _ (g.O.Sink.state c.run_machine.new.host.out.now) (g.E.Sink.state c.run_machine.new.host.err.now) (filled-of-tree (requested_output (role_path c.args.task.now role.Report) (report_text version c.in_ok-end.end.exit c.in_ok-end.end.tally)))
     (rw (c.path.ensures, c.deref.ensures.0 ∙ c.report-text.ensures version c.version-version.ensures) at c.write_text.ensures)))
 
 pub returns-clause-watcher : goal.returns-clause-watcher
-returns-clause-watcher g c = λ home root files.
+returns-clause-watcher g c = λ root_view root files.
     let held = (c.requires.devices fin.empty false).root in
-    rw (c.or.ensures, c.and.ensures) (shown-then _ c.write_text.result c.in_ok-end.end (rw c.settings_of.ensures at (c.in_ok-end.ensures.watcher home (root ∙ sym held) files)))
+    rw (c.or.ensures, c.and.ensures) (shown-then _ c.write_text.result c.in_ok-end.end (rw c.settings_of.ensures at (c.in_ok-end.ensures.watcher root_view (root ∙ sym held) files)))

@@ -1,5 +1,5 @@
 use Rattle.uxn_cli.proofs.Common.{false, sym, looked-ended, looked-nothing}
-use Rattle.tree_io.specs.CallLaws.{ended-as}
+use Rattle.uxn_io_traits.specs.CallLaws.{ended-as}
 use Rattle.uxn_cli.proofs.RunLemmas.{one-text}
 use Rattle.uxn_cli.proofs.running.write_text.Goals as goal
 

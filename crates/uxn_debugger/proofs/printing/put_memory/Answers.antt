@@ -1,5 +1,5 @@
 use Rattle.std.proofs.Common.{ap, ◌∙◌, ◌++◌, ◌+◌, ◌%◌, refl, arith}
-use Rattle.tree_io.specs.NumberText.{hex_of_short}
+use Rattle.uxn_io_traits.specs.NumberText.{hex_of_short}
 use Rattle.uxn_debugger.specs.Scenes.{view_in}
 use Rattle.uxn_debugger.proofs.Tables.{part_put, table_at}
 use Rattle.uxn_debugger.proofs.printing.put_memory.Goals as goal

@@ -1,6 +1,6 @@
 use Rattle.std.proofs.Common.{◌≡◌, ◌++◌, ◌+◌, ◌%◌, ℕ, List}
 use Rattle.std.specs.List.{flat_map, range_with_len}
-use Rattle.tree_io.specs.NumberText.{hex_of_short}
+use Rattle.uxn_io_traits.specs.NumberText.{hex_of_short}
 use Rattle.uxn_debugger.specs.Printing.{in_lines}
 use Rattle.uxn_debugger.specs.Scenes.{view_in}
 use Rattle.uxn_debugger.proofs.printing.put_memory.Given as goal

@@ -1,5 +1,5 @@
 use Rattle.std.proofs.Common.{◌++◌, ap, ◌∙◌, get_or, refl, arith}
-use Rattle.tree_io.specs.NumberText.{hex_of_byte}
+use Rattle.uxn_io_traits.specs.NumberText.{hex_of_byte}
 use Rattle.uxn_debugger.specs.Printing.{in_lines}
 use Rattle.uxn_debugger.specs.Scenes.{view_in}
 use Rattle.uxn_debugger.proofs.Tables.{part_put, table_at}

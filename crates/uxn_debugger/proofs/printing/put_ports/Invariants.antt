@@ -1,6 +1,6 @@
 use Rattle.std.proofs.Common.{◌≡◌, ◌++◌, get_or}
 use Rattle.std.specs.List.{flat_map, range_with_len}
-use Rattle.tree_io.specs.NumberText.{hex_of_byte}
+use Rattle.uxn_io_traits.specs.NumberText.{hex_of_byte}
 use Rattle.vector_loop.specs.Watch.{Page, IsPage}
 use Rattle.uxn_debugger.specs.Printing.{in_lines}
 use Rattle.uxn_debugger.specs.Scenes.{view_in}

@@ -1,7 +1,7 @@
 use Rattle.std.proofs.Common.{refl}
 use Rattle.std.proofs.lemmas.Bool.{false≢true}
 use Rattle.play_script.specs.declared.script.Event.TheVariants.{Input}
-use Rattle.uxn_line.proofs.ConsoleEvents.{one-more-event, one-not, all-seen}
+use Rattle.uxn_line.proofs.ConsoleEvents.{one-more-event, one-not, all-observed}
 use Rattle.uxn_line.proofs.events.are_of_console.Goals as goal
 
 pub loop-event-preserved : goal.loop-event-preserved
@@ -17,4 +17,4 @@ returns-then-not-is_of_console c = (
 )
 
 pub returns : goal.returns
-returns c = (λ e. all-seen c.args.events.now c.loop-event.event-index c.loop-event-test.false c.loop-event.invariant, λ all. refl)
+returns c = (λ e. all-observed c.args.events.now c.loop-event.event-index c.loop-event-test.false c.loop-event.invariant, λ all. refl)

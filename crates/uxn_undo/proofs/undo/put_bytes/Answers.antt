@@ -2,7 +2,7 @@ use Rattle.std.proofs.Common.{◌≡◌, ℕ, ◌+◌, ◌-◌, ◌∷◌, ◌++
 use Rattle.std.specs.Prelude.{map, slice_index}
 use Rattle.std.specs.List.{range_with_len}
 use Rattle.circular_buffer.specs.Buffer.{Buffer, buffer}
-use Rattle.uxn_undo.specs.Spans.{address_after}
+use Rattle.uxn_undo.specs.Spans.{address_after_span}
 use Rattle.uxn_undo.proofs.Joined.{put_one}
 use Rattle.uxn_undo.proofs.undo.put_bytes.Goals as goal
 
@@ -10,7 +10,7 @@ pub loop-less-preserved : goal.loop-less-preserved
 loop-less-preserved c =
     let known = c.in-Some.ensures in
     let next : c.in-Some.less + 1 ≡ c.loop-less.left = omega arith in
-    let byte = λ (count : ℕ). slice_index c.args.memory.now (address_after c.args.span count) in
+    let byte = λ (count : ℕ). slice_index c.args.memory.now (address_after_span c.args.span count) in
     let others = c.args.bytes.now.items in
     let capacity = c.args.bytes.now.capacity in
     record {
@@ -19,7 +19,7 @@ loop-less-preserved c =
           c.push_front.ensures.items
           ∙ ap (λ (b : Buffer ℕ). buffer (take b.capacity (c.get.result ∷ b.items)) b.capacity) c.loop-less.invariant.items
           ∙ ap (λ z. buffer (take capacity (z ∷ (map byte (range_with_len c.loop-less.left (c.args.span.count - c.loop-less.left)) ++ others))) capacity)
-          (c.get.ensures ∙ ap (λ at. slice_index c.args.memory.now at) c.address_after.ensures)
+          (c.get.ensures ∙ ap (λ at. slice_index c.args.memory.now at) c.address_after_span.ensures)
           ∙ ap (λ (z : List ℕ). buffer z capacity) (put_one byte c.loop-less.left c.in-Some.less c.args.span.count capacity others next
           c.loop-less.invariant.within c.requires);
     }

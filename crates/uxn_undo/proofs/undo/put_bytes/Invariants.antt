@@ -1,14 +1,14 @@
 use Rattle.std.proofs.Common.{◌≡◌, ◌-◌, ◌≤◌, ◌++◌}
 use Rattle.std.specs.Prelude.{map, slice_index}
 use Rattle.std.specs.List.{range_with_len}
-use Rattle.uxn_undo.specs.Spans.{address_after}
+use Rattle.uxn_undo.specs.Spans.{address_after_span}
 use Rattle.circular_buffer.specs.Buffer.{buffer}
 use Rattle.uxn_undo.proofs.undo.put_bytes.Given as goal
 
 abbrev pub invariant-loop-less : goal.invariant-loop-less
 invariant-loop-less l = record {
   within : l.left ≤ l.span.count;
-  items : l.bytes ≡ buffer (map (λ count. slice_index l.memory (address_after l.span count)) (range_with_len l.left (l.span.count - l.left))
+  items : l.bytes ≡ buffer (map (λ count. slice_index l.memory (address_after_span l.span count)) (range_with_len l.left (l.span.count - l.left))
       ++ l.initial.bytes.items) l.initial.bytes.capacity;
 }
 

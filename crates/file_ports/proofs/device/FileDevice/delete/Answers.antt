@@ -1,7 +1,7 @@
 use Rattle.std.proofs.Common.{◌≡◌, Some, rules, true, false, ap, sym, ◌∙◌}
-use Rattle.tree_io.specs.CallLaws.{ended-as}
+use Rattle.uxn_io_traits.specs.CallLaws.{ended-as}
 use Rattle.file_ports.specs.Device.{FileState}
-use Rattle.file_ports.specs.Answers.{has_failed}
+use Rattle.file_ports.specs.AnswersAction.{has_failed}
 use Rattle.file_ports.proofs.ChangeLemmas.{delete-changes}
 use Rattle.file_ports.proofs.device.FileDevice.delete.Goals as goal
 

@@ -1,8 +1,8 @@
 use Rattle.std.proofs.Common.{◌≡◌, ℕ, Some, rules, true, false, take, drop, ap, sym, ◌∙◌}
 use Rattle.uxn_memory.specs.Bytes.{bank0}
 use Rattle.file_ports.specs.Device.{FileState, is_writing}
-use Rattle.file_ports.specs.Answers.{has_failed}
-use Rattle.tree_io.specs.CallLaws.{ended-as}
+use Rattle.file_ports.specs.AnswersAction.{has_failed}
+use Rattle.uxn_io_traits.specs.CallLaws.{ended-as}
 use Rattle.file_ports.proofs.ChangeLemmas.{write-changes}
 use Rattle.file_ports.proofs.device.FileDevice.write.Goals as goal
 

@@ -1,13 +1,13 @@
 use Rattle.std.proofs.Common.{◌∙◌, arith}
-use Rattle.screen_layers.proofs.ByteLemmas.{bytes_at-get, bytes_at-past}
+use Rattle.screen_layers.proofs.ByteLemmas.{tile_bytes_at-get, tile_bytes_at-past}
 use Rattle.screen_layers.specs.Control.{tile_size}
 use Rattle.screen_layers.proofs.tile.Look.byte.Goals as goal
 
 pub returns-then-place-size : goal.returns-then-place-size
 returns-then-place-size c =
     c.get.ensures
-    ∙ bytes_at-get c.args.memory.now c.args.at (tile_size c.args.self.now.two_bits) c.args.place c.known.ensures.size (omega arith) (omega arith) (rw (← c.size.ensures) c.if-place-size.true)
+    ∙ tile_bytes_at-get c.args.memory.now c.args.at (tile_size c.args.self.now.two_bits) c.args.place c.known.ensures.size (omega arith) (omega arith) (rw (← c.size.ensures) c.if-place-size.true)
 
 pub returns-else-place-size : goal.returns-else-place-size
 returns-else-place-size c =
-    bytes_at-past c.args.memory.now c.args.at (tile_size c.args.self.now.two_bits) c.args.place (rw (← c.size.ensures) c.if-place-size.false)
+    tile_bytes_at-past c.args.memory.now c.args.at (tile_size c.args.self.now.two_bits) c.args.place (rw (← c.size.ensures) c.if-place-size.false)

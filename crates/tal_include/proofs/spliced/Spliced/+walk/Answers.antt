@@ -1,7 +1,7 @@
 use Rattle.std.proofs.Common.{[], length, refl, ap, arith}
 use Rattle.std.proofs.lemmas.List.{drop_more}
 use Rattle.std.proofs.lemmas.Result.{err_from_is_err_and}
-use Rattle.tree_io.specs.EndedLaws.{looked-nothing, looked-then}
+use Rattle.uxn_io_traits.specs.EndedLaws.{looked-nothing, looked-then}
 use Rattle.tal_include.proofs.ReadLemmas.{no_read}
 use Rattle.tal_include.proofs.StepLemmas.{file_faulty, file_whole, step_included, step_stopped, step_plain}
 use Rattle.tal_include.proofs.spliced.Spliced.+walk.Goals as goal
@@ -19,7 +19,7 @@ add_include-returns g t c = record {
   walk =
       file_whole (λ _. c.add_words.new.self) _ _ c.args.deeper c.args.origin c.args.text.now c.as_slice.result.now c.args.self.now c.add_path.new.self
       c.add_words.new.self c.in_ok-opened.opened c.in_ok-file.file c.add_words.result
-      c.in_ok-opened.ensures.deep c.in_ok-opened.ensures.looked.told c.in_ok-opened.ensures.walk c.as_slice.ensures c.in_ok-file.ensures.cuts
+      c.in_ok-opened.ensures.deep c.in_ok-opened.ensures.looked.contents c.in_ok-opened.ensures.walk c.as_slice.ensures c.in_ok-file.ensures.cuts
       c.in_ok-add_path.ensures c.add_words.ensures.walk;
   looked = looked-then _ _ _ _ c.in_ok-opened.ensures.looked c.add_words.ensures.looked;
 }
@@ -45,7 +45,7 @@ add_words-returns-in_err-add_include g t c =
       walk =
           step_stopped _ _ _ c.args.deeper file.path.now file.source.now c.text-text.result.now file.words.items c.loop-word.word-index _ c.args.self.now
           c.loop-word.self {X = Unit {0}} {Y = Unit {0}} (λ _. c.args.self.now) (λ _. c.args.self.now) c.args.self.now c.in_err-add_include.field-0.0
-          before.looked.told split text c.if-is_include.ensures before.walk _ (rw items at c.in_err-add_include.ensures.walk);
+          before.looked.contents split text c.if-is_include.ensures before.walk _ (rw items at c.in_err-add_include.ensures.walk);
       looked = looked-then _ _ _ _ before.looked c.in_err-add_include.ensures.looked;
     })
 
@@ -65,7 +65,7 @@ add_words-loop-word-preserved g t c =
             number = before.number;
             walk =
                 step_included _ _ _ c.args.deeper file.path.now file.source.now c.text-text.result.now file.words.items c.loop-word.word-index _ c.args.self.now
-                c.loop-word.self w.add_include.new.self before.looked.told split text w.if-is_include.ensures before.walk
+                c.loop-word.self w.add_include.new.self before.looked.contents split text w.if-is_include.ensures before.walk
                 (rw items at w.in_ok-add_include.ensures.walk);
           }
       | add_words-else-is_include+in_ok-add_plain w ↦
@@ -74,7 +74,7 @@ add_words-loop-word-preserved g t c =
             looked = before.looked;
             number = before.number;
             walk =
-                step_plain _ (g.T.Tree.state c.loop-word.tree).told _ c.args.deeper file.path.now file.source.now c.text-text.result.now file.words.items
+                step_plain _ (g.T.Tree.state c.loop-word.tree).contents _ c.args.deeper file.path.now file.source.now c.text-text.result.now file.words.items
                 c.loop-word.word-index _ c.args.self.now c.loop-word.self w.add_plain.new.self (length c.paths-number.result.now) before.number split
                 text w.if-is_include.ensures before.walk w.in_ok-add_plain.ensures.paths (rw items at w.in_ok-add_plain.ensures.value);
           }

@@ -5,7 +5,7 @@ use Rattle.tal_labels.specs.declared.placer.Placer.{Placer}
 use Rattle.tal_labels.specs.Adding.{added_fault, word_added}
 use Rattle.tal_labels.specs.Placers.{WereAdded}
 use Rattle.tal_labels.proofs.IndexLemmas.{none_since}
-use Rattle.tal_labels.proofs.AddingLemmas.{added-front, added-still, added-faulty}
+use Rattle.tal_labels.proofs.AddingLemmas.{added-prefix, added-still, added-faulty}
 use Rattle.tal_labels.proofs.placer.Placer.add.Goals as goal
 
 nothing_given : (source : List ℕ) (words : List Expanded) (word : Expanded) → is_some (added_fault source (words ++ word ∷ [])) ≡ true → None ≡ word_added source words word
@@ -18,10 +18,10 @@ faulty_added source words placer e h = record {
 }
 
 pub returns-then-self-clause-value : goal.returns-then-self-clause-value
-returns-then-self-clause-value c words few so = nothing_given _ words _ (added-front _ words _ (sym so.faulty ∙ c.if-self.true))
+returns-then-self-clause-value c words few so = nothing_given _ words _ (added-prefix _ words _ (sym so.faulty ∙ c.if-self.true))
 
 pub returns-then-self-clause-added : goal.returns-then-self-clause-added
-returns-then-self-clause-added c words few so = faulty_added _ _ _ c.if-self.true (added-front _ words _ (sym so.faulty ∙ c.if-self.true))
+returns-then-self-clause-added c words few so = faulty_added _ _ _ c.if-self.true (added-prefix _ words _ (sym so.faulty ∙ c.if-self.true))
 
 pub returns-in-Ok-clause-value : goal.returns-in-Ok-clause-value
 returns-in-Ok-clause-value c words few so =

@@ -11,7 +11,7 @@ use Rattle.tal_labels.specs.Placing.{is_mark_form, formed_marks, is_defined}
 use Rattle.tal_labels.specs.Placers.{kept_by}
 use Rattle.tal_labels.proofs.LayingLemmas.{well_placed}
 use Rattle.tal_labels.proofs.PlacedLemmas.{form-closes}
-use Rattle.tal_labels.proofs.KeptLemmas.{IsNext, refused_shape, judged_next, next_kept}
+use Rattle.tal_labels.proofs.KeptLemmas.{IsNext, refused_shape, validated_next, next_kept}
 use Rattle.tal_labels.proofs.placer.Placer.place_next.Goals as goal
 
 -- a text is within its source
@@ -38,7 +38,7 @@ returns-in-Some-clause-value c words few so =
     let text = c.text-text.result.now in
     let named = c.in_ok-name.ensures ∙ ap (λ s. defined_name (Ok c.in-Ok.form) s text) c.text.ensures in
     let next : IsNext c.args.source.now c.args.word c.in-Ok.form text = record { read = c.text-text.ensures; formed = c.in-Ok.ensures.0 } in
-    judged_next c.args.source.now words c.args.word (kept_by c.args.self.now) so c.in-Ok.form text c.len.result _ (Some c.in-Some.kind) next
+    validated_next c.args.source.now words c.args.word (kept_by c.args.self.now) so c.in-Ok.form text c.len.result _ (Some c.in-Some.kind) next
     (omega arith) named c.in-Ok.ensures.1 (sym c.in-Some.ensures) ∙ sym (ap Some c.new-in-Some.ensures)
 
 pub returns-clause-value : goal.returns-clause-value
@@ -47,14 +47,14 @@ returns-clause-value c words few so =
     let kept = c.args.self.now in
     let named = c.in_ok-name.ensures ∙ ap (λ s. defined_name (Ok c.in-Ok.form) s text) c.text.ensures in
     let next : IsNext c.args.source.now c.args.word c.in-Ok.form text = record { read = c.text-text.ensures; formed = c.in-Ok.ensures.0 } in
-    let judged = judged_next c.args.source.now words c.args.word (kept_by kept) so c.in-Ok.form text c.len.result _ None next
+    let validated = validated_next c.args.source.now words c.args.word (kept_by kept) so c.in-Ok.form text c.len.result _ None next
     (omega arith) named c.in-Ok.ensures.1 (sym c.in_default.ensures) in
     let well = well_placed (is_defined kept.labels (option_map (λ bytes. bytes.items) c.in_ok-name.name)) kept.address (size c.in-Ok.form text) (is_mark_form c.in-Ok.form) (ltb kept.address kept.top) (sym c.in_default.ensures) in
     let done = next_kept c.args.source.now words c.args.word c.in-Ok.form text (option_map (λ bytes. bytes.items) c.in_ok-name.name)
     (record { word = c.args.word; form = c.in-Ok.form; address = kept.address; size = c.size.result; lambda = None })
     (kept_by kept) (kept_by c.keep.new.self) so next few
     (omega (arith, ap length c.text-text.ensures, text-short c.args.source.now c.args.word.text, c.requires.source))
-    named (ap (λ n. record { word = c.args.word; form = c.in-Ok.form; address = kept.address; size = n; lambda = None }) c.size.ensures) judged well.above
+    named (ap (λ n. record { word = c.args.word; form = c.in-Ok.form; address = kept.address; size = n; lambda = None }) c.size.ensures) validated well.above
     (record {
       words = c.in_ok-keep.ensures.words;
       labels = c.in_ok-keep.ensures.labels;
@@ -64,4 +64,4 @@ returns-clause-value c words few so =
       small = c.in_ok-keep.ensures.small;
       top = c.in_ok-keep.ensures.top;
     }) in
-    (judged, sym (ap form next.read) ∙ next.formed, done.0, done.1)
+    (validated, sym (ap form next.read) ∙ next.formed, done.0, done.1)

@@ -1,7 +1,7 @@
 use Rattle.std.proofs.Common.{inl, refl, ap, sym, ◌∙◌, arith}
 use Rattle.std.proofs.lemmas.Result.{err_from_is_err_and}
 use Rattle.tal_words.specs.Source.{begins}
-use Rattle.tal_macros.specs.Bodies.{known_of}
+use Rattle.tal_macros.specs.Bodies.{known_macros}
 use Rattle.tal_macros.specs.Passing.{left}
 use Rattle.tal_macros.proofs.PassLemmas.{steps-end, steps-source, continues-same, left-nothing}
 use Rattle.tal_macros.proofs.pass.Pass.source_word.Goals as goal
@@ -9,7 +9,7 @@ use Rattle.tal_macros.proofs.pass.Pass.source_word.Goals as goal
 pub returns-then-self-words : goal.returns-then-self-words
 unfolding left
 returns-then-self-words c = (
-  rw (c.requires.body, c.requires.outer) (steps-end c.args.source.now c.args.words.now (known_of c.args.words.now c.args.self.now.macros.entries) c.args.self.now.count c.args.self.now.at c.if-self-words.true),
+  rw (c.requires.body, c.requires.outer) (steps-end c.args.source.now c.args.words.now (known_macros c.args.words.now c.args.self.now.macros.entries) c.args.self.now.count c.args.self.now.at c.if-self-words.true),
   record { continues = continues-same _ _ refl; count = refl },
 )
 
@@ -31,5 +31,5 @@ pub returns-else-begins : goal.returns-else-begins
 unfolding left
 returns-else-begins c =
     let plain = ap (begins 37) (sym c.text.ensures) ∙ sym c.begins.ensures ∙ c.if-begins.false in
-    let steps = steps-source c.args.source.now c.args.words.now (known_of c.args.words.now c.args.self.now.macros.entries) c.args.self.now.count c.args.self.now.at (omega arith) plain in
+    let steps = steps-source c.args.source.now c.args.words.now (known_macros c.args.words.now c.args.self.now.macros.entries) c.args.self.now.count c.args.self.now.at (omega arith) plain in
     (inl (record { continues = continues-same _ _ (rw (c.requires.body, c.requires.outer) steps); count = refl }), omega arith)

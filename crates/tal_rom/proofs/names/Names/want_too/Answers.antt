@@ -1,7 +1,7 @@
 use Rattle.std.proofs.Common.{◌∷◌, [], ap, sym}
 use Rattle.std.proofs.lemmas.Result.{err_from_is_err_and}
 use Rattle.tal_rom.specs.declared.hole.Named.{Named}
-use Rattle.tal_rom.specs.Holes.{known_of}
+use Rattle.tal_rom.specs.Holes.{known_address}
 use Rattle.tal_rom.proofs.NameLemmas.{sets, known_same, wanted_same, wanted_more}
 use Rattle.tal_rom.proofs.names.Names.want_too.Goals as goal
 
@@ -9,7 +9,7 @@ pub returns-clause-known : goal.returns-clause-known
 returns-clause-known c other =
     let named : Named = record { address = c.in-Some.named.now.address; holes = c.push.new.self } in
     let there = sym c.in-Some.ensures.value in
-    known_same _ _ _ _ (sets _ _ c.args.name.now _ named (c.get_mut.follows.holds named).0 there) other (sym (ap known_of there))
+    known_same _ _ _ _ (sets _ _ c.args.name.now _ named (c.get_mut.follows.holds named).0 there) other (sym (ap known_address there))
 
 pub returns-clause-ok : goal.returns-clause-ok
 returns-clause-ok c other =
@@ -22,7 +22,7 @@ pub returns-in_err-push-in-Some-clause-known : goal.returns-in_err-push-in-Some-
 returns-in_err-push-in-Some-clause-known c other =
     let named : Named = record { address = c.in-Some.named.now.address; holes = c.push.new.self } in
     let there = sym c.in-Some.ensures.value in
-    known_same _ _ _ _ (sets _ _ c.args.name.now _ named (c.get_mut.follows.holds named).0 there) other (sym (ap known_of there))
+    known_same _ _ _ _ (sets _ _ c.args.name.now _ named (c.get_mut.follows.holds named).0 there) other (sym (ap known_address there))
 
 pub returns-in_err-push-in-Some-clause-err : goal.returns-in_err-push-in-Some-clause-err
 returns-in_err-push-in-Some-clause-err c =

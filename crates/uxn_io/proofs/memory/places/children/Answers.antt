@@ -1,7 +1,7 @@
 use Rattle.std.proofs.Common.{ap, sym, ◌∙◌, Some, None}
 use Rattle.std.proofs.lemmas.List.{append-nil}
 use Rattle.std.proofs.lemmas.List.Elements.{All-push}
-use Rattle.tree_io.specs.Children.{IsEntry}
+use Rattle.uxn_io_traits.specs.Children.{IsEntry}
 use Rattle.uxn_io.proofs.InMemory.ChildLemmas.{listed_more}
 use Rattle.uxn_io.proofs.memory.places.children.Goals as goal
 use Rattle.uxn_io.proofs.memory.places.children.Goals.{in-Some+in_ok-push, in_default}

@@ -1,5 +1,5 @@
 use Rattle.std.proofs.Common.{◌≡◌, ◌-◌, ap, ◌∙◌, arith}
-use Rattle.tree_io.specs.ByteList.{ByteList}
+use Rattle.uxn_io_traits.specs.ByteList.{ByteList}
 use Rattle.uxn_io.proofs.InMemory.SoundLemmas.{copied}
 use Rattle.uxn_io.proofs.memory.places.copies.Goals as goal
 

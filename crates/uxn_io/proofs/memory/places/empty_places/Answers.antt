@@ -1,6 +1,6 @@
 use Rattle.std.proofs.Common.{[], ◌∷◌, length, refl, ap, sym, subst, arith, length-append}
 use Rattle.std.proofs.lemmas.List.Elements.{All-push}
-use Rattle.tree_io.specs.ByteList.{ByteList}
+use Rattle.uxn_io_traits.specs.ByteList.{ByteList}
 use Rattle.uxn_io.specs.InMemory.Places.{IsFree}
 use Rattle.uxn_io.proofs.memory.places.empty_places.Goals as goal
 

@@ -2,7 +2,7 @@ use Rattle.std.proofs.Common.{◌≡◌, Ok, Err, ap, arith, subst, sym, ◌∙�
 use Rattle.std.proofs.Math.ListN.{length-set}
 use Rattle.std.specs.List.{All}
 use Rattle.std.proofs.lemmas.List.Edits.{length-insert}
-use Rattle.uxn_io.specs.declared.memory.trees.Node.{Node as HeldNode}
+use Rattle.uxn_io.specs.declared.memory.trees.Node.{Node as StoredNode}
 use Rattle.uxn_io.specs.InMemory.Places.{place_of, nodes_of, AreOrdered, IsPlace}
 use Rattle.uxn_io.proofs.InMemory.PlaceLemmas.{within_there, within_new}
 use Rattle.uxn_io.proofs.InMemory.HeldLemmas.{set_nodes, set_ordered, set_places, insert_nodes, insert_ordered, insert_places}
@@ -33,12 +33,12 @@ returns-in-Ok-clause-nodes c = ap nodes_of (changed c) ∙ set_nodes c.args.used
 
 pub returns-in-Ok-clause-ordered : goal.returns-in-Ok-clause-ordered
 returns-in-Ok-clause-ordered c =
-    let P : List (List ℕ × HeldNode) → Type 0 = λ held. AreOrdered held in
+    let P : List (List ℕ × StoredNode) → Type 0 = λ held. AreOrdered held in
     subst P (sym (changed c)) (set_ordered c.args.used.now.items c.args.path.now c.in-Ok.at _ c.args.node c.requires.ordered (stands (goal.at.returns-in-Ok-clause-ordered c).In-Ok))
 
 pub returns-in-Ok-clause-used : goal.returns-in-Ok-clause-used
 returns-in-Ok-clause-used c = λ room fits all.
-    let P : List (List ℕ × HeldNode) → Type 0 = λ held. All (IsPlace room) held in
+    let P : List (List ℕ × StoredNode) → Type 0 = λ held. All (IsPlace room) held in
     subst P (sym (changed c)) (set_places room c.args.used.now.items c.args.path.now c.in-Ok.at _ c.args.node (stands (goal.at.returns-in-Ok-clause-used c).In-Ok) fits all)
 
 pub returns-in-Ok-clause-few : goal.returns-in-Ok-clause-few
@@ -51,12 +51,12 @@ returns-in-Err-clause-nodes c = ap nodes_of c.insert_node.ensures.items ∙ inse
 
 pub returns-in-Err-clause-ordered : goal.returns-in-Err-clause-ordered
 returns-in-Err-clause-ordered c =
-    let P : List (List ℕ × HeldNode) → Type 0 = λ held. AreOrdered held in
+    let P : List (List ℕ × StoredNode) → Type 0 = λ held. AreOrdered held in
     subst P (sym c.insert_node.ensures.items) (insert_ordered c.args.used.now.items c.args.path.now c.in-Err.at c.args.node c.requires.ordered (new (goal.at.returns-in-Err-clause-ordered c).In-Err))
 
 pub returns-in-Err-clause-used : goal.returns-in-Err-clause-used
 returns-in-Err-clause-used c = λ room fits all.
-    let P : List (List ℕ × HeldNode) → Type 0 = λ held. All (IsPlace room) held in
+    let P : List (List ℕ × StoredNode) → Type 0 = λ held. All (IsPlace room) held in
     subst P (sym c.insert_node.ensures.items) (insert_places room c.args.used.now.items c.args.path.now c.in-Err.at c.args.node c.in-Err.ensures.path fits all)
 
 pub returns-in-Err-clause-few : goal.returns-in-Err-clause-few

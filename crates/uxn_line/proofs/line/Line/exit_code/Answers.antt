@@ -2,8 +2,8 @@ use Rattle.std.proofs.Common.{◌≡◌, ◌-◌, length, refl, ap, ◌∙◌, a
 use Rattle.std.proofs.lemmas.Option.{slice_get_read}
 use Rattle.uxn_line.specs.declared.machine.Machine.{Machine}
 use Rattle.uxn_line.specs.Streams.{exit_code_at}
-use Rattle.uxn_line.specs.Moves.{last_of}
-use Rattle.uxn_line.specs.Standing.{place_in}
+use Rattle.uxn_line.specs.Moves.{last_machine}
+use Rattle.uxn_line.specs.Standing.{machine_place}
 use Rattle.uxn_line.proofs.Finished.{stands-again}
 use Rattle.uxn_line.proofs.line.Line.exit_code.Goals as goal
 
@@ -28,5 +28,5 @@ returns-clause-code c job turned stands =
     let count = stands.machines in
     let there = slice_get_read line.members.items (length line.members.items) _ found refl
     (omega (arith, c.if-count-eq0.false, c.len-count.ensures, line.members.ok.0)) c.index_mut.ensures.value in
-    let is : c.len-count.result - 1 ≡ last_of job = omega (arith, count, c.len-count.ensures, line.members.ok.0) in
-    c.exit_code.ensures.code _ (stands.each _ found there).stands.stands ∙ ap (λ m. exit_code_at (place_in job turned m).done.last) is
+    let is : c.len-count.result - 1 ≡ last_machine job = omega (arith, count, c.len-count.ensures, line.members.ok.0) in
+    c.exit_code.ensures.code _ (stands.each _ found there).stands.stands ∙ ap (λ m. exit_code_at (machine_place job turned m).done.last) is

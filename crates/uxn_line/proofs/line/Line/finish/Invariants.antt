@@ -1,9 +1,9 @@
-use Rattle.uxn_line.specs.Moves.{Reaches}
+use Rattle.uxn_line.specs.Moves.{LineReaches}
 use Rattle.uxn_line.specs.Work.{work_left}
 use Rattle.uxn_line.proofs.line.Line.finish.Given as goal
 
 abbrev pub invariant-rounds : goal.invariant-rounds
-invariant-rounds g l = Reaches l.initial.self l.self (g.O.Sink.state l.initial.out) (g.O.Sink.state l.out)
+invariant-rounds g l = LineReaches l.initial.self l.self (g.O.Sink.state l.initial.out) (g.O.Sink.state l.out)
 
 abbrev pub decreases-rounds : goal.decreases-rounds
 decreases-rounds g l = work_left l.self

@@ -8,7 +8,7 @@ returns-then-must_wait c =
       behind = c.requires.behind;
       is_open = c.requires.«open»;
       last_is = c.index.ensures;
-      seen_is = c.index-2.ensures;
+      observed_is = c.index-2.ensures;
       none_is = c.is_over-none_comes.ensures.value;
       waits_is = c.must_wait.ensures;
     }) c.if-must_wait.true
@@ -21,7 +21,7 @@ returns c =
       behind = c.requires.behind;
       is_open = c.requires.«open»;
       last_is = c.index.ensures;
-      seen_is = c.index-2.ensures;
+      observed_is = c.index-2.ensures;
       none_is = c.is_over-none_comes.ensures.value;
       waits_is = c.must_wait.ensures;
     }) c.if-must_wait.false c.index_mut.ensures.value

@@ -1,11 +1,11 @@
 use Rattle.std.proofs.Common.{◌≡◌, length}
-use Rattle.uxn_line.specs.Moves.{Reaches}
+use Rattle.uxn_line.specs.Moves.{LineReaches}
 use Rattle.uxn_line.specs.Work.{work_left, WorksOn}
 use Rattle.uxn_line.proofs.line.Line.go_on.Given as goal
 
 abbrev pub invariant-turns : goal.invariant-turns
 invariant-turns g l = record {
-  went : Reaches l.initial.self l.self (g.O.Sink.state l.initial.out) (g.O.Sink.state l.out);
+  went : LineReaches l.initial.self l.self (g.O.Sink.state l.initial.out) (g.O.Sink.state l.out);
   works : WorksOn l.moved l.initial.self l.self;
   machines : length l.self.members.items ≡ length l.initial.self.members.items;
 }

@@ -1,10 +1,10 @@
 use Rattle.std.proofs.Common.{◌+◌, [], ◌∷◌, length, refl, sym, ap, ◌∙◌, arith, length-append}
 use Rattle.std.specs.Prelude.{slice_get}
 use Rattle.std.proofs.lemmas.List.{length-map}
-use Rattle.tree_io.specs.ByteList.{ByteList}
-use Rattle.tree_io.specs.EndedLaws.{sink-as-it-was}
+use Rattle.uxn_io_traits.specs.ByteList.{ByteList}
+use Rattle.uxn_io_traits.specs.EndedLaws.{sink-as-it-was}
 use Rattle.uxn_line.specs.declared.line.Line.{Line}
-use Rattle.uxn_line.specs.Standing.{none_turned, Stands, job_of}
+use Rattle.uxn_line.specs.Standing.{none_turned, LineRepresents, line_job}
 use Rattle.uxn_line.proofs.NewLines.{rom-there, member-more}
 use Rattle.uxn_line.proofs.line.Line.new.Goals as goal
 
@@ -14,26 +14,26 @@ loop-index-preserved c =
     let member = c.in_ok-new_member.field-0 in
     let more = c.in_ok-push.ensures.items in
     let rom = c.index-roms-index.result in
-    let at = c.in_ok-new_member.ensures (job_of c.args.roms.now c.args.script.now c.args.budget) refl refl
+    let at = c.in_ok-new_member.ensures (line_job c.args.roms.now c.args.script.now c.args.budget) refl refl
     (rom-there c.args.roms.now c.loop-index.index rom c.loop-index-test.true c.index-roms-index.is ∙ sym c.as_slice.ensures) in
     record {
       count = ap length more ∙ length-append items (_ ∷ []) ∙ ap (λ n. n + 1) c.loop-index.invariant.count;
       each = λ machine other there.
-          member-more (job_of c.args.roms.now c.args.script.now c.args.budget) items member c.loop-index.index c.loop-index.invariant.count
+          member-more (line_job c.args.roms.now c.args.script.now c.args.budget) items member c.loop-index.index c.loop-index.invariant.count
           c.loop-index.invariant.each at machine other (ap (λ all. slice_get all machine) (sym more) ∙ there);
     }
 
 pub returns : goal.returns
 returns c =
-    let job = job_of c.args.roms.now c.args.script.now c.args.budget in
+    let job = line_job c.args.roms.now c.args.script.now c.args.budget in
     let roms = length-map c.args.roms.now (λ (r : ByteList). r.list) in
-    let line : Line = record { members = c.loop-index.members; giver = c.new-giver.result; budget = c.args.budget } in
-    let stands : Stands job line none_turned = record {
+    let line : Line = record { members = c.loop-index.members; input_queue = c.new-input_queue.result; budget = c.args.budget } in
+    let stands : LineRepresents job line none_turned = record {
       job_is = record { budget = c.requires.some; events = c.requires.events };
       some = omega (arith, roms, c.requires.least);
       machines = omega (arith, roms, c.loop-index.invariant.count, c.loop-index-test.false, c.loop-index.auto.index-end);
       budget = refl;
-      script = c.new-giver.ensures;
+      script = c.new-input_queue.ensures;
       each = c.loop-index.invariant.each;
     } in
     record {

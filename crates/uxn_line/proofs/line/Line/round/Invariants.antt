@@ -1,11 +1,11 @@
 use Rattle.std.proofs.Common.{◌≡◌, ℕ, ◌<◌, false, length}
-use Rattle.uxn_line.specs.Moves.{Reaches, IsStill}
+use Rattle.uxn_line.specs.Moves.{LineReaches, IsStill}
 use Rattle.uxn_line.specs.Work.{WorksOn}
 use Rattle.uxn_line.proofs.line.Line.round.Given as goal
 
 abbrev pub invariant-loop-index : goal.invariant-loop-index
 invariant-loop-index g l = record {
-  went : Reaches l.initial.self l.self (g.O.Sink.state l.initial.out) (g.O.Sink.state l.out);
+  went : LineReaches l.initial.self l.self (g.O.Sink.state l.initial.out) (g.O.Sink.state l.out);
   works : WorksOn l.moved l.initial.self l.self;
   still : l.moved ≡ false → (machine : ℕ) → machine < l.index → IsStill l.initial.self machine;
   machines : length l.self.members.items ≡ length l.initial.self.members.items;

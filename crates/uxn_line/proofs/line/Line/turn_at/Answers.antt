@@ -1,8 +1,8 @@
 use Rattle.std.proofs.Common.{[], length, refl, sym, ap, ◌∙◌, arith}
 use Rattle.std.specs.Prelude.{option_to_list}
 use Rattle.std.proofs.lemmas.Option.{slice_get_read}
-use Rattle.tree_io.specs.EndedLaws.{sink-as-it-was}
-use Rattle.uxn_line.specs.Standing.{place_in}
+use Rattle.uxn_io_traits.specs.EndedLaws.{sink-as-it-was}
+use Rattle.uxn_line.specs.Standing.{machine_place}
 use Rattle.uxn_line.proofs.Standings.{ended-is}
 use Rattle.uxn_line.proofs.Running.{leads-nowhere}
 use Rattle.uxn_line.proofs.line.Line.turn_at.Goals as goal
@@ -17,7 +17,7 @@ returns-then-is_over g c =
       put = sink-as-it-was _;
       came = record {
         cause = λ job turned stands.
-            (ended-is member (place_in job turned c.args.index) (stands.each c.args.index member there).stands).0
+            (ended-is member (machine_place job turned c.args.index) (stands.each c.args.index member there).stands).0
             (sym c.is_over.ensures.value ∙ c.if-is_over.true);
         leads = leads-nowhere c.args.self.now;
         works = refl;
@@ -38,8 +38,8 @@ give_at-requires g c =
 pub returns-then-member-eq0 : goal.returns-then-member-eq0
 returns-then-member-eq0 g c = record { bytes = []; put = sink-as-it-was _; came = c.give_at.ensures }
 
-pub run_at-requires : goal.run_at-requires
-run_at-requires g c =
+pub run_of_machine-requires : goal.run_of_machine-requires
+run_of_machine-requires g c =
     let items = c.args.self.now.members.items in
     record {
       member = c.index-member.result.now;
@@ -59,4 +59,4 @@ write_at-requires g c =
     }
 
 pub returns-in-None : goal.returns-in-None
-returns-in-None g c = record { bytes = []; put = sink-as-it-was _; came = c.run_at.ensures }
+returns-in-None g c = record { bytes = []; put = sink-as-it-was _; came = c.run_of_machine.ensures }

@@ -1,7 +1,7 @@
 use Rattle.std.proofs.Common.{◌≡◌, ◌∷◌, [], refl, rules, arith}
 use Rattle.std.specs.Prelude.{Err}
 use Rattle.std.proofs.lemmas.Option.{slice_get_within}
-use Rattle.tree_io.specs.EndedLaws.{sink-as-it-was}
+use Rattle.uxn_io_traits.specs.EndedLaws.{sink-as-it-was}
 use Rattle.uxn_line.proofs.Running.{found-running}
 use Rattle.uxn_line.proofs.Putting.{put-came, writes-last}
 use Rattle.uxn_line.proofs.line.Line.write_at.Goals as goal

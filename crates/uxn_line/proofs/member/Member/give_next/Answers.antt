@@ -1,7 +1,7 @@
 use Rattle.std.proofs.Common.{◌≡◌, ℕ, true, false, [], ◌∷◌, drop, length, refl, sym, ap, ◌∙◌, arith}
 use Rattle.std.proofs.lemmas.Bool.{false≢true}
 use Rattle.circular_buffer.specs.Buffer.{Buffer, buffer}
-use Rattle.uxn_line.specs.Members.{next_gift}
+use Rattle.uxn_line.specs.Members.{next_pending}
 use Rattle.uxn_line.proofs.Rings.{first-is, none-is, first-longer}
 use Rattle.uxn_line.proofs.Working.{ring-within, next-less}
 use Rattle.uxn_line.proofs.member.Member.give_next.Goals as goal
@@ -17,9 +17,9 @@ returns-in-Some c =
     let less : length c.pop_front.new.self.items ≡ length (drop 1 items) = ap (λ (ring : Buffer ℕ). length ring.items) popped in
     record {
       given = record {
-        stands = λ now gifts member are end goes_on.
-            given.stands now gifts (record { stands = member.stands; given = member.given; stopped = member.stopped })
-            (are ∙ ap (λ ring. next_gift ring ∷ gifts) first) refl
+        stands = λ now pending_inputs member are end goes_on.
+            given.stands now pending_inputs (record { stands = member.stands; given = member.given; stopped = member.stopped })
+            (are ∙ ap (λ ring. next_pending ring ∷ pending_inputs) first) refl
             (λ e. absurd (false≢true e), λ none. (let empty = end.1 none in cc)) goes_on;
         ring = record {
           kept = λ goes. given.ring.kept goes ∙ popped;
@@ -41,9 +41,9 @@ returns-in-None c =
     let less : length c.pop_front.new.self.items ≡ 0 = ap (λ (ring : Buffer ℕ). length ring.items) popped ∙ ap (λ i. length (drop 1 i)) none in
     record {
       given = record {
-        stands = λ now gifts member are end goes_on.
-            given.stands now gifts (record { stands = member.stands; given = member.given; stopped = member.stopped })
-            (are ∙ ap (λ ring. next_gift ring ∷ gifts) none) refl (λ e. end.0 none, λ e. refl) goes_on;
+        stands = λ now pending_inputs member are end goes_on.
+            given.stands now pending_inputs (record { stands = member.stands; given = member.given; stopped = member.stopped })
+            (are ∙ ap (λ ring. next_pending ring ∷ pending_inputs) none) refl (λ e. end.0 none, λ e. refl) goes_on;
         ring = record {
           kept = λ goes. given.ring.kept goes ∙ popped;
           dropped = λ over. given.ring.dropped over ∙ ap (λ (ring : Buffer ℕ). buffer [] ring.capacity) popped;

@@ -1,12 +1,12 @@
 use Rattle.std.proofs.Common.{sym, ◌∙◌}
 use Rattle.uxn_line.specs.Places.{turn}
-use Rattle.uxn_line.proofs.Turned.{run-gifts}
+use Rattle.uxn_line.proofs.Turned.{run-pending_inputs}
 use Rattle.uxn_line.proofs.member.Member.run.Goals as goal
 
 pub returns-clause-ran : goal.returns-clause-ran
 returns-clause-ran c = record {
   stands = λ budget now member.
-      let is = run-gifts budget c.args.self.now.machine now c.requires member.stands in
+      let is = run-pending_inputs budget c.args.self.now.machine now c.requires member.stands in
       c.settle.ensures.stands (turn budget now) (c.run.ensures.stands budget now member.stands)
       (λ all. is ∙ member.given.0 all, λ none. member.given.1 (sym is ∙ none));
   put = λ budget now member. c.run.ensures.put budget now member.stands;

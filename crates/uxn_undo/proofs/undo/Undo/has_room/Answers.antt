@@ -1,26 +1,41 @@
 use Rattle.std.proofs.Common.{◌≡◌, length, sym, ◌∙◌, arith}
 use Rattle.std.specs.Prelude.{map, sum_by}
+use Rattle.std.proofs.lemmas.Bool.{le-leb}
 use Rattle.std.proofs.lemmas.Bool.Decides.{nat_tests}
+use Rattle.std.specs.Vec.{vec_len}
 use Rattle.circular_buffer.specs.Buffer.{buffer}
 use Rattle.uxn_undo.specs.Kept.{byte_count}
-use Rattle.uxn_undo.specs.Slots.{entry_in}
+use Rattle.uxn_undo.specs.Slots.{entry_in_rows}
 use Rattle.uxn_undo.proofs.Joined.{bytes-held}
-use Rattle.uxn_undo.proofs.Slots.{length-records}
+use Rattle.uxn_undo.proofs.Slots.{alone-small, length-records}
 use Rattle.uxn_undo.proofs.undo.Undo.has_room.Goals as goal
 
-pub returns-then-len-lt-MOMENTS : goal.returns-then-len-lt-MOMENTS
-returns-then-len-lt-MOMENTS c =
+pub returns-then-len-lt-MOMENTS-clause-room : goal.returns-then-len-lt-MOMENTS-clause-room
+returns-then-len-lt-MOMENTS-clause-room c =
     let rows = c.self.inside.rows.items in
     let records = c.self.inside.records in
     let moments : length c.args.self.now ≡ c.len.result =
     sym (length-records rows records.items c.self.inside.bytes.items c.args.self.now c.self.view_is) ∙ sym c.len.ensures.len in
     let bytes : sum_by byte_count c.args.self.now ≡ c.len-then-len-lt-MOMENTS.result =
-    bytes-held (buffer (map (entry_in rows) records.items) records.capacity) c.self.inside.bytes c.args.self.now c.self.view_is c.self.invariant.0
+    bytes-held (buffer (map (entry_in_rows rows) records.items) records.capacity) c.self.inside.bytes c.args.self.now c.self.view_is c.self.invariant.0
     ∙ sym c.len-then-len-lt-MOMENTS.ensures.len in
     rw (moments, bytes) (grind (arith, nat_tests))
 
-pub returns-else-len-lt-MOMENTS : goal.returns-else-len-lt-MOMENTS
-returns-else-len-lt-MOMENTS c =
+pub returns-else-len-lt-MOMENTS-clause-room : goal.returns-else-len-lt-MOMENTS-clause-room
+returns-else-len-lt-MOMENTS-clause-room c =
     let moments : length c.args.self.now ≡ c.len.result =
     sym (length-records c.self.inside.rows.items c.self.inside.records.items c.self.inside.bytes.items c.args.self.now c.self.view_is) ∙ sym c.len.ensures.len in
     rw moments (grind (arith, nat_tests))
+
+pub returns-then-len-lt-MOMENTS-clause-alone : goal.returns-then-len-lt-MOMENTS-clause-alone
+returns-then-len-lt-MOMENTS-clause-alone c few =
+    let rows = c.self.inside.rows.items in
+    let records = c.self.inside.records.items in
+    let moments = length-records rows records c.self.inside.bytes.items c.args.self.now c.self.view_is in
+    let small = alone-small (vec_len c.self.inside.rows) c.self.inside.next rows records c.self.invariant.1.order (omega (arith, moments, few)) in
+    le-leb _ _ (omega (arith, small, c.self.invariant.0.filled, c.len-then-len-lt-MOMENTS.ensures.len, c.requires))
+
+pub returns-else-len-lt-MOMENTS-clause-alone : goal.returns-else-len-lt-MOMENTS-clause-alone
+returns-else-len-lt-MOMENTS-clause-alone c few =
+    let moments = length-records c.self.inside.rows.items c.self.inside.records.items c.self.inside.bytes.items c.args.self.now c.self.view_is in
+    absurd (omega (arith, moments, few, c.len.ensures.len, c.if-len-lt-MOMENTS.false))

@@ -1,12 +1,12 @@
 use Rattle.std.proofs.Common.{sym, ◌∙◌}
 use Rattle.std.specs.Prelude.{map}
 use Rattle.std.proofs.lemmas.List.{length-map}
-use Rattle.uxn_undo.specs.Slots.{entry_in}
-use Rattle.uxn_undo.proofs.Joined.{length-joined}
+use Rattle.uxn_undo.specs.Slots.{entry_in_rows}
+use Rattle.uxn_undo.proofs.Joined.{length-joined_entries}
 use Rattle.uxn_undo.proofs.undo.Undo.held.Goals as goal
 
 pub returns : goal.returns
 returns c =
     let rows = c.self.inside.rows.items in
     let records = c.self.inside.records.items in
-    rw (← c.self.view_is) (c.len.ensures.len ∙ sym (length-map records (entry_in rows)) ∙ sym (length-joined (map (entry_in rows) records) c.self.inside.bytes.items))
+    rw (← c.self.view_is) (c.len.ensures.len ∙ sym (length-map records (entry_in_rows rows)) ∙ sym (length-joined_entries (map (entry_in_rows rows) records) c.self.inside.bytes.items))

@@ -3,7 +3,7 @@ use Rattle.std.specs.Prelude.{map, slice_index_or}
 use Rattle.std.specs.Vec.{vec_len}
 use Rattle.std.proofs.lemmas.List.{get_or_default}
 use Rattle.uxn_undo.specs.declared.row.Row.{Row}
-use Rattle.uxn_undo.specs.Slots.{entry_in, row_in, no_row}
+use Rattle.uxn_undo.specs.Slots.{entry_in_rows, row_in, no_row}
 use Rattle.uxn_undo.proofs.Joined.{at_joined}
 use Rattle.uxn_undo.proofs.Slots.{length-records, entry_at, slot_within}
 use Rattle.uxn_undo.proofs.undo.Undo.row.Goals as goal
@@ -29,5 +29,5 @@ returns c =
     c.index-rows-from.is ∙ ap (λ k. slice_index_or c.as_slice-rows.result.now k row) c.from.ensures
     ∙ ap (λ (z : List Row). slice_index_or z r.slot row) c.as_slice-rows.ensures.value in
     rw (← c.self.view_is) (at_joined (λ kept. row_in kept) (λ e. record { working = e.working; returns = e.returns; stored = e.stored }) (λ e bytes. refl)
-    (map (entry_in rows) records) c.self.inside.bytes.items (c.args.back - 1) (entry_in rows r) (entry_at rows records (c.args.back - 1) r c.nth.ensures)
+    (map (entry_in_rows rows) records) c.self.inside.bytes.items (c.args.back - 1) (entry_in_rows rows r) (entry_at rows records (c.args.back - 1) r c.nth.ensures)
     ∙ ap (λ (z : Row). Some z) (get_or_default rows r.slot no_row row there ∙ sym here))

@@ -1,7 +1,7 @@
 use Rattle.std.proofs.Common.{[], ◌∷◌, refl}
-use Rattle.tree_io.specs.EndedLaws.{outside-of-out, outside-of-err}
+use Rattle.uxn_io_traits.specs.EndedLaws.{outside-of-out, outside-of-err}
 use Rattle.varvara_bus.specs.declared.ports.Action.TheVariants.{PutsDebugText, PutsOut, PutsErr}
-use Rattle.varvara_bus.specs.Effect.{debug_bytes, width_asked, height_asked, pixel_drawn, sprite_drawn, note_started}
+use Rattle.varvara_bus.specs.Effect.{debug_bytes, width_requested, height_requested, pixel_drawn, sprite_drawn, note_started}
 use Rattle.varvara_bus.proofs.Acts.{sink-ends, sink-ledger, devices_done, file-ends, file-ledger}
 use Rattle.varvara_bus.proofs.bus.Bus.act.Goals as goal
 
@@ -45,12 +45,12 @@ returns-in-PutsErr-clause-ledger g c =
 
 pub returns-in-AsksWidth-clause-acted : goal.returns-in-AsksWidth-clause-acted
 returns-in-AsksWidth-clause-acted g c =
-    rw c.in-AsksWidth.is (devices_done _ c.args.self.now _ c.args.core.now _ c.args.value width_asked (λ state. refl) c.ask_width.ensures.stands refl refl
+    rw c.in-AsksWidth.is (devices_done _ c.args.self.now _ c.args.core.now _ c.args.value width_requested (λ state. refl) c.ask_width.ensures.stands refl refl
     c.ask_width.ensures.frames c.ask_width.ensures.clock c.ask_width.ensures.root)
 
 pub returns-in-AsksHeight-clause-acted : goal.returns-in-AsksHeight-clause-acted
 returns-in-AsksHeight-clause-acted g c =
-    rw c.in-AsksHeight.is (devices_done _ c.args.self.now _ c.args.core.now _ c.args.value height_asked (λ state. refl) c.ask_height.ensures.stands refl refl
+    rw c.in-AsksHeight.is (devices_done _ c.args.self.now _ c.args.core.now _ c.args.value height_requested (λ state. refl) c.ask_height.ensures.stands refl refl
     c.ask_height.ensures.frames c.ask_height.ensures.clock c.ask_height.ensures.root)
 
 pub returns-in-DrawsPixel-clause-acted : goal.returns-in-DrawsPixel-clause-acted
@@ -73,7 +73,7 @@ returns-in-ActsOnFile-clause-acted g c =
     rw c.in-ActsOnFile.is (file-ends _ c.args.self.now _ _ c.args.core.now _ c.in-ActsOnFile.number c.in-ActsOnFile.act c.args.value c.act_on_file.result
     c.act_on_file.ensures.tree c.act_on_file.ensures.acted
     (record {
-      lent = record { devices = refl; tree = refl; out = refl; err = refl };
+      borrowed = record { devices = refl; tree = refl; out = refl; err = refl };
       files = c.act_on_file.ensures.stay;
       frames = c.act_on_file.ensures.frames;
       clock = c.act_on_file.ensures.clock;

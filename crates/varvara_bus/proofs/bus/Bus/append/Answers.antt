@@ -1,8 +1,8 @@
 use Rattle.std.proofs.Common.{◌≡◌, Err, OnErr, is_err, rules, refl}
-use Rattle.tree_io.specs.AppendingLaws.{appending-of-tree}
-use Rattle.tree_io.specs.EndedLaws.{outside-of-tree}
+use Rattle.uxn_io_traits.specs.AppendingLaws.{appending-of-tree}
+use Rattle.uxn_io_traits.specs.EndedLaws.{outside-of-tree}
 use Rattle.uxn_opcodes.specs.declared.Stop.TheVariants.{TreeFault}
-use Rattle.varvara_bus.specs.Bus.{told_on}
+use Rattle.varvara_bus.specs.Bus.{contents_on}
 use Rattle.varvara_bus.proofs.Appends.{append-ended, append-stands, append-stays}
 use Rattle.varvara_bus.proofs.bus.Bus.append.Goals as goal
 
@@ -17,12 +17,12 @@ returns-clause-ended g c =
 pub returns-clause-stands : goal.returns-clause-stands
 returns-clause-stands g c =
     let fails : is_err c.map_err.result ≡ is_err c.append_all.result = search rules in
-    append-stands (told_on g.T.Tree) c.args.self.now _ c.args.path.now c.args.piece.now c.map_err.result c.append_all.result _ _ fails refl refl refl
+    append-stands (contents_on g.T.Tree) c.args.self.now _ c.args.path.now c.args.piece.now c.map_err.result c.append_all.result _ _ fails refl refl refl
     c.append_all.ensures.ended c.requires
 
 pub returns-clause-same : goal.returns-clause-same
 returns-clause-same g c = record {
-  lent = record { devices = refl; tree = refl; out = refl; err = refl };
+  borrowed = record { devices = refl; tree = refl; out = refl; err = refl };
   files = append-stays _ c.args.path.now c.args.piece.now _ _ _ c.append_all.ensures.ended;
   frames = refl;
   clock = refl;

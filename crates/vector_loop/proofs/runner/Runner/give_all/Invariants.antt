@@ -1,18 +1,18 @@
 use Rattle.std.proofs.Common.{◌≡◌, length}
 use Rattle.vector_loop.specs.Event.{give_each}
-use Rattle.vector_loop.specs.Gifts.{given, counts_of}
-use Rattle.vector_loop.specs.Follows.{telling_of}
-use Rattle.vector_loop.specs.Answers.{Count, both}
+use Rattle.vector_loop.specs.PendingInputs.{given, counts_of}
+use Rattle.vector_loop.specs.Follows.{models_of}
+use Rattle.vector_loop.specs.Answers.{Count, both_counts}
 use Rattle.vector_loop.proofs.Answering.{Going}
 use Rattle.vector_loop.proofs.runner.Runner.give_all.Given as goal
 
-abbrev pub invariant-loop-gift : goal.invariant-loop-gift
-invariant-loop-gift g l = record {
+abbrev pub invariant-loop-pending_input : goal.invariant-loop-pending_input
+invariant-loop-pending_input g l = record {
   begun : Count;
-  going : Going (telling_of g.T.Tree g.O.Sink g.E.Sink g.W.Watcher)
-      l.fn.self l.self (give_each (given l.fn.self.budget l.outputs) l.fn.giver) (give_each (given l.fn.self.budget l.outputs) l.giver) begun;
-  counted : both begun (counts_of l.giver) ≡ counts_of l.fn.giver;
+  going : Going (models_of g.T.Tree g.O.Sink g.E.Sink g.W.Watcher)
+      l.fn.self l.self (give_each (given l.fn.self.budget l.outputs) l.fn.input_queue) (give_each (given l.fn.self.budget l.outputs) l.input_queue) begun;
+  counted : both_counts begun (counts_of l.input_queue) ≡ counts_of l.fn.input_queue;
 }
 
-abbrev pub decreases-loop-gift : goal.decreases-loop-gift
-decreases-loop-gift g l = length l.giver
+abbrev pub decreases-loop-pending_input : goal.decreases-loop-pending_input
+decreases-loop-pending_input g l = length l.input_queue

@@ -2,7 +2,7 @@ use Rattle.std.proofs.Common.{refl, [], ◌∷◌}
 use Rattle.varvara_bus.specs.State.{storing}
 use Rattle.console_port.specs.Console.{event_byte}
 use Rattle.vector_loop.specs.State.{with_stored}
-use Rattle.vector_loop.specs.Trail.{stays}
+use Rattle.vector_loop.specs.Trace.{stays}
 use Rattle.vector_loop.specs.Event.{vector_in, console}
 use Rattle.vector_loop.specs.Answers.{none, of_vectors}
 use Rattle.vector_loop.proofs.Answering.{answers-then, answers-stored}

@@ -3,7 +3,7 @@ use Rattle.input_ports.specs.Page.{vector_of, stores_of, stores_after}
 use Rattle.varvara_bus.specs.History.{stored}
 use Rattle.varvara_bus.specs.State.{storing}
 use Rattle.vector_loop.specs.State.{with_stored}
-use Rattle.vector_loop.specs.Trail.{stays}
+use Rattle.vector_loop.specs.Trace.{stays}
 use Rattle.vector_loop.specs.Event.{vector_in, device}
 use Rattle.vector_loop.specs.Answers.{none, of_vectors}
 use Rattle.vector_loop.proofs.Events.{its-ports, applying, settling}

@@ -1,16 +1,16 @@
 use Rattle.std.proofs.Common.{ap, refl, lit≤, arith}
 use Rattle.play_script.specs.declared.script.Event.TheVariants.{Input, EndInput, Frame, Device, Shot}
-use Rattle.varvara_bus.specs.State.{DeviceState}
+use Rattle.varvara_bus.specs.State.{DeviceState, screen_refreshed}
 use Rattle.vector_loop.specs.declared.tally.Tally.{Tally}
-use Rattle.vector_loop.specs.State.{State, with_next_frame, with_counted}
-use Rattle.vector_loop.specs.Trail.{stays, makes, followed_by}
+use Rattle.vector_loop.specs.State.{State, with_next_frame, with_refreshed, with_counted, counting_event}
+use Rattle.vector_loop.specs.Trace.{stays, followed_by}
 use Rattle.vector_loop.specs.Event.{shown_and_heard, shot}
-use Rattle.vector_loop.specs.Outputs.{appended_to, picture_bytes}
+use Rattle.vector_loop.specs.Outputs.{picture_bytes}
 use Rattle.vector_loop.specs.Answers.{none, of_vectors, of_events}
 use Rattle.vector_loop.proofs.Counting.{grown-counted, grown-compared}
-use Rattle.vector_loop.proofs.Frames.{shot-is}
+use Rattle.vector_loop.proofs.Frames.{pictured, shot-is}
 use Rattle.vector_loop.proofs.Events.{one_event, with_compared, frame-given, expect-given, answers-given}
-use Rattle.vector_loop.proofs.Answering.{answers-then, answers-as, answers-within, answers-change, answers-made}
+use Rattle.vector_loop.proofs.Answering.{answers-then, answers-as, answers-within, answers-change, answers-stored, answers-made}
 use Rattle.vector_loop.proofs.runner.Runner.give_event.Goals as goal
 
 pub returns-in-Input-clause-answers : goal.returns-in-Input-clause-answers
@@ -42,12 +42,24 @@ returns-in-Expect-clause-answers g c =
     (answers-as _ _ _ (λ s. stays (with_compared c.in-Expect.port c.in-Expect.byte s)) _ one_event _
     (expect-given c.args.self.now.budget c.args.outputs.now c.in-Expect.port c.in-Expect.byte)
     (answers-change _ _ _ (with_compared c.in-Expect.port c.in-Expect.byte) one_event (tt {0}) refl refl
-    (record { lent = record { devices = refl; tree = refl; out = refl; err = refl }; tree = refl; out = refl; err = refl; clock = refl; root = refl }) (omega arith)
+    (record { borrowed = record { devices = refl; tree = refl; out = refl; err = refl }; tree = refl; out = refl; err = refl; clock = refl; root = refl }) (omega arith)
     (grown-compared c.args.self.now.tally _ c.args.self.now.budget c.compare.ensures.grown) (λ devices stands. stands)
     (λ devices stands. ap (now devices) (c.compare.ensures.counted devices stands)))))
 
 pub returns-in-Shot-clause-answers : goal.returns-in-Shot-clause-answers
 returns-in-Shot-clause-answers g c = rw c.in-Shot.is
     (answers-given _ c.args.self.now _ c.args.self.now.budget c.args.outputs.now Shot 0 _ (lit≤ tt)
-    (answers-as _ _ _ (λ s. makes (appended_to c.args.outputs.now.frames (picture_bytes s.devices)) s) (shot c.args.outputs.now) none _ (shot-is c.args.outputs.now)
-    (answers-made _ _ _ c.args.outputs.now.frames picture_bytes _ c.requires.outputs.frames refl refl c.keep_picture.ensures)))
+    (answers-as _ _ _ (λ s. followed_by (stays (with_refreshed s)) (pictured c.args.outputs.now)) (shot c.args.outputs.now) none _ (shot-is c.args.outputs.now)
+    (answers-then _ _ (record c.args.self.now { tally = counting_event Shot c.args.self.now.tally; bus = record c.args.self.now.bus { now = c.refresh.new.self } }) _
+    (λ s. stays (with_refreshed s)) (pictured c.args.outputs.now) none none (tt {0}) _
+    (answers-stored _ _ _ screen_refreshed (tt {0}) refl refl refl c.refresh.ensures.others c.refresh.ensures.frames c.refresh.ensures.devices.bus)
+    (answers-made _ _ _ c.args.outputs.now.frames picture_bytes _
+    (rw (c.refresh.ensures.others.root, c.refresh.ensures.others.tree) c.requires.outputs.frames) refl refl c.keep_picture.ensures))))
+
+pub returns-in-Shot-clause-shot : goal.returns-in-Shot-clause-shot
+returns-in-Shot-clause-shot g c is = record {
+  core = refl;
+  devices = λ devices stands. c.keep_picture.ensures.devices (screen_refreshed devices) (c.refresh.ensures.devices.bus devices stands);
+  tally = refl;
+  watcher = refl;
+}

@@ -1,7 +1,7 @@
 use Rattle.std.proofs.Common.{refl, arith}
 use Rattle.varvara_bus.specs.State.{rendered}
 use Rattle.vector_loop.specs.State.{with_rendered}
-use Rattle.vector_loop.specs.Trail.{stays}
+use Rattle.vector_loop.specs.Trace.{stays}
 use Rattle.vector_loop.specs.Event.{heard}
 use Rattle.vector_loop.specs.SilenceLaws.{silent}
 use Rattle.vector_loop.specs.Answers.{none, of_vectors}

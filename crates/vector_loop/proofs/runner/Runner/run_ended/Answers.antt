@@ -1,5 +1,5 @@
 use Rattle.std.proofs.Common.{arith}
-use Rattle.vector_loop.specs.Trail.{stays}
+use Rattle.vector_loop.specs.Trace.{stays}
 use Rattle.vector_loop.specs.Event.{vector_in, unless_over, vector_where}
 use Rattle.vector_loop.specs.Answers.{none, of_vectors}
 use Rattle.vector_loop.proofs.Frames.{not-ended, has-ended}

@@ -1,5 +1,6 @@
 use Rattle.std.proofs.Common.{refl, arith}
 use Rattle.vector_loop.specs.Vector.{vector, vector_end}
+use Rattle.vector_loop.specs.Budget.{ran-within}
 use Rattle.vector_loop.specs.Answers.{of_vectors}
 use Rattle.vector_loop.proofs.Counting.{grown-run}
 use Rattle.vector_loop.proofs.Vectors.{vector-reaches}
@@ -13,7 +14,7 @@ returns-clause-answers g c =
     (vector-reaches _ _ _ c.from-budget.result c.args.self.now.budget c.args.at _ c.from-budget.ensures (rw c.count_run.ensures ran.reaches))
     ran.ledger
     (rw c.count_run.ensures (grown-run c.args.self.now.tally c.run_instructions-ran.result.end _ c.args.self.now.budget
-    (omega (arith, ran.whole.within, c.from-budget.ensures))))
+    (omega (arith, ran-within _ _ _ _ _ _ _ _ _ ran.whole, c.from-budget.ensures))))
     ran.same
 
 pub returns-clause-end : goal.returns-clause-end

@@ -1,5 +1,5 @@
 use Rattle.std.proofs.Common.{◌≡◌, Err, rules, arith}
-use Rattle.vector_loop.specs.Trail.{stays}
+use Rattle.vector_loop.specs.Trace.{stays}
 use Rattle.vector_loop.specs.Vector.{vector}
 use Rattle.vector_loop.specs.Event.{vector_in}
 use Rattle.vector_loop.specs.Answers.{none, of_vectors}

@@ -1,12 +1,12 @@
 use Rattle.std.proofs.Common.{◌≡◌, ℕ, ◌+◌, false, true, List, [], ◌∷◌, Some, Ok, Err, length, vec_len, ap, sym, ◌∙◌, arith, length-append}
 use Rattle.std.specs.List.{All}
 use Rattle.std.proofs.lemmas.List.Elements.{All-pop}
-use Rattle.uxn_io.specs.declared.memory.trees.Node.{Node as HeldNode}
-use Rattle.tree_io.specs.Changes.{can_create}
+use Rattle.uxn_io.specs.declared.memory.trees.Node.{Node as StoredNode}
+use Rattle.uxn_io_traits.specs.Changes.{can_create}
 use Rattle.uxn_io.specs.InMemory.Places.{Places, place_of, nodes_of, IsFree}
 use Rattle.uxn_io.specs.InMemory.Trees.{created, lacks_place}
 use Rattle.uxn_io.proofs.InMemory.PlaceLemmas.{within_there, within_new}
-use Rattle.uxn_io.proofs.InMemory.ChangeLemmas.{seen, clear_held, clear_created, make_held, make_created, zero_from, some_free}
+use Rattle.uxn_io.proofs.InMemory.ChangeLemmas.{observed, clear_held, clear_created, make_held, make_created, zero_from, some_free}
 use Rattle.uxn_io.proofs.memory.places.Places.create.Goals as goal
 use Rattle.uxn_io.proofs.memory.places.Places.create.Goals.{In-Ok, In-Err, In-Some}
 
@@ -22,7 +22,7 @@ can_there c = ap (λ (p : Places). can_create p.nodes c.args.path.now) c.self.vi
 can_make : (c : In-Err) → can_create (nodes_of c.self.inside.used.items) c.args.path.now ≡ true
 can_make c = ap (λ (p : Places). can_create p.nodes c.args.path.now) c.self.view_is ∙ sym c.can_create.ensures ∙ c.if-not-can_create.false
 
-some_node : List ℕ → List ℕ × HeldNode
+some_node : List ℕ → List ℕ × StoredNode
 some_node path = (path, record { folder = false; bytes = record { list = []; spare = 0 } })
 
 pub clear_at-requires : goal.clear_at-requires
@@ -37,7 +37,7 @@ invariant_of-self c =
 pub returns-in-Ok-clause-after : goal.returns-in-Ok-clause-after
 returns-in-Ok-clause-after c =
     let i = (goal.at.returns-in-Ok-clause-after c).In-Ok in
-    ap (λ held. seen held (vec_len c.self.inside.free) c.self.inside.room) (c.clear_at.ensures.items (some_node c.args.path.now))
+    ap (λ held. observed held (vec_len c.self.inside.free) c.self.inside.room) (c.clear_at.ensures.items (some_node c.args.path.now))
     ∙ clear_created c.self.inside.used.items c.self.inside.free.items _ _ _ _ c.args.path.now c.in-Ok.at _ c.self.invariant (stands i) (can_there i)
     ∙ ap (λ (p : Places). created p c.args.path.now) c.self.view_is
 
@@ -61,7 +61,7 @@ pub returns-in-Some-clause-after : goal.returns-in-Some-clause-after
 returns-in-Some-clause-after c =
     let i = (goal.at.returns-in-Some-clause-after c).In-Err in
     let s = (goal.at.returns-in-Some-clause-after c).In-Some in
-    ap (λ held. seen held (vec_len c.pop.new.self) c.self.inside.room) c.insert_node.ensures.items
+    ap (λ held. observed held (vec_len c.pop.new.self) c.self.inside.room) c.insert_node.ensures.items
     ∙ make_created c.self.inside.used.items (vec_len c.self.inside.free) (vec_len c.pop.new.self) c.self.inside.room c.args.path.now c.in-Err.at c.in-Some.bytes c.self.invariant.ordered (new i) (can_make i) (popped s).1.none (omega (arith, one_less s, c.self.inside.free.ok.0, c.pop.new.self.ok.0))
     ∙ ap (λ (p : Places). created p c.args.path.now) c.self.view_is
 

@@ -1,16 +1,16 @@
 use Rattle.std.proofs.Common.{◌≡◌, ℕ, ◌++◌, true, false, Some, List, take, length, sym, ap, refl, arith, ◌∙◌, length-take-le}
 use Rattle.std.proofs.lemmas.Bool.{false≢true}
 use Rattle.std.proofs.lemmas.Grind.{common_steps}
-use Rattle.tree_io.specs.FaultLaws.{counted-same, counted-one}
+use Rattle.uxn_io_traits.specs.FaultLaws.{counted-same, counted-one}
 use Rattle.uxn_io.specs.InMemory.Sinks.{SinkInMemory}
-use Rattle.uxn_io.proofs.InMemory.SureLemmas.{sink_is_sure, sink_stays_sure}
+use Rattle.uxn_io.proofs.InMemory.GuaranteedLemmas.{sink_is_guaranteed, sink_stays_guaranteed}
 use Rattle.uxn_io.proofs.memory.sinks.MemSinkSink.put.Goals as goal
 
 pub returns-then-fails-clause-failed : goal.returns-then-fails-clause-failed
 returns-then-fails-clause-failed c = record {
-  told = ap (λ (s : SinkInMemory). Some s.taken) c.self.view_is;
+  contents = ap (λ (s : SinkInMemory). Some s.taken) c.self.view_is;
   counted = rw (← c.self.view_is) (counted-one _ _ (omega arith) c.saturating_add-self-inside-then-fails.ensures refl);
-  blamed = λ less. sink_is_sure c.args.self.now c.args.piece.now (sym c.fails_at-fails.ensures ∙ c.if-fails.true) less;
+  blamed = λ less. sink_is_guaranteed c.args.self.now c.args.piece.now (sym c.fails_at-fails.ensures ∙ c.if-fails.true) less;
 }
 
 pub returns-clause-taken : goal.returns-clause-taken
@@ -24,7 +24,7 @@ returns-clause-taken c =
       blamed = λ is. absurd (false≢true is);
       left = λ _.
           rw (size, ← c.self.view_is)
-          (sink_stays_sure
+          (sink_stays_guaranteed
           (record { taken = was.taken.items; room = was.room; fails = was.fails.items; calls = was.calls; faults = was.faults })
           (record { taken = now.items; room = was.room; fails = was.fails.items; calls = c.saturating_add-self-inside.result; faults = was.faults })
           c.min-count.result (omega arith) refl refl

@@ -1,11 +1,11 @@
 use Rattle.std.proofs.Common.{◌≡◌, false, arith, subst, sym}
 use Rattle.std.proofs.lemmas.Grind.{common_steps}
 use Rattle.uxn_io.specs.InMemory.Trees.{TreeInMemory, is_listed_later}
-use Rattle.uxn_io.proofs.InMemory.SureLemmas.{not_listed_now, not_listed_later}
+use Rattle.uxn_io.proofs.InMemory.GuaranteedLemmas.{not_listed_now, not_listed_later}
 use Rattle.uxn_io.proofs.memory.trees.MemTree.begin.Goals as goal
 
-pub returns-then-fails-clause-sure : goal.returns-then-fails-clause-sure
-returns-then-fails-clause-sure c = λ none. let not_now = not_listed_now c.args.self.now c.args.call none in grind (arith, common_steps, not_now)
+pub returns-then-fails-clause-guaranteed : goal.returns-then-fails-clause-guaranteed
+returns-then-fails-clause-guaranteed c = λ none. let not_now = not_listed_now c.args.self.now c.args.call none in grind (arith, common_steps, not_now)
 
 pub returns-then-fails-clause-later : goal.returns-then-fails-clause-later
 returns-then-fails-clause-later c = λ none.

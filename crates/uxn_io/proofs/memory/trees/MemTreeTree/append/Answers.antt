@@ -1,7 +1,7 @@
 use Rattle.std.proofs.Common.{◌≡◌, Some, ap, sym, ◌∙◌, take}
-use Rattle.tree_io.specs.AppendingLaws.{told_by-file}
-use Rattle.tree_io.specs.CallLaws.{nothing-made, all-made}
-use Rattle.tree_io.specs.Changes.{with_appended}
+use Rattle.uxn_io_traits.specs.AppendingLaws.{contents_after-file}
+use Rattle.uxn_io_traits.specs.CallLaws.{nothing-made, all-made}
+use Rattle.uxn_io_traits.specs.Changes.{with_appended}
 use Rattle.uxn_io.specs.InMemory.Places.{Places}
 use Rattle.uxn_io.specs.InMemory.Trees.{TreeInMemory, appended, fitting, lacks_room}
 use Rattle.uxn_io.proofs.InMemory.CallLemmas.{takes-unlisted, has-room, append-left}
@@ -12,7 +12,7 @@ returns-then-begin-clause-ended c =
     nothing-made _ _ _ (ap (λ (held : Places). Some held.nodes) c.begin.ensures.held) c.if-begin.ensures.counted
     (λ takes. has-room c.args.self.now c.args.path.now c.args.piece.now takes (
     ap (λ (t : TreeInMemory). lacks_room t.held c.args.path.now c.args.piece.now) (sym c.self.view_is) ∙ sym c.lacks_room-lacking.ensures
-    ∙ sym (c.if-begin.ensures.sure (takes-unlisted c.args.self.now _ _ takes))
+    ∙ sym (c.if-begin.ensures.guaranteed (takes-unlisted c.args.self.now _ _ takes))
     ))
 
 pub returns-clause-ended : goal.returns-clause-ended
@@ -24,7 +24,7 @@ returns-clause-ended c =
     let count : c.append.result ≡ fitting c.args.self.now.held path piece = c.append.ensures.result ∙ ap (λ (h : Places). fitting h path piece) held in
     all-made _ _ _
     (ap (λ (h : Places). Some h.nodes) after ∙ ap (λ n. Some (with_appended path (take n piece) c.args.self.now.held.nodes)) (sym count)
-    ∙ sym (told_by-file (Some c.args.self.now.held.nodes) path (take c.append.result piece)))
+    ∙ sym (contents_after-file (Some c.args.self.now.held.nodes) path (take c.append.result piece)))
     (rw (sym c.self-2.view_is) at c.if-begin.ensures.counted)
     (λ takes.
     let none = takes-unlisted c.args.self.now _ _ takes in

@@ -1,7 +1,0 @@
-use Rattle.std.proofs.Common.{◌≡◌, take}
-use Rattle.std.specs.List.{All}
-use Rattle.line_texts.specs.Lines.{is_blank}
-use Rattle.line_texts.proofs.words.front.Given as goal
-
-abbrev pub invariant-loop-at : goal.invariant-loop-at
-invariant-loop-at l = All (λ byte. is_blank byte ≡ l.blank) (take l.at l.line)

@@ -1,7 +1,0 @@
-use Rattle.std.proofs.Common.{◌≡◌, false, take}
-use Rattle.std.specs.List.{All}
-use Rattle.line_texts.specs.Lines.{is_newline}
-use Rattle.line_texts.proofs.words.line_len.Given as goal
-
-abbrev pub invariant-loop-at : goal.invariant-loop-at
-invariant-loop-at l = All (λ byte. is_newline byte ≡ false) (take l.at l.text)

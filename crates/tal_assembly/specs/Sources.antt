@@ -1,0 +1,71 @@
+-- A source with its includes: the text that is assembled, or the first fault (profile).
+use Rattle.std.specs.Prelude.{ℕ, List, [], Option, Some, None, Result, Ok, Err, if◌then◌else◌, unwrap_or, IfSome, IsSome}
+use Rattle.std.specs.Str.{bytes_eq}
+use Rattle.uxn_io_traits.specs.ByteList.{tight}
+use Rattle.tal_words.specs.declared.fault.Fault.{Fault}
+use Rattle.tal_words.specs.Faults.{fault_text}
+use Rattle.tal_rom.specs.Assembly.{first_fault}
+use Rattle.tal_include.specs.declared.faults.Origin.{Origin}
+use Rattle.tal_include.specs.declared.faults.IncludeKind.{IncludeKind}
+use Rattle.tal_include.specs.declared.faults.IncludeKind.TheVariants.{Words}
+use Rattle.tal_include.specs.Flat.{Flat, origin_at}
+use Rattle.tal_include.specs.Splice.{SpliceOutcome, Came, Met, Reading, is_spliced, spliced}
+use Rattle.tal_assembly.specs.declared.fault.SourceFault.{SourceFault}
+
+-- the text that is assembled, and the files that were read beside the main source, in the order of reading
+pub record Sourced : Type 0 where
+  pub text : List ℕ
+  pub paths : List (List ℕ)
+
+-- the path of a file, where it is another than the main source
+abbrev pub other_path : List ℕ → List ℕ → Option (List ℕ)
+other_path main path = if bytes_eq path main then None else Some path
+
+-- a fault at a word of a file
+abbrev pub include_source_fault : List ℕ → Origin → IncludeKind → List ℕ → SourceFault
+include_source_fault main origin kind word = record {
+  file = other_path main origin.path;
+  line = origin.line;
+  column = origin.column;
+  kind = kind;
+  word = tight word;
+}
+
+-- a fault of a source that stands by itself
+abbrev pub own_fault : List ℕ → Fault → SourceFault
+own_fault source fault = record {
+  file = None;
+  line = fault.line;
+  column = fault.column;
+  kind = Words fault.kind;
+  word = tight (fault_text source fault);
+}
+
+-- where a word of a flat text stands in its file; each fault of a flat text has an origin, so the start of the main source, which
+-- represents none, is never known
+abbrev pub origin_in : List ℕ → Flat → ℕ → Origin
+origin_in main flat at = unwrap_or (origin_at flat at) (record { path = main; line = 1; column = 1 })
+
+-- a source without includes, by its first fault
+abbrev pub own_by : List ℕ → Option Fault → Result Sourced SourceFault
+own_by source None = Ok (record { text = source; paths = [] })
+own_by source (Some fault) = Err (own_fault source fault)
+
+-- a flat text, by its first fault
+abbrev pub flat_by : List ℕ → Flat → Option Fault → Result Sourced SourceFault
+flat_by main flat None = Ok (record { text = flat.text; paths = flat.paths })
+flat_by main flat (Some fault) = Err (include_source_fault main (origin_in main flat fault.at) (Words fault.kind) (fault_text flat.text fault))
+
+-- what splicing comes to
+abbrev pub walked : List ℕ → SpliceOutcome → Result Sourced SourceFault
+walked main (Met fault) = Err (include_source_fault main fault.origin fault.kind fault.word.items)
+walked main (Came flat) = flat_by main flat (first_fault flat.text)
+
+-- what a source comes to: one with an include word is assembled from its flat text, any other from its own
+abbrev pub sourced : Reading → List ℕ → List ℕ → Result Sourced SourceFault
+sourced reading main source =
+    if is_spliced source then walked main (spliced reading main source) else own_by source (first_fault source)
+
+-- the first fault of a flat text is at a word with an origin
+abbrev pub HasOrigin : Flat → Type 0
+HasOrigin flat = IfSome (first_fault flat.text) (λ fault. IsSome (origin_at flat fault.at))

@@ -1,0 +1,110 @@
+//! What can be wrong with a source and its includes.
+
+ghost use Rattle.std.specs.Prelude.{◌≡◌, IfOk};
+ghost use Rattle.uxn_io_traits.specs.ByteList.{tight};
+ghost use Rattle.tal_assembly.specs.Lines.{message_of};
+ghost use Rattle.tal_assembly.specs.Sources.{include_source_fault, other_path, own_fault};
+ghost use Rattle.tal_assembly.specs.declared.fault.SourceStop.TheVariants.{NoMemory};
+
+use std::alloc::{AllocError, AllocFailed, Global};
+use tal_include::{IncludeKind, Origin};
+use tal_words::{Fault, fault_word};
+use thiserror::Error;
+use uxn_io_traits::{Bytes, Path, decimal};
+
+/// The first fault of a source: the file in which its word stands, where that is not the main source, and its place there; what
+/// is wrong, where `Words` has the fault that the text has as a source; and the word.
+#[derive(Debug, Drop)]
+pub struct SourceFault {
+    pub file: Option<Path>,
+    pub line: u32,
+    pub column: u32,
+    pub kind: IncludeKind,
+    pub word: Bytes,
+}
+
+impl SourceFault {
+    /// A fault of a source that stands by itself.
+    pub fn own(alloc: Global, source: &[u8], fault: &Fault) -> Result<SourceFault, AllocError>
+        ensures { IfOk result (λ made. made ≡ own_fault source.now fault.now) }
+    {
+        Ok(SourceFault {
+            file: None,
+            line: fault.line,
+            column: fault.column,
+            kind: IncludeKind::Words(fault.kind),
+            word: Bytes::new(alloc, fault_word(source, fault))?,
+        })
+    }
+
+    /// A fault at a word of a file.
+    pub(crate) fn new(
+        alloc: Global,
+        main: &Path,
+        origin: &Origin,
+        kind: IncludeKind,
+        word: &[u8],
+    ) -> Result<SourceFault, AllocError>
+        ensures { IfOk result (λ made. made ≡ include_source_fault main.now origin.now kind word.now) }
+    {
+        Ok(SourceFault {
+            file: other_path(main, &origin.path),
+            line: origin.line,
+            column: origin.column,
+            kind,
+            word: Bytes::new(alloc, word)?,
+        })
+    }
+
+    /// The text that is printed: where the word stands, what is wrong, and the word.
+    pub fn message(&self, alloc: Global) -> Result<Vec<u8>, AllocError>
+        ensures { IfOk result (λ made. made.items ≡ message_of self.now) }
+    {
+        let mut text = Vec::from_slice(alloc, b"source ")?;
+        if let Some(path) = &self.file {
+            text.extend_from_slice(path.bytes())?;
+            text.push(b' ')?;
+        }
+        text.extend_from_slice(&decimal(u64::from(self.line)))?;
+        text.push(b':')?;
+        text.extend_from_slice(&decimal(u64::from(self.column)))?;
+        text.extend_from_slice(b": ")?;
+        text.extend_from_slice(self.kind.name().as_bytes())?;
+        text.extend_from_slice(b": ")?;
+        text.extend_from_slice(self.word.as_slice())?;
+        Ok(text)
+    }
+}
+
+/// The path of a file, where it is another than the main source.
+fn other_path(main: &Path, path: &Path) -> Option<Path>
+    ensures { result ≡ other_path main.now path.now }
+{
+    if path.bytes() == main.bytes() {
+        None
+    } else {
+        Some(*path)
+    }
+}
+
+/// Why a source is not assembled.
+#[derive(Debug, Drop, Error)]
+pub enum SourceStop {
+    /// This is its first fault.
+    #[error("the source is refused")]
+    Refused(SourceFault),
+    /// The tree failed.
+    #[error("a file was not read")]
+    TreeFault,
+    /// Memory ran out.
+    #[error("out of memory")]
+    NoMemory,
+}
+
+impl From<AllocError> for SourceStop {
+    ghost from_gives = { λ _ stop. stop ≡ NoMemory };
+
+    fn from(_error: AllocError) -> SourceStop {
+        SourceStop::NoMemory
+    }
+}

@@ -1,0 +1,157 @@
+//! A source with its includes, assembled.
+
+ghost use Rattle.std.specs.Prelude.{◌≡◌, Ok, false, IfOk, IfSome};
+ghost use Rattle.uxn_io_traits.specs.Ended.{TreeLooked};
+ghost use Rattle.tal_words.specs.Faults.{fault_text};
+ghost use Rattle.tal_rom.specs.Assembly.{IsAssembled, first_fault};
+ghost use Rattle.tal_include.specs.declared.faults.IncludeKind.TheVariants.{Words};
+ghost use Rattle.tal_include.specs.Answers.{known_reading};
+ghost use Rattle.tal_include.specs.Splice.{Reading};
+ghost use Rattle.tal_assembly.specs.Answers.{Comes, has_failed};
+ghost use Rattle.tal_assembly.specs.Sources.{include_source_fault, flat_by, origin_in, own_by, sourced};
+
+use crate::fault::{SourceFault, SourceStop};
+use std::alloc::{AllocError, Global};
+use std::marker::Model;
+use tal_include::{IncludeKind, Origin, SpliceStop, Spliced, has_includes, splice};
+use tal_rom::{Assembly, assemble};
+use tal_words::{AsmStop, Fault, fault_word};
+use uxn_io_traits::{Bytes, Path, Tree};
+
+/// A source without a fault: the text that was assembled, which is its own or its flat text, the files that it includes, and
+/// what it is assembled to.
+#[derive(Drop)]
+pub struct AssembledSource {
+    text: Bytes,
+    paths: Vec<Path>,
+    assembly: Assembly,
+}
+
+impl Model for AssembledSource {
+    ghost use Rattle.std.specs.Prelude.{◌≤◌, length};
+    ghost use Rattle.tal_rom.specs.Rom.{rom_limit};
+    ghost use Rattle.tal_assembly.specs.Answers.{SourceView};
+
+    ghost Value = { SourceView };
+
+    ghost view = { λ s. record { text = s.text.list; paths = s.paths.items; assembly = s.assembly } };
+
+    ghost invariant = { λ s. length s.assembly.rom ≤ rom_limit };
+}
+
+impl AssembledSource {
+    /// The text that was assembled: the source, or its flat text where it has an include word.
+    pub fn text(&self) -> &[u8]
+        ensures { result.now ≡ self.now.text }
+    {
+        self.text.as_slice()
+    }
+
+    /// The files that were read beside the main source, in the order of reading.
+    pub fn paths(&self) -> &[Path]
+        ensures { result.now ≡ self.now.paths }
+    {
+        self.paths.as_slice()
+    }
+
+    /// What the text is assembled to.
+    pub fn assembly(&self) -> &Assembly
+        ensures { result.now ≡ self.now.assembly }
+    {
+        &self.assembly
+    }
+}
+
+/// Assembles a source, with the words of its files in place of the words that include them. Refused with its first fault, at
+/// the word of the file that has it. The tree does not change.
+pub fn read_source<T: Tree>(
+    alloc: Global,
+    tree: &mut T,
+    main: &Path,
+    source: Bytes,
+) -> Result<AssembledSource, SourceStop>
+    ensures contents { IfSome (T.state tree.old).contents (λ nodes. Comes result (sourced (known_reading nodes) main.now source.list)) }
+    ensures read { (reading : Reading) × Comes result (sourced reading main.now source.list) }
+    ensures assembled { IfOk result (λ made. IsAssembled made.text (Ok made.assembly)) }
+    ensures looked { TreeLooked (has_failed result) (T.state tree.old) (T.state tree.new) }
+{
+    if !has_includes(alloc, source.as_slice())? {
+        return assemble_own(alloc, source);
+    }
+    match splice(alloc, tree, main, source.as_slice()) {
+        Ok(flat) => assemble_flat(alloc, main, flat),
+        Err(SpliceStop::Refused(fault)) => {
+            let met = SourceFault::new(alloc, main, &fault.origin, fault.kind, &fault.word)?;
+            Err(SourceStop::Refused(met))
+        }
+        Err(SpliceStop::TreeFault) => Err(SourceStop::TreeFault),
+        Err(SpliceStop::NoMemory) => Err(SourceStop::NoMemory),
+    }
+}
+
+/// Assembles a source without include words.
+fn assemble_own(alloc: Global, source: Bytes) -> Result<AssembledSource, SourceStop>
+    ensures comes { Comes result (own_by source.list (first_fault source.list)) }
+    ensures assembled { IfOk result (λ made. IsAssembled made.text (Ok made.assembly)) }
+    ensures tree { has_failed result ≡ false }
+{
+    match assemble(alloc, source.as_slice()) {
+        Ok(assembly) => Ok(AssembledSource {
+            text: source,
+            paths: Vec::new(alloc),
+            assembly,
+        }),
+        Err(AsmStop::Refused(fault)) => {
+            let own = SourceFault::own(alloc, source.as_slice(), &fault)?;
+            Err(SourceStop::Refused(own))
+        }
+        Err(AsmStop::NoMemory) => Err(SourceStop::NoMemory),
+    }
+}
+
+/// Assembles a flat text.
+fn assemble_flat(alloc: Global, main: &Path, flat: Spliced) -> Result<AssembledSource, SourceStop>
+    ensures comes { Comes result (flat_by main.now flat (first_fault flat.text)) }
+    ensures assembled { IfOk result (λ made. IsAssembled made.text (Ok made.assembly)) }
+    ensures tree { has_failed result ≡ false }
+{
+    match assemble(alloc, flat.text()) {
+        Ok(assembly) => {
+            let (text, paths) = flat.into_parts();
+            Ok(AssembledSource {
+                text: Bytes::from(text),
+                paths,
+                assembly,
+            })
+        }
+        Err(AsmStop::Refused(fault)) => {
+            let met = flat_fault(alloc, main, &flat, &fault)?;
+            Err(SourceStop::Refused(met))
+        }
+        Err(AsmStop::NoMemory) => Err(SourceStop::NoMemory),
+    }
+}
+
+/// A fault of a flat text, at its word in the file where that stands.
+fn flat_fault(
+    alloc: Global,
+    main: &Path,
+    flat: &Spliced,
+    fault: &Fault,
+) -> Result<SourceFault, AllocError>
+    ensures { IfOk result (λ made. made
+        ≡ include_source_fault main.now (origin_in main.now flat.now fault.now.at) (Words fault.now.kind) (fault_text flat.now.text fault.now)) }
+{
+    let origin = flat.origin(fault.at).unwrap_or(Origin {
+        path: *main,
+        line: 1,
+        column: 1,
+    });
+    SourceFault::new(
+        alloc,
+        main,
+        &origin,
+        IncludeKind::Words(fault.kind),
+        fault_word(flat.text(), fault),
+    )
+}

@@ -1,0 +1,42 @@
+-- Tables of the first words of lines (profile): a word, how many values stand behind it, and what it represents.
+use Rattle.std.specs.Prelude.{ℕ, Bool, false, nat_lt, if◌then◌else◌, List, map, Option, Some, None, Result, Ok, Err}
+use Rattle.std.specs.List.{find}
+use Rattle.std.specs.Str.{bytes_eq}
+use Rattle.text_lines.specs.declared.row.Row.{Row}
+use Rattle.text_lines.specs.declared.row.Counts.{Counts}
+use Rattle.text_lines.specs.declared.row.Counts.TheVariants.{Exactly, Between, AtLeast}
+use Rattle.text_lines.specs.declared.row.LineFault.{LineFault}
+use Rattle.text_lines.specs.declared.row.LineFault.TheVariants.{Unknown, Missing, Extra}
+
+-- the rows of a table
+abbrev pub Rows : Type 0 → Type 0
+Rows K = List (List ℕ × Counts × K)
+
+abbrev pub rows_in : {K : Type 0} → List (Row K) → Rows K
+rows_in table = map (λ row. (row.0.now, row.1, row.2)) table
+
+-- the row of a first word
+unfoldable pub keyword_row : {K : Type 0} → Rows K → List ℕ → Option (List ℕ × Counts × K)
+keyword_row rows name = find (λ row. bytes_eq name row.0) rows
+
+-- there are too few values for a line, and too many
+abbrev pub are_too_few : Counts → ℕ → Bool
+are_too_few (Exactly wanted) count = nat_lt count wanted
+are_too_few (Between least most) count = nat_lt count least
+are_too_few (AtLeast least) count = nat_lt count least
+
+abbrev pub are_too_many : Counts → ℕ → Bool
+are_too_many (Exactly wanted) count = nat_lt wanted count
+are_too_many (Between least most) count = nat_lt most count
+are_too_many (AtLeast least) count = false
+
+-- the keyword of a row that takes as many values
+abbrev pub with_count : {K : Type 0} → List ℕ × Counts × K → ℕ → Result K LineFault
+with_count row count =
+    if are_too_few row.1 count then Err Missing
+    else if are_too_many row.1 count then Err Extra
+    else Ok row.2
+
+abbrev pub counted : {K : Type 0} → Option (List ℕ × Counts × K) → ℕ → Result K LineFault
+counted None count = Err Unknown
+counted (Some row) count = with_count row count

@@ -1,0 +1,80 @@
+//! Tables of the first words of lines.
+
+ghost use Rattle.std.specs.Prelude.{◌≡◌, length};
+ghost use Rattle.text_lines.specs.Lines.{words_of};
+ghost use Rattle.text_lines.specs.Rows.{rows_in, keyword_row, counted, with_count};
+
+use crate::words::first_word;
+
+/// How many values a line takes behind its first word.
+#[derive(Clone, Copy)]
+pub enum Counts {
+    /// So many.
+    Exactly(usize),
+    /// From the first number to the second.
+    Between(usize, usize),
+    /// So many or more.
+    AtLeast(usize),
+}
+
+/// A row of a table of lines: a first word, how many values it takes, and what it represents.
+#[derive(Clone, Copy)]
+pub struct Row<K>(pub &'static str, pub Counts, pub K);
+
+/// What can be wrong with the words of a line.
+#[derive(Clone, Copy, PartialEq, Eq)]
+pub enum LineFault {
+    /// The first word is in no row.
+    Unknown,
+    /// There are too few values.
+    Missing,
+    /// There are too many values.
+    Extra,
+}
+
+/// The keyword of a first word whose row takes as many values as there are words.
+#[tactic(auto, unfolding(crate::specs::Rows::keyword_row))]
+pub fn keyword_line<K: Copy>(rows: &[Row<K>], name: &[u8], values: &[u8]) -> Result<K, LineFault>
+    ensures { result ≡ counted (keyword_row (rows_in rows.now) name.now) (length (words_of values.now)) }
+{
+    let mut left = rows;
+    while let Some((row, more)) = left.split_first() {
+        if row.0.as_bytes() == name {
+            return count_values(row, values);
+        }
+        left = more;
+    }
+    Err(LineFault::Unknown)
+}
+
+// The keyword of a row, where so many values are taken.
+fn count_values<K: Copy>(row: &Row<K>, values: &[u8]) -> Result<K, LineFault>
+    ensures { result ≡ with_count (row.now.0.now, row.now.1, row.now.2) (length (words_of values.now)) }
+{
+    let (least, most) = match row.1 {
+        Counts::Exactly(count) => (count, count),
+        Counts::Between(least, most) => (least, most),
+        Counts::AtLeast(least) => (least, usize::MAX),
+    };
+    let count = count_words(values);
+    if count < least {
+        return Err(LineFault::Missing);
+    }
+    if most < count {
+        return Err(LineFault::Extra);
+    }
+    Ok(row.2)
+}
+
+/// How many words a line has.
+pub(crate) fn count_words(line: &[u8]) -> usize
+    ensures { result ≡ length (words_of line.now) }
+{
+    let mut count = 0;
+    let mut left = line;
+    while let Some((_, more)) = first_word(left) {
+        left = more;
+        count += 1;
+    }
+    count
+}

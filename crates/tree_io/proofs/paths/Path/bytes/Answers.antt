@@ -1,5 +1,0 @@
-use Rattle.tree_io.proofs.PathLemmas.{path_of_text}
-use Rattle.tree_io.proofs.paths.Path.bytes.Goals as goal
-
-pub returns-clause-path : goal.returns-clause-path
-returns-clause-path c = rw (← c.self.view_is) (path_of_text _ c.self.invariant.path)

@@ -1,6 +1,0 @@
-use Rattle.std.proofs.Common.{refl}
-use Rattle.tree_io.proofs.PathLemmas.{padded_text}
-use Rattle.tree_io.proofs.paths.padded.Goals as goal
-
-pub returns : goal.returns
-returns c = padded_text c.args.text.now _ _ c.copy_from_slice.ensures.after refl c.requires

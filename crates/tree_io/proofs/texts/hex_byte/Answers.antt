@@ -1,7 +1,0 @@
-use Rattle.std.proofs.Common.{rules}
-use Rattle.hex.specs.Hex.{encode_with}
-use Rattle.tree_io.proofs.texts.hex_byte.Goals as goal
-
-pub returns : goal.returns
-unfolding encode_with
-returns c = search rules

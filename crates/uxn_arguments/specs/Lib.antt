@@ -1,0 +1,5 @@
+pub mod Roles
+pub mod Tasks
+pub mod Words
+pub mod ReadsArguments
+pub mod Places

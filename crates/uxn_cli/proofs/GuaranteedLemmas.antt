@@ -1,0 +1,11 @@
+-- What is said of a tree of known contents.
+use Rattle.uxn_cli.proofs.Common.{◌≡◌, Option, Some, None, IfSome, Nodes, refl}
+
+-- this holds where the contents are known
+pub where_known : (tree : Option Nodes) (P : Nodes → Type 0) → ((nodes : Nodes) → tree ≡ Some nodes → P nodes) → IfSome tree P
+where_known None P all = tt
+where_known (Some nodes) P all = all nodes refl
+
+-- what holds whatever its contents
+pub always : (tree : Option Nodes) (A : Nodes → Type 0) (P : Type 0) → P → IfSome tree (λ nodes. A nodes → P)
+always tree A P is = where_known tree (λ nodes. A nodes → P) (λ nodes contents a. is)

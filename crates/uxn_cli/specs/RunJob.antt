@@ -1,0 +1,136 @@
+-- What is run: a ROM with a script, each vector of at most so many instructions, beneath a root; its pictures, its samples and its
+-- report; and the commands of a debugger that watches it.
+use Rattle.std.specs.Prelude.{ℕ, Bool, false, List, map, [], ◌++◌, codes, decimal, Option, Some, None, option_to_list}
+use Rattle.std.specs.FinMap as nodes_map
+use Rattle.uxn_io_traits.specs.Files.{Nodes}
+use Rattle.file_ports.specs.RootPart.{below, parent_is_folder}
+use Rattle.uxn_opcodes.specs.declared.Core.{Core}
+use Rattle.uxn_opcodes.specs.Rule.{new_core}
+use Rattle.system_port.specs.DebugText.{exit_code_of}
+use Rattle.play_script.specs.declared.script.Clock.{Clock as ScriptClock}
+use Rattle.play_script.specs.declared.script.Version.{Version}
+use Rattle.play_script.specs.declared.script.Version.TheVariants.{First, Second}
+use Rattle.play_script.specs.Scripts.{ScriptView}
+use Rattle.varvara_bus.specs.declared.time.Clock.{Clock}
+use Rattle.varvara_bus.specs.History.{stored}
+use Rattle.varvara_bus.specs.State.{DeviceState, new_state}
+use Rattle.vector_loop.specs.declared.tally.Tally.{Tally}
+use Rattle.vector_loop.specs.State.{State, new_tally}
+use Rattle.vector_loop.specs.Trace.{Trace}
+use Rattle.vector_loop.specs.declared.output.Outputs.{Outputs}
+use Rattle.vector_loop.specs.Run.{run}
+use Rattle.vector_loop.specs.Watch.{page_in, moment_of}
+use Rattle.tal_words.specs.declared.name.Label.{Label}
+use Rattle.debug_commands.specs.declared.command.DebugCommand.{DebugCommand}
+use Rattle.uxn_debugger.specs.Log.{Shown, log_of}
+use Rattle.uxn_task_files.specs.World.{Text, requested_output}
+use Rattle.uxn_cli.specs.declared.running.RunEnd.{RunEnd}
+
+-- what a debugger does: its commands, the labels that its log names, and the file of the log
+pub record Debugging : Type 0 where
+  pub commands : List DebugCommand
+  pub labels : List Label
+  pub log : Option (List ℕ)
+
+-- the folder of a program's own files: its path, where one is given; what lies there and beneath it; and whether its parent is
+-- a folder
+pub record RootView : Type 0 where
+  pub root : Option (List ℕ)
+  pub part : Nodes
+  pub parent : Bool
+
+abbrev pub no_root_view : RootView
+no_root_view = record { root = None; part = nodes_map.empty; parent = false }
+
+-- as the files of a tree have it
+abbrev pub job_root_view : Option (List ℕ) → Nodes → RootView
+job_root_view root nodes = record { root = root; part = below root nodes; parent = parent_is_folder root nodes }
+
+pub record RunJob : Type 0 where
+  pub rom : List ℕ
+  pub script : ScriptView
+  pub budget : ℕ
+  pub root_view : RootView
+  pub frames : Option (List ℕ)
+  pub samples : Option (List ℕ)
+  pub report : Option (List ℕ)
+  pub debug : Option Debugging
+
+-- the files that it writes, in the order of the usage line
+abbrev pub log_paths : Option Debugging → List (List ℕ)
+log_paths None = []
+log_paths (Some debugging) = option_to_list debugging.log
+
+abbrev pub job_outputs : RunJob → List (List ℕ)
+job_outputs job = log_paths job.debug ++ (option_to_list job.frames ++ option_to_list job.samples ++ option_to_list job.report)
+
+-- the files that it appends to while it runs
+abbrev pub wanted_outputs : Option (List ℕ) → Option (List ℕ) → Outputs
+wanted_outputs frames samples = record { frames = frames; samples = samples }
+
+-- the clock of a script is that of the machine
+abbrev pub bus_clock : ScriptClock → Clock
+bus_clock clock = record { seconds = clock.seconds; offset = clock.offset }
+
+-- a new machine, and the reference run from there
+abbrev pub first_devices : ScriptView → RootView → DeviceState
+first_devices script root_view = new_state (bus_clock script.clock) root_view.root root_view.part root_view.parent
+
+abbrev pub first_state : Core → ScriptView → RootView → State
+first_state core script root_view = record { core = core; devices = first_devices script root_view; tally = new_tally }
+
+unfoldable pub reference_trace : ℕ → Outputs → ScriptView → RootView → Core → Trace
+reference_trace budget outputs script root_view core = run budget outputs script (first_state core script root_view)
+
+-- that of the ROM
+abbrev pub trace_of : RunJob → Trace
+trace_of job = reference_trace job.budget (wanted_outputs job.frames job.samples) job.script job.root_view (new_core job.rom)
+
+-- the exit code: the low seven bits of port 0f at the end
+abbrev pub state_exit : State → ℕ
+state_exit state = exit_code_of (stored state.devices.history 0x0f)
+
+-- how a run ended, by its last state
+abbrev pub run_end : State → RunEnd
+run_end state = record { exit = state_exit state; tally = state.tally }
+
+abbrev pub exit_of : RunJob → ℕ
+exit_of job = state_exit (trace_of job).last
+
+-- a line of a report: a word and a number
+abbrev pub report_line : List ℕ → ℕ → List ℕ
+report_line name count = name ++ codes " " ++ decimal count ++ codes "\n"
+
+-- the lines of what only version 2 has
+abbrev pub further_lines : Version → Tally → List ℕ
+further_lines First tally = []
+further_lines Second tally = report_line (codes "expects") tally.expects ++ report_line (codes "misses") tally.misses
+
+-- the lines of both versions
+unfoldable pub common_lines : ℕ → Tally → List ℕ
+common_lines exit tally =
+    report_line (codes "exit") exit
+    ++ report_line (codes "instructions") tally.instructions
+    ++ report_line (codes "vectors") tally.vectors
+    ++ report_line (codes "cuts") tally.cuts
+    ++ report_line (codes "events") tally.events
+    ++ report_line (codes "frames") tally.frames
+    ++ report_line (codes "shots") tally.shots
+
+-- the report of a run: its exit code and what was counted
+unfoldable pub report_text : Version → ℕ → Tally → List ℕ
+report_text version exit tally = common_lines exit tally ++ further_lines version tally
+
+abbrev pub report_of : Option (List ℕ) → Version → State → List Text
+report_of path version end = requested_output path (report_text version (state_exit end) end.tally)
+
+-- what a debugger is shown of a state, and its log over a whole run
+abbrev pub state_shown : State → Shown
+state_shown state = record { core = state.core; page = page_in state; moment = moment_of state }
+
+unfoldable pub log_text : Debugging → Trace → List ℕ
+log_text debugging trace = log_of debugging.labels (map state_shown trace.moments) (state_shown trace.last) debugging.commands
+
+abbrev pub log_texts : Option Debugging → Trace → List Text
+log_texts None trace = []
+log_texts (Some debugging) trace = requested_output debugging.log (log_text debugging trace)

@@ -1,0 +1,79 @@
+//! What a patcher tells after each word that it is given.
+
+use std::alloc::Global;
+use tal_labels::Placer;
+use tal_macros::Expander;
+use tal_rom::Patcher;
+use tal_words::{AsmStop, words};
+
+/// What a patcher tells: how many words wait, whether all fit, and its image without the zeros at the end.
+type Known = (u32, bool, &'static [u8]);
+
+/// Sources, each with what a patcher tells after each of its words: a reference that waits for its label, one that
+/// cannot reach it, and a lambda.
+static PATCHED: [(&[u8], &[Known]); 3] = [
+    (
+        b";x @x INC",
+        &[
+            (1, true, b""),
+            (0, true, &[0xa0, 0x01, 0x03]),
+            (0, true, &[0xa0, 0x01, 0x03, 0x01]),
+        ],
+    ),
+    (
+        b",x $81 @x",
+        &[(1, true, b""), (1, true, b""), (0, false, b"")],
+    ),
+    (
+        b"?{ 03 }",
+        &[
+            (1, true, b""),
+            (1, true, &[0, 0, 0, 0x03]),
+            (0, true, &[0x20, 0x00, 0x01, 0x03]),
+        ],
+    ),
+];
+
+/// Whether an image begins with these bytes and is 0 behind them.
+fn shows(image: &[u8], bytes: &[u8]) -> bool {
+    match image.strip_prefix(bytes) {
+        Some(rest) => rest.iter().all(|byte| *byte == 0),
+        None => false,
+    }
+}
+
+/// Whether a patcher tells this now.
+fn tells(patcher: &Patcher, (waiting, fits, bytes): &Known) -> bool {
+    patcher.waiting() == *waiting && patcher.fits() == *fits && shows(patcher.image(), bytes)
+}
+
+/// Whether a patcher tells this after each of the first words of a source.
+fn is_patched(alloc: Global, source: &[u8], steps: &[Known]) -> Result<bool, AsmStop> {
+    let words = words(alloc, source)?;
+    let mut expander = Expander::new(alloc, source, &words);
+    let mut placer = Placer::new(alloc);
+    let mut patcher = Patcher::new(alloc)?;
+    for contents in steps {
+        let Some(word) = expander.next()? else {
+            return Ok(false);
+        };
+        let Some(placed) = placer.add(source, word)? else {
+            return Ok(false);
+        };
+        patcher.add(source, &placed)?;
+        if !tells(&patcher, contents) {
+            return Ok(false);
+        }
+    }
+    Ok(true)
+}
+
+#[test]
+fn patchers_fill_each_reference_as_its_target_comes(rt: HostRuntime) {
+    for (source, steps) in &PATCHED {
+        assert!(rt;
+            matches!(is_patched(rt.alloc(), source, steps), Ok(true)),
+            "at {source:?}"
+        );
+    }
+}

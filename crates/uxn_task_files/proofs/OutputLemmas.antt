@@ -1,0 +1,27 @@
+-- What stands where files are appended to.
+use Rattle.uxn_task_files.proofs.Common.{Bool, IfSome, IsSome, List, None, Option, Some, [], ap, arith, cond, false, map, option_map, refl, true, ℕ, ◌∷◌}
+use Rattle.uxn_task_files.proofs.Common.{◌≡◌, common_steps, get_or-map, length-map, map-append, All-weaker, with_appended, File, Node, Nodes, bytes_of}
+use Rattle.uxn_task_files.proofs.Common.{file_at, get_put, put_other, same_or_other, paths_of, observed_texts, AreFiles, Text, Output}
+use Rattle.std.specs.FinMap as fin
+
+-- an append leaves each file a file
+insert-file : (nodes : Nodes) (path other bytes : List ℕ) → IsSome (file_at nodes other) → IsSome (file_at (fin.insert nodes path (File bytes)) other)
+insert-file nodes path other bytes h =
+    let there = get_put nodes path (File bytes) in
+    let elsewhere = put_other nodes path other (File bytes) in
+    let two = same_or_other other path in
+    grind (arith, common_steps, there, elsewhere, two)
+
+appended-file : (nodes : Nodes) (path other bytes : List ℕ) → IsSome (file_at nodes other) → IsSome (file_at (with_appended path bytes nodes) other)
+appended-file nodes path other bytes h = grind (arith, common_steps, insert-file)
+
+pub keep_files : (texts : List Text) (path bytes : List ℕ) (now new : Option Nodes) → new ≡ option_map (with_appended path bytes) now
+    → IfSome now (AreFiles texts) → IfSome new (AreFiles texts)
+keep_files texts path bytes now new e files = grind (arith, common_steps, appended-file, All-weaker)
+
+pub ruleset pushed = (map-append)
+
+-- the paths of files that are written
+pub observed_paths : (outputs : List Output) → map (λ (t : Text). t.path) (observed_texts outputs) ≡ paths_of outputs
+observed_paths [] = refl
+observed_paths (output ∷ outputs) = ap (λ ps. output.path ∷ ps) (observed_paths outputs)

@@ -1,0 +1,80 @@
+-- Which of some paths meet and clash, and what tests find among them.
+use Rattle.uxn_task_files.proofs.Common.{Bool, List, None, Some, [], arith, bytes_eq, cond, count_by, false, find, refl, true, ℕ, ◌++◌, ◌+◌, ◌∷◌, ◌≡◌}
+use Rattle.uxn_task_files.proofs.Common.{◌≤◌, common_steps, bytes_eq-Decides, list_any, clashes, meets}
+use Rattle.std.proofs.lemmas.Bool.Decides.{nat_tests}
+use Rattle.std.proofs.lemmas.List.Sums.{sum_by-cons, sum_by-append}
+use Rattle.uxn_io_traits.specs.PathText.{is_under}
+
+-- one where a test holds
+abbrev pub one_if : Bool → ℕ
+one_if b = cond b 1 0
+
+-- ---- what is found
+
+module _ (p : List ℕ → Bool) where
+  -- where none passes a test, the first does not, nor does one of the others
+  pub none_parts : (path : List ℕ) (paths : List (List ℕ)) → find p (path ∷ paths) ≡ None → (p path ≡ false) × (find p paths ≡ None)
+  none_parts path paths none = (grind (arith, common_steps), grind (arith, common_steps))
+
+  pub none_last : (first last : List (List ℕ)) → find p (first ++ last) ≡ None → find p last ≡ None
+  none_last [] last none = none
+  none_last (path ∷ first) last none = none_last first last (none_parts path (first ++ last) none).1
+
+  pub none_among : (paths : List (List ℕ)) (path : List ℕ) → find p paths ≡ None → list_any (bytes_eq path) paths ≡ true → p path ≡ false
+  none_among [] path none among = absurd cc
+  none_among (other ∷ paths) path none among = (let rest = none_among paths path in grind (arith, common_steps, rest, bytes_eq-Decides))
+
+  -- nor does one pass a test that fewer pass
+  pub none_each : (q : List ℕ → Bool) (paths : List (List ℕ)) → ((path : List ℕ) → p path ≡ false → q path ≡ false) → find p paths ≡ None
+      → find q paths ≡ None
+  none_each q [] fewer none = refl
+  none_each q (path ∷ paths) fewer none = (let rest = none_each q paths fewer in grind (arith, common_steps, rest, fewer))
+
+  -- what is found is among them
+  pub found-among : (path : List ℕ) (paths : List (List ℕ)) → Some path ≡ find p paths → list_any (bytes_eq path) paths ≡ true
+  found-among path [] is = absurd cc
+  found-among path (other ∷ paths) is = (let rest = found-among path paths in grind (arith, common_steps, rest, bytes_eq-Decides))
+
+  -- how many pass
+  pub count-first : (path : List ℕ) (paths : List (List ℕ)) → count_by p (path ∷ paths) ≡ one_if (p path) + count_by p paths
+  count-first path paths = sum_by-cons (λ q. one_if (p q)) path paths
+
+  pub count-parts : (first last : List (List ℕ)) → count_by p (first ++ last) ≡ count_by p first + count_by p last
+  count-parts first last = sum_by-append (λ q. one_if (p q)) first last
+
+-- ---- what meets
+
+-- paths that do not meet are two, and neither lies beneath the other
+pub meets_parts : (path other : List ℕ) → meets path other ≡ false
+    → (bytes_eq path other ≡ false) × (is_under path other ≡ false) × (is_under other path ≡ false)
+meets_parts path other apart = (grind (arith, common_steps), grind (arith, common_steps), grind (arith, common_steps))
+
+-- a path among others meets one
+pub meets_one : (path : List ℕ) (paths : List (List ℕ)) → list_any (bytes_eq path) paths ≡ true → 1 ≤ count_by (meets path) paths
+meets_one path [] among = absurd cc
+meets_one path (other ∷ paths) among =
+    let rest = meets_one path paths in
+    let sum = count-first (meets path) other paths in
+    grind (arith, common_steps, rest, sum)
+
+-- ---- what clashes
+
+-- a path that does not clash meets one place at most, and is no input
+pub clash_parts : (inputs places : List (List ℕ)) (path : List ℕ) → clashes inputs places path ≡ false
+    → (count_by (meets path) places ≤ 1) × (list_any (bytes_eq path) inputs ≡ false)
+unfolding clashes
+clash_parts inputs places path apart = (grind (arith, nat_tests), grind (arith, nat_tests))
+
+pub clash_from : (inputs places : List (List ℕ)) (path : List ℕ) → count_by (meets path) places ≤ 1 → list_any (bytes_eq path) inputs ≡ false
+    → clashes inputs places path ≡ false
+unfolding clashes
+clash_from inputs places path few input = grind (arith, nat_tests, common_steps)
+
+-- outputs that do not clash with more places do not with fewer
+pub no_clash-fewer : (inputs more places paths : List (List ℕ)) → find (clashes inputs (more ++ places)) paths ≡ None
+    → find (clashes inputs places) paths ≡ None
+no_clash-fewer inputs more places paths =
+    none_each (clashes inputs (more ++ places)) (clashes inputs places) paths
+    (λ path apart.
+    let both = clash_parts inputs (more ++ places) path apart in
+    clash_from inputs places path (omega (arith, both.0, count-parts (meets path) more places)) both.1)

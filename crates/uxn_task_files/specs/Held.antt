@@ -1,0 +1,56 @@
+-- What the code holds of inputs that are accepted, as the definitions see it.
+use Rattle.std.specs.Prelude.{◌≡◌, ℕ, ◌≤◌, List, length, All, Option, option_map}
+use Rattle.std.specs.Global.{Vec}
+use Rattle.play_script.specs.Held.{bytes_in}
+use Rattle.tal_assembly.specs.Answers.{SourceView}
+use Rattle.tal_assembly.specs.Sources.{Sourced}
+use Rattle.tal_words.specs.declared.name.Label.{Label}
+use Rattle.uxn_io_traits.specs.ByteList.{ByteList}
+use Rattle.uxn_memory.specs.Bytes.{largest_rom}
+use Rattle.uxn_task_files.specs.declared.assembling.Written.{Written}
+use Rattle.uxn_task_files.specs.declared.machines.LineInputs.{LineInputs}
+use Rattle.uxn_task_files.specs.declared.program.Program.{Program}
+use Rattle.uxn_task_files.specs.declared.program.Program.TheVariants.{Rom, Source}
+use Rattle.uxn_task_files.specs.declared.run_inputs.RunInputs.{RunInputs}
+use Rattle.uxn_task_files.specs.Accepted.{Loaded, loaded_rom, debug_labels, GivenInputs, SourceFiles, Machines}
+use Rattle.uxn_task_files.specs.Outputs.{observed_texts}
+
+-- a source that was read: the text that is assembled, and the paths of the files that it includes
+abbrev pub model_of_source : SourceView → Sourced
+model_of_source source = record { text = source.text; paths = source.paths }
+
+-- a program that was loaded
+abbrev pub model_of_program : Program → Loaded
+model_of_program (Rom rom) = loaded_rom rom.list
+model_of_program (Source source) = record { rom = source.assembly.rom; labels = source.assembly.labels; included = source.paths }
+
+-- labels that a symbol file gave, and the labels of a debugger: those, else those of the source
+abbrev pub model_of_labels : Option (Vec Label) → Option (List Label)
+model_of_labels given = option_map (λ (labels : Vec Label). labels.items) given
+
+abbrev pub model_of_debug_labels : Loaded → Option (Vec Label) → List Label
+model_of_debug_labels program given = debug_labels (model_of_labels given) program
+
+-- all that a run is given
+abbrev pub model_of_inputs : RunInputs → GivenInputs
+model_of_inputs inputs = record {
+  program = model_of_program inputs.program;
+  labels = model_of_labels inputs.given;
+  script = inputs.script;
+  commands = inputs.commands.items;
+}
+
+-- the files that are written out of a source
+abbrev pub model_of_files : Written → SourceFiles
+model_of_files written = record { texts = observed_texts written.outputs.items; included = written.source.paths }
+
+-- the machines of a setup
+abbrev pub model_of_machines : LineInputs → Machines
+model_of_machines inputs = record { setup = inputs.setup; roms = bytes_in inputs.roms.items; script = inputs.script }
+
+-- 2 to 8 machines, each with a ROM that fits
+pub record AreMachines (paths : List (List ℕ)) (roms : List ByteList) : Type 0 where
+  pub count : length roms ≡ length paths
+  pub least : 2 ≤ length roms
+  pub most : length roms ≤ 8
+  pub fit : All (λ rom. length rom.list ≤ largest_rom) roms

@@ -1,0 +1,27 @@
+-- Files that are made and filled, as changes in order.
+use Rattle.std.specs.Prelude.{ℕ, Bool, List, ◌++◌, map}
+use Rattle.std.specs.List.{flat_map}
+use Rattle.uxn_io_traits.specs.Ended.{TreeEnded, Refused}
+use Rattle.uxn_io_traits.specs.Outside.{Change, Creates, ToFile}
+use Rattle.uxn_io_traits.specs.State.{TreeState}
+use Rattle.uxn_task_files.specs.World.{Text}
+
+-- files made, empty and in order
+abbrev pub creating_all : List (List ℕ) → List Change
+creating_all paths = map (λ path. Creates path) paths
+
+-- a file gets its bytes, and files theirs, in order
+abbrev pub filling : Text → List Change
+filling text = map (λ byte. ToFile text.path byte) text.bytes
+
+abbrev pub filling_all : List Text → List Change
+filling_all texts = flat_map filling texts
+
+-- files are written: all are made, and then they get their bytes
+unfoldable pub writing : List Text → List Change
+writing texts = creating_all (map (λ text. text.path) texts) ++ filling_all texts
+
+-- changes were made, or a prefix of them where the tree failed; and whether the tree itself refused to create a file
+pub record Did (changes : List Change) (failed refused : Bool) (before now : TreeState) : Type 0 where
+  pub done : TreeEnded changes failed before now
+  pub refusals : Refused refused before now

@@ -1,0 +1,133 @@
+//! What `asm` does: a source is assembled, and what is requested is written.
+ghost use Rattle.std.specs.Prelude.{◌≡◌, ◌++◌, Ok, IfOk, OnOk};
+ghost use Rattle.tal_rom.specs.Assembly.{IsAssembled};
+ghost use Rattle.tal_symbols.specs.SymbolFile.{symbol_file};
+ghost use Rattle.tal_listing.specs.Listing.{listing_of};
+ghost use Rattle.uxn_task_files.specs.Accepted.{source_files, output_texts};
+ghost use Rattle.uxn_task_files.specs.Held.{model_of_files};
+ghost use Rattle.uxn_task_files.specs.Made.{AreApart, WritesOutputs};
+ghost use Rattle.uxn_task_files.specs.Outputs.{paths_of, observed_texts};
+ghost use Rattle.uxn_task_files.specs.Views.{ReadsInputs};
+ghost use Rattle.uxn_task_files.specs.World.{requested_output};
+
+use super::making::look_at;
+use super::outputs::{Output, write_all};
+use super::refusal::{Halt, Refusal};
+use super::sources::accept_source;
+use std::alloc::{AllocError, Global};
+use tal_assembly::AssembledSource;
+use tal_listing::listing;
+use tal_rom::Assembly;
+use tal_symbols::write_symbols;
+use uxn_arguments::{Command, Role, Task};
+use uxn_io_traits::{Path, Tree};
+
+/// The file of a ROM, where it was requested.
+#[tactic(auto, using(crate::proofs::OutputLemmas::pushed))]
+fn push_rom(
+    alloc: Global,
+    outputs: &mut Vec<Output>,
+    path: &Option<Path>,
+    assembly: &Assembly,
+) -> Result<(), AllocError>
+    ensures { OnOk result (observed_texts outputs.new.items ≡ observed_texts outputs.old.items ++ requested_output path.now assembly.now.rom) }
+{
+    if let Some(path) = path {
+        let bytes = Vec::from_slice(alloc, assembly.rom())?;
+        outputs.push(Output { path: *path, bytes })?;
+    }
+    Ok(())
+}
+
+/// The file of its symbols, where it was requested.
+#[tactic(auto, using(crate::proofs::OutputLemmas::pushed))]
+fn push_symbols(
+    alloc: Global,
+    outputs: &mut Vec<Output>,
+    path: &Option<Path>,
+    assembly: &Assembly,
+) -> Result<(), AllocError>
+    ensures { OnOk result (observed_texts outputs.new.items ≡ observed_texts outputs.old.items ++ requested_output path.now (symbol_file assembly.now.labels)) }
+{
+    if let Some(path) = path {
+        let bytes = write_symbols(alloc, assembly.labels())?;
+        outputs.push(Output { path: *path, bytes })?;
+    }
+    Ok(())
+}
+
+/// The file of its listing, where it was requested.
+#[tactic(auto, using(crate::proofs::OutputLemmas::pushed))]
+fn push_listing(
+    alloc: Global,
+    outputs: &mut Vec<Output>,
+    path: &Option<Path>,
+    source: &AssembledSource,
+) -> Result<(), AllocError>
+    requires { IsAssembled source.now.text (Ok source.now.assembly) }
+    ensures { OnOk result (observed_texts outputs.new.items ≡ observed_texts outputs.old.items ++ requested_output path.now (listing_of source.now.text source.now.assembly)) }
+{
+    if let Some(path) = path {
+        let bytes = listing(alloc, source.text(), source.assembly())?;
+        outputs.push(Output { path: *path, bytes })?;
+    }
+    Ok(())
+}
+
+/// The files that were requested, with what they are to hold.
+fn outputs_of(
+    alloc: Global,
+    task: &Task,
+    source: &AssembledSource,
+) -> Result<Vec<Output>, AllocError>
+    requires { IsAssembled source.now.text (Ok source.now.assembly) }
+    ensures { IfOk result (λ outputs. observed_texts outputs.items ≡ output_texts task.now source.now.text) }
+{
+    let mut outputs = Vec::new(alloc);
+    push_rom(
+        alloc,
+        &mut outputs,
+        &task.path(Role::Out),
+        source.assembly(),
+    )?;
+    push_symbols(
+        alloc,
+        &mut outputs,
+        &task.path(Role::Symbols),
+        source.assembly(),
+    )?;
+    push_listing(alloc, &mut outputs, &task.path(Role::Listing), source)?;
+    Ok(outputs)
+}
+
+/// A source that is accepted, and the files that are written out of it.
+#[derive(Drop)]
+pub struct Written {
+    /// The source, which may include files.
+    pub source: AssembledSource,
+    /// The files, with what they are to hold.
+    pub outputs: Vec<Output>,
+}
+
+/// Assembles the source in a file. All that takes memory is done here, before the first file is made.
+pub fn assemble<T: Tree>(alloc: Global, task: &Task, tree: &mut T) -> Result<Written, Halt>
+    requires { task.now.command ≡ Command.Assemble }
+    ensures { ReadsInputs model_of_files task.now (source_files task.now) (T.state tree.old) (T.state tree.new) result }
+{
+    let source = accept_source(alloc, &task.file, tree)?;
+    let outputs = outputs_of(alloc, task, &source)?;
+    Ok(Written { source, outputs })
+}
+
+/// Writes the files that were requested.
+#[tactic(auto, using(crate::proofs::WriteLemmas::writes))]
+pub fn write_outputs<T: Tree>(written: &Written, tree: &mut T) -> Result<(), Halt>
+    requires { AreApart (paths_of written.now.outputs.items) }
+    ensures { WritesOutputs written.now.source.paths (paths_of written.now.outputs.items) (observed_texts written.now.outputs.items) (T.state tree.old) (T.state tree.new) result }
+{
+    look_at(written.source.paths(), &written.outputs, tree)?;
+    match write_all(tree, &written.outputs)? {
+        Some(path) => Err(Halt::Refused(Refusal::NoOutput(path))),
+        None => Ok(()),
+    }
+}

@@ -1,0 +1,124 @@
+//! Inputs: the files that are read, one after the other, each by its kind.
+ghost use Rattle.std.specs.Prelude.{◌≡◌, ◌≤◌, length, option_map, IfOk};
+ghost use Rattle.uxn_io_traits.specs.WholeFile.{KeepsLimit};
+ghost use Rattle.uxn_task_files.specs.FollowsDefinition.{FollowsDefinition};
+ghost use Rattle.uxn_task_files.specs.Inputs.{requested_text, limit_of, long_refusal, kind_text, too_long};
+ghost use Rattle.uxn_task_files.specs.Reading.{ReadsInput};
+ghost use Rattle.uxn_task_files.specs.Views.{bytes_observed, input_observed};
+
+use super::refusal::{Halt, Refusal};
+use debug_commands::CommandKind;
+use play_script::ScriptKind;
+use setup_lines::SetupKind;
+use std::alloc::Global;
+use tal_assembly::{IncludeKind, SourceFault};
+use tal_symbols::SymbolKind;
+use tal_words::FaultKind;
+use uxn_io_traits::{Bytes, FileBytes, Path, Tree, read_file};
+use uxn_memory::LARGEST_ROM;
+
+/// What a file is read as.
+#[derive(Clone, Copy)]
+pub enum InputKind {
+    /// A source, or a file that is run as one.
+    Source,
+    /// A ROM that is run.
+    Rom,
+    /// A ROM that is disassembled, which ends with bank 0.
+    BankRom,
+    /// Symbols.
+    Symbols,
+    /// A script.
+    Script,
+    /// The commands of a debugger.
+    Commands,
+    /// The setup of a line of machines.
+    Setup,
+}
+
+impl InputKind {
+    /// No more bytes of a file are read.
+    fn limit(self) -> u32
+        ensures { result ≡ limit_of self }
+    {
+        match self {
+            InputKind::Source => 4_194_304,
+            InputKind::Rom => LARGEST_ROM as u32,
+            InputKind::BankRom => 65_280,
+            InputKind::Symbols => 16_777_216,
+            InputKind::Script => 4_194_304,
+            InputKind::Commands => 4_194_304,
+            InputKind::Setup => 4_194_304,
+        }
+    }
+
+    /// Why a longer file is refused.
+    fn long_refusal(self, alloc: Global, length: u64) -> Refusal
+        ensures { result ≡ long_refusal self length }
+    {
+        match self {
+            InputKind::Source => Refusal::Faulty(long_source(alloc)),
+            InputKind::Rom => Refusal::LongRom(length),
+            InputKind::BankRom => Refusal::LongRom(length),
+            InputKind::Symbols => Refusal::BadSymbols(0, SymbolKind::Long),
+            InputKind::Script => Refusal::BadScript(1, ScriptKind::LongScript),
+            InputKind::Commands => Refusal::BadCommands(1, CommandKind::LongCommands),
+            InputKind::Setup => Refusal::BadSetup(1, SetupKind::LongSetup),
+        }
+    }
+
+    /// The bytes of a file that is there and not too long.
+    fn kind_text(self, alloc: Global, path: &Path, file: FileBytes) -> Result<Bytes, Halt>
+        ensures follows { FollowsDefinition (λ text. text.list) result (kind_text self path.now file) }
+        ensures limit { KeepsLimit (limit_of self) file → IfOk result (λ text. length text.list ≤ limit_of self) }
+    {
+        match file {
+            FileBytes::Found(text) => Ok(text),
+            FileBytes::Missing => Err(Halt::Refused(Refusal::Missing(*path))),
+            FileBytes::TooLong(length) => Err(Halt::Refused(self.long_refusal(alloc, length))),
+        }
+    }
+}
+
+/// The fault of a source that is too long.
+fn long_source(alloc: Global) -> SourceFault
+    ensures { result ≡ too_long }
+{
+    SourceFault {
+        file: None,
+        line: 1,
+        column: 1,
+        kind: IncludeKind::Words(FaultKind::LongSource),
+        word: Bytes::from(Vec::new(alloc)),
+    }
+}
+
+/// The bytes of the file at a path, unless none is there or it is too long.
+pub fn read_text<T: Tree>(
+    alloc: Global,
+    kind: InputKind,
+    path: &Path,
+    tree: &mut T,
+) -> Result<Bytes, Halt>
+    ensures text { ReadsInput (λ text. text.list) (bytes_observed kind path.now) (kind_text kind path.now) (T.state tree.old) (T.state tree.new) result }
+    ensures limit { IfOk result (λ text. length text.list ≤ limit_of kind) }
+{
+    let file = read_file(alloc, tree, path, kind.limit())?;
+    kind.kind_text(alloc, path, file)
+}
+
+/// The same, where the file is requested.
+pub fn read_requested<T: Tree>(
+    alloc: Global,
+    kind: InputKind,
+    path: &Option<Path>,
+    tree: &mut T,
+) -> Result<Option<Bytes>, Halt>
+    ensures { ReadsInput (option_map (λ text. text.list)) (input_observed kind path.now) (requested_text kind path.now)
+        (T.state tree.old) (T.state tree.new) result }
+{
+    match path {
+        Some(path) => Ok(Some(read_text(alloc, kind, path, tree)?)),
+        None => Ok(None),
+    }
+}

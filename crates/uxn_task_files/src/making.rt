@@ -1,0 +1,61 @@
+//! The outputs of a run, which are made before it.
+ghost use Rattle.std.specs.Prelude.{◌≡◌, ◌++◌, IfOk, OnOk, ◌∷◌, []};
+ghost use Rattle.uxn_io_traits.specs.Ended.{TreeLooked};
+ghost use Rattle.uxn_task_files.specs.Outputs.{paths_of};
+ghost use Rattle.uxn_task_files.specs.Blame.{halted_by_tree};
+ghost use Rattle.uxn_task_files.specs.Made.{AreApart, LooksAt, MakesOutputs};
+
+use super::outputs::{Output, first_blocked, first_unmade, make_all};
+use super::refusal::{Halt, Refusal};
+use std::alloc::{AllocError, Global};
+use uxn_io_traits::{Path, Tree};
+
+/// Puts a file without bytes behind others.
+#[tactic(auto, using(crate::proofs::OutputLemmas::pushed))]
+fn push_output(alloc: Global, outputs: &mut Vec<Output>, path: &Path) -> Result<(), AllocError>
+    ensures { OnOk result (paths_of outputs.new.items ≡ paths_of outputs.old.items ++ path.now ∷ []) }
+{
+    let bytes = Vec::new(alloc);
+    outputs.push(Output { path: *path, bytes })?;
+    Ok(())
+}
+
+/// The files of a task, which have no bytes yet.
+pub fn empty_outputs(alloc: Global, paths: &[Path]) -> Result<Vec<Output>, AllocError>
+    ensures { IfOk result (λ outputs. paths_of outputs.items ≡ paths.now) }
+{
+    let mut outputs = Vec::new(alloc);
+    for path in paths {
+        push_output(alloc, &mut outputs, path)?;
+    }
+    Ok(outputs)
+}
+
+/// Refuses the first output that cannot be made, or is an included file. Nothing changes.
+pub fn look_at<T: Tree>(included: &[Path], outputs: &[Output], tree: &mut T) -> Result<(), Halt>
+    ensures looks { LooksAt included.now (paths_of outputs.now) (T.state tree.old).contents result }
+    ensures looked { TreeLooked (halted_by_tree result) (T.state tree.old) (T.state tree.new) }
+{
+    let blocked = first_blocked(tree, outputs)?;
+    match first_unmade(&blocked, included, outputs) {
+        Some(path) => Err(Halt::Refused(Refusal::NoOutput(path))),
+        None => Ok(()),
+    }
+}
+
+/// Makes the files that a run writes, unless one of them cannot be made or is an included file: then it makes none.
+#[tactic(auto, using(crate::proofs::MakingLemmas::making))]
+pub fn make_outputs<T: Tree>(
+    included: &[Path],
+    outputs: &[Output],
+    tree: &mut T,
+) -> Result<(), Halt>
+    requires { AreApart (paths_of outputs.now) }
+    ensures { MakesOutputs included.now (paths_of outputs.now) (T.state tree.old) (T.state tree.new) result }
+{
+    look_at(included, outputs, tree)?;
+    match make_all(tree, outputs)? {
+        Some(path) => Err(Halt::Refused(Refusal::NoOutput(path))),
+        None => Ok(()),
+    }
+}

@@ -1,0 +1,33 @@
+//! What the words ask for: a task, none of whose outputs clashes with another file.
+ghost use Rattle.std.specs.Prelude.{◌≡◌, ◌≤◌, map, string_bytes, IfOk};
+ghost use Rattle.uxn_arguments.specs.Places.{HasApartOutputs};
+ghost use Rattle.uxn_task_files.specs.Request.{apart};
+ghost use Rattle.uxn_task_files.specs.Request.{request};
+ghost use Rattle.uxn_task_files.specs.FollowsDefinition.{FollowsDefinition};
+
+use super::refusal::{Halt, Refusal};
+use std::alloc::Global;
+use uxn_arguments::{Task, read_words};
+
+/// A task whose outputs do not clash, or else the first one that does.
+fn apart(alloc: Global, task: Task) -> Result<Task, Halt>
+    ensures follows { FollowsDefinition (λ found. found) result (apart task) }
+    ensures apart { IfOk result HasApartOutputs }
+    ensures same { IfOk result (λ found. found ≡ task) }
+{
+    match task.first_clash(alloc)? {
+        Some(path) => Err(Halt::Refused(Refusal::NoOutput(path))),
+        None => Ok(task),
+    }
+}
+
+/// What the words ask for, unless they are not legal or name no path.
+#[tactic(auto, unfolding(crate::specs::Request::request))]
+pub fn request(alloc: Global, words: &[String]) -> Result<Task, Halt>
+    ensures follows { FollowsDefinition (λ task. task) result (request (map string_bytes words.now)) }
+    ensures apart { IfOk result HasApartOutputs }
+    ensures budget { IfOk result (λ task. 1 ≤ task.budget) }
+{
+    let task = read_words(alloc, words)?;
+    apart(alloc, task)
+}
