@@ -1,0 +1,1 @@
+"""What the tools of the conformance suite share."""

@@ -1,0 +1,129 @@
+"""Which instructions, ports and fault kinds are shown by how many tests: from runs of the second emulator."""
+from __future__ import annotations
+
+import os
+import re
+import tempfile
+from collections import Counter
+from collections.abc import Callable
+from concurrent.futures import ThreadPoolExecutor
+from dataclasses import dataclass, field
+
+from conform import execute, making, tests
+from conform.execute import Command
+from conform.instructions import name_of
+from conform.tests import Test
+
+SECONDS = 30
+# Where the driver puts its two routines.
+ROUTINES = range(0xD000, 0xE000)
+
+
+@dataclass
+class Coverage:
+    """For each row how many tests show it."""
+
+    opcodes: Counter[int] = field(default_factory=Counter)
+    reads: Counter[int] = field(default_factory=Counter)
+    writes: Counter[int] = field(default_factory=Counter)
+    faults: Counter[str] = field(default_factory=Counter)
+
+
+def end_of_driver(suite: str, all_tests: list[Test]) -> int:
+    """The address behind the driver: that of the table of cases, which is the same in all tests that have one."""
+    source = next(test.source for test in all_tests if test.lines == "cases")
+    with tempfile.TemporaryDirectory(prefix="conform-") as folder:
+        command = making.second_assembler(os.path.join(tests.TOP, "second", "assembler"))
+        values = {"source": os.path.join(suite, source), "rom": "made.rom", "symbols": "made.rom.sym"}
+        execute.call(command.filled(values, []), folder, b"", SECONDS)
+        symbols = execute.read_or_none(os.path.join(folder, "made.rom.sym")) or b""
+    found = re.search(rb"(?s)(..)cases\0", symbols)
+    return int.from_bytes(found[1], "big") if found else 0
+
+
+def trace_of(test: Test, suite: str, second: str) -> list[tuple[str, int, int]]:
+    """What a run came to: a letter, the address of the instruction, and the opcode or the port."""
+    with tempfile.TemporaryDirectory(prefix="conform-") as folder:
+        path = os.path.join(folder, "trace")
+        words = making.second_command(second).words
+        execute.run_emulator(test, Command((words[0], "--trace", path, *words[1:])), folder, suite, SECONDS)
+        with open(path, encoding="ascii") as file:
+            rows = [line.split() for line in file if line[0] in "xrw"]
+    return [(row[0], int(row[1], 16), int(row[2], 16)) for row in rows]
+
+
+def add_run(found: Coverage, test: Test, rows: list[tuple[str, int, int]], driver_end: int) -> None:
+    """Counts a test once for each thing that its own code came to; the driver's code shows nothing."""
+    if test.lines == "cases":
+        rows = [row for row in rows if row[1] not in ROUTINES and not 0x100 <= row[1] < driver_end]
+    for letter, counter in (("x", found.opcodes), ("r", found.reads), ("w", found.writes)):
+        counter.update({row[2] for row in rows if row[0] == letter})
+
+
+def measure(suite: str, second: str, jobs: int) -> Coverage:
+    all_tests = tests.read(suite)
+    driver_end = end_of_driver(suite, all_tests)
+    found = Coverage()
+    runs = [test for test in all_tests if not test.is_of_assembler]
+    with ThreadPoolExecutor(jobs) as pool:
+        for test, rows in zip(runs, pool.map(lambda test: trace_of(test, suite, second), runs)):
+            add_run(found, test, rows, driver_end)
+    found.faults.update(test.want.refused for test in all_tests if test.want.refused)
+    return found
+
+
+def fault_kinds() -> list[str]:
+    """The kinds of faults that a source can have, by docs/uxntal.md; one of them no command gives."""
+    with open(os.path.join(tests.TOP, "..", "docs", "uxntal.md"), encoding="utf-8") as file:
+        found = re.findall(r"(?m)^\| [\d, ]+ \| ([A-Z][A-Za-z, ]+) \|", file.read())
+    return sorted({kind for cell in found for kind in cell.split(", ")} - {"IncludeHere"})
+
+
+def grid(label: Callable[[int], str], counts: Counter[int], width: int) -> list[str]:
+    """The numbers of tests of 256 rows, so many on a line."""
+    lines = ["| | " + " | ".join(f"`{column:x}`" for column in range(width)) + " |", "|---" * (width + 1) + "|"]
+    for first in range(0, 256, width):
+        cells = (f"{label(number)}{counts[number]}" for number in range(first, first + width))
+        lines.append(f"| `{first:02x}` | " + " | ".join(cells) + " |")
+    return lines
+
+
+def missing(found: Coverage) -> list[str]:
+    """The rows that no test shows."""
+    rows = [f"the instruction {code:02x} {name_of(code)}" for code in range(256) if not found.opcodes[code]]
+    rows += [f"a read of the port {port:02x}" for port in range(256) if not found.reads[port]]
+    rows += [f"a write of the port {port:02x}" for port in range(256) if not found.writes[port]]
+    return rows + [f"the fault {kind}" for kind in fault_kinds() if not found.faults[kind]]
+
+
+def page(found: Coverage) -> str:
+    lines = [
+        "# Coverage of the suite",
+        "",
+        "For whoever adds a test: how many tests show each instruction, each port and each kind of fault.",
+        "After reading it you know which of them no test, or only few tests, show.",
+        "",
+        "`conformance/coverage` writes this page from runs of the second emulator, and the gate holds it to",
+        "them. A test counts once for a row. What runs the cases of the processor's tests does not count.",
+        "",
+        "## Instructions",
+        "",
+        "The opcode is the sum of the row and the column.",
+        "",
+        *grid(lambda code: name_of(code) + " ", found.opcodes, 8),
+        "",
+        "## Ports that are read",
+        "",
+        *grid(lambda port: "", found.reads, 16),
+        "",
+        "## Ports that are written",
+        "",
+        *grid(lambda port: "", found.writes, 16),
+        "",
+        "## Kinds of faults",
+        "",
+        "| kind | tests |",
+        "|---|---|",
+    ]
+    lines += [f"| {kind} | {found.faults[kind]} |" for kind in fault_kinds()]
+    return "\n".join(lines) + "\n"

@@ -1,0 +1,137 @@
+"""The tests of the suite, and its manifest."""
+from __future__ import annotations
+
+import json
+import os
+from dataclasses import asdict, dataclass, field
+from typing import Any
+
+from uxntools.cli import Failure
+
+TOP = os.path.dirname(os.path.dirname(os.path.realpath(__file__)))
+SUITE = os.path.join(TOP, "suite")
+LEVELS = (
+    "processor",
+    "console",
+    "screen",
+    "audio",
+    "controller",
+    "mouse",
+    "files",
+    "datetime",
+    "assembler",
+    "programs",
+)
+DEVICES = ("system", "console", "screen", "audio", "controller", "mouse", "file", "datetime")
+# The files of a folder: the bytes of each in hexadecimal, perhaps with how often they stand there (`20*1000`); None
+# for a folder.
+Tree = dict[str, str | None]
+# An event is a list: its name and its words.
+Event = list[Any]
+
+
+@dataclass
+class Want:
+    """What a run has to give; what is None is not looked at. Names are those of files of the suite."""
+
+    out: str | None = None
+    err: str | None = None
+    status: int | None = None
+    after: Tree | None = None
+    frames: str | None = None
+    samples: str | None = None
+    rom: str | None = None
+    symbols: str | None = None
+    refused: str | None = None
+
+
+@dataclass
+class Test:
+    """A test: what it shows, what goes in and what has to come out."""
+
+    name: str
+    shows: str
+    reference: str
+    level: str
+    source: str
+    devices: list[str] = field(default_factory=list)
+    profile: bool = False
+    rom: str | None = None
+    files: Tree | None = None
+    args: list[str] = field(default_factory=list)
+    stdin: str | None = None
+    events: list[Event] | None = None
+    lines: str | list[int] | None = None
+    want: Want = field(default_factory=Want)
+
+    @property
+    def is_of_assembler(self) -> bool:
+        return self.level == "assembler"
+
+
+def test_of(item: dict[str, Any]) -> Test:
+    values: dict[str, Any] = {**item, "want": Want(**item["want"])}
+    return Test(**values)
+
+
+def as_item(test: Test) -> dict[str, Any]:
+    """The test as the manifest has it: without what is empty."""
+    item = {
+        name: value
+        for name, value in asdict(test).items()
+        if value not in (None, "") and (value != [] or name == "events")
+    }
+    item["want"] = {name: value for name, value in item["want"].items() if value is not None}
+    return item
+
+
+def read(folder: str = SUITE) -> list[Test]:
+    """The tests of a folder's manifest."""
+    path = os.path.join(folder, "manifest.json")
+    try:
+        with open(path, encoding="utf-8") as file:
+            items = json.load(file)["tests"]
+        return [test_of(item) for item in items]
+    except FileNotFoundError:
+        raise Failure(f"there is no manifest {path}", 2) from None
+    except (ValueError, KeyError, TypeError) as error:
+        raise Failure(f"the manifest {path} is not right: {error}", 2) from None
+
+
+def write(tests: list[Test], folder: str) -> None:
+    """Writes the manifest: a test a line, so that a change shows which."""
+    lines = ",\n".join(json.dumps(as_item(test), ensure_ascii=False) for test in tests)
+    with open(os.path.join(folder, "manifest.json"), "w", encoding="utf-8") as file:
+        file.write('{"tests": [\n' + lines + "\n]}\n")
+
+
+def bytes_of(folder: str, name: str | None) -> bytes:
+    """The bytes of a file of the suite; none where it has no name."""
+    if name is None:
+        return b""
+    with open(os.path.join(folder, name), "rb") as file:
+        return file.read()
+
+
+def tree_of(folder: str) -> Tree:
+    """What lies in a folder."""
+    found: Tree = {}
+    for place, folders, names in os.walk(folder):
+        for name in folders:
+            found[os.path.relpath(os.path.join(place, name), folder)] = None
+        for name in names:
+            path = os.path.join(place, name)
+            with open(path, "rb") as file:
+                found[os.path.relpath(path, folder)] = file.read().hex()
+    return dict(sorted(found.items()))
+
+
+def make_tree(tree: Tree, folder: str) -> None:
+    """Puts files and folders into a folder."""
+    for path, data in tree.items():
+        place = os.path.join(folder, path)
+        os.makedirs(os.path.dirname(place) if data is not None else place, exist_ok=True)
+        if data is not None:
+            with open(place, "wb") as file:
+                digits, _, count = data.partition("*")
+                file.write(bytes.fromhex(digits) * int(count or 1))
