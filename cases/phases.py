@@ -1,4 +1,4 @@
-"""An assembler by the text of docs/sources.md, one phase after the other, for sources without includes: what the program's one is
+"""An assembler by the text of docs/uxntal.md, one phase after the other, for sources without includes: what the program's one is
 compared with. It is slow, and knows nothing of how the program goes about it."""
 import re
 import typing

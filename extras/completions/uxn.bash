@@ -1,19 +1,29 @@
-# Completion of `uxn` for bash: source it, or copy it to ~/.local/share/bash-completion/completions/uxn
-_uxn() {
-    local run='--rom --script --root --frames --samples --report --budget' word=${COMP_WORDS[COMP_CWORD]} words
+# Completion of `uxn` and of its tools for bash: source it, or copy it to ~/.local/share/bash-completion/completions/uxn
+
+# What `compgen` answers.
+_uxn_reply() {
+    local line
     COMPREPLY=()
-    if [[ $COMP_CWORD -eq 1 ]]; then
-        mapfile -t COMPREPLY < <(compgen -W 'play debug asm dis gen line' -- "$word")
+    while IFS= read -r line; do
+        [[ -z $line ]] || COMPREPLY+=("$line")
+    done <<<"$(compgen "$@")"
+}
+
+# The words that complete those of `uxn` behind the place $1, where its command stands.
+_uxn_words() {
+    local run='--rom --script --root --frames --samples --report --budget' word=${COMP_WORDS[COMP_CWORD]} words
+    if [[ $COMP_CWORD -eq $1 ]]; then
+        _uxn_reply -W 'play debug asm dis gen line' -- "$word"
         return
     fi
     case ${COMP_WORDS[COMP_CWORD - 1]} in
     --budget) return ;;
     --root)
-        mapfile -t COMPREPLY < <(compgen -d -- "$word")
+        _uxn_reply -d -- "$word"
         return
         ;;
     esac
-    case ${COMP_WORDS[1]} in
+    case ${COMP_WORDS[$1]} in
     play) words=$run ;;
     debug) words="--commands --log --symbols $run" ;;
     asm) words='--out --symbols --listing' ;;
@@ -21,10 +31,52 @@ _uxn() {
     line) words= ;;
     *) return ;;
     esac
+    _uxn_options_or_files "$words"
+}
+
+_uxn_options_or_files() {
+    local word=${COMP_WORDS[COMP_CWORD]}
     if [[ $word == -* ]]; then
-        mapfile -t COMPREPLY < <(compgen -W "$words" -- "$word")
+        _uxn_reply -W "$1" -- "$word"
     else
-        mapfile -t COMPREPLY < <(compgen -f -- "$word")
+        _uxn_reply -f -- "$word"
     fi
 }
+
+_uxn() {
+    COMPREPLY=()
+    _uxn_words 1
+}
+
+# A tool: the options that its --help names, and files.
+_uxn_tool() {
+    COMPREPLY=()
+    _uxn_options_or_files "$(_uxn_options "$1")"
+}
+
+_uxn_options() {
+    "$1" --help 2>/dev/null </dev/null | sed -nE 's/^ +(-[a-zA-Z],? [^-]*)?(--[a-z-]+).*/\2/p' | sort -u
+}
+
+# uxn-sandbox: its own options, and then what `uxn` takes.
+_uxn_sandbox() {
+    local at=1
+    COMPREPLY=()
+    while [[ $at -lt $COMP_CWORD && ${COMP_WORDS[at]} == -* ]]; do
+        [[ ${COMP_WORDS[at]} == *=* ]] || at=$((at + 1))
+        at=$((at + 1))
+    done
+    if [[ $at -lt $COMP_CWORD || $at -eq $COMP_CWORD && ${COMP_WORDS[at]} != -* ]]; then
+        _uxn_words "$at"
+    elif [[ $at -eq $COMP_CWORD ]]; then
+        _uxn_options_or_files "$(_uxn_options "$1")"
+    elif [[ ${COMP_WORDS[COMP_CWORD - 1]} == --isolation ]]; then
+        _uxn_reply -W 'auto need none' -- "${COMP_WORDS[COMP_CWORD]}"
+    fi
+}
+
 complete -o filenames -F _uxn uxn
+complete -o filenames -F _uxn_sandbox uxn-sandbox
+complete -o filenames -F _uxn_tool uxn-test uxn-misses uxn-record uxn-watch uxn-trace uxn-listing uxn-cover uxn-needs \
+    uxn-check uxn-debug uxn-lsp uxn-lint uxn-fmt uxn-explain uxn-frames-to-png uxn-samples-to-wav \
+    uxn-text-to-script uxn-manual

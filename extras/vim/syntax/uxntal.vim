@@ -13,10 +13,14 @@ syntax match uxntalMacro /\%(^\|\s\)\@<=%\S\+/
 syntax match uxntalInclude /\%(^\|\s\)\@<=\~\S\+/
 syntax match uxntalBrace /\%(^\|\s\)\@<=[,_.;=!?-]\=[{}[\]]\%(\s\|$\)\@=/
 syntax match uxntalOpcode /\%(^\|\s\)\@<=\%(BRK\|JCI\|JMI\|JSI\)\%(\s\|$\)\@=/
-syntax match uxntalOpcode /\%(^\|\s\)\@<=\%(LIT\|INC\|POP\|NIP\|SWP\|ROT\|DUP\|OVR\|EQU\|NEQ\|GTH\|LTH\|JMP\|JCN\|JSR\|STH\)[2kr]*\%(\s\|$\)\@=/
-syntax match uxntalOpcode /\%(^\|\s\)\@<=\%(LDZ\|STZ\|LDR\|STR\|LDA\|STA\|DEI\|DEO\|ADD\|SUB\|MUL\|DIV\|AND\|ORA\|EOR\|SFT\)[2kr]*\%(\s\|$\)\@=/
-syntax region uxntalNested contained matchgroup=uxntalNested start=/\%(^\|\s\)\@<=(\%(\s\|$\)\@=/ end=/\%(^\|\s\)\@<=)\%(\s\|$\)\@=/ contains=uxntalNested
-syntax region uxntalComment matchgroup=uxntalComment start=/\%(^\|\s\)\@<=(/ end=/\%(^\|\s\)\@<=)\%(\s\|$\)\@=/ contains=uxntalNested
+syntax match uxntalOpcode /\%(^\|\s\)\@<=\%(LIT\|INC\|POP\|NIP\|SWP\|ROT\|DUP\|OVR\)[2kr]*\%(\s\|$\)\@=/
+syntax match uxntalOpcode /\%(^\|\s\)\@<=\%(EQU\|NEQ\|GTH\|LTH\|JMP\|JCN\|JSR\|STH\)[2kr]*\%(\s\|$\)\@=/
+syntax match uxntalOpcode /\%(^\|\s\)\@<=\%(LDZ\|STZ\|LDR\|STR\|LDA\|STA\|DEI\|DEO\)[2kr]*\%(\s\|$\)\@=/
+syntax match uxntalOpcode /\%(^\|\s\)\@<=\%(ADD\|SUB\|MUL\|DIV\|AND\|ORA\|EOR\|SFT\)[2kr]*\%(\s\|$\)\@=/
+syntax region uxntalNested contained matchgroup=uxntalNested
+      \ start=/\%(^\|\s\)\@<=(\%(\s\|$\)\@=/ end=/\%(^\|\s\)\@<=)\%(\s\|$\)\@=/ contains=uxntalNested
+syntax region uxntalComment matchgroup=uxntalComment
+      \ start=/\%(^\|\s\)\@<=(/ end=/\%(^\|\s\)\@<=)\%(\s\|$\)\@=/ contains=uxntalNested
 syntax sync fromstart
 highlight default link uxntalCall Function
 highlight default link uxntalText String

@@ -1,0 +1,356 @@
+"""extras/package: the same files each time, no word of lintian, and an installation that leaves nothing."""
+from __future__ import annotations
+
+import atexit
+import functools
+import hashlib
+import os
+import re
+import shutil
+import stat
+import subprocess
+import tarfile
+import tempfile
+import unittest
+
+from support import EXAMPLES, EXTRAS, TOP, ToolTest, needs
+
+# What the package needs, and what a user has who reads manual pages and completes words.
+THERE = ["libc6", "libc-bin", "python3", "dash", "bash", "coreutils", "grep", "sed", "man-db", "bash-completion"]
+UNNEEDED = re.compile(
+    r"/usr/share/(doc|locale|info|lintian|man|i18n|bug)/|/usr/lib/python3\.\d+/(test|idlelib|lib2to3|pydoc_data)/"
+)
+
+
+@functools.cache
+def packages() -> tuple[str, str]:
+    """A folder with the packages, which are made once for all tests, and what was said of them."""
+    folder = tempfile.mkdtemp(prefix="uxn-packages-")
+    atexit.register(shutil.rmtree, folder, ignore_errors=True)
+    done = subprocess.run(
+        [os.path.join(EXTRAS, "package"), os.environ["UXN"], "--out", folder],
+        capture_output=True,
+        text=True,
+        check=False,
+    )
+    if done.returncode:
+        raise AssertionError(done.stderr)
+    return folder, done.stdout
+
+
+@needs("dpkg-deb", "objdump")
+class PackageTest(ToolTest):
+    def setUp(self) -> None:
+        super().setUp()
+        folder, self.said = packages()
+        with open(os.path.join(TOP, "VERSION"), encoding="ascii") as file:
+            self.version = file.read().strip()
+        self.tar = os.path.join(folder, f"uxn-{self.version}.tar.gz")
+        self.deb = os.path.join(folder, f"uxn_{self.version}_amd64.deb")
+
+
+def sum_of(path: str) -> str:
+    with open(path, "rb") as file:
+        return hashlib.sha256(file.read()).hexdigest()
+
+
+class Files(PackageTest):
+    def test_they_are_the_same_when_made_again(self) -> None:
+        mask = os.umask(0o077)
+        self.addCleanup(os.umask, mask)
+        self.succeed(
+            os.path.join(EXTRAS, "package"),
+            self.program,
+            "--out",
+            "again",
+            TZ="XXX-5",
+            LC_ALL="C",
+            SOURCE_DATE_EPOCH="5",
+        )
+        os.umask(mask)
+        for path in (self.tar, self.deb):
+            self.assertEqual(sum_of(path), sum_of(self.path(f"again/{os.path.basename(path)}")), path)
+        self.write("other", self.read(".bin/uxn") + b"\0")
+        self.succeed(os.path.join(EXTRAS, "package"), "other", "--out", "other-program")
+        self.assertNotEqual(sum_of(self.tar), sum_of(self.path(f"other-program/{os.path.basename(self.tar)}")))
+
+    def test_the_tar_file(self) -> None:
+        with tarfile.open(self.tar) as file:
+            members = file.getmembers()
+        self.assertEqual(
+            {(member.uid, member.gid, member.uname, member.gname) for member in members}, {(0, 0, "", "")}
+        )
+        self.assertEqual({oct(member.mode) for member in members if member.isfile()}, {"0o755", "0o644"})
+        self.assertEqual(len({member.mtime for member in members}), 1)
+        self.assertEqual([member.name for member in members if not member.name.startswith(f"uxn-{self.version}")], [])
+        self.succeed("mkdir", "local")
+        self.succeed("tar", "-C", "local", "--strip-components=1", "-xzf", self.tar)
+        shutil.copytree(EXAMPLES, self.path("examples"))
+        path = os.pathsep.join([self.path("local/bin"), os.environ["PATH"]])
+        self.assertEqual(self.succeed("uxn", "play", "examples/hello.tal", PATH=path), "Hello, Uxn!\n")
+        self.assertEqual(self.succeed("uxn-sandbox", "play", "examples/hello.tal", PATH=path), "Hello, Uxn!\n")
+        for name in sorted(os.listdir(self.path("local/bin"))):
+            if name != "uxn":
+                self.assertIn(f"usage: {name}", self.succeed(name, "--help", PATH=path))
+        self.succeed(self.path("local/share/uxn/dropins/uxnasm"), "examples/hello.tal", "h.rom", PATH=path)
+        self.assertEqual(
+            self.succeed(self.path("local/share/uxn/dropins/uxncli"), "h.rom", PATH=path), "Hello, Uxn!\n"
+        )
+        shutil.copy(self.tar, self.path("uxn.tar.gz"))
+        self.succeed("sh", "-c", "cd local && tar -tzf ../uxn.tar.gz | grep -v '/$' | cut -d/ -f2- | xargs rm")
+        self.assertEqual([name for _, _, names in os.walk(self.path("local")) for name in names], [])
+
+    def test_links_of_its_pages_lead_somewhere(self) -> None:
+        """What a page links to among pages and examples is in the package where it is in the repository."""
+        self.succeed("dpkg-deb", "-x", self.deb, "to")
+        top, links = self.path("to/usr/share/doc/uxn"), set()
+        for folder, _, names in os.walk(top):
+            for name in names:
+                if name.endswith(".md"):
+                    with open(os.path.join(folder, name), encoding="utf-8") as file:
+                        found = re.findall(r"\]\(([^)#:\s]+)", file.read())
+                    links |= {os.path.relpath(os.path.join(folder, link), top) for link in found}
+        wanted = {
+            link
+            for link in links
+            if re.match(r"(docs|examples)/|[^/]*\.md$", link) and os.path.exists(os.path.join(TOP, link))
+        }
+        self.assertGreater(len(wanted), 20)
+        self.assertEqual({link for link in wanted if not os.path.exists(os.path.join(top, link))}, set())
+
+    def test_the_c_library(self) -> None:
+        least = re.search(r"GLIBC_([\d.]+)", self.said)
+        self.assertIn(f"libc6 (>= {least and least[1]})", self.succeed("dpkg-deb", "-f", self.deb, "Depends"))
+        with open(os.path.join(TOP, "docs", "install.md"), encoding="utf-8") as file:
+            self.assertIn(f"glibc {least and least[1]} ", file.read())
+        wanted = re.findall(r"GLIBC_(\d+)\.(\d+)", self.succeed("objdump", "-T", self.program))
+        self.assertEqual("%d.%d" % max((int(major), int(minor)) for major, minor in wanted), least and least[1])
+
+    def test_wrong_calls(self) -> None:
+        tool = os.path.join(EXTRAS, "package")
+        self.refuse(2, tool)
+        self.refuse(1, tool, "gone")
+        self.assertIn("no built program", self.refuse(1, tool, self.write("script", "#!/bin/sh\n")))
+        self.assertFalse(os.path.exists(self.path(os.path.basename(self.tar))))
+
+    @needs("lintian")
+    def test_lintian_is_silent(self) -> None:
+        done = self.call("lintian", "--tag-display-limit", "0", "--allow-root", "-I", "--pedantic", self.deb)
+        self.assertEqual((done.returncode, done.stdout.decode()), (0, ""))
+        with open(os.path.join(EXTRAS, "packaging", "overrides"), encoding="utf-8") as file:
+            lines = [line for line in file.read().splitlines() if line]
+        for above, line in zip(["", *lines], lines):
+            self.assertTrue(line.startswith("#") or above.startswith("#"), f"{line}: no line above says why")
+
+
+class Editors(PackageTest):
+    def setUp(self) -> None:
+        super().setUp()
+        self.succeed("dpkg-deb", "-x", self.deb, "to")
+        self.write("a.tal", "@main nothing\n")
+
+    @needs("vim")
+    def test_vim_looks_there(self) -> None:
+        self.call("vim", "-es", "-u", "NONE", "-c", "call writefile([&rtp], 'rtp')", "-c", "qa!")
+        self.assertIn("/usr/share/vim/vimfiles", self.read("rtp").decode().strip().split(","))
+        self.call(
+            "vim",
+            "-es",
+            "-u",
+            "NONE",
+            "-N",
+            "--cmd",
+            "set rtp^=to/usr/share/vim/vimfiles",
+            "--cmd",
+            "filetype plugin indent on",
+            "--cmd",
+            "syntax on",
+            "-c",
+            "compiler uxn",
+            "-c",
+            "call writefile([&ft, &makeprg, b:current_syntax], 'said')",
+            "-c",
+            "qa!",
+            "a.tal",
+        )
+        self.assertRegex(self.read("said"), rb"^uxntal\nuxn-check.*\nuxntal\n$")
+
+    @needs("emacs")
+    def test_emacs_looks_there(self) -> None:
+        start = '(progn (setq user-emacs-directory "./none/") (require \'package) %s (package-activate-all))'
+        said = self.call(
+            "emacs", "--batch", "--eval", start % "", "--eval", "(princ package-directory-list)"
+        ).stdout.decode()
+        self.assertIn("/usr/share/emacs/site-lisp/elpa", said)
+        there = start % '(setq package-directory-list (list (expand-file-name "to/usr/share/emacs/site-lisp/elpa")))'
+        self.assertEqual(
+            self.succeed("emacs", "--batch", "--eval", there, "a.tal", "--eval", "(princ major-mode)"), "uxntal-mode"
+        )
+        self.assertEqual(
+            self.succeed("emacs", "--batch", "a.tal", "--eval", "(princ major-mode)", EMACSLOADPATH=":"),
+            "fundamental-mode",
+        )
+
+
+def installed(names: list[str]) -> list[str]:
+    """These packages of the machine and what they depend on; a test is skipped where one is not there."""
+    found, rest = [], list(names)
+    while rest:
+        name = rest.pop()
+        done = subprocess.run(
+            ["dpkg-query", "-W", "-f", "${db:Status-Status} ${Pre-Depends}, ${Depends}\n", name],
+            capture_output=True,
+            text=True,
+            check=False,
+        )
+        status, _, depends = done.stdout.split("\n")[0].partition(" ")
+        if status != "installed":
+            if name in names:
+                raise unittest.SkipTest(f"the package {name} is not installed")
+            continue
+        found.append(name)
+        choices = [
+            re.findall(r"[a-z0-9][a-z0-9.+-]+(?=[ :|,(]|$)", part.split("|")[0])[:1] for part in depends.split(",")
+        ]
+        rest += [it for choice in choices for it in choice if it not in found and it not in rest]
+    return found
+
+
+@unittest.skipUnless(os.getuid() == 0, "not root: nothing can be installed")
+@needs("dpkg", "dpkg-query", "chroot")
+class FreshRoot(PackageTest):
+    """A root of its own, with the files of a few packages of this machine and their entries in its list."""
+
+    def setUp(self) -> None:
+        super().setUp()
+        self.root = self.path("fresh")
+        for name in (
+            "usr/bin",
+            "usr/sbin",
+            "usr/lib",
+            "usr/lib64",
+            "tmp",
+            "dev",
+            "etc",
+            "var/lib/dpkg/info",
+            "var/lib/dpkg/updates",
+            "root",
+        ):
+            os.makedirs(self.at(name))
+        for name in ("bin", "sbin", "lib", "lib64"):
+            os.symlink(f"usr/{name}", self.at(name))
+        try:
+            os.mknod(self.at("dev/null"), 0o666 | stat.S_IFCHR, os.makedev(1, 3))
+        except PermissionError:
+            self.skipTest("no device can be made here")
+        os.chmod(self.at("dev/null"), 0o666)
+        self.fill(installed(THERE))
+
+    def at(self, name: str) -> str:
+        return os.path.join(self.root, name)
+
+    def fill(self, packages: list[str]) -> None:
+        said = subprocess.run(["dpkg-query", "-L", *packages], capture_output=True, text=True, check=True).stdout
+        for path in sorted({line for line in said.split("\n") if line.startswith("/") and not UNNEEDED.match(line)}):
+            place = self.at(path[1:])
+            if os.path.isdir(path) and not os.path.islink(path):
+                os.makedirs(place, exist_ok=True)
+            elif os.path.lexists(path) and not os.path.lexists(place):
+                os.makedirs(os.path.dirname(place), exist_ok=True)
+                shutil.copy2(path, place, follow_symlinks=False)
+        with open(self.at("var/lib/dpkg/status"), "w", encoding="utf-8") as file:
+            file.write(
+                subprocess.run(["dpkg-query", "-s", *packages], capture_output=True, text=True, check=True).stdout
+            )
+        for name in packages:
+            for kind in (name, f"{name}:amd64"):
+                if os.path.exists(f"/var/lib/dpkg/info/{kind}.list"):
+                    shutil.copy(f"/var/lib/dpkg/info/{kind}.list", self.at("var/lib/dpkg/info"))
+
+    def dpkg(self, *words: str) -> subprocess.CompletedProcess[bytes]:
+        return self.call("dpkg", f"--root={self.root}", "--force-unsafe-io", "--no-triggers", *words)
+
+    def within(self, command: str, path: str = "/usr/bin") -> str:
+        """What a command of the shell prints that is called in the root."""
+        return self.succeed(
+            "chroot",
+            self.root,
+            "/usr/bin/env",
+            "-i",
+            f"PATH={path}",
+            "HOME=/root",
+            "LC_ALL=C.UTF-8",
+            "MANPAGER=cat",
+            "MANWIDTH=78",
+            "MANOPT=--nj",
+            "/bin/bash",
+            "-c",
+            command,
+        )
+
+    def tree(self) -> set[tuple[str, int, int]]:
+        """All that is in the root, but for the list of packages, the logs, and what Python keeps of its own modules."""
+        found = set()
+        for folder, folders, names in os.walk(self.root):
+            if folder == self.at("var/lib"):
+                folders.remove("dpkg")
+            for name in (*folders, *names):
+                at = os.lstat(os.path.join(folder, name))
+                found.add(
+                    (
+                        os.path.relpath(os.path.join(folder, name), self.root),
+                        at.st_mode,
+                        0 if stat.S_ISDIR(at.st_mode) else at.st_size,
+                    )
+                )
+        return {entry for entry in found if not re.match(r"var/log|usr/lib/python3[^/]*/(.*/)?__pycache__", entry[0])}
+
+    def test_install_use_remove(self) -> None:
+        before = self.tree()
+        done = self.dpkg("-i", self.deb)
+        self.assertEqual(done.returncode, 0, done.stderr)
+        self.use()
+        done = self.dpkg("--purge", "uxn")
+        self.assertEqual(done.returncode, 0, done.stderr)
+        self.assertEqual(self.tree() ^ before, set())
+        self.assertIn("not found", self.within("uxn 2>&1 || true"))
+
+    def use(self) -> None:
+        examples = "cd /usr/share/doc/uxn/examples"
+        self.assertEqual(self.within(f"{examples}; uxn play hello.tal"), "Hello, Uxn!\n")
+        self.assertEqual(self.within(f"{examples}; uxn play fizzbuzz.tal | head -n 3"), "1\n2\nFizz\n")
+        self.assertIn("Hello, Uxn!\n", self.within(f"{examples}; uxn-sandbox play hello.tal"))
+        self.assertIn("\nSYNOPSIS\n", self.within("man uxn"))
+        self.assertIn("uxn-script - ", self.within("man uxn-script"))
+        self.assertIn("uxn-commands - ", self.within("man 5 uxn-commands"))
+        self.assertIn("uxn-sandbox - ", self.within("man uxn-sandbox"))
+        load = ". /usr/share/bash-completion/bash_completion; _completion_loader"
+        self.assertEqual(
+            self.within(f"{load} uxn; COMP_WORDS=(uxn asm a.tal --li) COMP_CWORD=3; _uxn uxn; echo $COMPREPLY"),
+            "--listing\n",
+        )
+        self.assertEqual(
+            self.within(
+                f"{load} uxn-sandbox; COMP_WORDS=(uxn-sandbox --sec) COMP_CWORD=1; _uxn_sandbox uxn-sandbox;"
+                " echo $COMPREPLY"
+            ),
+            "--seconds\n",
+        )
+        self.assertEqual(
+            self.within("cd /usr/bin; for tool in uxn-*; do $tool --help | grep -q ^usage: || echo $tool; done"), ""
+        )
+        dropins = "/usr/share/uxn/dropins:/usr/bin"
+        self.assertIn(
+            "Assembled /tmp/h.rom in",
+            self.within(f"{examples}; uxnasm hello.tal /tmp/h.rom; uxncli /tmp/h.rom; rm /tmp/h.*", dropins),
+        )
+        self.assertIn("not found", self.within("uxncli 2>&1 || true"))
+
+    def test_what_it_needs_has_to_be_there(self) -> None:
+        with open(self.at("var/lib/dpkg/status"), "w", encoding="utf-8") as file:
+            file.write(
+                subprocess.run(["dpkg-query", "-s", "libc6"], capture_output=True, text=True, check=True).stdout
+            )
+        done = self.dpkg("-i", self.deb)
+        self.assertNotEqual(done.returncode, 0)
+        self.assertIn(b"python3", done.stderr)

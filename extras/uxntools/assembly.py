@@ -1,0 +1,182 @@
+"""Assembling a source as an editor has it: a copy of it and of what it includes, beside the files that are there."""
+from __future__ import annotations
+
+import os
+import re
+import tempfile
+from collections.abc import Callable
+from dataclasses import dataclass
+from typing import NamedTuple
+
+from uxntools import program, source
+from uxntools.analysis import Analysis, Kind, shape
+from uxntools.cli import Failure
+
+REFUSAL = re.compile(
+    rb"source (?:(?P<path>.+) )?(?P<line>\d+):(?P<column>\d+): (?P<kind>[A-Z][A-Za-z]+): (?P<word>.*)\n?", re.DOTALL
+)
+ROM, SYMBOLS = ".uxn-rom", ".uxn-symbols"
+
+
+# What each kind of fault says of its word, as docs/uxntal.md has it.
+MEANINGS = {
+    "LongSource": "the source has over 4,194,304 bytes",
+    "OpenComment": "the comment is not closed",
+    "LongWord": "a word has at most 255 bytes",
+    "StrayParen": "no comment is open here",
+    "IncludePath": "this is no path below the source's folder",
+    "IncludeMissing": "there is no such file below the source's folder",
+    "IncludeLong": "the file has over 4,194,304 bytes",
+    "IncludeDeep": "files include one another at most 15 deep",
+    "IncludeMany": "at most 256 files are included",
+    "IncludeLongText": "all files together have over 4,194,304 bytes",
+    "BadName": "this cannot be a name",
+    "NoName": "a name is missing",
+    "MacroTwice": "a macro has this name already",
+    "MacroBody": "a macro's body stands between { and }, and defines no macro",
+    "MacroDeep": "macros use one another at most 32 deep",
+    "ManyWords": "macros make over 1,000,000 words",
+    "BadNumber": "the digits are lowercase: two or four behind #, one to four behind | and $",
+    "StrayBrace": "no brace is open here",
+    "OpenBrace": "the brace is not closed",
+    "LabelTwice": "a label has this name already",
+    "ZeroPage": "bytes cannot stand below 0100",
+    "Outside": "this stands past ffff",
+    "Rewind": "bytes stand here already",
+    "UnknownName": "no label has this name, and no macro before it",
+    "TooFar": "the label is over 127 bytes away",
+}
+
+
+class Fault(NamedTuple):
+    """What `uxn asm` says of a source that it refuses: the file, the line and the column, from 1, the kind, and the
+    faulty word."""
+
+    path: str
+    line: int
+    column: int
+    kind: str
+    word: bytes
+
+    def text(self) -> str:
+        return f"{self.path}:{self.line}:{self.column}: {self.said()}"
+
+    def said(self) -> str:
+        return f"{self.kind}: {self.word.decode(errors='replace')}"
+
+    def meaning(self) -> str:
+        """The word, and what is wrong with it."""
+        word = self.word.decode(errors="replace")
+        return ": ".join([word] * bool(word) + [MEANINGS.get(self.kind, self.kind)])
+
+
+@dataclass(frozen=True)
+class Assembled:
+    """What came of a source: a fault, or its ROM and its symbol file."""
+
+    fault: Fault | None
+    rom: bytes = b""
+    symbols: bytes = b""
+
+
+def is_path(path: str) -> bool:
+    """Whether `uxn` takes this name of a file."""
+    names = path.split("/")
+    is_text = not any(ord(sign) < 0x20 or sign == "\\" or 0xDC80 <= ord(sign) <= 0xDCFF for sign in path)
+    return (
+        is_text
+        and len(os.fsencode(path)) <= 255
+        and len(names) <= 16
+        and not {"", ".", ".."} & set(names)
+        and path[0] != "-"
+    )
+
+
+def _copy(path: str, name: str, folder: str, read: Callable[[str], bytes]) -> None:
+    """Copies a source, and what it includes as far as it is there."""
+    done, waiting = set(), [(path, name)]
+    while waiting:
+        here, there = waiting.pop()
+        try:
+            data = read(here)
+        except OSError:
+            if here == path:
+                raise
+            continue
+        done.add(there)
+        os.makedirs(os.path.dirname(os.path.join(folder, there)), exist_ok=True)
+        with open(os.path.join(folder, there), "wb") as file:
+            file.write(data)
+        for word in source.words(data) if b"~" in data else ():
+            inner = os.fsdecode(word.text[1:]) if word.text[:1] == b"~" and len(word.text) > 1 else ""
+            if inner and inner not in done and is_path(inner):
+                waiting.append((os.path.join(os.path.dirname(path), inner), inner))
+
+
+def assemble(path: str, read: Callable[[str], bytes] = source.read) -> Assembled:
+    """Assembles a source. `read` gives the bytes of a file by its path, as an editor's buffer has them."""
+    name = os.path.basename(path)
+    name = name if is_path(name) else "source.tal"
+    with tempfile.TemporaryDirectory(prefix="uxn-") as folder:
+        _copy(path, name, folder, read)
+        done = program.call("asm", name, "--out", ROM, "--symbols", SYMBOLS, folder=folder, seconds=60)
+        if done.status == 0:
+            return Assembled(None, source.read(os.path.join(folder, ROM)), source.read(os.path.join(folder, SYMBOLS)))
+    found = REFUSAL.fullmatch(done.err)
+    if done.status != 131 or not found:
+        raise Failure(f"{path}: uxn asm ended with {done.status}: {done.line}", done.status)
+    inner = os.fsdecode(found["path"]) if found["path"] else None
+    where = os.path.join(os.path.dirname(path), inner) if inner else path
+    return Assembled(
+        Fault(where, int(found["line"]), int(found["column"]), found["kind"].decode(), found["word"].rstrip(b"\n"))
+    )
+
+
+# Faults that are those of their words alone: what follows them stays as it is when the word is left out, or is put in
+# place by a number.
+OF_A_FORM, OF_A_REFERENCE = ("BadNumber", "NoName", "BadName"), ("UnknownName", "TooFar")
+MOST_FAULTS = 20
+
+
+def faults(path: str, read: Callable[[str], bytes] = source.read) -> list[Fault]:
+    """What `uxn asm` refuses a source for, one fault after the other: it names the first, and the next in a copy in
+    which the word of the one before is left out, or is a number of the same length. The list ends at a fault
+    behind which others could come from it.
+    """
+    changed: dict[str, bytes] = {}
+    found: list[Fault] = []
+
+    def read_changed(name: str) -> bytes:
+        return changed[name] if name in changed else read(name)
+
+    has_moved = False
+    while len(found) < MOST_FAULTS:
+        fault = assemble(path, read_changed).fault
+        if fault is None or has_moved and fault.kind not in (*OF_A_FORM, "UnknownName"):
+            break
+        found.append(fault)
+        is_use = shape(fault.word).kind is Kind.REFERENCE and fault.word in Analysis(path, read).macros
+        data = None if is_use else _without(fault, read_changed)
+        if data is None:
+            break
+        changed[fault.path] = data
+        has_moved = has_moved or fault.kind in OF_A_FORM
+    return found
+
+
+def _without(fault: Fault, read: Callable[[str], bytes]) -> bytes | None:
+    """The file of a fault with another word in the place of the faulty one; None where that would change what others
+    mean."""
+    lines = read(fault.path).split(b"\n")
+    line, at = lines[fault.line - 1], fault.column - 1
+    if not fault.word or line[at : at + len(fault.word)] != fault.word:
+        return None
+    form = shape(fault.word)
+    if fault.kind in OF_A_FORM and fault.word[:1] not in b"@%&":
+        new = b" " * len(fault.word)
+    elif fault.kind in OF_A_REFERENCE and form.kind is Kind.REFERENCE:
+        new = {1: b"00", 2: b"#00", 3: b"#0000"}[form.size] if form.rune != b"=" else b"0000"
+    else:
+        return None
+    lines[fault.line - 1] = line[:at] + new + line[at + len(fault.word) :]
+    return b"\n".join(lines)

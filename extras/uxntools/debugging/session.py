@@ -1,0 +1,314 @@
+"""A session of the debugger: where in the run it stands, its breaks, and what it can do. Each look begins the run
+anew, which is the same each time; so the session holds nothing of the program but the number of a moment."""
+from __future__ import annotations
+
+import os
+from collections.abc import Callable
+from dataclasses import dataclass, replace
+
+from uxntools import events, log, moments, opcodes, places, program
+from uxntools.cli import Failure
+from uxntools.debugging import backwards, frames
+from uxntools.debugging.frames import Frame
+from uxntools.debugging.known import Known
+from uxntools.horizon import Horizon
+from uxntools.log import MOST_COMMANDS
+from uxntools.moments import RETURN_POINTER, State
+from uxntools.stores import MOST_SHOWN, Change, Stores, Watched
+from uxntools.target import Target, Workspace
+
+# How often a run stops at breaks.
+MOST_STOPS = 20000
+# How many calls are shown.
+MOST_FRAMES = 64
+# The address that a ROM is loaded at.
+START = 0x0100
+
+
+@dataclass(frozen=True)
+class Record:
+    """What the session did: a move (to a state), or a look; with the command of `uxn debug` that says the same, if
+    there is one."""
+
+    kind: str
+    moment: int
+    command: str = ""
+
+
+def is_end(state: State) -> bool:
+    return state.is_end
+
+
+def is_end_of_both(found: tuple[Frame, State]) -> bool:
+    return found[1].is_end
+
+
+class Session:
+    """A session over a program. `note` is given what a user should know beside the answer."""
+
+    def __init__(self, target: Target, note: Callable[[str], None]) -> None:
+        self.target = target
+        self.note = note
+        self.breaks: dict[int, str] = {}
+        self.records: list[Record] = []
+        self._stores: Stores | None = None
+        self._open()
+
+    def _open(self) -> None:
+        self.workspace = Workspace(self.target)
+        try:
+            self.program = self.workspace.program()
+            self.rom = self.workspace.rom()
+            done, _ = self.workspace.try_play(self.workspace.script())
+            if done.status in program.ENDED_EARLY:
+                self._shorten(done.status)
+            else:
+                program.accepted(done)
+            self.horizon = Horizon(self.workspace)
+            self.horizon.reach(0)
+            self.known = Known(self.workspace, self.horizon)
+            # Where each `run` began that led to a moment, and its breaks: no moment between is at one of them.
+            self._runs: dict[int, tuple[int, frozenset[int]]] = {}
+            self.here = self.known.look([])
+        except BaseException:
+            self.workspace.close()
+            raise
+
+    def close(self) -> None:
+        self.workspace.close()
+
+    def reload(self) -> None:
+        """Reads the files anew, and goes to the first moment. Breaks stay at their labels."""
+        old = self.workspace
+        self._open()
+        old.close()
+        self._stores = None
+        self.records = []
+        names, self.breaks = list(self.breaks.values()), {}
+        for name in names:
+            try:
+                self.set_break(name)
+            except Failure as failure:
+                self.note(f"break {name}: {failure.line}")
+
+    def _shorten(self, status: int) -> None:
+        """Leaves out the events from the one on in which the run ends early, since a log is only written at the end
+        of a run."""
+        script = self.workspace.script()
+        least, most = -1, events.count(script)
+        while most - least > 1:
+            middle = (least + most) // 2
+            done, _ = self.workspace.try_play(events.prefix(script, middle))
+            if done.status in program.ENDED_EARLY:
+                most = middle
+            else:
+                least = middle
+        if least < 0:
+            raise Failure(f"the run ends early with {status}, before the first event (docs/ended.md says why)", status)
+        self.workspace.shortened = events.prefix(script, least)
+        self.note(
+            f"the run ends early with {status}, in event {most} of its script; this session ends behind event {least}"
+        )
+
+    # Moves
+
+    def _move(self, state: State, command: str = "") -> State:
+        self.here = state
+        self.records.append(Record("move", state.count, command))
+        return state
+
+    def _to_here(self) -> list[str]:
+        return moments.to(self.here.count)
+
+    def _all_breaks(self, *more: int) -> list[str]:
+        return moments.breaks(sorted({*self.breaks, *more}))
+
+    def set_break(self, where: str) -> int:
+        address = self.address(where)
+        self.breaks[address] = where
+        self.records.append(Record("break", self.here.count, f"break {self._named(where, address)}"))
+        return address
+
+    def delete(self, where: str) -> int:
+        address = self.address(where)
+        if address not in self.breaks:
+            raise Failure(f"there is no break at {where}")
+        name = self.breaks.pop(address)
+        self.records.append(Record("break", self.here.count, f"delete {self._named(name, address)}"))
+        return address
+
+    def _named(self, where: str, address: int) -> str:
+        """An address as a command names it: by the label, if it is one."""
+        name = os.fsencode(where.removeprefix("@")).decode("latin-1")
+        return f"@{name}" if name in self.program.labels.by_name else f"{address:04x}"
+
+    def address(self, where: str) -> int:
+        """The address that a text names: a place, or `.` for the present one."""
+        if where == ".":
+            return self.here.address or 0
+        at = places.line_of(self.program, self.here.address)
+        return places.address_of(self.program, where, at[0] if at else self.target.source)
+
+    def _go_on(self, look: Callable[[], State]) -> State:
+        """The state that a look answers which goes on from the present moment, perhaps far."""
+        return self.horizon.search(self.here.count, look, is_end)
+
+    def run(self) -> State:
+        """Goes on to the next moment at a break, or to the end."""
+        before = self.here.count
+        commands = [*self._to_here(), *self._all_breaks(), "run"]
+        state = self._move(self._go_on(lambda: self.known.look(commands)), "run")
+        self._runs[state.count] = (before, frozenset(self.breaks))
+        return state
+
+    def step(self, count: int = 1) -> State:
+        return self._move(self.known.at(self.here.count + count), f"step {count}")
+
+    def back(self, count: int = 1) -> State:
+        if count > self.here.count:
+            raise Failure(f"there are only {self.here.count} moments before this one")
+        return self.go_to(self.here.count - count)
+
+    def go_to(self, moment: int) -> State:
+        state = self._move(self.known.at(moment))
+        if state.count < moment:
+            self.note(f"the run ends after {state.count} instructions")
+        return state
+
+    def next(self) -> State:
+        """One instruction, or to the return of the subroutine that it calls."""
+        here = self.here
+        if here.address is None or not frames.is_call(here.name) or self._is_lambda(here.address):
+            return self.step()
+        returns_to = frames.return_address(here.name, here.address)
+        return self._returned(self._go_on(lambda: self._first_return(returns_to, here.returning.depth)))
+
+    def finish(self) -> tuple[Frame, State]:
+        """To the return of the subroutine that the session stands in."""
+        frame, state = self.horizon.search(self.here.count, self._finish, is_end_of_both)
+        return frame, self._returned(state)
+
+    def _finish(self) -> tuple[Frame, State]:
+        """The innermost call and its return. Most return addresses are on the top of the stack: the run that shows
+        the call goes on to there."""
+        stack = self.here.returning
+        guess = Frame(None, 0, int.from_bytes(stack.top[-2:], "big"), stack.depth - 2)
+        more = [*self._all_breaks(guess.returns_to), "run", *moments.LOOK]
+        lines = self.workspace.debug([*frames.commands(self.here), *more])
+        found, is_all = frames.frames(lines, self.here, 1, self._is_lambda)
+        if not found and is_all:
+            raise Failure("this is no subroutine: no call of this vector is on the return stack")
+        frame = found[0] if found else self._far_frame(guess)
+        guessed = moments.state(lines[-moments.LINES_OF_LOOK :])
+        is_guess = (frame.returns_to, frame.depth) == (guess.returns_to, guess.depth)
+        return frame, self._first_return(frame.returns_to, frame.depth, guessed if is_guess else None)
+
+    def _far_frame(self, guess: Frame) -> Frame:
+        """The call of a subroutine that has run for long: the one before the address on top of the return stack."""
+        for name, size in (("JSI", 3), ("JSR2", 1), ("JSR", 1)):
+            address = (guess.returns_to - size) & 0xFFFF
+            if guess.depth >= 0 and self._instruction_at(address) == name and not self._is_lambda(address):
+                self.note("its call is far back; the address on top of the return stack is taken")
+                return replace(guess, address=address)
+        raise Failure(f"no call of the last {frames.WINDOW} instructions is on the return stack")
+
+    def _instruction_at(self, address: int) -> str:
+        """The name of the instruction at an address of the program as it is loaded."""
+        byte = self.rom[address - START : address - START + 1] if address >= START else b""
+        return opcodes.of_byte(byte[0]).name if byte else ""
+
+    def _returned(self, state: State) -> State:
+        if state.is_end:
+            self.note("it does not return")
+        return self._move(state)
+
+    def frames(self) -> list[Frame]:
+        """The calls that did not return yet, the innermost first."""
+        self.horizon.reach(self.here.count)
+        lines = self.workspace.debug(frames.commands(self.here))
+        found, is_all = frames.frames(lines, self.here, MOST_FRAMES, self._is_lambda)
+        if not found and is_all:
+            self.note("no call of this vector is on the return stack")
+        elif not is_all:
+            self.note(f"those of the last {frames.WINDOW} instructions, or the innermost {MOST_FRAMES}:")
+        return found
+
+    def _is_lambda(self, address: int) -> bool:
+        """Whether a call is that of a lambda, whose return address is what stands in its braces."""
+        row = self.program.by_address.get(address)
+        return row is not None and row.word == b"{"
+
+    def _first_return(self, address: int, depth: int, first: State | None = None) -> State:
+        """The first moment at an address with a return stack of at most this depth, or an earlier one at a break; the
+        first stop may be known."""
+        state = first or self.known.look([*self._to_here(), *self._all_breaks(address), "run"])
+        while not (state.is_end or state.address in self.breaks or state.returning.depth <= depth):
+            state = self._stop_behind(state, address, depth)
+        return state
+
+    def _stop_behind(self, state: State, address: int, depth: int) -> State:
+        """The first stop behind a state that is at a break or not too deep, or else the last of many."""
+        before = [*moments.to(state.count), *self._all_breaks(address)]
+        most = min(MOST_STOPS, (MOST_COMMANDS - len(before)) // 2)
+        commands = [*before, *["run", "ports"] * most]
+        lines = self.workspace.debug(commands)[-17 * most :]
+        for at in range(0, len(lines), 17):
+            place = log.place(lines[at])
+            count = place.count if place else log.end(lines[at]) or 0
+            pointer = log.memory(lines[at + 1 : at + 2])[RETURN_POINTER]
+            if place is None or place.address in self.breaks or pointer <= depth:
+                break
+        return self.known.look(moments.to(count))
+
+    def reverse_run(self) -> State:
+        """Back to the last earlier moment at a break, or to the first moment."""
+        if not self.breaks:
+            raise Failure("there is no break")
+        if not self.here.count:
+            raise Failure("this is the first moment")
+        before, breaks = self._runs.get(self.here.count, (0, None))
+        if breaks == frozenset(self.breaks) and self.known.at(before).address in self.breaks:
+            return self._move(self.known.at(before))
+        self.horizon.reach(self.here.count)
+        found = backwards.last_hit(self.workspace, sorted(self.breaks), self.here.count)
+        if found is None:
+            self.note("no earlier moment is at a break: this is the first one")
+            found = self.known.at(0)
+        return self._move(found)
+
+    # Looks
+
+    def memory(self, where: str, address: int, length: int) -> bytes:
+        """Bytes of memory at the present moment."""
+        commands = Watched(address, length).commands()
+        name = self._named(where, address) if length <= MOST_SHOWN else ""
+        self.records += [
+            Record("look", self.here.count, f"mem {name} {length}" if name else command) for command in commands
+        ]
+        return self.known.memory(self.here.count, Watched(address, length))
+
+    def ports(self) -> bytes:
+        """What the ports read at the present moment."""
+        self.look("ports")
+        return self.known.ports(self.here.count)
+
+    def look(self, command: str) -> None:
+        """Keeps a look that the session has the answer of."""
+        self.records.append(Record("look", self.here.count, command))
+
+    def last_store(self, watched: Watched) -> tuple[Change, State] | None:
+        """The last store before the present moment that changed some bytes, and the state before it."""
+        self.horizon.reach(self.here.count)
+        change, state = backwards.near_store(self.workspace, watched, self.here.count)
+        if change:
+            return change, state or self.known.at(change.place.count)
+        if self.here.count <= backwards.NEAR:
+            return None
+        self.note(f"none in the last {backwards.NEAR} instructions; all stores before them are looked at")
+        return self._far_store(watched, self.here.count - backwards.NEAR)
+
+    def _far_store(self, watched: Watched, last: int) -> tuple[Change, State] | None:
+        if self._stores is None or self._stores.run.end <= last:
+            self._stores = Stores(self.workspace, self.rom)
+        changes = self._stores.changes(watched, 0, last)
+        return (changes[-1], self.known.at(changes[-1].place.count)) if changes else None

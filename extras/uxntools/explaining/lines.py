@@ -1,0 +1,197 @@
+"""The faults of a script, of debugger commands and of a setup, by the forms of their lines; and those of ROMs and
+symbol files."""
+from __future__ import annotations
+
+from dataclasses import dataclass
+from difflib import get_close_matches
+
+from uxntools.explaining import Reason, quoted
+
+SCRIPT = {
+    "clock": "clock S M: seconds since 1970 (0 to 253370000000), and the zone in minutes (-840 to 840)",
+    "args": 'args T T ..: each T a text, as "fast, or pairs of digits, as 0a',
+    "input": 'input T T ..: each T a text, as "hello, or pairs of digits, as 20 or 0a',
+    "end": "end",
+    "frame": "frame, or frame N: 1 to 1000000",
+    "key": "key HH: two digits, as 71; in version 2 also key HH N: 1 to 1000000 times",
+    "down": "down B: a, b, select, start, up, down, left or right; in version 2 also down B P: player 1 to 4",
+    "up": "up B: a, b, select, start, up, down, left or right; in version 2 also up B P: player 1 to 4",
+    "mouse": "mouse X Y: 0 to 65535",
+    "press": "press N: 1 to 8",
+    "release": "release N: 1 to 8",
+    "scroll": "scroll X Y: -32768 to 32767",
+    "shot": "shot",
+    "script": "script 2, as the first line with words",
+    "expect": "expect PP HH: two digits each, as expect f2 01",
+}
+COMMANDS = {
+    "break": "break A: four digits, or @ and a label",
+    "delete": "delete A: four digits, or @ and a label",
+    "run": "run",
+    "step": "step N: 1 to 4294967295",
+    "back": "back N: 1 to 65536",
+    "where": "where",
+    "stacks": "stacks",
+    "mem": "mem A N: four digits, or @ and a label; 1 to 256 bytes",
+    "ports": "ports",
+}
+SETUP = {
+    "machine": "machine P: the path of a source",
+    "script": "script P: the path of a script",
+    "budget": "budget N: 1 to 4294967295",
+    "turn": "turn M N: machine M, counted from 1; 1 to 1000000 turns",
+}
+TABLES = {"script": SCRIPT, "commands": COMMANDS, "setup": SETUP}
+
+
+@dataclass(frozen=True)
+class Line:
+    """A faulty line: what it belongs to, its number, its text, and the words of the first line with words."""
+
+    of: str
+    number: int
+    text: str
+    first: list[str]
+
+    @property
+    def words(self) -> list[str]:
+        return self.text.split()
+
+    @property
+    def name(self) -> str:
+        return self.words[0] if self.words else ""
+
+    @property
+    def form(self) -> str:
+        return TABLES[self.of].get(self.name, "")
+
+
+def _unknown(line: Line) -> Reason:
+    table = TABLES[line.of]
+    if line.of == "script" and line.name in ("expect", "script") and line.first != ["script", "2"]:
+        return Reason(
+            f"{quoted(line.name)} is a line of version 2, and this script has version 1.",
+            "script 2 as the first line of the script",
+        )
+    if line.of == "script" and line.name == "script":
+        return Reason("`script 2` stands on the first line with words alone.", "it once, before all others")
+    near = get_close_matches(line.name, list(table), 1, 0.6)
+    return Reason(
+        f"There is no line that begins with {quoted(line.name)}; there are {', '.join(table)}.",
+        table[near[0]] if near else "",
+    )
+
+
+def _missing(line: Line) -> Reason:
+    return Reason(f"{quoted(line.name)} has too few words.", line.form)
+
+
+def _extra(line: Line) -> Reason:
+    if any(word.startswith("#") for word in line.words[1:]):
+        return Reason(
+            "A comment has a line of its own: behind other words a `#` begins none.", "the comment on the line before"
+        )
+    if line.of == "script" and line.name in ("key", "down", "up") and line.first != ["script", "2"]:
+        return Reason(
+            f"The last word of {quoted(line.text.strip())} is one of version 2, and this script has version 1.",
+            "script 2 as the first line of the script",
+        )
+    return Reason(f"{quoted(line.name)} has too many words.", line.form)
+
+
+def _bad_value(line: Line) -> Reason:
+    if line.of == "script" and line.name in ("input", "args"):
+        wrong = next((word for word in line.words[1:] if not word.startswith('"') and not _is_pairs(word)), "")
+        return Reason(f'{quoted(wrong)} is neither a text, which begins with `"`, nor pairs of digits.', f'"{wrong}')
+    if line.of == "setup" and line.name in ("machine", "script"):
+        return Reason(
+            "It is no path: no `..`, no `/` at its start or end, no control byte; beneath the current folder.",
+            line.form,
+        )
+    return Reason(
+        "A word is not of its form, or out of its range: numbers are decimal, without leading zeros; bytes are "
+        "two digits.",
+        line.form,
+    )
+
+
+def _is_pairs(word: str) -> bool:
+    return len(word) % 2 == 0 and bool(word) and all(sign in "0123456789abcdefABCDEF" for sign in word)
+
+
+def _late(line: Line) -> Reason:
+    if line.name == "script":
+        return Reason("`script 2` stands a second time.", "it once, on the first line")
+    return Reason(
+        f"{quoted(line.name)} stands a second time, or behind a line that gives an event.",
+        f"{line.name} once, before input, keys and frames",
+    )
+
+
+def _no_such_label(line: Line) -> Reason:
+    label = next((word[1:] for word in line.words[1:] if word.startswith("@")), "")
+    return Reason(
+        f"No label of the source, or of the file of --symbols, is named {quoted(label)}. A sublabel has the "
+        f"name of its label before it.",
+        f"{line.name} @scope/{label}" if "/" not in label else "",
+    )
+
+
+FIXED = {
+    "ManyEvents": "With this line the script has more than 1,000,000 events.",
+    "LongScript": "A script has at most 4,194,304 bytes.",
+    "ManyCommands": "There are at most 65,536 commands.",
+    "LongCommands": "Commands have at most 4,194,304 bytes.",
+    "Twice": "This line stands a second time in the setup.",
+    "ManyMachines": "There are at most eight machines.",
+    "NoMachine": "No earlier line gives the machine of this turn: machines count from 1, and `machine` lines "
+    "stand before.",
+    "ManyTurns": "There are at most 10,000,000 turns.",
+    "FewMachines": "A line has two machines at least: two lines `machine P`.",
+    "LongSetup": "A setup has at most 4,194,304 bytes.",
+    "Events": "The script of a line of machines has only `clock`, `args`, `input` and `end`: no frames, keys, "
+    "mouse, pictures or expects.",
+    "Torn": "The symbol file ends within an entry: two bytes of address, the name, and a zero byte belong to each.",
+    "NoName": "An entry of the symbol file has an empty name.",
+    "BadByte": "A name in the symbol file has a byte up to 20.",
+    "Long": "A symbol file has at most 16,777,216 bytes.",
+}
+ALONE = {
+    "Unknown": "The first word of the line is none of its kind; in a script of version 1 `expect` is none.",
+    "Missing": "The line has too few words.",
+    "Extra": "The line has too many words; a comment has a line of its own.",
+    "BadValue": "A word of the line is not of its form, or out of its range.",
+    "Late": "`args` or `clock` stands behind an event or a second time, or `script 2` a second time.",
+    "NoSuchLabel": "No label has this name.",
+}
+RULES = {
+    "Unknown": _unknown,
+    "Missing": _missing,
+    "Extra": _extra,
+    "BadValue": _bad_value,
+    "Late": _late,
+    "NoSuchLabel": _no_such_label,
+}
+
+
+def reason(kind: str, line: Line | None) -> Reason | None:
+    """Why a line is refused with this kind of fault; None of a kind that there is not."""
+    if kind in FIXED:
+        return Reason(FIXED[kind])
+    if kind not in RULES:
+        return None
+    return RULES[kind](line) if line else Reason(ALONE[kind])
+
+
+def rom_reason(length: str, command: str) -> Reason:
+    most = "65,280" if command == "dis" else "1,048,320"
+    return Reason(f"The ROM has {length} bytes; `{command or 'play'}` takes at most {most}.")
+
+
+ENDED = {
+    136: "A file failed: an input that may not be read, an output that may not be written, a full disk, or a "
+    "file beneath the root.",
+    137: "An output stream failed: whoever read it has gone, it is closed, or its disk is full.",
+    138: "There was not enough memory.",
+    200: "The launcher could not build the program: crates/uxn_program/out/build.log says why.",
+}

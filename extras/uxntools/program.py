@@ -1,0 +1,125 @@
+"""Calls of `uxn`: the program that `$UXN` names, or `uxn` of the PATH."""
+from __future__ import annotations
+
+import os
+import re
+import shutil
+import subprocess
+import tempfile
+from collections.abc import Iterator, Sequence
+from contextlib import contextmanager
+from dataclasses import dataclass
+
+from uxntools.cli import Failure
+
+# The statuses of `uxn` itself, behind those that a program can give (0 to 127).
+REFUSED = range(128, 136)
+ENDED_EARLY = range(136, 139)
+
+FAULT = re.compile(
+    r"source (?:(?P<path>.*) )?(?P<line>\d+):(?P<column>\d+): (?P<kind>[A-Za-z]+): (?P<word>.*)", re.DOTALL
+)
+
+# How much of an error output is kept where the output itself is not wanted: a refusal's line is its end.
+LAST_OF_ERRORS = 70000
+
+
+@dataclass(frozen=True)
+class Fault:
+    """A refused source: the file of the faulty word (None for the source itself), its place, the kind, and the
+    word."""
+
+    path: str | None
+    line: int
+    column: int
+    kind: str
+    word: str
+
+
+@dataclass(frozen=True)
+class Done:
+    """What a call gave: its status, and the bytes on both outputs."""
+
+    status: int
+    out: bytes
+    err: bytes
+
+    @property
+    def line(self) -> str:
+        """The line of a refused call."""
+        return self.err.decode(errors="replace").rstrip("\n").rpartition("\n")[2]
+
+    @property
+    def fault(self) -> Fault | None:
+        """The faulty word, where a source was refused."""
+        found = FAULT.fullmatch(os.fsdecode(self.err).rstrip("\n")) if self.status == 131 else None
+        return (
+            Fault(found["path"], int(found["line"]), int(found["column"]), found["kind"], found["word"])
+            if found
+            else None
+        )
+
+
+def path_of_uxn() -> str:
+    """The program: an absolute path, so that it can be called in any folder."""
+    name = os.environ.get("UXN", "uxn")
+    found = shutil.which(name)
+    if found is None:
+        raise Failure(f"there is no program {name}: put uxn into PATH, or its path into UXN", 127)
+    return os.path.abspath(found)
+
+
+def call(*words: str, folder: str | None = None, stdin: bytes = b"", seconds: float | None = None) -> Done:
+    """Runs `uxn` in a folder (the current one without it) until it ends."""
+    try:
+        done = subprocess.run(
+            [path_of_uxn(), *words], cwd=folder, input=stdin, capture_output=True, check=False, timeout=seconds
+        )
+    except subprocess.TimeoutExpired:
+        raise Failure(f"uxn {' '.join(words)}: it did not end within {seconds} seconds") from None
+    return Done(done.returncode, done.stdout, done.stderr)
+
+
+def call_for_files(*words: str, folder: str) -> Done:
+    """The same where only the files matter that it writes: what it puts out is not kept, however much it is, but
+    for the last line."""
+    with tempfile.TemporaryFile() as errors:
+        done = subprocess.run(
+            [path_of_uxn(), *words],
+            cwd=folder,
+            stdin=subprocess.DEVNULL,
+            stdout=subprocess.DEVNULL,
+            stderr=errors,
+            check=False,
+        )
+        errors.seek(max(0, errors.seek(0, os.SEEK_END) - LAST_OF_ERRORS))
+        return Done(done.returncode, b"", errors.read())
+
+
+def need(*words: str, folder: str | None = None) -> Done:
+    """The same of a call that has to be accepted: another one ends the tool with the line and the status of `uxn`."""
+    return accepted(call(*words, folder=folder))
+
+
+def accepted(done: Done) -> Done:
+    """What a call gave that was not refused and did not end early; another one ends the tool with its line and
+    status."""
+    if done.status in ENDED_EARLY:
+        raise Failure(f"the run ended early with {done.status} (docs/ended.md says why)", done.status)
+    if done.status >= 128:
+        raise Failure(done.line or f"uxn ended with {done.status}", done.status)
+    if done.status < 0:
+        raise Failure(f"uxn was ended by signal {-done.status}")
+    return done
+
+
+@contextmanager
+def scratch_folder(beside: str = ".") -> Iterator[str]:
+    """A folder beneath `beside`, named as `uxn` can name it (relative), that is gone at the end."""
+    with tempfile.TemporaryDirectory(prefix="uxn-", dir=beside) as folder:
+        yield os.path.relpath(folder, beside) if beside == "." else folder
+
+
+def words_of(arguments: Sequence[str]) -> list[str]:
+    """The options for `uxn` behind a tool's own arguments, without the `--` that may part them."""
+    return [word for at, word in enumerate(arguments) if word != "--" or at]

@@ -1,0 +1,96 @@
+"""The words of an Uxntal source with their places, and those of the files that it includes."""
+from __future__ import annotations
+
+import os
+import re
+from collections.abc import Iterator
+from typing import NamedTuple
+
+WORD = re.compile(rb"[^\x00-\x20]+")
+
+
+class Word(NamedTuple):
+    """A word of a source: its bytes, the file that it stands in, and the line and the column of its first byte, from 1."""
+
+    text: bytes
+    path: str
+    line: int
+    column: int
+    start: int
+
+    @property
+    def end(self) -> int:
+        """The place behind its last byte in the file, from 0."""
+        return self.start + len(self.text)
+
+
+def line_tokens(line: bytes, depth: int) -> tuple[list[tuple[int, bytes, bool]], int]:
+    """The words of a line that begins at a comment depth: the place of each in the line, from 0, itself, and whether it is part of a
+    comment; and the depth behind the line. Any byte up to 20 is a blank; a word that begins with `(` opens a comment, in which `(` and
+    `)` that stand alone nest."""
+    if not depth and b"(" not in line:
+        return [(found.start(), found.group(), False) for found in WORD.finditer(line)], 0
+    tokens = []
+    for found in WORD.finditer(line):
+        text = found.group()
+        is_comment = depth > 0 or text.startswith(b"(")
+        if depth:
+            depth += (text == b"(") - (text == b")")
+        elif is_comment:
+            depth = 1
+        tokens.append((found.start(), text, is_comment))
+    return tokens, depth
+
+
+def tokens(data: bytes, path: str = "") -> Iterator[tuple[Word, bool]]:
+    """All words of a source in order, each with whether it is part of a comment."""
+    depth = start = 0
+    for number, line in enumerate(data.split(b"\n"), 1):
+        found, depth = line_tokens(line, depth)
+        for at, text, is_comment in found:
+            yield Word(text, path, number, at + 1, start + at), is_comment
+        start += len(line) + 1
+
+
+def words(data: bytes, path: str = "") -> Iterator[Word]:
+    """The words of a source without its comments."""
+    return (word for word, is_comment in tokens(data, path) if not is_comment)
+
+
+def included(source: str, word: bytes) -> str | None:
+    """The path that an include word names. It begins at the folder of the source, in whatever file it stands."""
+    if not word.startswith(b"~") or len(word) == 1:
+        return None
+    return os.path.join(os.path.dirname(source), os.fsdecode(word[1:]))
+
+
+def read(path: str) -> bytes:
+    with open(path, "rb") as file:
+        return file.read()
+
+
+def flat_words(source: str, path: str | None = None, depth: int = 15) -> Iterator[Word]:
+    """The words of a source, with the words of included files in place of the words that include them."""
+    path = path or source
+    for word in words(read(path), path):
+        inner = included(source, word.text)
+        if inner and depth:
+            yield from flat_words(source, inner, depth - 1)
+        else:
+            yield word
+
+
+def files_of(source: str) -> tuple[list[str], list[OSError]]:
+    """The source and the files that it includes, each once, in order of reading; and why some of them could not be read."""
+    found, faults = [source], []
+    for path in found:
+        try:
+            data = read(path)
+        except OSError as error:
+            faults.append(error)
+            continue
+        for word in words(data):
+            inner = included(source, word.text)
+            if inner and inner not in found:
+                found.append(inner)
+    return found, faults

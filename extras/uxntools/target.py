@@ -1,0 +1,284 @@
+"""A program with the options of its run, as `uxn play` takes them, and a workspace in which it runs again and
+again: each run begins with the same files, and none of the user's files changes."""
+from __future__ import annotations
+
+import argparse
+import os
+import shutil
+import tempfile
+from collections.abc import Iterator, Mapping, Sequence
+from contextlib import contextmanager
+from dataclasses import dataclass, field
+
+from uxntools import listing, program, source, symbols
+from uxntools.cli import Failure
+from uxntools.listing import Row
+from uxntools.program import Done
+from uxntools.symbols import Labels
+
+# What a tool itself writes into the folder of a run; no input has these names.
+OWN = ".uxn-tool-"
+
+
+@dataclass(frozen=True)
+class Target:
+    """A source or a ROM, and the options of its run. Its paths begin at a folder: the current one, if it has no
+    name. A root that is not there is an empty folder where it is to be made."""
+
+    source: str
+    rom: bool = False
+    script: str | None = None
+    root: str | None = None
+    budget: str | None = None
+    symbols: str | None = None
+    folder: str = ""
+    makes_root: bool = False
+
+    def options(self) -> list[str]:
+        """The options for `uxn play`."""
+        valued = {"--script": self.script, "--root": self.root, "--budget": self.budget}
+        return ["--rom"] * self.rom + [f"{name}={value}" for name, value in valued.items() if value is not None]
+
+    def inputs(self) -> list[str]:
+        """The files that a run reads, but for those beneath its root."""
+        found = [self.source] if self.rom else self._sources()
+        return found + [path for path in (self.script, self.symbols) if path is not None]
+
+    def _sources(self) -> list[str]:
+        files = source.files_of(os.path.join(self.folder, self.source))[0]
+        return [os.path.relpath(path, self.folder) for path in files] if self.folder else files
+
+
+def add_arguments(parser: argparse.ArgumentParser) -> None:
+    """The arguments of a tool that runs a program: SRC and the options of `uxn play`."""
+    parser.add_argument("source", metavar="SRC", help="the source, or with --rom the ROM")
+    add_options(parser)
+
+
+def add_options(parser: argparse.ArgumentParser) -> None:
+    options = parser.add_argument_group("options of uxn play")
+    options.add_argument("--rom", action="store_true", help="SRC is a ROM")
+    options.add_argument("--script", metavar="S", help="the script of the run")
+    options.add_argument("--root", metavar="R", help="the folder of its files; it is copied, and stays as it is")
+    options.add_argument("--budget", metavar="N", help="the greatest number of instructions of each vector")
+    options.add_argument("--symbols", metavar="Y", help="a symbol file, whose labels take the place of the source's")
+    for name in ("--frames", "--samples", "--report"):
+        options.add_argument(name, metavar="P", help="is taken, and not written")
+
+
+def of(given: argparse.Namespace) -> Target:
+    return Target(given.source, given.rom, given.script, given.root, given.budget, given.symbols)
+
+
+@dataclass
+class Program:
+    """What is known of a program beside its run: where each of its bytes comes from, its labels, and the lines of
+    its files."""
+
+    rows: list[Row]
+    labels: Labels
+    files: dict[str, list[str]]
+    by_address: dict[int, Row] = field(init=False)
+
+    def __post_init__(self) -> None:
+        self.by_address = listing.by_address(self.rows)
+
+    def text(self, path: str, line: int) -> str:
+        """A line of a file, without its end; nothing where there is none."""
+        lines = self.files.get(path, [])
+        return lines[line - 1] if 0 < line <= len(lines) else ""
+
+
+def is_plain(path: str) -> bool:
+    """Whether a path stays beneath the current folder, as `uxn` wants it. It refuses all others itself."""
+    return all(part not in ("", ".", "..") for part in path.split("/"))
+
+
+class Workspace:
+    """Copies of all that a run reads. Each call of `uxn` has a folder of its own, with the files under their own
+    names. Where `shortened` is set, it takes the place of the run's script."""
+
+    def __init__(self, target: Target) -> None:
+        self.target = target
+        self.shortened: bytes | None = None
+        self._scratch = tempfile.TemporaryDirectory(prefix="uxn-tool-")
+        self._files = os.path.join(self._scratch.name, "files")
+        os.mkdir(self._files)
+        for path in target.inputs():
+            self._copy(path, shutil.copyfile)
+        if target.root is not None:
+            is_file = os.path.isfile(os.path.join(target.folder, target.root))
+            self._copy(target.root, shutil.copyfile if is_file else shutil.copytree)
+            if target.makes_root:
+                os.makedirs(self.path(target.root), exist_ok=True)
+
+    def close(self) -> None:
+        self._scratch.cleanup()
+
+    def __enter__(self) -> Workspace:
+        return self
+
+    def __exit__(self, *_: object) -> None:
+        self.close()
+
+    def _copy(self, path: str, copy: object) -> None:
+        here, there = os.path.join(self.target.folder, path), os.path.join(self._files, path)
+        if not is_plain(path) or os.path.lexists(there) or not os.path.exists(here):
+            return
+        os.makedirs(os.path.dirname(there), exist_ok=True)
+        try:
+            copy(here, there, **({"symlinks": True} if copy is shutil.copytree else {}))  # type: ignore[operator]
+        except (IsADirectoryError, shutil.SpecialFileError):
+            pass
+
+    def path(self, name: str) -> str:
+        """Where the copy of an input lies."""
+        return os.path.join(self._files, name)
+
+    @contextmanager
+    def folder(self) -> Iterator[str]:
+        """A folder for one call: its root is a copy, all else are links."""
+        with tempfile.TemporaryDirectory(prefix="run-", dir=self._scratch.name) as folder:
+            root = self.target.root
+            parts = root.split("/") if root is not None and is_plain(root) else []
+            self._link_all(folder, parts)
+            yield folder
+
+    def _link_all(self, folder: str, root: Sequence[str]) -> None:
+        """Links to what lies in the folder of copies, but copies of what lies on the way to the root."""
+        copies = self._files
+        for depth, part in enumerate(root):
+            _link(copies, folder, part)
+            copies, folder = os.path.join(copies, part), os.path.join(folder, part)
+            if depth < len(root) - 1:
+                os.makedirs(folder, exist_ok=True)
+        if not root:
+            _link(copies, folder, None)
+        elif os.path.isdir(copies):
+            shutil.copytree(copies, folder, symlinks=True)
+        elif os.path.exists(copies):
+            shutil.copyfile(copies, folder)
+
+    def debug(self, commands: Sequence[str], script: bytes | None = None) -> list[str]:
+        """The lines of the log of these commands (latin-1), over the run's script or the one that is given."""
+        done, log = self.try_debug(commands, script)
+        program.accepted(done)
+        return log
+
+    def try_debug(self, commands: Sequence[str], script: bytes | None = None) -> tuple[Done, list[str]]:
+        """The same of a call that may be refused or end early."""
+        target = self.target
+        script = self.shortened if script is None else script
+        words = ["debug", target.source, f"--commands={OWN}commands", f"--log={OWN}log", *self._options(script)]
+        words += [f"--symbols={target.symbols}"] if target.symbols is not None else []
+        files = {"commands": "\n".join([*commands, ""]).encode("latin-1")} | (
+            {} if script is None else {"script": script}
+        )
+        done, outputs = self.call(words, files, ["log"])
+        return done, outputs["log"].decode("latin-1").split("\n")[:-1]
+
+    def play(self, script: bytes, *outputs: str, budget: int | None = None) -> dict[str, bytes]:
+        """The outputs (`frames`, `report`, ..) of a run over the given script, and with another budget where one is
+        given."""
+        done, files = self.try_play(script, *outputs, budget=budget)
+        program.accepted(done)
+        return files
+
+    def try_play(self, script: bytes, *outputs: str, budget: int | None = None) -> tuple[Done, dict[str, bytes]]:
+        """The same of a call that may be refused or end early."""
+        options = self._options(script)
+        if budget is not None:
+            options = [word for word in options if not word.startswith("--budget=")] + [f"--budget={budget}"]
+        words = ["play", self.target.source, *options, *(f"--{name}={OWN}{name}" for name in outputs)]
+        return self.call(words, {"script": script}, outputs)
+
+    def script(self) -> bytes:
+        """The script of the run; an empty one where it has none, which means the same."""
+        path = self.target.script
+        return b"" if path is None or not is_plain(path) else _data(self.path(path))
+
+    def _options(self, script: bytes | None) -> list[str]:
+        options = self.target.options()
+        if script is None:
+            return options
+        return [word for word in options if not word.startswith("--script=")] + [f"--script={OWN}script"]
+
+    def call(
+        self, words: Sequence[str], files: Mapping[str, bytes], outputs: Sequence[str]
+    ) -> tuple[Done, dict[str, bytes]]:
+        """Calls `uxn` with files of the tool's own, and answers those that it was to write: empty where it did
+        not."""
+        with self.folder() as folder:
+            for name, data in files.items():
+                with open(os.path.join(folder, OWN + name), "wb") as file:
+                    file.write(data)
+            done = program.call_for_files(*words, folder=folder)
+            return done, {name: _data(os.path.join(folder, OWN + name)) for name in outputs}
+
+    def output(self) -> Done:
+        """What the whole run puts out."""
+        with self.folder() as folder:
+            return program.call("play", self.target.source, *self._options(None), folder=folder)
+
+    def rom(self) -> bytes:
+        """The ROM, as it is loaded."""
+        if self.target.rom:
+            return _data(self.path(self.target.source))
+        done, made = self.call(["asm", self.target.source, f"--out={OWN}rom"], {}, ["rom"])
+        program.accepted(done)
+        return made["rom"]
+
+    def program(self) -> Program:
+        """The program's rows, labels and lines. One that is refused ends the tool with its line."""
+        return self._rom_program() if self.target.rom else self._source_program()
+
+    def _labels(self, made: bytes) -> Labels:
+        """The labels of a symbol file that the run is given, or else those that were made. A faulty file `uxn`
+        itself refuses."""
+        path = self.target.symbols
+        if path is None:
+            return Labels(symbols.read(made))
+        try:
+            return Labels(symbols.read(_data(self.path(path)) if is_plain(path) else b""))
+        except Failure:
+            return Labels([])
+
+    def _source_program(self) -> Program:
+        path = self.target.source
+        words = ["asm", path, f"--out={OWN}rom", f"--listing={OWN}listing", f"--symbols={OWN}symbols"]
+        done, made = self.call(words, {}, ["listing", "symbols"])
+        program.accepted(done)
+        rows = listing.read(made["listing"], path, self._files)
+        paths = dict.fromkeys([path, *(row.path for row in rows)])
+        return Program(rows, self._labels(made["symbols"]), {name: lines_of(_data(self.path(name))) for name in paths})
+
+    def _rom_program(self) -> Program:
+        """Of a ROM the lines are those of its disassembly, where it has one: `uxn dis` takes 65,280 bytes."""
+        path = self.target.source
+        labels = self._labels(b"")
+        named = [] if self.target.symbols is None else [f"--symbols={self.target.symbols}"]
+        with self.folder() as folder:
+            done = program.call("dis", path, *named, folder=folder)
+        if done.status not in (0, 134):
+            program.accepted(done)
+        lines = lines_of(done.out)
+        return Program(listing.of_disassembly(lines, path), labels, {path: lines})
+
+
+def _link(copies: str, folder: str, leave: str | None) -> None:
+    """Makes links in a folder to what another has, but for one name."""
+    for name in os.listdir(copies) if os.path.isdir(copies) else []:
+        if name != leave:
+            os.symlink(os.path.join(copies, name), os.path.join(folder, name))
+
+
+def _data(path: str) -> bytes:
+    try:
+        return source.read(path)
+    except OSError:
+        return b""
+
+
+def lines_of(data: bytes) -> list[str]:
+    """The lines of a source, for the eye."""
+    return [line.rstrip("\r") for line in data.decode(errors="replace").split("\n")]
