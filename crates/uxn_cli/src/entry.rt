@@ -92,9 +92,9 @@ fn status_of<T: Tree, O: Sink, E: Sink>(
 ///
 /// The status of a run is its exit code, 0 to 127, that of a line is the exit code of its last machine, and else it is 0. A refusal puts
 /// its one line on `err` and nothing else: 128 for words that are not legal, 129 for a word that is no path, 130 for an input that is no file, 131
-/// for a source with a fault, 132 for a script and 133 for commands with a faulty line, 134 for a ROM of more than
-/// 65,280 bytes or a faulty symbol file, 135 for an output that clashes or cannot be made, 139 for a setup with a faulty line or
-/// the script of one that has other events than input and its end. The call ends early with
+/// for a source with a fault, 132 for a script and 133 for commands with a faulty line, 134 for a ROM that is too long (1,048,320
+/// bytes for `play` and `debug`, 65,280 for `dis`) or a faulty symbol file, 135 for an output that clashes or cannot be made, 139
+/// for a setup with a faulty line or the script of one that has other events than input and its end. The call ends early with
 /// 136 where the tree failed, with 137 where a sink failed, and with 138 when out of memory: in a `play` only before
 /// anything was done, or as its program lists a folder.
 pub fn uxn<T: Tree, O: Sink, E: Sink>(
