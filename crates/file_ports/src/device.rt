@@ -1,7 +1,7 @@
 //! A file device.
-ghost use Rattle.std.specs.Prelude.{◌≡◌, ℕ, ◌+◌, ◌≤◌, List, None};
+ghost use Rattle.std.specs.Prelude.{◌≡◌, ℕ, ◌+◌, ◌≤◌, List, None, IfSome};
 ghost use Rattle.std.specs.Option.{option_copied};
-ghost use Rattle.uxn_io_traits.specs.Ended.{TreeEnded, TreeLooked, RefusedOnce};
+ghost use Rattle.uxn_io_traits.specs.Ended.{TreeEnded, TreeLooked, RefusedAtMost};
 ghost use Rattle.file_ports.specs.Device.{idle_at, Suits};
 ghost use Rattle.file_ports.specs.Names.{path_named};
 ghost use Rattle.file_ports.specs.Actions.{Read, Write, Stat, Delete, count_from};
@@ -102,7 +102,7 @@ impl FileDevice {
     ) -> Result<u16, FileStop>
         ensures tree { TreeEnded (changes_by (Write at length keep) (T.state tree.old).contents self.old memory.now) (has_failed result)
             (T.state tree.old) (T.state tree.new) }
-        ensures refused { RefusedOnce (T.state tree.old) (T.state tree.new) }
+        ensures refused { IfSome self.old.path (λ path. RefusedAtMost path (T.state tree.old) (T.state tree.new)) }
         ensures acted { ActedOrStopped (Write at length keep) self.old memory.now (T.state tree.old).contents result self.new memory.now }
         ensures untouched { self.old.path ≡ None → tree.new ≡ tree.old }
     {

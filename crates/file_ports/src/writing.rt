@@ -1,6 +1,6 @@
 //! Writes.
 ghost use Rattle.std.specs.Prelude.{◌≡◌, ◌&&◌, ◌||◌, [], map, IfOk, IfSome, IsTrue, IsSome, is_err, is_some};
-ghost use Rattle.uxn_io_traits.specs.Ended.{TreeEnded, TreeLooked, RefusedOnce};
+ghost use Rattle.uxn_io_traits.specs.Ended.{TreeEnded, TreeLooked, RefusedAtMost};
 ghost use Rattle.uxn_io_traits.specs.Files.{kind_at, file_at};
 ghost use Rattle.uxn_io_traits.specs.Outside.{ToFile};
 ghost use Rattle.file_ports.specs.Actions.{observed_file, is_file, begun};
@@ -30,7 +30,7 @@ fn begin<T: Tree>(tree: &mut T, path: &Path, is_writing: bool, keep: bool) -> Re
     ensures file { IfOk result (λ goes. IsTrue goes → IfSome (T.state tree.new).contents (λ nodes. IsSome (file_at nodes path.now))) }
     ensures tree { TreeEnded (changes_written is_writing keep (T.state tree.old).contents path.now []) (is_err result)
         (T.state tree.old) (T.state tree.new) }
-    ensures refused { RefusedOnce (T.state tree.old) (T.state tree.new) }
+    ensures refused { RefusedAtMost path.now (T.state tree.old) (T.state tree.new) }
 {
     if goes_on(tree, path, is_writing, keep)? {
         return Ok(true);
@@ -52,7 +52,7 @@ pub(crate) fn add<T: Tree>(
     ensures begun { IfOk result (λ goes. IfSome (T.state tree.old).contents (λ nodes. goes ≡ is_some (begun is_writing keep (observed_file nodes path.now)))) }
     ensures tree { TreeEnded (changes_written is_writing keep (T.state tree.old).contents path.now (map (λ byte. ToFile path.now byte) piece.now))
         (is_err result) (T.state tree.old) (T.state tree.new) }
-    ensures refused { RefusedOnce (T.state tree.old) (T.state tree.new) }
+    ensures refused { RefusedAtMost path.now (T.state tree.old) (T.state tree.new) }
 {
     if !begin(tree, path, is_writing, keep)? {
         return Ok(false);

@@ -7,5 +7,6 @@ mod memory;
 pub use memory::{MemSink, MemTree, Node, TreeCall};
 pub use uxn_io_traits::{
     Bytes, Entry, Failed, FileBytes, Kind, NamesStop, NoSink, NoTree, Path, PathFault, ReadStop,
-    Sink, Tree, append_all, decimal, hex_byte, hex_short, put_all, read_file,
+    RefusedFiles, Sink, Tree, TreeRequest, append_all, decimal, hex_byte, hex_short, put_all,
+    read_file,
 };

@@ -10,7 +10,7 @@ use std::fs::{File, OpenOptions};
 use std::io::{ErrorKind, Read, Seek, SeekFrom, Write};
 use std::rt::Files;
 use std::{fs, io, str};
-use uxn_io_traits::{Entry, Failed, Kind, NamesStop, Path, Tree};
+use uxn_io_traits::{Entry, Failed, Kind, NamesStop, Path, RefusedFiles, Tree};
 
 /// How many bytes are read at once.
 const CHUNK: usize = 4096;
@@ -35,16 +35,15 @@ struct OpenedFile<F: Drop> {
     place: u64,
 }
 
-/// The current folder of the process. Its contents are unknown, and promises nothing, but
-/// that it counts exactly the calls that failed and the files that it refused to create. The file that was
+/// The current folder of the process. Its contents are unknown, and it promises nothing, but
+/// that it counts exactly the calls that failed and the files that it refused to create, and names the last of these. The file that was
 /// last read from or appended to stays open: a call of the same kind at the same path goes on with it, and each other
 /// call lets it go first. Nothing is held back in a buffer.
 #[derive(Drop)]
 pub struct CurrentFolder<'a, R: Files> {
     rt: &'a R,
     faults: u64,
-    /// How many files it refused to create.
-    refusals: u64,
+    refused: RefusedFiles,
     opened: Option<OpenedFile<R::File>>,
 }
 
@@ -62,7 +61,7 @@ impl<'a, R: Files> CurrentFolder<'a, R> {
         CurrentFolder {
             rt,
             faults: 0,
-            refusals: 0,
+            refused: RefusedFiles::new(),
             opened: None,
         }
     }
@@ -70,7 +69,7 @@ impl<'a, R: Files> CurrentFolder<'a, R> {
     /// Lets the file go that is open.
     fn let_go(&mut self)
         ensures faults { self.new.faults ≡ self.old.faults }
-        ensures refusals { self.new.refusals ≡ self.old.refusals }
+        ensures refused { self.new.refused ≡ self.old.refused }
     {
         self.opened = None;
     }
@@ -78,7 +77,7 @@ impl<'a, R: Files> CurrentFolder<'a, R> {
     /// Lets the file go that is open, unless it is the one at a path.
     fn let_others_go(&mut self, path: &Path)
         ensures faults { self.new.faults ≡ self.old.faults }
-        ensures refusals { self.new.refusals ≡ self.old.refusals }
+        ensures refused { self.new.refused ≡ self.old.refused }
     {
         let stays = match &self.opened {
             Some(opened) => opened.path == *path,
@@ -92,7 +91,7 @@ impl<'a, R: Files> CurrentFolder<'a, R> {
     /// The open file, if it is the one at a path and was opened for this; any other is dropped.
     fn take_opened(&mut self, path: &Path, way: Way) -> Option<OpenedFile<R::File>>
         ensures faults { self.new.faults ≡ self.old.faults }
-        ensures refusals { self.new.refusals ≡ self.old.refusals }
+        ensures refused { self.new.refused ≡ self.old.refused }
     {
         match self.opened.take() {
             Some(opened) if opened.path == *path && opened.way == way => Some(opened),
@@ -104,7 +103,7 @@ impl<'a, R: Files> CurrentFolder<'a, R> {
     #[tactic(auto, using(uxn_io_traits::specs::UnknownLaws::nothing_counted, uxn_io_traits::specs::UnknownLaws::fault_counted))]
     fn counted<T>(&mut self, done: io::Result<T>) -> Result<T, Failed>
         ensures counted { Counted (exactly self.old.faults) (exactly self.new.faults) (is_err result) }
-        ensures refusals { self.new.refusals ≡ self.old.refusals }
+        ensures refused { self.new.refused ≡ self.old.refused }
         ensures value { IfOk result (λ value. done ≡ Ok value) }
     {
         match done {
@@ -167,7 +166,7 @@ impl<R: Files> CurrentFolder<'_, R> {
     fn read_chunk(&mut self, path: &Path, from: u64, chunk: &mut [u8; CHUNK]) -> io::Result<usize>
         ensures count { IfOk result (λ taken. taken ≤ 4096) }
         ensures faults { self.new.faults ≡ self.old.faults }
-        ensures refusals { self.new.refusals ≡ self.old.refusals }
+        ensures refused { self.new.refused ≡ self.old.refused }
     {
         let opened = match self.take_opened(path, Way::Reads) {
             Some(opened) => Some(opened),
@@ -198,7 +197,7 @@ impl<R: Files> CurrentFolder<'_, R> {
     fn append_some(&mut self, path: &Path, piece: &[u8]) -> io::Result<usize>
         ensures count { IfOk result (λ taken. (taken ≤ length piece.now) × (0 < length piece.now → 0 < taken)) }
         ensures faults { self.new.faults ≡ self.old.faults }
-        ensures refusals { self.new.refusals ≡ self.old.refusals }
+        ensures refused { self.new.refused ≡ self.old.refused }
     {
         let mut opened = match self.take_opened(path, Way::Appends) {
             Some(opened) => opened,
@@ -295,7 +294,7 @@ fn copy_prefix(bytes: &[u8], into: &mut [u8]) -> usize
 impl<R: Files + AllocGlobal + Clone + Drop> Tree for CurrentFolder<'_, R> {
     ghost use Rattle.uxn_io_traits.specs.Unknown.{unknown_tree};
 
-    ghost state = { λ folder. unknown_tree folder.faults folder.refusals };
+    ghost state = { λ folder. unknown_tree folder.faults folder.refused };
 
     #[tactic(auto, using(uxn_io_traits::specs::UnknownLaws::looked))]
     fn kind(&mut self, path: &Path) -> Result<Kind, Failed> {
@@ -318,7 +317,7 @@ impl<R: Files + AllocGlobal + Clone + Drop> Tree for CurrentFolder<'_, R> {
         let made = self.create_file(path);
         let made = self.counted(made)?;
         if !made {
-            self.refusals = self.refusals.saturating_add(1);
+            self.refused.add(path);
         }
         Ok(made)
     }

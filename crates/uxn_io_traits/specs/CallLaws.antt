@@ -56,7 +56,7 @@ unknown-as first change changes failed before now none ended = record {
     stands true prefix = record { made = []; rest = change ∷ changes; parts = refl; contents = still prefix.made prefix.contents ∙ sym none }
 
 pub unknown-looked : (failed : Bool) (before now : TreeState) → before.contents ≡ None → now.contents ≡ None → before.guaranteed.files ≡ 0
-    → Refused false before now → Counted before.tally now.tally failed → TreeLooked failed before now
+    → Refused None before now → Counted before.tally now.tally failed → TreeLooked failed before now
 unknown-looked failed before now none none_now unsure refusals counted = record {
   contents = none_now ∙ sym none;
   counted = counted;

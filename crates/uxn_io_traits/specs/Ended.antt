@@ -1,7 +1,8 @@
 -- How a call ended that was to make changes outside: it made all of them, or it stopped and made a prefix of them (profile).
-use Rattle.std.specs.Prelude.{◌≡◌, ℕ, ◌+◌, ◌<◌, ◌≤◌, Bool, true, false, List, [], ◌∷◌, ◌++◌, length, take, map}
+use Rattle.std.specs.Prelude.{◌≡◌, ℕ, ◌+◌, ◌<◌, ◌≤◌, Bool, true, false, List, [], ◌∷◌, ◌++◌, ◌⊎◌, length, take, map}
 use Rattle.std.specs.Prelude.{Option, Some, None, Result, Ok, Err, is_some, if◌then◌else◌}
 use Rattle.std.specs.Option.{option_map}
+use Rattle.uxn_io_traits.specs.declared.refused.RefusedFiles.{RefusedFiles}
 use Rattle.uxn_io_traits.specs.declared.sinks.Failed.{Failed}
 use Rattle.uxn_io_traits.specs.Files.{Nodes, file_at}
 use Rattle.uxn_io_traits.specs.Changes.{can_create}
@@ -45,19 +46,29 @@ pub record TreeEnded (changes : List Change) (failed : Bool) (before now : TreeS
   pub blamed : failed ≡ true → TakesChanges before.guaranteed before.contents changes → ⊥
   pub left : failed ≡ false → TakesChanges before.guaranteed before.contents changes → IsLeft before.guaranteed now.guaranteed before.contents changes
 
--- an exact tree counts a call that refused to create a file, and no other
-abbrev pub Refused : Bool → TreeState → TreeState → Type 0
-Refused refused before now = before.tally.exact ≡ true → now.refusals ≡ (if refused then one_more before.refusals else before.refusals)
+-- with one refused file more, if one was refused
+abbrev pub refused_also : Option (List ℕ) → RefusedFiles → RefusedFiles
+refused_also None files = files
+refused_also (Some path) files = record { count = one_more files.count; last = Some path }
 
--- a call that asks to create one file at most is refused once at most
-abbrev pub RefusedOnce : TreeState → TreeState → Type 0
-RefusedOnce before now = (refused : Bool) × Refused refused before now
+-- an exact tree counts a file that it refused to create, and names the last one; it counts no other
+abbrev pub Refused : Option (List ℕ) → TreeState → TreeState → Type 0
+Refused file before now = before.tally.exact ≡ true → now.refused ≡ refused_also file before.refused
+
+-- a call that asks to create one file at most is refused that one at most
+abbrev pub RefusedAtMost : List ℕ → TreeState → TreeState → Type 0
+RefusedAtMost path before now = Refused None before now ⊎ Refused (Some path) before now
+
+-- a tree that counts exactly refused to create no file, and counts exactly still
+pub record RefusesNone (before now : TreeState) : Type 0 where
+  pub exact : now.tally.exact ≡ before.tally.exact
+  pub none : Refused None before now
 
 -- a call that only looked at a tree
 pub record TreeLooked (failed : Bool) (before now : TreeState) : Type 0 where
   pub contents : now.contents ≡ before.contents
   pub counted : Counted before.tally now.tally failed
-  pub refusals : Refused false before now
+  pub refusals : Refused None before now
   pub blamed : failed ≡ true → 0 < before.guaranteed.files → ⊥
   pub left : failed ≡ false → 0 < before.guaranteed.files → (before.guaranteed.files ≤ now.guaranteed.files) × (before.guaranteed.bytes ≤ now.guaranteed.bytes)
 
@@ -79,11 +90,11 @@ abbrev pub portion : Result ℕ Failed → List ℕ → List ℕ
 portion (Ok count) piece = take count piece
 portion (Err failed) piece = piece
 
--- `create` answers that it refused
-abbrev pub has_refused : Result Bool Failed → Bool
-has_refused (Ok true) = false
-has_refused (Ok false) = true
-has_refused (Err failed) = false
+-- the file that `create` answers that it refused
+abbrev pub refused_file : List ℕ → Result Bool Failed → Option (List ℕ)
+refused_file path (Ok true) = None
+refused_file path (Ok false) = Some path
+refused_file path (Err failed) = None
 
 -- a call that was to put bytes on a sink: it has them all, or failed and has a prefix that is not whole
 abbrev pub HoldsAfter : List ℕ → Bool → Option (List ℕ) → Option (List ℕ) → Type 0

@@ -1,23 +1,24 @@
 -- Laws of how calls ended: one after the other, and those of a tree or a sink beside the other two.
 use Rattle.std.specs.Prelude.{◌≡◌, ℕ, ◌+◌, ◌<◌, ◌≤◌, Bool, true, false, List, [], ◌∷◌, ◌++◌}
-use Rattle.std.specs.Prelude.{length, take, Option, Some, None, refl, IfSome, if◌then◌else◌}
+use Rattle.std.specs.Prelude.{length, take, Option, Some, None, Result, Ok, Err, refl, IfSome}
 use Rattle.std.specs.Option.{option_map}
 use Rattle.std.proofs.Common.{inl, inr, ap, sym, subst, ◌∙◌, append_assoc, arith}
 use Rattle.std.proofs.lemmas.List.{length-append}
 use Rattle.std.proofs.Math.Seq.{take-append-add}
 use Rattle.std.proofs.lemmas.Bool.{true≢false, false≢true}
 use Rattle.uxn_io_traits.specs.Files.{Nodes}
+use Rattle.uxn_io_traits.specs.declared.sinks.Failed.{Failed}
 use Rattle.uxn_io_traits.specs.FaultLaws.{counted-same, counted-then, ledger-same, ledger-then}
 use Rattle.uxn_io_traits.specs.Outside.{Change, ToOut, ToErr, Creates, ToFile, Removes, World, changed, changed_files, changed_by, files_by}
 use Rattle.uxn_io_traits.specs.ChangeLaws.{changed_by-append, changed_by-out, changed_by-err, cut-first, cut-later, cut-out}
 use Rattle.uxn_io_traits.specs.ChangeLaws.{cut-err, files-contents, extended-nothing, extended-extended}
-use Rattle.uxn_io_traits.specs.Faults.{Blame, Nobody, one_more}
+use Rattle.uxn_io_traits.specs.Faults.{Blame, Nobody}
 use Rattle.uxn_io_traits.specs.Room.{Room}
 use Rattle.uxn_io_traits.specs.State.{TreeState, SinkState, Outside, outside}
-use Rattle.uxn_io_traits.specs.Taking.{TreeTakes, TreeLeft, Remains, WasNotGuaranteed, bytes_out, bytes_err, puts_out, puts_err, files_made, files_gone}
+use Rattle.uxn_io_traits.specs.Taking.{TreeTakes, TreeLeft, Remains, WasNotGuaranteed, bytes_out, bytes_err, files_made, files_gone}
 use Rattle.uxn_io_traits.specs.TakingLaws.{takes-first, takes-later, left-both, remains-all, remains-both, not-guaranteed-first, not-guaranteed-later}
 use Rattle.uxn_io_traits.specs.Known.{extended}
-use Rattle.uxn_io_traits.specs.Ended.{contents_after, StandsAfter, TakesChanges, IsLeft, TreeEnded, TreeLooked, Refused, RefusedOnce, HoldsAfter, SinkEnded}
+use Rattle.uxn_io_traits.specs.Ended.{contents_after, StandsAfter, TakesChanges, IsLeft, TreeEnded, TreeLooked, Refused, RefusedAtMost, RefusesNone, refused_also, refused_file, HoldsAfter, SinkEnded}
 use Rattle.uxn_io_traits.specs.Ended.{Done, CutShort, Ended, IsOfTree, AreOfTree, blame_of_tree, blame_of_sink, to_out, to_err}
 
 -- what is known after changes, and then more
@@ -81,14 +82,29 @@ looked-then failed a b c p q = record {
 }
 
 -- it was asked to create a file after it was looked at, and nothing more of that kind after it
-pub refused-looked : (refused failed : Bool) (changes : List Change) (a b c : TreeState) → TreeLooked false a b → TreeEnded changes failed b c
-    → Refused refused b c → Refused refused a c
-refused-looked refused failed changes a b c looked ended is = λ exact.
-    is (looked.counted.promise ∙ exact) ∙ ap (λ (n : ℕ). if refused then one_more n else n) (looked.refusals exact)
+pub refused-looked : (file : Option (List ℕ)) (a b c : TreeState) → TreeLooked false a b → Refused file b c → Refused file a c
+refused-looked file a b c looked is = λ exact. is (looked.counted.promise ∙ exact) ∙ ap (refused_also file) (looked.refusals exact)
 
-pub refused-on : (failed : Bool) (first more : List Change) (a b c : TreeState) → TreeEnded first false a b → TreeEnded more failed b c
-    → RefusedOnce a b → Refused false b c → RefusedOnce a c
-refused-on failed first more a b c begun ended once not = (once.0, λ exact. not (begun.counted.promise ∙ exact) ∙ once.1 exact)
+pub at-most-created : (path : List ℕ) (a b : TreeState) (result : Result Bool Failed) → Refused (refused_file path result) a b → RefusedAtMost path a b
+at-most-created path a b (Ok true) is = inl is
+at-most-created path a b (Ok false) is = inr is
+at-most-created path a b (Err failed) is = inl is
+
+pub at-most-looked : (path : List ℕ) (a b c : TreeState) → TreeLooked false a b → RefusedAtMost path b c → RefusedAtMost path a c
+at-most-looked path a b c looked (inl is) = inl (refused-looked None a b c looked is)
+at-most-looked path a b c looked (inr is) = inr (refused-looked (Some path) a b c looked is)
+
+-- over nothing, and over one after another, no file was refused
+pub refuses-nothing : (now : TreeState) → RefusesNone now now
+refuses-nothing now = record { exact = refl; none = λ _. refl }
+
+pub refuses-then : (a b c : TreeState) → RefusesNone a b → RefusesNone b c → RefusesNone a c
+refuses-then a b c p q = record { exact = q.exact ∙ p.exact; none = λ exact. q.none (p.exact ∙ exact) ∙ p.none exact }
+
+pub at-most-on : (path : List ℕ) (failed : Bool) (changes : List Change) (a b c : TreeState) → TreeEnded changes failed a b → RefusedAtMost path a b
+    → Refused None b c → RefusedAtMost path a c
+at-most-on path failed changes a b c ended (inl p) q = inl (λ exact. q (ended.counted.promise ∙ exact) ∙ p exact)
+at-most-on path failed changes a b c ended (inr p) q = inr (λ exact. q (ended.counted.promise ∙ exact) ∙ p exact)
 
 -- who was only looked at was to change nothing
 pub looked-ended : (failed : Bool) (before now : TreeState) → TreeLooked failed before now → TreeEnded [] failed before now

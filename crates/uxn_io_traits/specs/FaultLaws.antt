@@ -1,8 +1,8 @@
 -- Laws of counted faults: over no call, and over one call after another.
 use Rattle.std.specs.Prelude.{◌≡◌, ℕ, ◌-◌, ◌^◌, ◌≤◌, Bool, true, false, refl, if◌then◌else◌}
-use Rattle.std.proofs.Common.{inl, inr, ap, subst, ◌∙◌, arith}
+use Rattle.std.proofs.Common.{inl, inr, ap, ◌∙◌, arith}
 use Rattle.std.proofs.lemmas.Bool.{false≢true}
-use Rattle.uxn_io_traits.specs.Faults.{one_more, Rose, FaultTally, Counted, Counts, Blame, Nobody, TheTree, ASink, AllCounted, Ledger}
+use Rattle.uxn_io_traits.specs.Faults.{one_more, FaultTally, Counted, Counts, Blame, Nobody, TheTree, ASink, AllCounted, Ledger}
 
 -- no call
 pub counted-same : (now : FaultTally) → Counted now now false

@@ -17,6 +17,8 @@ pub mod KindLaws
 pub mod ChangeLaws
 pub mod AppendingLaws
 pub mod Taking
+pub mod Requests
+pub mod RequestLaws
 pub mod State
 pub mod Ended
 pub mod EndedLaws

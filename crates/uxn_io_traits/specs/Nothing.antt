@@ -11,4 +11,10 @@ state_of_no_sink sink = record { contents = None; tally = record { faults = 0; e
 
 -- a tree in which nothing is ever there
 abbrev pub state_of_no_tree : NoTree → TreeState
-state_of_no_tree tree = record { contents = None; tally = record { faults = 0; exact = false }; refusals = 0; guaranteed = no_promise }
+state_of_no_tree tree = record {
+  contents = None;
+  tally = record { faults = 0; exact = false };
+  refused = record { count = 0; last = None };
+  requests = None;
+  guaranteed = no_promise;
+}

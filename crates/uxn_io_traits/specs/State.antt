@@ -3,14 +3,18 @@ use Rattle.std.specs.Prelude.{ℕ, List, Option}
 use Rattle.uxn_io_traits.specs.Files.{Nodes}
 use Rattle.uxn_io_traits.specs.Faults.{FaultTally, Counts, counts}
 use Rattle.uxn_io_traits.specs.Outside.{World}
+use Rattle.uxn_io_traits.specs.declared.requests.TreeRequest.{TreeRequest}
 use Rattle.uxn_io_traits.specs.Room.{Room}
 use Rattle.uxn_io_traits.specs.Taking.{Guaranteed, guaranteed}
+use Rattle.uxn_io_traits.specs.declared.refused.RefusedFiles.{RefusedFiles}
 
--- a tree: its known contents, what it counts, how many files it refused to create, and what it is guaranteed to do from now on
+-- a tree: its known contents, what it counts, the files that it refused to create, what it was asked, where it tells that, and what it
+-- is guaranteed to do from now on
 pub record TreeState : Type 0 where
   pub contents : Option Nodes
   pub tally : FaultTally
-  pub refusals : ℕ
+  pub refused : RefusedFiles
+  pub requests : Option (List TreeRequest)
   pub guaranteed : Room
 
 -- a sink: the bytes that it has taken, where they are known, what it counts, and how much it is guaranteed to take from now on. Fewer bytes

@@ -4,6 +4,8 @@
 mod bytes;
 mod nothing;
 mod paths;
+mod refused;
+mod requests;
 mod sinks;
 mod texts;
 mod trees;
@@ -11,6 +13,8 @@ mod trees;
 pub use bytes::Bytes;
 pub use nothing::{NoSink, NoTree};
 pub use paths::{Path, PathFault};
+pub use refused::RefusedFiles;
+pub use requests::TreeRequest;
 pub use sinks::{Failed, Sink, put_all};
 pub use texts::{decimal, hex_byte, hex_short};
 pub use trees::{Entry, FileBytes, Kind, NamesStop, ReadStop, Tree, append_all, read_file};

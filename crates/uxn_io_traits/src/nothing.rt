@@ -1,11 +1,13 @@
 //! An outside that is not there: a sink that keeps nothing, and a tree in which nothing is.
-ghost use Rattle.std.specs.Prelude.{◌≡◌, ◌<◌, ◌≤◌, Ok, [], length, take, drop, false, is_err, is_some, IsTrue, IsSome, IsOk, IfOk, IfSome, OnOk, OnErr};
+ghost use Rattle.std.specs.Prelude.{◌≡◌, ◌<◌, ◌≤◌, Ok, None, [], ◌∷◌, length, take, drop, false, is_err, is_some, IsTrue, IsSome, IsOk, IfOk, IfSome, OnOk, OnErr};
 ghost use Rattle.std.specs.List.{All};
 ghost use Rattle.std.specs.FinMap as map;
 ghost use Rattle.uxn_io_traits.specs.Files.{IsTree, kind_at, file_at, file_bytes_from, is_folder, GivesBytes};
 ghost use Rattle.uxn_io_traits.specs.Changes.{can_create};
 ghost use Rattle.uxn_io_traits.specs.Children.{children, IsEntry, has_failed as names_failed};
-ghost use Rattle.uxn_io_traits.specs.Ended.{SinkEnded, SinkFailed, TreeLooked, TreeEnded, Refused, creating, removing, appending, portion, has_refused};
+ghost use Rattle.uxn_io_traits.specs.Ended.{SinkEnded, SinkFailed, TreeLooked, TreeEnded, Refused, creating, removing, appending, portion, refused_file};
+ghost use Rattle.uxn_io_traits.specs.Requests.{Receives, begins_reading};
+ghost use Rattle.uxn_io_traits.specs.declared.requests.TreeRequest.TheVariants.{LooksAt, Lists, Makes, AppendsTo, TakesAway};
 ghost use Rattle.uxn_io_traits.specs.declared.trees.Kind.TheVariants as kinds;
 ghost use Rattle.uxn_io_traits.specs.Nothing.{state_of_no_sink, state_of_no_tree};
 
@@ -46,6 +48,7 @@ impl Tree for NoTree {
         ensures answer { IfOk result (λ kind. IfSome (state_of_no_tree self.old).contents (λ nodes. kind ≡ kind_at nodes _path.now)) }
         ensures shape { OnOk result (IfSome (state_of_no_tree self.old).contents IsTree) }
         ensures looked { TreeLooked (is_err result) (state_of_no_tree self.old) (state_of_no_tree self.new) }
+        ensures requests { Receives (LooksAt _path.now ∷ []) (state_of_no_tree self.old).requests (state_of_no_tree self.new).requests }
 
         ensures exact { result ≡ Ok kinds.Missing }
     {
@@ -58,6 +61,7 @@ impl Tree for NoTree {
         ensures rest { IfOk result (λ n. drop n into.new ≡ drop n into.old) }
         ensures answer { IfOk result (λ n. IfSome (state_of_no_tree self.old).contents (λ nodes. GivesBytes (file_bytes_from nodes _path.now _from) into.old into.new n)) }
         ensures looked { TreeLooked (is_err result) (state_of_no_tree self.old) (state_of_no_tree self.new) }
+        ensures requests { Receives (begins_reading _path.now _from) (state_of_no_tree self.old).requests (state_of_no_tree self.new).requests }
 
         ensures exact { result ≡ Ok 0 }
         ensures into { into.new ≡ into.old }
@@ -69,7 +73,8 @@ impl Tree for NoTree {
     fn create(&mut self, _path: &Path) -> Result<bool, Failed>
         ensures answer { IfOk result (λ made. IfSome (state_of_no_tree self.old).contents (λ nodes. made ≡ can_create nodes _path.now)) }
         ensures ended { TreeEnded (creating (state_of_no_tree self.old).contents _path.now) (is_err result) (state_of_no_tree self.old) (state_of_no_tree self.new) }
-        ensures refused { Refused (has_refused result) (state_of_no_tree self.old) (state_of_no_tree self.new) }
+        ensures refused { Refused (refused_file _path.now result) (state_of_no_tree self.old) (state_of_no_tree self.new) }
+        ensures requests { Receives (Makes _path.now ∷ []) (state_of_no_tree self.old).requests (state_of_no_tree self.new).requests }
 
         ensures exact { result ≡ Ok false }
     {
@@ -82,7 +87,8 @@ impl Tree for NoTree {
         ensures count { IfOk result (λ n. n ≤ length piece.now) }
         ensures some { IfOk result (λ n. 0 < length piece.now → 0 < n) }
         ensures ended { TreeEnded (appending _path.now (portion result piece.now)) (is_err result) (state_of_no_tree self.old) (state_of_no_tree self.new) }
-        ensures refused { Refused false (state_of_no_tree self.old) (state_of_no_tree self.new) }
+        ensures refused { Refused None (state_of_no_tree self.old) (state_of_no_tree self.new) }
+        ensures requests { Receives (AppendsTo _path.now ∷ []) (state_of_no_tree self.old).requests (state_of_no_tree self.new).requests }
 
         ensures exact { result ≡ Ok (length piece.now) }
     {
@@ -93,7 +99,8 @@ impl Tree for NoTree {
     fn remove(&mut self, _path: &Path) -> Result<bool, Failed>
         ensures answer { IfOk result (λ gone. IfSome (state_of_no_tree self.old).contents (λ nodes. gone ≡ is_some (file_at nodes _path.now))) }
         ensures ended { TreeEnded (removing (state_of_no_tree self.old).contents _path.now) (is_err result) (state_of_no_tree self.old) (state_of_no_tree self.new) }
-        ensures refused { Refused false (state_of_no_tree self.old) (state_of_no_tree self.new) }
+        ensures refused { Refused None (state_of_no_tree self.old) (state_of_no_tree self.new) }
+        ensures requests { Receives (TakesAway _path.now ∷ []) (state_of_no_tree self.old).requests (state_of_no_tree self.new).requests }
 
         ensures exact { result ≡ Ok false }
     {
@@ -106,6 +113,7 @@ impl Tree for NoTree {
         ensures answer { IfOk result (λ entries. IfSome (state_of_no_tree self.old).contents (λ nodes. entries.items ≡ children nodes _folder.now)) }
         ensures looked { TreeLooked (names_failed result) (state_of_no_tree self.old) (state_of_no_tree self.new) }
         ensures entries { IfOk result (λ entries. All IsEntry entries.items) }
+        ensures requests { Receives (Lists _folder.now ∷ []) (state_of_no_tree self.old).requests (state_of_no_tree self.new).requests }
 
         ensures given { IsOk result }
         ensures empty { IfOk result (λ entries. entries.items ≡ []) }

@@ -1,12 +1,14 @@
 //! Trees of files, and reading a whole file.
-ghost use Rattle.std.specs.Prelude.{◌≡◌, ◌<◌, ◌≤◌, length, drop, IfOk, IfSome, IsSome, IsTrue, OnErr, OnOk, is_err, is_some, false};
+ghost use Rattle.std.specs.Prelude.{◌≡◌, ◌<◌, ◌≤◌, length, drop, IfOk, IfSome, IsSome, IsTrue, OnErr, OnOk, None, [], ◌∷◌, is_err, is_some, false};
 ghost use Rattle.std.specs.List.{All};
 ghost use Rattle.std.specs.FinMap as map;
 ghost use Rattle.uxn_io_traits.specs.Files.{IsTree, kind_at, file_at, file_bytes_from, is_folder, GivesBytes};
 ghost use Rattle.uxn_io_traits.specs.Changes.{can_create};
 ghost use Rattle.uxn_io_traits.specs.Children.{children, IsEntry, has_failed as names_failed};
+ghost use Rattle.uxn_io_traits.specs.Requests.{Receives, ReceivesReading, begins_reading};
+ghost use Rattle.uxn_io_traits.specs.declared.requests.TreeRequest.TheVariants.{LooksAt, Lists, Makes, AppendsTo, TakesAway, Reads};
 ghost use Rattle.uxn_io_traits.specs.State.{TreeState};
-ghost use Rattle.uxn_io_traits.specs.Ended.{TreeLooked, TreeEnded, Refused, creating, removing, appending, portion, has_refused};
+ghost use Rattle.uxn_io_traits.specs.Ended.{TreeLooked, TreeEnded, Refused, creating, removing, appending, portion, refused_file};
 ghost use Rattle.uxn_io_traits.specs.WholeFile.{whole_file, KeepsLimit, IsAllOf, has_failed};
 
 use super::{Bytes, Failed, Path};
@@ -49,7 +51,8 @@ pub enum NamesStop {
 ///
 /// A tree counts its faults. A call that answers `Failed` has raised the count, or left it at its last
 /// value, 2^64 - 1; no call lowers it. A tree may promise to be exact: then it counts one for each call
-/// that answers `Failed`, and none for another, and so it counts the calls of `create` that answer false.
+/// that answers `Failed`, and none for another, and so it counts the calls of `create` that answer false, and names the file that
+/// it refused last. It may tell the requests that it received, each with its path; a file that is read on from a later byte is one.
 pub trait Tree {
     /// The known contents, what it has counted, and what it is guaranteed to do without a fault.
     ghost state: { Self → TreeState };
@@ -58,7 +61,8 @@ pub trait Tree {
     fn kind(&mut self, path: &Path) -> Result<Kind, Failed>
         ensures answer { IfOk result (λ kind. IfSome (state self.old).contents (λ nodes. kind ≡ kind_at nodes path.now)) }
         ensures shape { OnOk result (IfSome (state self.old).contents IsTree) }
-        ensures looked { TreeLooked (is_err result) (state self.old) (state self.new) };
+        ensures looked { TreeLooked (is_err result) (state self.old) (state self.new) }
+        ensures requests { Receives (LooksAt path.now ∷ []) (state self.old).requests (state self.new).requests };
 
     /// Puts bytes of the file from the place `from` on at the start of `into`, and says how many: none
     /// only where `into` is empty, the path is no file, or the file has no byte at `from`. The rest of
@@ -67,14 +71,16 @@ pub trait Tree {
         ensures count { IfOk result (λ n. n ≤ length into.old) }
         ensures rest { IfOk result (λ n. drop n into.new ≡ drop n into.old) }
         ensures answer { IfOk result (λ n. IfSome (state self.old).contents (λ nodes. GivesBytes (file_bytes_from nodes path.now from) into.old into.new n)) }
-        ensures looked { TreeLooked (is_err result) (state self.old) (state self.new) };
+        ensures looked { TreeLooked (is_err result) (state self.old) (state self.new) }
+        ensures requests { Receives (begins_reading path.now from) (state self.old).requests (state self.new).requests };
 
     /// Makes the path an empty file, and says whether it did: not where its parent is no folder or the
     /// path is a folder, and then nothing changes. After `Failed` the change has happened or has not.
     fn create(&mut self, path: &Path) -> Result<bool, Failed>
         ensures answer { IfOk result (λ made. IfSome (state self.old).contents (λ nodes. made ≡ can_create nodes path.now)) }
         ensures ended { TreeEnded (creating (state self.old).contents path.now) (is_err result) (state self.old) (state self.new) }
-        ensures refused { Refused (has_refused result) (state self.old) (state self.new) };
+        ensures refused { Refused (refused_file path.now result) (state self.old) (state self.new) }
+        ensures requests { Receives (Makes path.now ∷ []) (state self.old).requests (state self.new).requests };
 
     /// Appends some bytes from the start of the piece to the file at the path, and says how many: at
     /// least one, unless the piece is empty. After `Failed` a prefix of the piece, perhaps empty, was
@@ -84,14 +90,16 @@ pub trait Tree {
         ensures count { IfOk result (λ n. n ≤ length piece.now) }
         ensures some { IfOk result (λ n. 0 < length piece.now → 0 < n) }
         ensures ended { TreeEnded (appending path.now (portion result piece.now)) (is_err result) (state self.old) (state self.new) }
-        ensures refused { Refused false (state self.old) (state self.new) };
+        ensures refused { Refused None (state self.old) (state self.new) }
+        ensures requests { Receives (AppendsTo path.now ∷ []) (state self.old).requests (state self.new).requests };
 
     /// Takes the file at the path away, and says whether one was there; else nothing changes. After
     /// `Failed` the change has happened or has not.
     fn remove(&mut self, path: &Path) -> Result<bool, Failed>
         ensures answer { IfOk result (λ gone. IfSome (state self.old).contents (λ nodes. gone ≡ is_some (file_at nodes path.now))) }
         ensures ended { TreeEnded (removing (state self.old).contents path.now) (is_err result) (state self.old) (state self.new) }
-        ensures refused { Refused false (state self.old) (state self.new) };
+        ensures refused { Refused None (state self.old) (state self.new) }
+        ensures requests { Receives (TakesAway path.now ∷ []) (state self.old).requests (state self.new).requests };
 
     /// Lists the children of a folder, each once and with what `kind` tells of it, in byte order of their
     /// names, and changes nothing.
@@ -99,7 +107,8 @@ pub trait Tree {
         requires { IfSome (state self.old).contents (λ nodes. IsTrue (is_folder (map.get nodes folder.now))) }
         ensures answer { IfOk result (λ entries. IfSome (state self.old).contents (λ nodes. entries.items ≡ children nodes folder.now)) }
         ensures entries { IfOk result (λ entries. All IsEntry entries.items) }
-        ensures looked { TreeLooked (names_failed result) (state self.old) (state self.new) };
+        ensures looked { TreeLooked (names_failed result) (state self.old) (state self.new) }
+        ensures requests { Receives (Lists folder.now ∷ []) (state self.old).requests (state self.new).requests };
 }
 
 /// A tree that is borrowed is a tree.
@@ -136,7 +145,7 @@ pub fn append_all<T: Tree>(tree: &mut T, path: &Path, piece: &[u8]) -> Result<()
     requires { IfSome (T.state tree.old).contents (λ nodes. IsSome (file_at nodes path.now)) }
     ensures some { OnErr result (0 < length piece.now) }
     ensures ended { TreeEnded (appending path.now piece.now) (is_err result) (T.state tree.old) (T.state tree.new) }
-    ensures refused { Refused false (T.state tree.old) (T.state tree.new) }
+    ensures refused { Refused None (T.state tree.old) (T.state tree.new) }
 {
     let mut at = 0;
     while at < piece.len() {
@@ -201,6 +210,7 @@ pub fn read_file<T: Tree>(
     ensures answer { IfOk result (λ answer. IfSome (T.state tree.old).contents (λ nodes. answer ≡ whole_file (file_at nodes path.now) limit)) }
     ensures limit { IfOk result (KeepsLimit limit) }
     ensures looked { TreeLooked (has_failed result) (T.state tree.old) (T.state tree.new) }
+    ensures requests { ReceivesReading path.now (T.state tree.old).requests (T.state tree.new).requests }
 {
     match tree.kind(path)? {
         Kind::File(length) => {
@@ -224,6 +234,7 @@ fn read_within<T: Tree>(
     ensures answer { IfOk result (λ answer. IfSome (T.state tree.old).contents (λ nodes. IsAllOf (file_bytes_from nodes path.now 0) limit answer)) }
     ensures limit { IfOk result (KeepsLimit limit) }
     ensures looked { TreeLooked (has_failed result) (T.state tree.old) (T.state tree.new) }
+    ensures requests { Receives (Reads path.now ∷ []) (T.state tree.old).requests (T.state tree.new).requests }
 {
     let mut bytes = Vec::new(alloc);
     let mut chunk = [0; CHUNK];

@@ -1,8 +1,7 @@
 -- A tree in memory does what it guarantees.
-use Rattle.std.proofs.Common.{◌≡◌, ℕ, ◌+◌, ◌<◌, ◌≤◌, Bool, true, false, List, Option, Some, length, take, ap, sym, ◌∙◌, arith}
+use Rattle.std.proofs.Common.{◌≡◌, ℕ, ◌+◌, ◌<◌, true, false, List, Some, ap, arith}
 use Rattle.std.proofs.lemmas.Bool.Decides.{nat_tests}
 use Rattle.uxn_io_traits.specs.CallLaws.{takes-some, created-takes, appended-takes, appended-left, removed-left}
-use Rattle.uxn_io_traits.specs.Changes.{makes_file, new_files}
 use Rattle.uxn_io_traits.specs.Ended.{creating, removing, appending}
 use Rattle.uxn_io_traits.specs.Files.{Nodes}
 use Rattle.uxn_io.specs.InMemory.Places.{Places}

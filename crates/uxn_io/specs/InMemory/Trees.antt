@@ -1,12 +1,14 @@
 -- A tree in memory, call by call.
 use Rattle.std.specs.Prelude.{◌≡◌, ℕ, zero, suc, ◌+◌, ◌-◌, ◌==◌, ◌&&◌, ◌||◌, Bool, true, false}
 use Rattle.std.specs.Prelude.{nat_le, nat_lt, min}
-use Rattle.std.specs.Prelude.{List, ◌++◌, length, take, drop, count_by, Some, Result, Ok, Err}
+use Rattle.std.specs.Prelude.{List, ◌++◌, length, take, drop, count_by, Option, Some, None, Result, Ok, Err}
 use Rattle.std.specs.Prelude.{is_some, refl, if◌then◌else◌}
 use Rattle.std.specs.List.{list_any, list_all}
 use Rattle.std.specs.Str.{bytes_eq}
-use Rattle.std.specs.Coded.{Coded, code_by, coded×, coded_ℕ, coded_list}
+use Rattle.std.specs.Coded.{Coded, code_by, coded×, coded_ℕ, coded_list, coded_option}
+use Rattle.uxn_io_traits.specs.declared.refused.RefusedFiles.{RefusedFiles}
 use Rattle.uxn_io_traits.specs.declared.sinks.Failed.{Failed}
+use Rattle.uxn_io_traits.specs.Ended.{refused_also}
 use Rattle.uxn_io.specs.declared.memory.trees.Node.{Node as StoredNode}
 use Rattle.uxn_io.specs.declared.memory.trees.TreeCall.{TreeCall}
 use Rattle.uxn_io.specs.declared.memory.trees.TreeCall.TheVariants.{Kind, Read, Create, Append, Remove, Names}
@@ -29,6 +31,10 @@ pub record Calls : Type 0 where
 abbrev pub no_calls : Calls
 no_calls = record { kind = 0; read = 0; create = 0; append = 0; remove = 0; names = 0 }
 
+-- no file was refused
+abbrev pub none_refused : RefusedFiles
+none_refused = record { count = 0; last = None }
+
 abbrev pub call_number : TreeCall → Calls → ℕ
 call_number Kind calls = calls.kind
 call_number Read calls = calls.read
@@ -47,13 +53,13 @@ with_call Remove calls = record calls { remove = one_more calls.remove }
 with_call Names calls = record calls { names = one_more calls.names }
 
 -- its nodes and free places, the calls that fail by their variant and number from 0, how many calls of each
--- variant there were, how many calls failed, and how many refused to create a file
+-- variant there were, how many calls failed, and the files that it refused to create
 pub record TreeInMemory : Type 0 where
   pub held : Places
   pub fails : List (TreeCall × ℕ)
   pub calls : Calls
   pub faults : ℕ
-  pub refusals : ℕ
+  pub refused : RefusedFiles
 
 abbrev pub same_call : TreeCall → TreeCall → Bool
 same_call Kind Kind = true
@@ -81,7 +87,8 @@ abbrev pub state_of : TreeInMemory → TreeState
 state_of tree = record {
   contents = Some tree.held.nodes;
   tally = record { faults = tree.faults; exact = true };
-  refusals = tree.refusals;
+  refused = tree.refused;
+  requests = None;
   guaranteed = guaranteed_of tree;
 }
 
@@ -115,12 +122,12 @@ lacks_place held path = held.free == 0 && makes_file held.nodes path
 abbrev pub created : Places → List ℕ → Places
 created held path = record held { nodes = with_created path held.nodes; free = held.free - new_files held.nodes path }
 
--- where it makes none it counts that it refused
+-- where it makes none it refused that file
 abbrev pub after_create : TreeInMemory → List ℕ → TreeInMemory
 after_create tree path =
     if lacks_place tree.held path || is_listed tree Create then failed Create tree
     else if can_create tree.held.nodes path then call_answered Create (created tree.held path) tree
-    else record (call_answered Create (created tree.held path) tree) { refusals = one_more tree.refusals }
+    else record (call_answered Create (created tree.held path) tree) { refused = refused_also (Some path) tree.refused }
 
 -- how many bytes of a piece `append` takes: as many as the room has
 abbrev pub fitting : Places → List ℕ → List ℕ → ℕ
@@ -189,8 +196,14 @@ calls_code =
 
 abbrev pub tree_code : Coded TreeInMemory
 tree_code =
-    code_by (Places × (List (TreeCall × ℕ) × (Calls × (ℕ × ℕ))))
-    (coded× places_code (coded× (coded_list (coded× call_code coded_ℕ)) (coded× calls_code (coded× coded_ℕ coded_ℕ))))
-    (λ t. (t.held, (t.fails, (t.calls, (t.faults, t.refusals)))))
-    (λ p. record { held = p.0; fails = p.1.0; calls = p.1.1.0; faults = p.1.1.1.0; refusals = p.1.1.1.1 })
+    code_by (Places × (List (TreeCall × ℕ) × (Calls × (ℕ × (ℕ × Option (List ℕ))))))
+    (coded× places_code (coded× (coded_list (coded× call_code coded_ℕ)) (coded× calls_code (coded× coded_ℕ (coded× coded_ℕ (coded_option (coded_list coded_ℕ)))))))
+    (λ t. (t.held, (t.fails, (t.calls, (t.faults, (t.refused.count, t.refused.last))))))
+    (λ p. record {
+      held = p.0;
+      fails = p.1.0;
+      calls = p.1.1.0;
+      faults = p.1.1.1.0;
+      refused = record { count = p.1.1.1.1.0; last = p.1.1.1.1.1 };
+    })
     (λ _. refl)

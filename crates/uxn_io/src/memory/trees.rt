@@ -1,5 +1,5 @@
 //! A tree in memory, which fails on demand.
-ghost use Rattle.std.specs.Prelude.{◌≡◌, ◌+◌, ◌<◌, ◌≤◌, ◌==◌, ◌&&◌, ◌||◌, ◌++◌, false, min, count_by, length, take, drop, option_map, is_err, is_some, IsTrue, IsSome, IfOk, IfSome, OnOk, if◌then◌else◌};
+ghost use Rattle.std.specs.Prelude.{◌≡◌, ◌+◌, ◌<◌, ◌≤◌, ◌==◌, ◌&&◌, ◌||◌, ◌++◌, ◌∷◌, [], None, false, min, count_by, length, take, drop, option_map, is_err, is_some, IsTrue, IsSome, IfOk, IfSome, OnOk, if◌then◌else◌};
 ghost use Rattle.std.specs.List.{All, list_any};
 ghost use Rattle.std.specs.Str.{bytes_eq};
 ghost use Rattle.std.specs.Option.{option_copied};
@@ -8,11 +8,14 @@ ghost use Rattle.uxn_io_traits.specs.Faults.{Counted, one_more};
 ghost use Rattle.uxn_io_traits.specs.Files.{IsTree, kind_at, file_at, file_bytes_at, file_bytes_from, is_folder, GivesBytes};
 ghost use Rattle.uxn_io_traits.specs.Changes.{can_create};
 ghost use Rattle.uxn_io_traits.specs.Children.{children, IsEntry, has_failed as names_failed};
-ghost use Rattle.uxn_io_traits.specs.Ended.{TreeLooked, TreeEnded, Refused, creating, removing, appending, portion, has_refused};
+ghost use Rattle.uxn_io_traits.specs.Ended.{TreeLooked, TreeEnded, Refused, creating, removing, appending, portion, refused_file};
+ghost use Rattle.uxn_io_traits.specs.Requests.{Receives, begins_reading};
+ghost use Rattle.uxn_io_traits.specs.declared.requests.TreeRequest.TheVariants.{LooksAt, Lists, Makes, AppendsTo, TakesAway};
 ghost use Rattle.uxn_io.specs.InMemory.Places.{node_of, nodes_of};
 ghost use Rattle.uxn_io.specs.declared.memory.trees.TreeCall.{TreeCall};
 ghost use Rattle.uxn_io.specs.InMemory.Trees.{
   no_calls,
+  none_refused,
   call_number,
   with_call,
   state_of,
@@ -37,7 +40,7 @@ ghost use Rattle.uxn_io.specs.InMemory.Trees.{
 use super::places::{Places, has_parent};
 use std::alloc::{AllocError, Global};
 use std::marker::Model;
-use uxn_io_traits::{Bytes, Entry, Failed, Kind, NamesStop, Path, Tree};
+use uxn_io_traits::{Bytes, Entry, Failed, Kind, NamesStop, Path, RefusedFiles, Tree};
 
 /// The calls of a tree.
 #[derive(Clone, Copy, PartialEq, Eq)]
@@ -144,7 +147,7 @@ pub struct MemTree {
     fails: Vec<(TreeCall, u32)>,
     calls: Calls,
     faults: u64,
-    refusals: u64,
+    refused: RefusedFiles,
 }
 
 impl Model for MemTree {
@@ -154,7 +157,7 @@ impl Model for MemTree {
 
     ghost coded = { tree_code };
 
-    ghost view = { λ t. record { held = t.held; fails = t.fails.items; calls = t.calls; faults = t.faults; refusals = t.refusals } };
+    ghost view = { λ t. record { held = t.held; fails = t.fails.items; calls = t.calls; faults = t.faults; refused = t.refused } };
 }
 
 impl MemTree {
@@ -174,7 +177,7 @@ impl MemTree {
           fails = fails.now;
           calls = no_calls;
           faults = 0;
-          refusals = 0;
+          refused = none_refused;
         }) }
     {
         Ok(MemTree {
@@ -182,7 +185,7 @@ impl MemTree {
             fails: Vec::from_slice(alloc, fails)?,
             calls: Calls::new(),
             faults: 0,
-            refusals: 0,
+            refused: RefusedFiles::new(),
         })
     }
 
@@ -231,6 +234,7 @@ impl Tree for MemTree {
         ensures answer { IfOk result (λ kind. IfSome (state_of self.old).contents (λ nodes. kind ≡ kind_at nodes path.now)) }
         ensures shape { OnOk result (IfSome (state_of self.old).contents IsTree) }
         ensures looked { TreeLooked (is_err result) (state_of self.old) (state_of self.new) }
+        ensures requests { Receives (LooksAt path.now ∷ []) (state_of self.old).requests (state_of self.new).requests }
 
         ensures exact { result ≡ answer_of TreeCall.Kind self.old false (kind_at self.old.held.nodes path.now) }
         ensures after { self.new ≡ after TreeCall.Kind self.old false self.old.held }
@@ -247,6 +251,7 @@ impl Tree for MemTree {
         ensures rest { IfOk result (λ n. drop n into.new ≡ drop n into.old) }
         ensures answer { IfOk result (λ n. IfSome (state_of self.old).contents (λ nodes. GivesBytes (file_bytes_from nodes path.now from) into.old into.new n)) }
         ensures looked { TreeLooked (is_err result) (state_of self.old) (state_of self.new) }
+        ensures requests { Receives (begins_reading path.now from) (state_of self.old).requests (state_of self.new).requests }
 
         ensures exact { result ≡ answer_of TreeCall.Read self.old false (read_count self.old.held.nodes path.now from into.old) }
         ensures into { into.new ≡ (if is_listed self.old TreeCall.Read then into.old else read_into self.old.held.nodes path.now from into.old) }
@@ -262,7 +267,8 @@ impl Tree for MemTree {
     fn create(&mut self, path: &Path) -> Result<bool, Failed>
         ensures answer { IfOk result (λ made. IfSome (state_of self.old).contents (λ nodes. made ≡ can_create nodes path.now)) }
         ensures ended { TreeEnded (creating (state_of self.old).contents path.now) (is_err result) (state_of self.old) (state_of self.new) }
-        ensures refused { Refused (has_refused result) (state_of self.old) (state_of self.new) }
+        ensures refused { Refused (refused_file path.now result) (state_of self.old) (state_of self.new) }
+        ensures requests { Receives (Makes path.now ∷ []) (state_of self.old).requests (state_of self.new).requests }
 
         ensures exact { result ≡ answer_of TreeCall.Create self.old (lacks_place self.old.held path.now) (can_create self.old.held.nodes path.now) }
         ensures after { self.new ≡ after_create self.old path.now }
@@ -273,7 +279,7 @@ impl Tree for MemTree {
         }
         let made = self.held.create(path);
         if !made {
-            add_one(&mut self.refusals);
+            self.refused.add(path);
         }
         Ok(made)
     }
@@ -284,7 +290,8 @@ impl Tree for MemTree {
         ensures count { IfOk result (λ n. n ≤ length piece.now) }
         ensures some { IfOk result (λ n. 0 < length piece.now → 0 < n) }
         ensures ended { TreeEnded (appending path.now (portion result piece.now)) (is_err result) (state_of self.old) (state_of self.new) }
-        ensures refused { Refused false (state_of self.old) (state_of self.new) }
+        ensures refused { Refused None (state_of self.old) (state_of self.new) }
+        ensures requests { Receives (AppendsTo path.now ∷ []) (state_of self.old).requests (state_of self.new).requests }
 
         ensures exact { result ≡ answer_of TreeCall.Append self.old (lacks_room self.old.held path.now piece.now) (fitting self.old.held path.now piece.now) }
         ensures after { self.new ≡ after TreeCall.Append self.old (lacks_room self.old.held path.now piece.now) (appended self.old.held path.now piece.now) }
@@ -300,7 +307,8 @@ impl Tree for MemTree {
     fn remove(&mut self, path: &Path) -> Result<bool, Failed>
         ensures answer { IfOk result (λ gone. IfSome (state_of self.old).contents (λ nodes. gone ≡ is_some (file_at nodes path.now))) }
         ensures ended { TreeEnded (removing (state_of self.old).contents path.now) (is_err result) (state_of self.old) (state_of self.new) }
-        ensures refused { Refused false (state_of self.old) (state_of self.new) }
+        ensures refused { Refused None (state_of self.old) (state_of self.new) }
+        ensures requests { Receives (TakesAway path.now ∷ []) (state_of self.old).requests (state_of self.new).requests }
 
         ensures exact { result ≡ answer_of TreeCall.Remove self.old false (is_some (file_at self.old.held.nodes path.now)) }
         ensures after { self.new ≡ after TreeCall.Remove self.old false (removed self.old.held path.now) }
@@ -317,6 +325,7 @@ impl Tree for MemTree {
         ensures answer { IfOk result (λ entries. IfSome (state_of self.old).contents (λ nodes. entries.items ≡ children nodes folder.now)) }
         ensures looked { TreeLooked (names_failed result) (state_of self.old) (state_of self.new) }
         ensures entries { IfOk result (λ entries. All IsEntry entries.items) }
+        ensures requests { Receives (Lists folder.now ∷ []) (state_of self.old).requests (state_of self.new).requests }
 
         ensures fails { names_failed result ≡ is_listed self.old TreeCall.Names }
         ensures after { self.new ≡ after TreeCall.Names self.old false self.old.held }

@@ -1,6 +1,6 @@
 use Rattle.std.proofs.Common.{◌≡◌, Err, rules, true, false}
 use Rattle.uxn_io_traits.specs.Ended.{appending}
-use Rattle.uxn_io_traits.specs.EndedLaws.{refused-on}
+use Rattle.uxn_io_traits.specs.EndedLaws.{at-most-on}
 use Rattle.file_ports.proofs.ChangeLemmas.{added-first, added-none, added-all}
 use Rattle.file_ports.proofs.writing.add.Goals as goal
 
@@ -27,10 +27,10 @@ returns-clause-tree g c =
 
 pub returns-in_err-append_all-clause-refused : goal.returns-in_err-append_all-clause-refused
 returns-in_err-append_all-clause-refused g c =
-    refused-on _ _ _ _ _ _ c.in_ok-begin.ensures.tree c.in_err-append_all.ensures.ended c.in_ok-begin.ensures.refused
+    at-most-on c.args.path.now false _ _ _ (g.T.Tree.state c.append_all.new.tree) c.in_ok-begin.ensures.tree c.in_ok-begin.ensures.refused
     c.in_err-append_all.ensures.refused
 
 pub returns-clause-refused : goal.returns-clause-refused
 returns-clause-refused g c =
-    refused-on _ _ _ _ _ _ c.in_ok-begin.ensures.tree c.in_ok-append_all.ensures.ended c.in_ok-begin.ensures.refused
+    at-most-on c.args.path.now false _ _ _ (g.T.Tree.state c.append_all.new.tree) c.in_ok-begin.ensures.tree c.in_ok-begin.ensures.refused
     c.in_ok-append_all.ensures.refused

@@ -1,6 +1,5 @@
-use Rattle.std.proofs.Common.{◌≡◌, [], true, false, Err, rules, inl, inr}
-use Rattle.uxn_io_traits.specs.Ended.{has_refused}
-use Rattle.uxn_io_traits.specs.EndedLaws.{looked-ended, tree-first, refused-looked}
+use Rattle.std.proofs.Common.{◌≡◌, [], true, Err, rules, inl, inr}
+use Rattle.uxn_io_traits.specs.EndedLaws.{looked-ended, tree-first, at-most-looked, at-most-created}
 use Rattle.file_ports.proofs.ChangeLemmas.{file_made, begin-quiet, begin-new}
 use Rattle.file_ports.proofs.writing.begin.Goals as goal
 
@@ -27,16 +26,17 @@ returns-clause-tree g c =
     c.create.ensures.ended
 
 pub returns-in_err-goes_on-clause-refused : goal.returns-in_err-goes_on-clause-refused
-returns-in_err-goes_on-clause-refused g c = (false, c.in_err-goes_on.ensures.tree.refusals)
+returns-in_err-goes_on-clause-refused g c = inl c.in_err-goes_on.ensures.tree.refusals
 
 pub returns-then-branch-clause-refused : goal.returns-then-branch-clause-refused
-returns-then-branch-clause-refused g c = (false, c.in_ok-goes_on.ensures.tree.refusals)
+returns-then-branch-clause-refused g c = inl c.in_ok-goes_on.ensures.tree.refusals
 
 pub returns-then-is_writing-clause-refused : goal.returns-then-is_writing-clause-refused
-returns-then-is_writing-clause-refused g c = (false, c.in_ok-goes_on.ensures.tree.refusals)
+returns-then-is_writing-clause-refused g c = inl c.in_ok-goes_on.ensures.tree.refusals
 
 pub returns-clause-refused : goal.returns-clause-refused
-returns-clause-refused g c = (
-  has_refused c.create.result,
-  refused-looked _ _ _ _ _ _ c.in_ok-goes_on.ensures.tree c.create.ensures.ended c.create.ensures.refused,
-)
+returns-clause-refused g c =
+    let looked = g.T.Tree.state c.goes_on.new.tree in
+    let created = g.T.Tree.state c.create.new.self in
+    at-most-looked c.args.path.now (g.T.Tree.state c.args.tree.now) looked created c.in_ok-goes_on.ensures.tree
+    (at-most-created c.args.path.now looked created c.create.result c.create.ensures.refused)

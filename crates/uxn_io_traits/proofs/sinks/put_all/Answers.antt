@@ -1,5 +1,5 @@
-use Rattle.std.proofs.Common.{arith, length, ◌+◌, take, false}
-use Rattle.std.proofs.lemmas.List.{length-drop, take_all}
+use Rattle.std.proofs.Common.{arith, length}
+use Rattle.std.proofs.lemmas.List.{length-drop}
 use Rattle.std.proofs.lemmas.Slice.{between_to_end}
 use Rattle.uxn_io_traits.proofs.PutLemmas.{put-then}
 use Rattle.uxn_io_traits.proofs.sinks.put_all.Goals as goal

@@ -1,4 +1,4 @@
-use Rattle.std.proofs.Common.{◌≡◌, ℕ, ◌++◌, true, false, Some, List, take, length, sym, ap, refl, arith, ◌∙◌, length-take-le}
+use Rattle.std.proofs.Common.{◌≡◌, ℕ, Some, List, take, length, sym, ap, refl, arith, ◌∙◌, length-take-le}
 use Rattle.std.proofs.lemmas.Bool.{false≢true}
 use Rattle.std.proofs.lemmas.Grind.{common_steps}
 use Rattle.uxn_io_traits.specs.FaultLaws.{counted-same, counted-one}

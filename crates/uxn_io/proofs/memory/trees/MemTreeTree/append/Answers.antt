@@ -29,6 +29,6 @@ returns-clause-ended c =
     (λ takes.
     let none = takes-unlisted c.args.self.now _ _ takes in
     append-left c.args.self.now
-    (record { held = c.append.new.self; fails = c.self-2.inside.fails.items; calls = c.self-2.inside.calls; faults = c.self-2.inside.faults; refusals = c.self-2.inside.refusals })
+    (record { held = c.append.new.self; fails = c.self-2.inside.fails.items; calls = c.self-2.inside.calls; faults = c.self-2.inside.faults; refused = c.self-2.inside.refused })
     path _ none (rw (sym c.self-2.view_is) at (c.begin.ensures.later none))
     (ap (λ (h : Places). h.free) after) (ap (λ (h : Places). h.room) after))

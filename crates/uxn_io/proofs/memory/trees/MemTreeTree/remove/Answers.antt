@@ -21,5 +21,5 @@ returns-clause-ended c =
     (λ takes.
     let none = takes-unlisted c.args.self.now _ _ takes in
     remove-left c.args.self.now
-    (record { held = c.remove.new.self; fails = c.self.inside.fails.items; calls = c.self.inside.calls; faults = c.self.inside.faults; refusals = c.self.inside.refusals })
+    (record { held = c.remove.new.self; fails = c.self.inside.fails.items; calls = c.self.inside.calls; faults = c.self.inside.faults; refused = c.self.inside.refused })
     path none (rw (sym c.self.view_is) at (c.begin.ensures.later none)) after)
