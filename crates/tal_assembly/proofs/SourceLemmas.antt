@@ -1,39 +1,63 @@
--- What a source comes to, by what splicing it comes to.
-use Rattle.std.proofs.Common.{◌≡◌, List, ℕ, Bool, true, false, Option, Some, None, Result, ap, sym, subst}
-use Rattle.std.specs.Prelude.{if◌then◌else◌, IsSome, IfSome, is_none}
+-- What a source results in, by what splicing it results in.
+use Rattle.std.proofs.Common.{◌≡◌, List, ℕ, true, false, Option, Some, None, Result, Ok, Err, ap, sym, subst, ◌∙◌}
+use Rattle.std.specs.Prelude.{IsSome, IfSome, IfOk, is_none}
 use Rattle.std.proofs.lemmas.Bool.{and_parts}
-use Rattle.uxn_io_traits.specs.Files.{Nodes}
-use Rattle.uxn_io_traits.specs.declared.trees.FileBytes.TheVariants.{Missing}
+use Rattle.uxn_io_traits.specs.State.{TreeState}
+use Rattle.uxn_inquiry.specs.declared.halt.Halt.{Halt}
+use Rattle.uxn_inquiry.specs.declared.halt.Halt.TheVariants.{Refused}
+use Rattle.uxn_inquiry.specs.Along.{Always}
+use Rattle.uxn_inquiry.specs.Inquiry.{Answer}
+use Rattle.uxn_inquiry.specs.InquiryLaws.{always-mapped}
+use Rattle.uxn_inquiry.specs.Inquires.{Inquires, Says, halt_as}
+use Rattle.uxn_inquiry.specs.Laws.{inquires-as, inquires-stop, inquires-last, inquires-said}
 use Rattle.tal_words.specs.declared.span.Word.{Word}
 use Rattle.tal_words.specs.declared.fault.Fault.{Fault}
 use Rattle.tal_words.specs.Comments.{word_fault}
 use Rattle.tal_rom.specs.Assembly.{first_fault}
-use Rattle.tal_include.specs.Answers.{known_reading}
+use Rattle.tal_include.specs.declared.faults.IncludeFault.{IncludeFault}
 use Rattle.tal_include.specs.Flat.{Flat, origin_at}
-use Rattle.tal_include.specs.FlatWords.{HasItsWords, IfCame}
-use Rattle.tal_include.specs.Splice.{SpliceOutcome, Came, Met, Reading, has_includes, is_spliced, spliced}
-use Rattle.tal_assembly.specs.declared.fault.SourceStop.{SourceStop}
-use Rattle.tal_assembly.specs.Answers.{SourceView, Comes}
-use Rattle.tal_assembly.specs.Sources.{sourced, walked, own_by, HasOrigin}
+use Rattle.tal_include.specs.FlatWords.{HasItsWords}
+use Rattle.tal_include.specs.Splice.{has_includes, is_spliced, splice_inquiry}
+use Rattle.tal_include.proofs.FlatWordLemmas.{spliced_words}
+use Rattle.tal_assembly.specs.declared.fault.SourceFault.{SourceFault}
+use Rattle.tal_assembly.specs.Sources.{SourceView, sourced_of, source_inquiry, include_source_fault, met_fault, flat_by, own_by, HasOrigin}
 use Rattle.tal_rom.specs.FaultWordLaws.{IsAt, fault_at_word}
 
--- where splicing results in the same, so does the source
-pub sourced_same : (nodes other : Nodes) (main source : List ℕ) → spliced (known_reading nodes) main source ≡ spliced (known_reading other) main source
-    → sourced (known_reading nodes) main source ≡ sourced (known_reading other) main source
-sourced_same nodes other main source same =
-    ap (λ (outcome : SpliceOutcome). if is_spliced source then walked main outcome else own_by source (first_fault source)) same
+module _ (main source : List ℕ) (a : TreeState) where
+  -- a source that is not spliced
+  pub by-itself : (r : Result SourceView (Halt SourceFault)) → false ≡ is_spliced source
+      → Says sourced_of (own_by source (first_fault source)) r
+      → Inquires sourced_of (source_inquiry main source) a a r
+  unfolding source_inquiry
+  by-itself r own says = let no = sym own in rw no (inquires-said sourced_of (own_by source (first_fault source)) a r says)
 
--- a reading that finds nothing
-pub no_reading : Reading
-no_reading before path = Missing
+  -- or is
+  module _ (text : List ℕ) (b : TreeState) (is : is_spliced source ≡ true) (same : text ≡ source) where
+    pub flat-halted : (halt : Halt IncludeFault) → Inquires (λ (flat : Flat). flat) (splice_inquiry main text) a b (Err halt)
+        → Inquires sourced_of (source_inquiry main source) a b (Err (halt_as (met_fault main) halt))
+    unfolding source_inquiry
+    flat-halted halt p =
+        rw is (inquires-stop (λ (flat : Flat). flat) sourced_of _ (λ flat. Answer (flat_by main flat (first_fault flat.text))) a b (halt_as (met_fault main) halt)
+        (inquires-as (met_fault main) (λ (flat : Flat). flat) (splice_inquiry main source) a b (Err halt)
+        (subst (λ (t : List ℕ). Inquires (λ (flat : Flat). flat) (splice_inquiry main t) a b (Err halt)) same p)))
 
--- a source that is not spliced results in the same over any reading
-pub by_itself : (result : Result SourceView SourceStop) (main source : List ℕ) → is_spliced source ≡ false → Comes result (own_by source (first_fault source))
-    → (reading : Reading) × Comes result (sourced reading main source)
-by_itself result main source own comes = (
-  no_reading,
-  subst (λ (b : Bool). Comes result (if b then walked main (spliced no_reading main source) else own_by source (first_fault source))) (sym own) comes,
-)
+    pub flat-refused : (fault : IncludeFault) (word : List ℕ) (met : SourceFault) → word ≡ fault.word.items
+        → met ≡ include_source_fault main fault.origin fault.kind word
+        → Inquires (λ (flat : Flat). flat) (splice_inquiry main text) a b (Err (Refused fault))
+        → Inquires sourced_of (source_inquiry main source) a b (Err (Refused met))
+    flat-refused fault word met is_word is_met p =
+        let as_met : met_fault main fault ≡ met = sym (is_met ∙ ap (include_source_fault main fault.origin fault.kind) is_word) in
+        subst (λ found. Inquires sourced_of (source_inquiry main source) a b (Err (Refused found))) as_met (flat-halted (Refused fault) p)
+
+    pub flat-answered : (flat : Flat) (r : Result SourceView (Halt SourceFault))
+        → Inquires (λ (flat : Flat). flat) (splice_inquiry main text) a b (Ok flat)
+        → Says sourced_of (flat_by main flat (first_fault flat.text)) r
+        → Inquires sourced_of (source_inquiry main source) a b r
+    unfolding source_inquiry
+    flat-answered flat r p says =
+        rw is (inquires-last (λ (flat : Flat). flat) sourced_of _ (λ flat. flat_by main flat (first_fault flat.text)) a b flat r
+        (inquires-as (met_fault main) (λ (flat : Flat). flat) (splice_inquiry main source) a b (Ok flat)
+        (subst (λ (t : List ℕ). Inquires {E = IncludeFault} (λ (flat : Flat). flat) (splice_inquiry main t) a b (Ok flat)) same p)) says)
 
 at_origin : (flat : Flat) (fault : Option Fault) → IfSome fault (IsAt (λ (word : Word). IsSome (origin_at flat word.span.start)))
     → IfSome fault (λ found. IsSome (origin_at flat found.at))
@@ -41,9 +65,13 @@ at_origin flat None is = tt
 at_origin flat (Some fault) is = subst (λ (at : ℕ). IsSome (origin_at flat at)) is.start is.holds
 
 -- a fault of a flat text has an origin
-pub has_origins : (source : List ℕ) (outcome : SpliceOutcome) → is_spliced source ≡ true → IfCame (HasItsWords source) outcome → IfCame HasOrigin outcome
-has_origins source (Met fault) spliced has = tt
-has_origins source (Came flat) spliced has =
-    let includes = (and_parts (is_none (word_fault source)) (has_includes source) spliced).1 in
-    at_origin flat (first_fault flat.text)
-    (fault_at_word (λ (word : Word). IsSome (origin_at flat word.span.start)) flat.text has.origins (has.faultless (has.short includes)))
+pub has_origins : (main source : List ℕ) → is_spliced source ≡ true
+    → Always (λ answer. IfOk answer HasOrigin) (splice_inquiry main source)
+has_origins main source spliced = always-mapped _ _ (splice_inquiry main source) by (spliced_words main source)
+  where
+    by : (answer : Result Flat IncludeFault) → IfOk answer (HasItsWords source) → IfOk answer HasOrigin
+    by (Ok flat) has =
+        let includes = (and_parts (is_none (word_fault source)) (has_includes source) spliced).1 in
+        at_origin flat (first_fault flat.text)
+        (fault_at_word (λ (word : Word). IsSome (origin_at flat word.span.start)) flat.text has.origins (has.faultless (has.short includes)))
+    by (Err fault) has = tt

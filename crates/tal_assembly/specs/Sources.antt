@@ -4,18 +4,30 @@ use Rattle.std.specs.Str.{bytes_eq}
 use Rattle.uxn_io_traits.specs.ByteList.{tight}
 use Rattle.tal_words.specs.declared.fault.Fault.{Fault}
 use Rattle.tal_words.specs.Faults.{fault_text}
+use Rattle.uxn_inquiry.specs.Inquiry.{Inquiry, Answer, and_then, refused_as}
 use Rattle.tal_rom.specs.Assembly.{first_fault}
+use Rattle.tal_rom.specs.Program.{Program}
+use Rattle.tal_include.specs.declared.faults.IncludeFault.{IncludeFault}
 use Rattle.tal_include.specs.declared.faults.Origin.{Origin}
 use Rattle.tal_include.specs.declared.faults.IncludeKind.{IncludeKind}
 use Rattle.tal_include.specs.declared.faults.IncludeKind.TheVariants.{Words}
 use Rattle.tal_include.specs.Flat.{Flat, origin_at}
-use Rattle.tal_include.specs.Splice.{SpliceOutcome, Came, Met, Reading, is_spliced, spliced}
+use Rattle.tal_include.specs.Splice.{is_spliced, splice_inquiry}
 use Rattle.tal_assembly.specs.declared.fault.SourceFault.{SourceFault}
 
 -- the text that is assembled, and the files that were read beside the main source, in the order of reading
 pub record Sourced : Type 0 where
   pub text : List ℕ
   pub paths : List (List ℕ)
+
+-- the same of a source that was read, with what it is assembled to
+pub record SourceView : Type 0 where
+  pub text : List ℕ
+  pub paths : List (List ℕ)
+  pub assembly : Program
+
+abbrev pub sourced_of : SourceView → Sourced
+sourced_of source = record { text = source.text; paths = source.paths }
 
 -- the path of a file, where it is another than the main source
 abbrev pub other_path : List ℕ → List ℕ → Option (List ℕ)
@@ -56,15 +68,18 @@ abbrev pub flat_by : List ℕ → Flat → Option Fault → Result Sourced Sourc
 flat_by main flat None = Ok (record { text = flat.text; paths = flat.paths })
 flat_by main flat (Some fault) = Err (include_source_fault main (origin_in main flat fault.at) (Words fault.kind) (fault_text flat.text fault))
 
--- what splicing comes to
-abbrev pub walked : List ℕ → SpliceOutcome → Result Sourced SourceFault
-walked main (Met fault) = Err (include_source_fault main fault.origin fault.kind fault.word.items)
-walked main (Came flat) = flat_by main flat (first_fault flat.text)
+-- a fault that is met where the source is spliced
+abbrev pub met_fault : List ℕ → IncludeFault → SourceFault
+met_fault main fault = include_source_fault main fault.origin fault.kind fault.word.items
 
--- what a source comes to: one with an include word is assembled from its flat text, any other from its own
-abbrev pub sourced : Reading → List ℕ → List ℕ → Result Sourced SourceFault
-sourced reading main source =
-    if is_spliced source then walked main (spliced reading main source) else own_by source (first_fault source)
+-- what is asked of the tree where a source is read, and what it is assembled from, or its first fault: a source with an include
+-- word is assembled from its flat text, any other from its own
+unfoldable pub source_inquiry : List ℕ → List ℕ → Inquiry (Result Sourced SourceFault)
+source_inquiry main source =
+    if is_spliced source
+    then and_then (refused_as (met_fault main) (splice_inquiry main source))
+    (λ flat. Answer (flat_by main flat (first_fault flat.text)))
+    else Answer (own_by source (first_fault source))
 
 -- the first fault of a flat text is at a word with an origin
 abbrev pub HasOrigin : Flat → Type 0

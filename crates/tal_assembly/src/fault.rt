@@ -4,12 +4,11 @@ ghost use Rattle.std.specs.Prelude.{◌≡◌, IfOk};
 ghost use Rattle.uxn_io_traits.specs.ByteList.{tight};
 ghost use Rattle.tal_assembly.specs.Lines.{message_of};
 ghost use Rattle.tal_assembly.specs.Sources.{include_source_fault, other_path, own_fault};
-ghost use Rattle.tal_assembly.specs.declared.fault.SourceStop.TheVariants.{NoMemory};
 
-use std::alloc::{AllocError, AllocFailed, Global};
+use std::alloc::{AllocError, Global};
 use tal_include::{IncludeKind, Origin};
 use tal_words::{Fault, fault_word};
-use thiserror::Error;
+use uxn_inquiry::Halt;
 use uxn_io_traits::{Bytes, Path, decimal};
 
 /// The first fault of a source: the file in which its word stands, where that is not the main source, and its place there; what
@@ -88,23 +87,4 @@ fn other_path(main: &Path, path: &Path) -> Option<Path>
 }
 
 /// Why a source is not assembled.
-#[derive(Debug, Drop, Error)]
-pub enum SourceStop {
-    /// This is its first fault.
-    #[error("the source is refused")]
-    Refused(SourceFault),
-    /// The tree failed.
-    #[error("a file was not read")]
-    TreeFault,
-    /// Memory ran out.
-    #[error("out of memory")]
-    NoMemory,
-}
-
-impl From<AllocError> for SourceStop {
-    ghost from_gives = { λ _ stop. stop ≡ NoMemory };
-
-    fn from(_error: AllocError) -> SourceStop {
-        SourceStop::NoMemory
-    }
-}
+pub type SourceStop = Halt<SourceFault>;

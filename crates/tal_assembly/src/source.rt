@@ -1,19 +1,16 @@
 //! A source with its includes, assembled.
 
-ghost use Rattle.std.specs.Prelude.{◌≡◌, Ok, false, IfOk, IfSome};
-ghost use Rattle.uxn_io_traits.specs.Ended.{TreeLooked};
+ghost use Rattle.std.specs.Prelude.{◌≡◌, Ok, IfOk};
+ghost use Rattle.uxn_inquiry.specs.Inquires.{Inquires, Says};
 ghost use Rattle.tal_words.specs.Faults.{fault_text};
 ghost use Rattle.tal_rom.specs.Assembly.{IsAssembled, first_fault};
 ghost use Rattle.tal_include.specs.declared.faults.IncludeKind.TheVariants.{Words};
-ghost use Rattle.tal_include.specs.Answers.{known_reading};
-ghost use Rattle.tal_include.specs.Splice.{Reading};
-ghost use Rattle.tal_assembly.specs.Answers.{Comes, has_failed};
-ghost use Rattle.tal_assembly.specs.Sources.{include_source_fault, flat_by, origin_in, own_by, sourced};
+ghost use Rattle.tal_assembly.specs.Sources.{include_source_fault, flat_by, origin_in, own_by, source_inquiry, sourced_of};
 
 use crate::fault::{SourceFault, SourceStop};
 use std::alloc::{AllocError, Global};
 use std::marker::Model;
-use tal_include::{IncludeKind, Origin, SpliceStop, Spliced, has_includes, splice};
+use tal_include::{IncludeKind, Origin, SpliceStop, Spliced, splice_words, words_to_splice};
 use tal_rom::{Assembly, assemble};
 use tal_words::{AsmStop, Fault, fault_word};
 use uxn_io_traits::{Bytes, Path, Tree};
@@ -30,7 +27,7 @@ pub struct AssembledSource {
 impl Model for AssembledSource {
     ghost use Rattle.std.specs.Prelude.{◌≤◌, length};
     ghost use Rattle.tal_rom.specs.Rom.{rom_limit};
-    ghost use Rattle.tal_assembly.specs.Answers.{SourceView};
+    ghost use Rattle.tal_assembly.specs.Sources.{SourceView};
 
     ghost Value = { SourceView };
 
@@ -63,22 +60,20 @@ impl AssembledSource {
 }
 
 /// Assembles a source, with the words of its files in place of the words that include them. Refused with its first fault, at
-/// the word of the file that has it. The tree does not change.
+/// the word of the file that has it. The tree does not change, and is asked for each file as its word is met.
 pub fn read_source<T: Tree>(
     alloc: Global,
     tree: &mut T,
     main: &Path,
     source: Bytes,
 ) -> Result<AssembledSource, SourceStop>
-    ensures contents { IfSome (T.state tree.old).contents (λ nodes. Comes result (sourced (known_reading nodes) main.now source.list)) }
-    ensures read { (reading : Reading) × Comes result (sourced reading main.now source.list) }
+    ensures answer { Inquires sourced_of (source_inquiry main.now source.list) (T.state tree.old) (T.state tree.new) result }
     ensures assembled { IfOk result (λ made. IsAssembled made.text (Ok made.assembly)) }
-    ensures looked { TreeLooked (has_failed result) (T.state tree.old) (T.state tree.new) }
 {
-    if !has_includes(alloc, source.as_slice())? {
+    let Some(words) = words_to_splice(alloc, source.as_slice())? else {
         return assemble_own(alloc, source);
-    }
-    match splice(alloc, tree, main, source.as_slice()) {
+    };
+    match splice_words(alloc, tree, main, source.as_slice(), &words) {
         Ok(flat) => assemble_flat(alloc, main, flat),
         Err(SpliceStop::Refused(fault)) => {
             let met = SourceFault::new(alloc, main, &fault.origin, fault.kind, &fault.word)?;
@@ -91,9 +86,8 @@ pub fn read_source<T: Tree>(
 
 /// Assembles a source without include words.
 fn assemble_own(alloc: Global, source: Bytes) -> Result<AssembledSource, SourceStop>
-    ensures comes { Comes result (own_by source.list (first_fault source.list)) }
+    ensures answer { Says sourced_of (own_by source.list (first_fault source.list)) result }
     ensures assembled { IfOk result (λ made. IsAssembled made.text (Ok made.assembly)) }
-    ensures tree { has_failed result ≡ false }
 {
     match assemble(alloc, source.as_slice()) {
         Ok(assembly) => Ok(AssembledSource {
@@ -111,9 +105,8 @@ fn assemble_own(alloc: Global, source: Bytes) -> Result<AssembledSource, SourceS
 
 /// Assembles a flat text.
 fn assemble_flat(alloc: Global, main: &Path, flat: Spliced) -> Result<AssembledSource, SourceStop>
-    ensures comes { Comes result (flat_by main.now flat (first_fault flat.text)) }
+    ensures answer { Says sourced_of (flat_by main.now flat (first_fault flat.text)) result }
     ensures assembled { IfOk result (λ made. IsAssembled made.text (Ok made.assembly)) }
-    ensures tree { has_failed result ≡ false }
 {
     match assemble(alloc, flat.text()) {
         Ok(assembly) => {

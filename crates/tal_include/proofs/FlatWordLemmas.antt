@@ -1,9 +1,12 @@
 -- A walk splices words one behind the other, and they are the words of the flat text.
-use Rattle.std.proofs.Common.{◌≡◌, ℕ, zero, suc, ◌+◌, ◌<◌, ◌≤◌, Bool, true, false, List, [], ◌∷◌, ◌++◌, length, map, refl, ap, sym, ◌∙◌, subst, arith, append_assoc, append-nil, length-append, Option, Some, None, Result, Ok, Err, IsSome}
+use Rattle.std.proofs.Common.{◌≡◌, ℕ, zero, suc, ◌+◌, ◌≤◌, Bool, true, false, List, [], ◌∷◌, ◌++◌, length, map, refl, ap, sym, ◌∙◌, subst, arith, append_assoc, append-nil, length-append, Option, Some, None, Result, Ok, Err, IsSome, IfOk, zero-add}
 use Rattle.std.specs.Prelude.{if◌then◌else◌, ◌&&◌, ◌||◌, ◌==◌, nat_lt}
 use Rattle.std.specs.List.{list_any, AllByRecursion}
 use Rattle.std.specs.Option.{option_map}
 use Rattle.std.proofs.lemmas.List.{map-append}
+use Rattle.uxn_inquiry.specs.Along.{Always}
+use Rattle.uxn_inquiry.specs.Inquiry.{Answer, and_then}
+use Rattle.uxn_inquiry.specs.InquiryLaws.{always-mapped, always-said, always-through}
 use Rattle.tal_words.specs.declared.span.Word.{Word}
 use Rattle.tal_words.specs.declared.fault.Fault.{Fault}
 use Rattle.tal_words.specs.Comments.{source_limit, words_of, word_fault}
@@ -11,13 +14,14 @@ use Rattle.tal_words.specs.PlainTexts.{Chunk}
 use Rattle.tal_words.specs.Source.{word_text}
 use Rattle.tal_words.proofs.PlainTokens.{text_of_chunks, AreChunks}
 use Rattle.tal_include.specs.declared.faults.Origin.{Origin}
-use Rattle.tal_include.specs.declared.faults.IncludeKind.{IncludeKind}
+use Rattle.tal_include.specs.declared.faults.IncludeFault.{IncludeFault}
+use Rattle.tal_include.specs.declared.faults.IncludeKind.TheVariants.{LongFlat}
 use Rattle.tal_include.specs.declared.spliced.Place.{Place}
 use Rattle.tal_include.specs.Flat.{Flat, empty_flat, flat_with_word, flat_with_path, place_in_list, origin_at, origin_of}
 use Rattle.tal_include.specs.Includes.{is_include, included_path, path_or_kind, bytes_or_kind, include_fault_at}
-use Rattle.tal_include.specs.Splice.{SpliceOutcome, Came, Met, Reading, going_on, found_or, faultless_or, through, is_long_with, at_plain_word, at_include, at_word, through_file, has_includes, spliced, walk}
-use Rattle.tal_include.specs.FlatWords.{HasItsWords, IfCame}
-use Rattle.tal_include.proofs.AloneLemmas.{HasHead, head_kept}
+use Rattle.tal_include.specs.Splice.{Walk, found_at, words_by, is_long_with, at_plain_word, at_include, at_word, through_words, through_file}
+use Rattle.tal_include.specs.Splice.{has_includes, most_deep, splice_inquiry, walk}
+use Rattle.tal_include.specs.FlatWords.{HasItsWords}
 use Rattle.tal_include.proofs.ChunkLemmas.{starts, IsSpoken, starts_of_tokens, words_are_tokens, chunks_faultless}
 use Rattle.tal_include.proofs.SpokenLemmas.{line_of, IsSound, IsSoundWord, words_sound}
 
@@ -25,13 +29,14 @@ use Rattle.tal_include.proofs.SpokenLemmas.{line_of, IsSound, IsSoundWord, words
 abbrev pub lines_of : List (List ℕ) → List Chunk
 lines_of texts = map line_of texts
 
--- a flat text of these words, each of which can stand in one
-pub record IsFlat (flat : Flat) : Type 0 where
+-- a flat text of these words, each of which can stand in one, of a main source with or without includes
+pub record IsFlat (has : Bool) (flat : Flat) : Type 0 where
   pub texts : List (List ℕ)
   pub sound : AllByRecursion IsSound texts
   pub text : flat.text ≡ text_of_chunks (lines_of texts)
   pub places : map (λ (p : Place). p.at) flat.places ≡ starts 0 (lines_of texts)
-  pub short : flat.includes ≡ true → length flat.text ≤ source_limit
+  pub includes : flat.includes ≡ has
+  pub short : has ≡ true → length flat.text ≤ source_limit
 
 text_more : (texts : List (List ℕ)) (text : List ℕ) → text_of_chunks (lines_of (texts ++ text ∷ [])) ≡ text_of_chunks (lines_of texts) ++ text ++ 10 ∷ []
 text_more [] text = append-nil (text ++ 10 ∷ [])
@@ -53,82 +58,77 @@ all_more : (texts : List (List ℕ)) (text : List ℕ) → AllByRecursion IsSoun
 all_more [] text all one = (one, tt)
 all_more (first ∷ texts) text all one = (all.0, all_more texts text all.1 one)
 
-flat_more : (flat : Flat) (file : ℕ) (word : Word) (text : List ℕ) → IsSound text → is_long_with flat text ≡ false → IsFlat flat → IsFlat (flat_with_word file word text flat)
-flat_more flat file word text sound short is = record {
-  texts = is.texts ++ text ∷ [];
-  sound = all_more is.texts text is.sound sound;
-  text = ap (λ (t : List ℕ). t ++ text ++ 10 ∷ []) is.text ∙ sym (text_more is.texts text);
-  places =
-      map-append (λ (p : Place). p.at) flat.places (record { at = length flat.text; file = file; line = word.line; column = word.column } ∷ [])
-      ∙ ap (λ (ns : List ℕ). ns ++ length flat.text ∷ []) is.places
-      ∙ sym (starts_more is.texts text 0 (length flat.text) (ap length is.text ∙ sym (Rattle.std.proofs.Common.zero-add (length (text_of_chunks (lines_of is.texts))))));
-  short = λ includes.
-      let one = length-append flat.text text in
-      let both = length-append (flat.text ++ text) (10 ∷ []) in
-      let fits = within flat.includes (length flat.text + length text + 1) includes short in
-      omega (arith, one, both, fits);
-}
-  where
-    within : (b : Bool) (n : ℕ) → b ≡ true → (b && nat_lt source_limit n) ≡ false → n ≤ source_limit
-    within b n is none = grind (arith, is, none)
-
-with_file : (flat : Flat) (path : List ℕ) → IsFlat flat → IsFlat (flat_with_path path flat)
-with_file flat path is = record { texts = is.texts; sound = is.sound; text = is.text; places = is.places; short = is.short }
-
-then_flat : (outcome : SpliceOutcome) (next : Flat → SpliceOutcome) → IfCame IsFlat outcome → ((flat : Flat) → IsFlat flat → IfCame IsFlat (next flat)) → IfCame IsFlat (going_on outcome next)
-then_flat (Came flat) next is more = more flat is
-then_flat (Met fault) next is more = tt
-
-found_flat : (origin : Origin) (text : List ℕ) (found : Result (List ℕ) IncludeKind) (next : List ℕ → SpliceOutcome) → ((x : List ℕ) → IfCame IsFlat (next x))
-    → IfCame IsFlat (found_or origin text found next)
-found_flat origin text (Ok found) next more = more found
-found_flat origin text (Err kind) next more = tt
-
-faultless_flat : (path source : List ℕ) (fault : Option Fault) (next : SpliceOutcome) → (fault ≡ None → IfCame IsFlat next) → IfCame IsFlat (faultless_or path source fault next)
-faultless_flat path source None next more = more refl
-faultless_flat path source (Some fault) next more = tt
-
-plain_flat : (file : ℕ) (origin : Origin) (word : Word) (text : List ℕ) (flat : Flat) → IsSound text → IsFlat flat → IfCame IsFlat (at_plain_word file origin word text flat)
-plain_flat file origin word text flat sound is = by (is_long_with flat text) refl
-  where
-    by : (b : Bool) → is_long_with flat text ≡ b → IfCame IsFlat (if b then Met (include_fault_at origin Rattle.tal_include.specs.declared.faults.IncludeKind.TheVariants.LongFlat text) else Came (flat_with_word file word text flat))
-    by true e = tt
-    by false e = flat_more flat file word text sound e is
-
-module _ (reading : Reading) (deeper : ℕ) (inner : List ℕ → List ℕ → Flat → SpliceOutcome)
-    (inner_flat : (path source : List ℕ) (flat : Flat) → IsFlat flat → IfCame IsFlat (inner path source flat)) where
-  include_flat : (origin : Origin) (text : List ℕ) (flat : Flat) → IsFlat flat → IfCame IsFlat (at_include reading deeper inner origin text flat)
-  include_flat origin text flat is =
-      found_flat origin text (path_or_kind deeper (length flat.paths) (included_path flat.main text)) _
-      (λ path. found_flat origin text (bytes_or_kind (reading (length flat.paths) path)) _
-      (λ bytes. inner_flat path bytes (flat_with_path path flat) (with_file flat path is)))
-
-  word_flat : (path source : List ℕ) (file : ℕ) (word : Word) (flat : Flat) → IsSoundWord source word → IsFlat flat
-      → IfCame IsFlat (at_word reading deeper inner path source file word flat)
-  word_flat path source file word flat sound is = by (is_include (word_text source word))
+module _ (includes : Bool) where
+  flat_more : (flat : Flat) (file : ℕ) (word : Word) (text : List ℕ) → IsSound text → is_long_with flat text ≡ false → IsFlat includes flat
+      → IsFlat includes (flat_with_word file word text flat)
+  flat_more flat file word text sound short is = record {
+    texts = is.texts ++ text ∷ [];
+    sound = all_more is.texts text is.sound sound;
+    text = ap (λ (t : List ℕ). t ++ text ++ 10 ∷ []) is.text ∙ sym (text_more is.texts text);
+    places =
+        map-append (λ (p : Place). p.at) flat.places (record { at = length flat.text; file = file; line = word.line; column = word.column } ∷ [])
+        ∙ ap (λ (ns : List ℕ). ns ++ length flat.text ∷ []) is.places
+        ∙ sym (starts_more is.texts text 0 (length flat.text) (ap length is.text ∙ sym (zero-add (length (text_of_chunks (lines_of is.texts))))));
+    includes = is.includes;
+    short = λ has.
+        let one = length-append flat.text text in
+        let both = length-append (flat.text ++ text) (10 ∷ []) in
+        let fits = within flat.includes (length flat.text + length text + 1) (is.includes ∙ has) short in
+        omega (arith, one, both, fits);
+  }
     where
-      by : (b : Bool) → IfCame IsFlat (if b then at_include reading deeper inner (record { path = path; line = word.line; column = word.column }) (word_text source word) flat
-          else at_plain_word file (record { path = path; line = word.line; column = word.column }) word (word_text source word) flat)
-      by true = include_flat (record { path = path; line = word.line; column = word.column }) (word_text source word) flat is
-      by false = plain_flat file (record { path = path; line = word.line; column = word.column }) word (word_text source word) flat sound is
+      within : (b : Bool) (n : ℕ) → b ≡ true → (b && nat_lt source_limit n) ≡ false → n ≤ source_limit
+      within b n is none = grind (arith, is, none)
 
-  words_flat : (path source : List ℕ) (file : ℕ) (words : List Word) (flat : Flat) → AllByRecursion (IsSoundWord source) words → IsFlat flat
-      → IfCame IsFlat (through (at_word reading deeper inner path source file) words flat)
-  words_flat path source file [] flat sound is = is
-  words_flat path source file (word ∷ words) flat sound is =
-      then_flat (at_word reading deeper inner path source file word flat) (through (at_word reading deeper inner path source file) words)
-      (word_flat path source file word flat sound.0 is)
-      (λ later is_later. words_flat path source file words later sound.1 is_later)
+  with_file : (flat : Flat) (path : List ℕ) → IsFlat includes flat → IsFlat includes (flat_with_path path flat)
+  with_file flat path is =
+      record { texts = is.texts; sound = is.sound; text = is.text; places = is.places; includes = is.includes; short = is.short }
 
-  file_flat : (path source : List ℕ) (flat : Flat) → IsFlat flat → IfCame IsFlat (through_file reading deeper inner path source flat)
-  file_flat path source flat is =
-      faultless_flat path source (word_fault source) _
-      (λ none. words_flat path source (length flat.paths) (words_of source) flat (words_sound source none) is)
+  -- whatever is replied, a walk results in such a text, unless it meets a fault
+  abbrev IsFlatWalk : Walk → Type 0
+  IsFlatWalk asked = Always (λ answer. IfOk answer (IsFlat includes)) asked
 
-walk_flat : (reading : Reading) (deeper : ℕ) (path source : List ℕ) (flat : Flat) → IsFlat flat → IfCame IsFlat (walk reading deeper path source flat)
-unfolding walk
-walk_flat reading zero path source flat is = file_flat reading zero (λ p s f. Came f) (λ p s f here. here) path source flat is
-walk_flat reading (suc deeper) path source flat is = file_flat reading (suc deeper) (walk reading deeper) (walk_flat reading deeper) path source flat is
+  plain_flat : (file : ℕ) (origin : Origin) (word : Word) (text : List ℕ) (flat : Flat) → IsSound text → IsFlat includes flat
+      → IfOk (at_plain_word file origin word text flat) (IsFlat includes)
+  plain_flat file origin word text flat sound is = by (is_long_with flat text) refl
+    where
+      by : (b : Bool) → is_long_with flat text ≡ b
+          → IfOk {E = IncludeFault} (if b then Err (include_fault_at origin LongFlat text) else Ok (flat_with_word file word text flat)) (IsFlat includes)
+      by true e = tt
+      by false e = flat_more flat file word text sound e is
+
+  module _ (deeper : ℕ) (inner : List ℕ → List ℕ → Flat → Walk)
+      (inner_flat : (path source : List ℕ) (flat : Flat) → IsFlat includes flat → IsFlatWalk (inner path source flat)) where
+    include_flat : (origin : Origin) (text : List ℕ) (flat : Flat) → IsFlat includes flat → IsFlatWalk (at_include deeper inner origin text flat)
+    include_flat origin text flat is =
+        always-said (IsFlat includes) (found_at origin text (path_or_kind deeper (length flat.paths) (included_path flat.main text))) _
+        (λ path _ file within. always-said (IsFlat includes) (found_at origin text (bytes_or_kind file)) _
+        (λ bytes _. inner_flat path bytes (flat_with_path path flat) (with_file flat path is)))
+
+    word_flat : (path source : List ℕ) (file : ℕ) (word : Word) (flat : Flat) → IsSoundWord source word → IsFlat includes flat
+        → IsFlatWalk (at_word deeper inner path source file word flat)
+    word_flat path source file word flat sound is = by (is_include (word_text source word))
+      where
+        by : (b : Bool) → IsFlatWalk (if b then at_include deeper inner (record { path = path; line = word.line; column = word.column }) (word_text source word) flat
+            else Answer (at_plain_word file (record { path = path; line = word.line; column = word.column }) word (word_text source word) flat))
+        by true = include_flat (record { path = path; line = word.line; column = word.column }) (word_text source word) flat is
+        by false = plain_flat file (record { path = path; line = word.line; column = word.column }) word (word_text source word) flat sound is
+
+    file_flat : (path source : List ℕ) (flat : Flat) → IsFlat includes flat → IsFlatWalk (through_file deeper inner path source flat)
+    file_flat path source flat is =
+        by (word_fault source) refl
+      where
+        by : (fault : Option Fault) → word_fault source ≡ fault
+            → IsFlatWalk (and_then (Answer (words_by path source fault)) (through_words deeper inner path source flat))
+        by None none =
+            always-through (IsFlat includes) (IsSoundWord source) (at_word deeper inner path source (length flat.paths))
+            (λ word now sound holds. word_flat path source (length flat.paths) word now sound holds) (words_of source) flat (words_sound source none) is
+        by (Some fault) none = tt
+
+  walk_flat : (deeper : ℕ) (path source : List ℕ) (flat : Flat) → IsFlat includes flat → IsFlatWalk (walk deeper path source flat)
+  unfolding walk
+  walk_flat zero path source flat is = is
+  walk_flat (suc deeper) path source flat is = file_flat deeper (walk deeper) (walk_flat deeper) path source flat is
 
 all_lines : (texts : List (List ℕ)) → AllByRecursion IsSound texts → AreChunks (lines_of texts) × AllByRecursion (λ (c : Chunk). IsSpoken c.text) (lines_of texts)
 all_lines [] all = (tt, tt)
@@ -174,8 +174,8 @@ all_placed flat prefix (word ∷ words) is = (
       (ap (map (λ (w : Word). w.span.start)) (append_assoc prefix (word ∷ []) words) ∙ is),
 )
 
-has_its_words : (source : List ℕ) (flat : Flat) → flat.includes ≡ has_includes source → IsFlat flat → HasItsWords source flat
-has_its_words source flat includes is =
+has_its_words : (source : List ℕ) (flat : Flat) → IsFlat (has_includes source) flat → HasItsWords source flat
+has_its_words source flat is =
     let are = all_lines is.texts is.sound in
     let begin : map (λ (w : Word). w.span.start) (words_of flat.text) ≡ map (λ (p : Place). p.at) flat.places =
     ap (λ (t : List ℕ). map (λ (w : Word). w.span.start) (words_of t)) is.text
@@ -188,17 +188,17 @@ has_its_words source flat includes is =
       faultless = λ short.
           ap word_fault is.text
           ∙ chunks_faultless (lines_of is.texts) are.0 are.1 (subst (λ (t : List ℕ). length t ≤ source_limit) is.text short);
-      short = λ has. is.short (includes ∙ has);
+      short = is.short;
     }
 
-if_came : (main source : List ℕ) (outcome : SpliceOutcome) → IfCame (HasHead (empty_flat main (has_includes source))) outcome → IfCame IsFlat outcome
-    → IfCame (HasItsWords source) outcome
-if_came main source (Came flat) has is = has_its_words source flat has.includes is
-if_came main source (Met fault) has is = tt
-
 -- what a source is spliced to has its words
-pub spliced_words : (reading : Reading) (main source : List ℕ) → IfCame (HasItsWords source) (spliced reading main source)
-spliced_words reading main source =
-    if_came main source (spliced reading main source) (head_kept reading main source)
-    (walk_flat reading 15 main source (empty_flat main (has_includes source))
-    (record { texts = []; sound = tt; text = refl; places = refl; short = λ includes. omega arith }))
+pub spliced_words : (main source : List ℕ) → Always (λ answer. IfOk answer (HasItsWords source)) (splice_inquiry main source)
+unfolding splice_inquiry
+spliced_words main source =
+    always-mapped _ _ (splice_inquiry main source) by
+    (file_flat (has_includes source) most_deep (walk most_deep) (walk_flat (has_includes source) most_deep) main source (empty_flat main (has_includes source))
+    (record { texts = []; sound = tt; text = refl; places = refl; includes = refl; short = λ includes. omega arith }))
+  where
+    by : (answer : Result Flat IncludeFault) → IfOk answer (IsFlat (has_includes source)) → IfOk answer (HasItsWords source)
+    by (Ok flat) is = has_its_words source flat is
+    by (Err fault) is = tt

@@ -1,6 +1,6 @@
 -- A source without a tilde has no include word.
 use Rattle.std.proofs.Common.{◌≡◌, ℕ, zero, suc, Bool, false, List, [], ◌∷◌, take, drop, refl}
-use Rattle.std.specs.Prelude.{◌&&◌, ◌||◌, ◌-◌, nat_eq, is_none}
+use Rattle.std.specs.Prelude.{◌&&◌, ◌||◌, ◌-◌, nat_eq, is_none, if◌then◌else◌}
 use Rattle.std.specs.List.{list_any}
 use Rattle.std.proofs.lemmas.Bool.{or_parts}
 use Rattle.tal_words.specs.declared.span.Word.{Word}

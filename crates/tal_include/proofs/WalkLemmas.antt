@@ -1,137 +1,162 @@
--- How a walk goes on, word by word and file by file.
-use Rattle.std.proofs.Common.{◌≡◌, ℕ, zero, suc, ◌+◌, ◌-◌, ◌<◌, Bool, true, false, List, ◌∷◌, length, drop, refl, ap, sym, ◌∙◌, subst, arith}
-use Rattle.std.proofs.Common.{Option, Result, Ok, Err, ◌≤◌, take, if◌then◌else◌}
+-- How a walk goes on.
+use Rattle.std.proofs.Common.{◌≡◌, ℕ, zero, suc, ◌+◌, ◌-◌, ◌<◌, ◌≤◌, List, length, take, drop, get_or, Result, Ok, Err, None, ◌∙◌, true, false, refl, ap, sym, subst, arith}
 use Rattle.std.proofs.lemmas.List.{take_all}
-use Rattle.tal_words.specs.declared.fault.Fault.{Fault}
+use Rattle.std.specs.List.{list_any}
+use Rattle.uxn_io_traits.specs.State.{TreeState}
+use Rattle.uxn_io_traits.specs.declared.trees.FileBytes.{FileBytes}
+use Rattle.uxn_inquiry.specs.declared.halt.Halt.{Halt}
+use Rattle.uxn_inquiry.specs.declared.halt.Halt.TheVariants.{NoMemory}
+use Rattle.uxn_inquiry.specs.Inquiry.{Answer, and_then, through, file_of}
+use Rattle.uxn_inquiry.specs.Inquires.{Inquires, Says}
+use Rattle.uxn_inquiry.specs.Leads.{Leads, Here}
+use Rattle.uxn_inquiry.specs.Laws.{leads-more, leads-end, leads-stop, leads-step, leads-refused, leads-no-memory, inquires-said, through-more, through-stop}
 use Rattle.tal_words.specs.declared.span.Word.{Word}
 use Rattle.tal_words.specs.Source.{word_text}
-use Rattle.tal_words.specs.Comments.{words_of, word_fault}
+use Rattle.tal_words.specs.Comments.{source_limit, words_of, word_fault}
 use Rattle.tal_include.specs.declared.faults.Origin.{Origin}
-use Rattle.tal_include.specs.declared.faults.IncludeKind.{IncludeKind}
-use Rattle.tal_include.specs.declared.faults.SpliceStop.{SpliceStop}
-use Rattle.tal_include.specs.declared.faults.SpliceStop.TheVariants.{Refused, TreeFault, NoMemory}
-use Rattle.tal_include.specs.declared.splicing.Cut.{Cut}
-use Rattle.tal_include.specs.declared.splicing.Opened.{Opened}
-use Rattle.tal_include.specs.Flat.{Flat, flat_with_path}
-use Rattle.tal_include.specs.Includes.{is_include, included_path, path_or_kind, bytes_or_kind, include_fault_at}
-use Rattle.tal_include.specs.Splice.{SpliceOutcome, Came, Reading, going_on, found_or, faultless_or, through, at_plain_word, at_include, at_word, through_words, through_file, walk}
-use Rattle.tal_include.specs.Answers.{GivesFlat}
-use Rattle.tal_include.specs.Parts.{IsCutTo, IsCutSource, IsOpened, inner_walk}
-
--- an include word whose file is refused
-pub bad_file : (reading : Reading) (deeper : ℕ) (origin : Origin) (text : List ℕ) (flat : Flat) (path : List ℕ) (kind : IncludeKind) (stop : SpliceStop)
-    → Ok path ≡ path_or_kind deeper (length flat.paths) (included_path flat.main text)
-    → bytes_or_kind (reading (length flat.paths) path) ≡ Err kind → stop ≡ Refused (include_fault_at origin kind text)
-    → IsOpened reading deeper origin text flat (Err stop)
-bad_file reading deeper origin text flat path kind stop is_path is_kind is =
-    let P : SpliceStop → Type 0 = λ s. IsOpened reading deeper origin text flat (Err s) in
-    subst P (sym is)
-    (λ inner. ap (λ (r : Result (List ℕ) IncludeKind).
-    found_or origin text r (λ path. found_or origin text (bytes_or_kind (reading (length flat.paths) path)) (λ bytes. inner path bytes (flat_with_path path flat))))
-    (sym is_path)
-    ∙ ap (λ (r : Result (List ℕ) IncludeKind). found_or origin text r (λ bytes. inner path bytes (flat_with_path path flat))) is_kind)
+use Rattle.tal_include.specs.declared.faults.IncludeFault.{IncludeFault}
+use Rattle.tal_include.specs.Flat.{Flat, empty_flat, flat_with_path}
+use Rattle.tal_include.specs.Includes.{is_include, included_path, path_or_kind, bytes_or_kind}
+use Rattle.tal_include.specs.Splice.{Walk, found_at, words_in, at_plain_word, at_include, at_word, through_words, through_file, walk, has_includes, most_deep, splice_inquiry}
 
 pub take_whole : (most : ℕ) (text : List ℕ) → length text ≤ most → take most text ≡ text
 take_whole most text short = take_all most text short
 
--- what an include word comes to where its file was read
-opened_is : (reading : Reading) (deeper : ℕ) (inner : List ℕ → List ℕ → Flat → SpliceOutcome) (origin : Origin) (text : List ℕ) (flat : Flat) (opened : Opened)
-    → IsOpened reading deeper origin text flat (Ok opened)
-    → at_include reading deeper inner origin text flat ≡ inner opened.path opened.bytes.list (flat_with_path opened.path flat)
-opened_is reading deeper inner origin text flat opened is =
-    ap (λ (r : Result (List ℕ) IncludeKind).
-    found_or origin text r (λ path. found_or origin text (bytes_or_kind (reading (length flat.paths) path)) (λ bytes. inner path bytes (flat_with_path path flat))))
-    is.0
-    ∙ ap (λ (r : Result (List ℕ) IncludeKind). found_or origin text r (λ bytes. inner opened.path bytes (flat_with_path opened.path flat))) is.1
-
--- a walk through a file by the files in it
-pub walk_is : (reading : Reading) (deeper : ℕ) (path source : List ℕ) (flat : Flat)
-    → walk reading deeper path source flat ≡ through_file reading deeper (inner_walk reading deeper) path source flat
+walk-is : (deeper : ℕ) (path source : List ℕ) (flat : Flat) → 0 < deeper
+    → walk deeper path source flat ≡ through_file (deeper - 1) (walk (deeper - 1)) path source flat
 unfolding walk
-walk_is reading zero path source flat = refl
-walk_is reading (suc deeper) path source flat = refl
+walk-is zero path source flat some = absurd (omega (arith, some))
+walk-is (suc deeper) path source flat some =
+    let less : deeper ≡ suc deeper - 1 = omega arith in ap (λ (n : ℕ). through_file n (walk n) path source flat) less
 
-inner_is : (reading : Reading) (deeper : ℕ) (path source : List ℕ) (flat : Flat) → 0 < deeper
-    → inner_walk reading deeper path source flat ≡ walk reading (deeper - 1) path source flat
-inner_is reading zero path source flat some = absurd (omega (arith, some))
-inner_is reading (suc deeper) path source flat some =
-    let less : deeper ≡ suc deeper - 1 = omega arith in
-    ap (λ (n : ℕ). walk reading n path source flat) less
+-- an include word, step by step: its path, its file, the bytes of that, and their words
+module _ (deeper : ℕ) (origin : Origin) (text : List ℕ) (flat : Flat) (view : Unit {0} → Flat) (a : TreeState) where
+  abbrev whole : Walk
+  whole = at_include deeper (walk deeper) origin text flat
 
--- through a file without a fault of words
-pub faultless_is : (reading : Reading) (deeper : ℕ) (path source : List ℕ) (file : Cut) (flat : Flat) → IsCutTo path source file
-    → through_file reading deeper (inner_walk reading deeper) path source flat
-    ≡ through_words reading deeper (inner_walk reading deeper) file.path.now file.source.now file.words.items flat
-faultless_is reading deeper path source file flat is =
-    rw (is.path_is, is.source_is, is.words)
-    (ap (λ (fault : Option Fault). faultless_or path source fault (through_words reading deeper (inner_walk reading deeper) path source (words_of source) flat))
-    is.faultless)
+  abbrev named : Result (List ℕ) IncludeFault
+  named = found_at origin text (path_or_kind deeper (length flat.paths) (included_path flat.main text))
 
--- an include word where its file was read and cut
-pub included_is : (reading : Reading) (deeper : ℕ) (origin : Origin) (text : List ℕ) (flat : Flat) (opened : Opened) (file : Cut) → 0 < deeper
-    → IsOpened reading deeper origin text flat (Ok opened) → IsCutTo opened.path opened.bytes.list file
-    → at_include reading deeper (inner_walk reading deeper) origin text flat
-    ≡ through_words reading (deeper - 1) (inner_walk reading (deeper - 1)) file.path.now file.source.now file.words.items (flat_with_path opened.path flat)
-included_is reading deeper origin text flat opened file some is cut =
-    opened_is reading deeper (inner_walk reading deeper) origin text flat opened is
-    ∙ inner_is reading deeper opened.path opened.bytes.list (flat_with_path opened.path flat) some
-    ∙ walk_is reading (deeper - 1) opened.path opened.bytes.list (flat_with_path opened.path flat)
-    ∙ faultless_is reading (deeper - 1) opened.path opened.bytes.list file (flat_with_path opened.path flat) cut
+  abbrev with_bytes : List ℕ → List ℕ → Walk
+  with_bytes path bytes = walk deeper path bytes (flat_with_path path flat)
 
--- a file with a fault of words
-pub not_cut : {X : Type 0} (view : X → Flat) (path source : List ℕ) (outcome next : SpliceOutcome) (stop : SpliceStop)
-    → IsCutSource path source (Err stop) → outcome ≡ faultless_or path source (word_fault source) next → GivesFlat view (Err stop) outcome
-not_cut view path source outcome next (Refused fault) is from = from ∙ is next
-not_cut view path source outcome next TreeFault is from = absurd is
-not_cut view path source outcome next NoMemory is from = tt
+  abbrev with_file : List ℕ → FileBytes → Walk
+  with_file path file = and_then (Answer (found_at origin text (bytes_or_kind file))) (with_bytes path)
 
--- an include word whose file has a fault of words
-pub included_faulty : {X : Type 0} (view : X → Flat) (reading : Reading) (deeper : ℕ) (origin : Origin) (text : List ℕ) (flat : Flat) (opened : Opened)
-    (stop : SpliceStop) → 0 < deeper → IsOpened reading deeper origin text flat (Ok opened)
-    → IsCutSource opened.path opened.bytes.list (Err stop)
-    → GivesFlat view (Err stop) (at_include reading deeper (inner_walk reading deeper) origin text flat)
-included_faulty view reading deeper origin text flat opened stop some is cut =
-    not_cut view opened.path opened.bytes.list (at_include reading deeper (inner_walk reading deeper) origin text flat)
-    (through_words reading (deeper - 1) (inner_walk reading (deeper - 1)) opened.path opened.bytes.list (words_of opened.bytes.list) (flat_with_path opened.path flat))
-    stop cut
-    (opened_is reading deeper (inner_walk reading deeper) origin text flat opened is
-    ∙ inner_is reading deeper opened.path opened.bytes.list (flat_with_path opened.path flat) some
-    ∙ walk_is reading (deeper - 1) opened.path opened.bytes.list (flat_with_path opened.path flat))
+  abbrev with_path : List ℕ → Walk
+  with_path path = and_then (file_of path source_limit) (with_file path)
 
--- the walk through the words from an index on, once the word there was gone through
-pub next_word : (step : Word → Flat → SpliceOutcome) (words : List Word) (at : ℕ) (word : Word) (flat now : Flat) → drop at words ≡ word ∷ drop (at + 1) words
-    → step word flat ≡ Came now → through step (drop at words) flat ≡ through step (drop (at + 1) words) now
-next_word step words at word flat now here is =
-    ap (λ (ws : List Word). through step ws flat) here ∙ ap (λ (o : SpliceOutcome). going_on o (through step (drop (at + 1) words))) is
+  pub no-path : (halt : Halt IncludeFault) → Says (λ (path : List ℕ). path) named (Err halt) → Inquires view whole a a (Err halt)
+  no-path halt is = leads-refused (λ (path : List ℕ). path) view whole named with_path a a halt Here is
 
--- or where it was not
-pub stopped_at : {X Y : Type 0} (view : X → Flat) (shown : Y → Flat) (step : Word → Flat → SpliceOutcome) (words : List Word) (at : ℕ) (word : Word) (flat : Flat) (stop : SpliceStop)
-    → drop at words ≡ word ∷ drop (at + 1) words → GivesFlat view (Err stop) (step word flat) → GivesFlat shown (Err stop) (through step (drop at words) flat)
-stopped_at view shown step words at word flat (Refused fault) here is =
-    ap (λ (ws : List Word). through step ws flat) here ∙ ap (λ (o : SpliceOutcome). going_on o (through step (drop (at + 1) words))) is
-stopped_at view shown step words at word flat TreeFault here is = tt
-stopped_at view shown step words at word flat NoMemory here is = tt
+  module _ (path : List ℕ) (b : TreeState) (is_named : named ≡ Ok path) where
+    at-path : Leads whole (with_path path) a a
+    at-path = leads-step whole named with_path a a path Here is_named
 
--- the outcome that a call answers is another one
-pub gives_along : {X : Type 0} (view : X → Flat) (result : Result X SpliceStop) (was outcome : SpliceOutcome) → was ≡ outcome → GivesFlat view result outcome → GivesFlat view result was
-gives_along view (Ok x) was outcome is gives = is ∙ gives
-gives_along view (Err (Refused fault)) was outcome is gives = is ∙ gives
-gives_along view (Err TreeFault) was outcome is gives = tt
-gives_along view (Err NoMemory) was outcome is gives = tt
+    pub no-file : (halt : Halt IncludeFault) → Inquires (λ (file : FileBytes). file) (file_of path source_limit) a b (Err halt)
+        → Inquires view whole a b (Err halt)
+    no-file halt p =
+        leads-stop (λ (file : FileBytes). file) view whole (file_of path source_limit) (with_file path) a a b halt at-path p
 
--- what stands at a word that includes a file, and at another
-pub include_is : (reading : Reading) (deeper : ℕ) (inner : List ℕ → List ℕ → Flat → SpliceOutcome) (path source : List ℕ) (file : ℕ) (word : Word) (flat : Flat)
-    → is_include (word_text source word) ≡ true
-    → at_word reading deeper inner path source file word flat
-    ≡ at_include reading deeper inner (record { path = path; line = word.line; column = word.column }) (word_text source word) flat
-include_is reading deeper inner path source file word flat is =
-    ap (λ (b : Bool). if b then at_include reading deeper inner (record { path = path; line = word.line; column = word.column }) (word_text source word) flat
-    else at_plain_word file (record { path = path; line = word.line; column = word.column }) word (word_text source word) flat) is
+    module _ (file : FileBytes) (read : Inquires {E = IncludeFault} (λ (file : FileBytes). file) (file_of path source_limit) a b (Ok file)) where
+      at-file : Leads whole (with_file path file) a b
+      at-file = leads-more (λ (file : FileBytes). file) whole (file_of path source_limit) (with_file path) a a b file at-path read
 
-pub plain_is : (reading : Reading) (deeper : ℕ) (inner : List ℕ → List ℕ → Flat → SpliceOutcome) (path source : List ℕ) (file : ℕ) (word : Word) (flat : Flat)
-    → is_include (word_text source word) ≡ false
-    → at_word reading deeper inner path source file word flat
-    ≡ at_plain_word file (record { path = path; line = word.line; column = word.column }) word (word_text source word) flat
-plain_is reading deeper inner path source file word flat is =
-    ap (λ (b : Bool). if b then at_include reading deeper inner (record { path = path; line = word.line; column = word.column }) (word_text source word) flat
-    else at_plain_word file (record { path = path; line = word.line; column = word.column }) word (word_text source word) flat) is
+      pub no-bytes : {C : Type 0} (shown : C → List ℕ) (halt : Halt IncludeFault)
+          → Says shown (found_at origin text (bytes_or_kind file)) (Err halt)
+          → Inquires view whole a b (Err halt)
+      no-bytes shown halt is =
+          leads-refused shown view whole (found_at origin text (bytes_or_kind file)) (with_bytes path) a b halt at-file is
+
+      module _ (bytes : List ℕ) (some : 0 < deeper) (found : found_at origin text (bytes_or_kind file) ≡ Ok bytes) where
+        abbrev with_words : List Word → Walk
+        with_words words = through_words (deeper - 1) (walk (deeper - 1)) path bytes (flat_with_path path flat) words
+
+        at-bytes : Leads whole (and_then (Answer (words_in path bytes)) with_words) a b
+        at-bytes =
+            subst (λ (rest : Walk). Leads whole rest a b) (walk-is deeper path bytes (flat_with_path path flat) some)
+            (leads-step whole (found_at origin text (bytes_or_kind file)) (with_bytes path) a b bytes at-file found)
+
+        pub no-words : {C : Type 0} (shown : C → List Word) (source : List ℕ) (halt : Halt IncludeFault) → source ≡ bytes
+            → Says shown (words_in path source) (Err halt) → Inquires view whole a b (Err halt)
+        no-words shown source halt same is =
+            leads-refused shown view whole (words_in path bytes) with_words a b halt at-bytes
+            (subst (λ (s : List ℕ). Says shown (words_in path s) (Err halt)) same is)
+
+        pub no-room : Inquires view whole a b (Err NoMemory)
+        no-room = leads-no-memory view whole (and_then (Answer (words_in path bytes)) with_words) a b at-bytes
+
+        pub all-words : (source again : List ℕ) (words list : List Word) (now : Flat) (c : TreeState)
+            (r : Result (Unit {0}) (Halt IncludeFault))
+            → source ≡ bytes → words_in path source ≡ Ok words → now ≡ flat_with_path path flat → again ≡ bytes → list ≡ words
+            → Inquires view (through_words (deeper - 1) (walk (deeper - 1)) path again now list) b c r → Inquires view whole a c r
+        all-words source again words list now c r same are is_now is_again is_list p =
+            leads-end view whole (with_words words) a b c r
+            (leads-step whole (words_in path bytes) with_words a b words at-bytes
+            (subst (λ (s : List ℕ). words_in path s ≡ Ok words) same are))
+            (subst (λ (f : Flat). Inquires view (through_words (deeper - 1) (walk (deeper - 1)) path bytes f words) b c r) is_now
+            (subst (λ (s : List ℕ). Inquires view (through_words (deeper - 1) (walk (deeper - 1)) path s now words) b c r) is_again
+            (subst (λ (ws : List Word). Inquires view (through_words (deeper - 1) (walk (deeper - 1)) path again now ws) b c r) is_list p)))
+
+-- the words of a file, one after the other: the rest of them from a word on
+module _ (whole : Walk) (deeper : ℕ) (path source text : List ℕ) (words : List Word) (i number : ℕ) (here : Flat)
+    (a b : TreeState)
+    (p : Leads whole (through (at_word deeper (walk deeper) path source number) (drop i words) here) a b)
+    (less : i < length words) where
+  abbrev default : Word
+  default = record { span = record { start = 0; end = 0 }; line = 0; column = 0 }
+
+  abbrev word : Word
+  word = get_or words i default
+
+  abbrev place : Origin
+  place = record { path = path; line = word.line; column = word.column }
+
+  abbrev step : Word → Flat → Walk
+  step = at_word deeper (walk deeper) path source number
+
+  module _ (is_text : text ≡ word_text source word) (view : Unit {0} → Flat) where
+    module _ (c : TreeState) (includes : true ≡ is_include text) where
+      included : (r : Result (Unit {0}) (Halt IncludeFault))
+          → Inquires view (at_include deeper (walk deeper) place text here) b c r
+          → Inquires view (step word here) b c r
+      included r q = let other = sym includes in rw (← is_text, other) q
+
+      -- a file was included, or not
+      pub include-more : Inquires view (at_include deeper (walk deeper) place text here) b c (Ok tt)
+          → Leads whole (through step (drop (i + 1) words) (view tt)) a c
+      include-more q = through-more step whole words i here a b p view word default c tt less refl (included (Ok tt) q)
+
+      pub include-stop : (last : Unit {0} → Flat) (halt : Halt IncludeFault)
+          → Inquires view (at_include deeper (walk deeper) place text here) b c (Err halt) → Inquires last whole a c (Err halt)
+      include-stop last halt q = through-stop step whole words i here a b p view last word default c halt less refl (included (Err halt) q)
+
+    module _ (other : false ≡ is_include text) where
+      plain : (r : Result (Unit {0}) (Halt IncludeFault)) → Says view (at_plain_word number place word text here) r
+          → Inquires view (step word here) b b r
+      plain r says =
+          let none = sym other in
+          rw (← is_text, none) (inquires-said view (at_plain_word number place word text here) b r says)
+
+      -- another word was added, or not
+      pub plain-more : Says view (at_plain_word number place word text here) (Ok tt)
+          → Leads whole (through step (drop (i + 1) words) (view tt)) a b
+      plain-more says = through-more step whole words i here a b p view word default b tt less refl (plain (Ok tt) says)
+
+      pub plain-stop : (last : Unit {0} → Flat) (halt : Halt IncludeFault)
+          → Says view (at_plain_word number place word text here) (Err halt)
+          → Inquires last whole a b (Err halt)
+      plain-stop last halt says = through-stop step whole words i here a b p view last word default b halt less refl (plain (Err halt) says)
+
+-- a source without a fault of words that was gone through
+pub source-words : {D : Type 0} (view : D → Flat) (main source : List ℕ) (words : List Word) (flat : Flat) (a b : TreeState)
+    (r : Result D (Halt IncludeFault)) → word_fault source ≡ None → words ≡ words_of source
+    → flat ≡ empty_flat main (list_any (λ word. is_include (word_text source word)) words)
+    → Inquires view (through_words most_deep (walk most_deep) main source flat words) a b r
+    → Inquires view (splice_inquiry main source) a b r
+unfolding splice_inquiry
+source-words view main source words flat a b r none are is p =
+    let through : List Word → Flat → Walk = λ list now. through_words most_deep (walk most_deep) main source now list in
+    let start : Flat = empty_flat main (has_includes source) in
+    let same : flat ≡ start = is ∙ ap (λ list. empty_flat main (list_any (λ word. is_include (word_text source word)) list)) are in
+    rw none (subst (λ list. Inquires view (through list start) a b r) are (subst (λ now. Inquires view (through words now) a b r) same p))

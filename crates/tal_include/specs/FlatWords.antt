@@ -1,9 +1,9 @@
 -- What the words of a flat text are.
-use Rattle.std.specs.Prelude.{◌≡◌, ◌≤◌, ℕ, List, true, length, map, None, IsSome, ⊤}
+use Rattle.std.specs.Prelude.{◌≡◌, ◌≤◌, ℕ, List, true, length, map, None, IsSome}
 use Rattle.std.specs.List.{AllByRecursion}
 use Rattle.tal_words.specs.Comments.{source_limit, words_of, word_fault}
 use Rattle.tal_include.specs.Flat.{Flat, origin_at}
-use Rattle.tal_include.specs.Splice.{SpliceOutcome, Came, Met, has_includes}
+use Rattle.tal_include.specs.Splice.{has_includes}
 
 -- the words of the text are the spliced ones: they begin where these do, and each has an origin; none has a fault of words, and
 -- the text of a source with includes is no longer than a source may be
@@ -12,8 +12,3 @@ pub record HasItsWords (source : List ℕ) (flat : Flat) : Type 0 where
   pub origins : AllByRecursion (λ word. IsSome (origin_at flat word.span.start)) (words_of flat.text)
   pub faultless : length flat.text ≤ source_limit → word_fault flat.text ≡ None
   pub short : has_includes source ≡ true → length flat.text ≤ source_limit
-
--- a fact of what a walk has spliced, unless it has met a fault
-abbrev pub IfCame : (Flat → Type 0) → SpliceOutcome → Type 0
-IfCame P (Came flat) = P flat
-IfCame P (Met fault) = ⊤

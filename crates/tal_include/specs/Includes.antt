@@ -66,4 +66,5 @@ include_fault_at origin kind word = record { origin = origin; kind = kind; word 
 -- a fault of the words of a file
 abbrev pub words_fault : List ℕ → List ℕ → Fault → IncludeFault
 words_fault path source fault =
-    include_fault_at (record { path = path; line = fault.line; column = fault.column }) (Words fault.kind) (fault_text source fault)
+    include_fault_at (record { path = path; line = fault.line; column = fault.column }) (Words fault.kind)
+    (fault_text source fault)

@@ -2,12 +2,10 @@
 
 ghost use Rattle.std.specs.Prelude.{◌≡◌, ◌≤◌, length, take};
 ghost use Rattle.tal_include.specs.Includes.{include_kind_name, include_fault_at, word_prefix};
-ghost use Rattle.tal_include.specs.declared.faults.SpliceStop.TheVariants.{NoMemory};
 
 use arrayvec::ArrayVec;
-use std::alloc::{AllocError, AllocFailed};
 use tal_words::FaultKind;
-use thiserror::Error;
+use uxn_inquiry::Halt;
 use uxn_io_traits::Path;
 
 /// Where a word stands: in which file, and at which line and column of it.
@@ -108,31 +106,4 @@ fn copied(text: &[u8]) -> ArrayVec<u8, 255>
 }
 
 /// Why a source is not spliced.
-#[derive(Debug, Drop, Error)]
-pub enum SpliceStop {
-    /// This is the first fault on the way.
-    #[error("an include is refused")]
-    Refused(IncludeFault),
-    /// The tree failed.
-    #[error("a file was not read")]
-    TreeFault,
-    /// Memory ran out.
-    #[error("out of memory")]
-    NoMemory,
-}
-
-impl From<AllocError> for SpliceStop {
-    ghost from_gives = { λ _ stop. stop ≡ NoMemory };
-
-    fn from(_error: AllocError) -> SpliceStop {
-        SpliceStop::NoMemory
-    }
-}
-
-impl<T: Drop> From<AllocFailed<T>> for SpliceStop {
-    ghost from_gives = { λ _ stop. stop ≡ NoMemory };
-
-    fn from(_error: AllocFailed<T>) -> SpliceStop {
-        SpliceStop::NoMemory
-    }
-}
+pub type SpliceStop = Halt<IncludeFault>;

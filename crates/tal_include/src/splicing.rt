@@ -1,21 +1,21 @@
 //! The walk through a source and the files that it includes.
 
-ghost use Rattle.std.specs.Prelude.{◌≡◌, ℕ, ◌+◌, ◌<◌, ◌==◌, ◌&&◌, false, length, nat_lt, IfOk, IfSome, OnOk, if◌then◌else◌};
+ghost use Rattle.std.specs.Prelude.{◌≡◌, ℕ, ◌+◌, ◌<◌, ◌==◌, ◌&&◌, None, length, nat_lt, IfOk, IfSome, OnOk, is_some};
 ghost use Rattle.std.specs.List.{list_any};
-ghost use Rattle.uxn_io_traits.specs.Ended.{TreeLooked};
+ghost use Rattle.uxn_inquiry.specs.Inquires.{Inquires, Says};
+ghost use Rattle.uxn_inquiry.specs.declared.halt.Halt.TheVariants.{Refused};
 ghost use Rattle.tal_words.specs.declared.span.Word.{Word};
 ghost use Rattle.tal_words.specs.Source.{word_text};
-ghost use Rattle.tal_include.specs.declared.faults.SpliceStop.TheVariants.{Refused};
-ghost use Rattle.tal_include.specs.Includes.{is_include, included_path, path_or_kind, include_fault_at};
-ghost use Rattle.tal_include.specs.Splice.{Reading, is_long_with, at_plain_word, at_include, through_words, is_spliced, spliced};
-ghost use Rattle.tal_include.specs.Answers.{GivesFlat, has_failed, known_reading};
-ghost use Rattle.tal_include.specs.Parts.{Along, IsCutSource, IsOpened, inner_walk};
+ghost use Rattle.tal_words.specs.Comments.{words_of, word_fault};
+ghost use Rattle.tal_include.specs.Includes.{is_include, included_path, path_or_kind, bytes_or_kind, include_fault_at};
+ghost use Rattle.tal_include.specs.Splice.{is_long_with, found_at, words_in, at_plain_word, at_include, through_words, walk, is_spliced, splice_inquiry};
 
 use crate::faults::{IncludeFault, IncludeKind, Origin, SpliceStop};
 use crate::spliced::Spliced;
 use std::alloc::{AllocError, Global};
 use tal_words::{AsmStop, SOURCE_LIMIT, Word, fault_word, words};
-use uxn_io_traits::{Bytes, FileBytes, Path, ReadStop, Tree, read_file};
+use uxn_inquiry::read_whole;
+use uxn_io_traits::{Bytes, FileBytes, Path, Tree};
 
 /// The greatest length of a file, in bytes.
 const FILE_LIMIT: u32 = 4_194_304;
@@ -28,57 +28,64 @@ const MOST_DEEP: u32 = 15;
 
 /// Puts the words of the files that a source includes in place of the words that include them. The path
 /// of a file is read behind the folder of the main source. Refused with the first fault on the way through
-/// the words. The tree does not change.
+/// the words. The tree does not change, and receives no request but to read each file once, as its word is met.
 pub fn splice<T: Tree>(
     alloc: Global,
     tree: &mut T,
     main: &Path,
     source: &[u8],
 ) -> Result<Spliced, SpliceStop>
-    ensures contents { IfSome (T.state tree.old).contents (λ nodes. GivesFlat (λ flat. flat) result (spliced (known_reading nodes) main.now source.now)) }
-    ensures read { (reading : Reading) × GivesFlat (λ flat. flat) result (spliced reading main.now source.now) }
-    ensures looked { TreeLooked (has_failed result) (T.state tree.old) (T.state tree.new) }
+    ensures { Inquires (λ flat. flat) (splice_inquiry main.now source.now) (T.state tree.old) (T.state tree.new) result }
 {
-    let file = cut_file(alloc, main, source)?;
-    let includes = has_include(source, &file.words);
-    let mut flat = Spliced::new(alloc, main, includes);
-    flat.add_words(alloc, tree, &file, MOST_DEEP)?;
+    let words = words_in(alloc, main, source)?;
+    splice_words(alloc, tree, main, source, &words)
+}
+
+/// The same, of a source without a fault of words that was cut into its words.
+pub fn splice_words<T: Tree>(
+    alloc: Global,
+    tree: &mut T,
+    main: &Path,
+    source: &[u8],
+    words: &[Word],
+) -> Result<Spliced, SpliceStop>
+    requires faultless { word_fault source.now ≡ None }
+    requires words { words.now ≡ words_of source.now }
+    ensures { Inquires (λ flat. flat) (splice_inquiry main.now source.now) (T.state tree.old) (T.state tree.new) result }
+{
+    let mut flat = Spliced::new(alloc, main, has_include(source, words));
+    flat.add_words(alloc, tree, main, source, words, MOST_DEEP)?;
     Ok(flat)
 }
 
-/// Whether a source is spliced: it has an include word, and no fault of words. A source without a tilde is not cut.
-pub fn has_includes(alloc: Global, source: &[u8]) -> Result<bool, AllocError>
-    ensures { IfOk result (λ answer. answer ≡ is_spliced source.now) }
+/// The words of a source that is spliced: it has an include word, and no fault of words. A source without a tilde is not cut.
+pub fn words_to_splice(alloc: Global, source: &[u8]) -> Result<Option<Vec<Word>>, AllocError>
+    ensures spliced { IfOk result (λ answer. is_some answer ≡ is_spliced source.now) }
+    ensures words { IfOk result (λ answer. IfSome answer (λ words. words.items ≡ words_of source.now)) }
+    ensures faultless { IfOk result (λ answer. IfSome answer (λ _. word_fault source.now ≡ None)) }
 {
     if !source.contains(&b'~') {
-        return Ok(false);
+        return Ok(None);
     }
     match words(alloc, source) {
-        Ok(words) => Ok(has_include(source, &words)),
-        Err(AsmStop::Refused(_)) => Ok(false),
+        Ok(words) => {
+            if has_include(source, &words) {
+                Ok(Some(words))
+            } else {
+                Ok(None)
+            }
+        }
+        Err(AsmStop::Refused(_)) => Ok(None),
         Err(AsmStop::NoMemory) => Err(AllocError),
     }
 }
 
-/// A file that was cut into its words.
-#[derive(Drop)]
-struct Cut<'a> {
-    path: &'a Path,
-    source: &'a [u8],
-    words: Vec<Word>,
-}
-
-/// Cuts a file into its words. Refused with its first fault of words.
-fn cut_file<'a>(alloc: Global, path: &'a Path, source: &'a [u8]) -> Result<Cut<'a>, SpliceStop>
-    ensures cuts { IsCutSource path.now source.now result }
-    ensures tree { has_failed result ≡ false }
+/// The words of a file, unless it has a fault of words.
+fn words_in(alloc: Global, path: &Path, source: &[u8]) -> Result<Vec<Word>, SpliceStop>
+    ensures { Says (λ words. words.items) (words_in path.now source.now) result }
 {
     match words(alloc, source) {
-        Ok(words) => Ok(Cut {
-            path,
-            source,
-            words,
-        }),
+        Ok(words) => Ok(words),
         Err(AsmStop::Refused(fault)) => {
             let origin = Origin {
                 path: *path,
@@ -86,7 +93,7 @@ fn cut_file<'a>(alloc: Global, path: &'a Path, source: &'a [u8]) -> Result<Cut<'
                 column: fault.column,
             };
             Err(refused(
-                origin,
+                &origin,
                 IncludeKind::Words(fault.kind),
                 fault_word(source, &fault),
             ))
@@ -96,10 +103,10 @@ fn cut_file<'a>(alloc: Global, path: &'a Path, source: &'a [u8]) -> Result<Cut<'
 }
 
 /// A refusal at a word.
-fn refused(origin: Origin, kind: IncludeKind, word: &[u8]) -> SpliceStop
-    ensures { result ≡ Refused (include_fault_at origin kind word.now) }
+fn refused(origin: &Origin, kind: IncludeKind, word: &[u8]) -> SpliceStop
+    ensures { result ≡ Refused (include_fault_at origin.now kind word.now) }
 {
-    SpliceStop::Refused(IncludeFault::new(origin, kind, word))
+    SpliceStop::Refused(IncludeFault::new(*origin, kind, word))
 }
 
 /// Whether a word includes a file.
@@ -133,11 +140,15 @@ fn included_path(main: &Path, word: &[u8]) -> Option<Path>
     }
 }
 
-/// A file that an include word names.
-#[derive(Drop)]
-struct Opened {
-    path: Path,
-    bytes: Bytes,
+/// The bytes of a file that an include word names.
+fn bytes_at(origin: &Origin, word: &[u8], file: FileBytes) -> Result<Bytes, SpliceStop>
+    ensures { Says (λ bytes. bytes.list) (found_at origin.now word.now (bytes_or_kind file)) result }
+{
+    match file {
+        FileBytes::Missing => Err(refused(origin, IncludeKind::Missing, word)),
+        FileBytes::TooLong(_) => Err(refused(origin, IncludeKind::Long, word)),
+        FileBytes::Found(bytes) => Ok(bytes),
+    }
 }
 
 impl Spliced {
@@ -147,27 +158,26 @@ impl Spliced {
         &mut self,
         alloc: Global,
         tree: &mut T,
-        file: &Cut<'_>,
+        path: &Path,
+        source: &[u8],
+        words: &[Word],
         deeper: u32,
     ) -> Result<(), SpliceStop>
-        ensures walk { Along (T.state tree.old).contents (length self.old.paths)
-            (λ count. OnOk result (length self.new.paths ≡ length self.old.paths + count))
-            (λ reading. GivesFlat (λ _. self.new) result
-            (through_words reading deeper (inner_walk reading deeper) file.now.path.now file.now.source.now file.now.words.items self.old)) }
-        ensures looked { TreeLooked (has_failed result) (T.state tree.old) (T.state tree.new) }
+        ensures { Inquires (λ _. self.new) (through_words deeper (walk deeper) path.now source.now self.old words.now)
+            (T.state tree.old) (T.state tree.new) result }
     {
         let number = self.paths().len();
-        for word in &file.words {
-            let text = word.span.text(file.source);
+        for word in words {
+            let text = word.span.text(source);
             let origin = Origin {
-                path: *file.path,
+                path: *path,
                 line: word.line,
                 column: word.column,
             };
             if is_include(text) {
-                self.add_include(alloc, tree, origin, text, deeper)?;
+                self.add_include(alloc, tree, &origin, text, deeper)?;
             } else {
-                self.add_plain(number, origin, word, text)?;
+                self.add_plain(number, &origin, word, text)?;
             }
         }
         Ok(())
@@ -179,35 +189,36 @@ impl Spliced {
         &mut self,
         alloc: Global,
         tree: &mut T,
-        origin: Origin,
+        origin: &Origin,
         text: &[u8],
         deeper: u32,
     ) -> Result<(), SpliceStop>
         requires { 0 < length text.now }
-        ensures walk { Along (T.state tree.old).contents (length self.old.paths)
-            (λ count. OnOk result (length self.new.paths ≡ length self.old.paths + count))
-            (λ reading. GivesFlat (λ _. self.new) result (at_include reading deeper (inner_walk reading deeper) origin text.now self.old)) }
-        ensures looked { TreeLooked (has_failed result) (T.state tree.old) (T.state tree.new) }
+        ensures { Inquires (λ _. self.new) (at_include deeper (walk deeper) origin.now text.now self.old)
+            (T.state tree.old) (T.state tree.new) result }
     {
-        let opened = self.open(alloc, tree, origin, text, deeper)?;
-        let file = cut_file(alloc, &opened.path, opened.bytes.as_slice())?;
-        self.add_path(&opened.path)?;
-        self.add_words(alloc, tree, &file, deeper - 1)
+        let path = self.path_at(origin, text, deeper)?;
+        let file = read_whole(alloc, tree, &path, FILE_LIMIT)?;
+        let bytes = bytes_at(origin, text, file)?;
+        let words = words_in(alloc, &path, bytes.as_slice())?;
+        self.add_path(&path)?;
+        self.add_words(alloc, tree, &path, bytes.as_slice(), &words, deeper - 1)
     }
 
-    /// The path of the file to be read, or what is wrong, where files may be included so many deep.
-    fn path_or_kind(&self, word: &[u8], deeper: u32) -> Result<Path, IncludeKind>
+    /// The path of the file to be read, where files may be included so many deep.
+    fn path_at(&self, origin: &Origin, word: &[u8], deeper: u32) -> Result<Path, SpliceStop>
         requires { 0 < length word.now }
-        ensures value { result ≡ path_or_kind deeper (length self.now.paths) (included_path self.now.main word.now) }
+        ensures value { Says (λ path. path)
+            (found_at origin.now word.now (path_or_kind deeper (length self.now.paths) (included_path self.now.main word.now))) result }
         ensures deep { OnOk result (0 < deeper) }
     {
         match included_path(self.main(), word) {
-            None => Err(IncludeKind::BadPath),
+            None => Err(refused(origin, IncludeKind::BadPath, word)),
             Some(path) => {
                 if deeper == 0 {
-                    Err(IncludeKind::Deep)
+                    Err(refused(origin, IncludeKind::Deep, word))
                 } else if self.paths().len() >= MOST_FILES {
-                    Err(IncludeKind::Many)
+                    Err(refused(origin, IncludeKind::Many, word))
                 } else {
                     Ok(path)
                 }
@@ -215,44 +226,15 @@ impl Spliced {
         }
     }
 
-    /// Reads the file that an include word names.
-    fn open<T: Tree>(
-        &self,
-        alloc: Global,
-        tree: &mut T,
-        origin: Origin,
-        text: &[u8],
-        deeper: u32,
-    ) -> Result<Opened, SpliceStop>
-        requires { 0 < length text.now }
-        ensures walk { Along (T.state tree.old).contents (length self.now.paths) (λ count. OnOk result (count ≡ 1))
-            (λ reading. IsOpened reading deeper origin text.now self.now result) }
-        ensures deep { OnOk result (0 < deeper) }
-        ensures looked { TreeLooked (has_failed result) (T.state tree.old) (T.state tree.new) }
-    {
-        match self.path_or_kind(text, deeper) {
-            Err(kind) => Err(refused(origin, kind, text)),
-            Ok(path) => match read_file(alloc, tree, &path, FILE_LIMIT) {
-                Err(ReadStop::Failed) => Err(SpliceStop::TreeFault),
-                Err(ReadStop::NoMemory) => Err(SpliceStop::NoMemory),
-                Ok(FileBytes::Missing) => Err(refused(origin, IncludeKind::Missing, text)),
-                Ok(FileBytes::TooLong(_)) => Err(refused(origin, IncludeKind::Long, text)),
-                Ok(FileBytes::Found(bytes)) => Ok(Opened { path, bytes }),
-            },
-        }
-    }
-
     /// Adds a word that includes no file.
     fn add_plain(
         &mut self,
         file: usize,
-        origin: Origin,
+        origin: &Origin,
         word: &Word,
         text: &[u8],
     ) -> Result<(), SpliceStop>
-        ensures value { GivesFlat (λ _. self.new) result (at_plain_word file origin word.now text.now self.old) }
-        ensures paths { OnOk result (self.new.paths ≡ self.old.paths) }
-        ensures tree { has_failed result ≡ false }
+        ensures { Says (λ _. self.new) (at_plain_word file origin.now word.now text.now self.old) result }
     {
         if self.is_long_with(text) {
             return Err(refused(origin, IncludeKind::LongFlat, text));

@@ -1,5 +1,6 @@
-use Rattle.tal_include.proofs.AloneLemmas.{splices_same}
+use Rattle.uxn_inquiry.specs.InquiryLaws.{same-answer}
+use Rattle.tal_include.specs.Splice.{splice_inquiry}
 use Rattle.tal_include.proofs.laws.splicing_looks_at_included_files_alone.Goals as goal
 
 pub returns : goal.returns
-returns c = splices_same
+returns c = λ nodes other main source agree. same-answer nodes other (splice_inquiry main source) agree

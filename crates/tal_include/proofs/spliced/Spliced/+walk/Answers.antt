@@ -1,81 +1,89 @@
-use Rattle.std.proofs.Common.{[], length, refl, ap, arith}
-use Rattle.std.proofs.lemmas.List.{drop_more}
+use Rattle.std.proofs.Common.{refl, length, Vec, Global}
 use Rattle.std.proofs.lemmas.Result.{err_from_is_err_and}
-use Rattle.uxn_io_traits.specs.EndedLaws.{looked-nothing, looked-then}
-use Rattle.tal_include.proofs.ReadLemmas.{no_read}
-use Rattle.tal_include.proofs.StepLemmas.{file_faulty, file_whole, step_included, step_stopped, step_plain}
+use Rattle.uxn_io_traits.specs.ByteList.{ByteList}
+use Rattle.tal_words.specs.declared.span.Word.{Word}
+use Rattle.uxn_inquiry.specs.Laws.{leads-start, through-end}
+use Rattle.tal_include.specs.Splice.{at_word, walk}
+use Rattle.tal_include.proofs.WalkLemmas.{no-path, no-file, no-bytes, no-words, no-room, all-words, include-more, include-stop, plain-more, plain-stop}
 use Rattle.tal_include.proofs.spliced.Spliced.+walk.Goals as goal
 use Rattle.tal_include.proofs.spliced.Spliced.+walk.Goals.{add_words-then-is_include+in_ok-add_include, add_words-else-is_include+in_ok-add_plain}
 
-pub add_include-returns-in_err-file-clause-walk : goal.add_include-returns-in_err-file-clause-walk
-add_include-returns-in_err-file-clause-walk g t c =
+pub add_include-returns-in_err-path : goal.add_include-returns-in_err-path
+add_include-returns-in_err-path g t c =
+    let p = err_from_is_err_and c.from_residual.result c.from_residual.ensures.1 in
+    rw (p.1, p.2) (no-path c.args.deeper c.args.origin.now c.args.text.now c.args.self.now _ _ c.in_err-path.field-0.0 c.in_err-path.ensures.value)
+
+pub add_include-returns-in_err-file : goal.add_include-returns-in_err-file
+add_include-returns-in_err-file g t c =
     let p = err_from_is_err_and c.from_residual-in_err-file.result c.from_residual-in_err-file.ensures.1 in
     rw (p.1, p.2)
-    (file_faulty {X = Unit {0}} (λ _. c.args.self.now) _ c.args.deeper c.args.origin c.args.text.now c.as_slice.result.now c.args.self.now c.args.self.now
-    c.in_ok-opened.opened c.in_err-file.field-0.0 c.in_ok-opened.ensures.deep c.in_ok-opened.ensures.walk c.as_slice.ensures c.in_err-file.ensures.cuts)
+    (no-file c.args.deeper c.args.origin.now c.args.text.now c.args.self.now _ _ c.in_ok-path.path _ c.in_ok-path.ensures.value
+    c.in_err-file.field-0.0 c.in_err-file.ensures)
+
+pub add_include-returns-in_err-bytes : goal.add_include-returns-in_err-bytes
+add_include-returns-in_err-bytes g t c =
+    let p = err_from_is_err_and c.from_residual-in_err-bytes.result c.from_residual-in_err-bytes.ensures.1 in
+    rw (p.1, p.2)
+    (no-bytes c.args.deeper c.args.origin.now c.args.text.now c.args.self.now _ _ c.in_ok-path.path _ c.in_ok-path.ensures.value
+    c.in_ok-file.file c.in_ok-file.ensures (λ (bytes : ByteList). bytes.list) c.in_err-bytes.field-0.0 c.in_err-bytes.ensures)
+
+pub add_include-returns-in_err-words : goal.add_include-returns-in_err-words
+add_include-returns-in_err-words g t c =
+    let p = err_from_is_err_and c.from_residual-in_err-words.result c.from_residual-in_err-words.ensures.1 in
+    rw (p.1, p.2)
+    (no-words c.args.deeper c.args.origin.now c.args.text.now c.args.self.now _ _ c.in_ok-path.path _ c.in_ok-path.ensures.value
+    c.in_ok-file.file c.in_ok-file.ensures c.in_ok-bytes.bytes.list c.in_ok-path.ensures.deep c.in_ok-bytes.ensures
+    (λ (words : Vec Word Global). words.items) c.as_slice.result.now c.in_err-words.field-0.0 c.as_slice.ensures c.in_err-words.ensures)
+
+pub add_include-returns-in_err-add_path : goal.add_include-returns-in_err-add_path
+add_include-returns-in_err-add_path g t c =
+    let p = err_from_is_err_and c.from_residual-in_err-add_path.result c.from_residual-in_err-add_path.ensures.1 in
+    rw (p.1, p.2)
+    (no-room c.args.deeper c.args.origin.now c.args.text.now c.args.self.now _ _ c.in_ok-path.path _ c.in_ok-path.ensures.value
+    c.in_ok-file.file c.in_ok-file.ensures c.in_ok-bytes.bytes.list c.in_ok-path.ensures.deep c.in_ok-bytes.ensures)
 
 pub add_include-returns : goal.add_include-returns
-add_include-returns g t c = record {
-  walk =
-      file_whole (λ _. c.add_words.new.self) _ _ c.args.deeper c.args.origin c.args.text.now c.as_slice.result.now c.args.self.now c.add_path.new.self
-      c.add_words.new.self c.in_ok-opened.opened c.in_ok-file.file c.add_words.result
-      c.in_ok-opened.ensures.deep c.in_ok-opened.ensures.looked.contents c.in_ok-opened.ensures.walk c.as_slice.ensures c.in_ok-file.ensures.cuts
-      c.in_ok-add_path.ensures c.add_words.ensures.walk;
-  looked = looked-then _ _ _ _ c.in_ok-opened.ensures.looked c.add_words.ensures.looked;
-}
+add_include-returns g t c =
+    all-words c.args.deeper c.args.origin.now c.args.text.now c.args.self.now _ _ c.in_ok-path.path _ c.in_ok-path.ensures.value
+    c.in_ok-file.file c.in_ok-file.ensures c.in_ok-bytes.bytes.list c.in_ok-path.ensures.deep c.in_ok-bytes.ensures
+    c.as_slice.result.now c.as_slice-2.result.now c.in_ok-words.words.items c.deref.result.now c.add_path.new.self _ c.add_words.result
+    c.as_slice.ensures c.in_ok-words.ensures c.in_ok-add_path.ensures c.as_slice-2.ensures c.deref.ensures.value c.add_words.ensures
 
 pub add_words-loop-word-init : goal.add_words-loop-word-init
-add_words-loop-word-init g t c = record {
-  looked = looked-nothing _;
-  number = ap length c.paths-number.ensures;
-  walk = no_read _ _ _ _ (omega arith) (λ reading. refl);
-}
+add_words-loop-word-init g t c = rw c.paths-number.ensures (leads-start _ _)
 
 pub add_words-returns-in_err-add_include : goal.add_words-returns-in_err-add_include
 add_words-returns-in_err-add_include g t c =
     let p = err_from_is_err_and c.from_residual.result c.from_residual.ensures.1 in
-    let file = c.args.file.now in
-    let before = c.loop-word.invariant in
-    let items = c.deref-word-items.ensures.value in
-    let text = rw items at c.text-text.ensures in
-    let within = rw items at c.loop-word-test.true in
-    let split = drop_more file.words.items c.loop-word.word-index (record { span = record { start = 0; end = 0 }; line = 0; column = 0 }) within in
     rw (p.1, p.2)
-    (record {
-      walk =
-          step_stopped _ _ _ c.args.deeper file.path.now file.source.now c.text-text.result.now file.words.items c.loop-word.word-index _ c.args.self.now
-          c.loop-word.self {X = Unit {0}} {Y = Unit {0}} (λ _. c.args.self.now) (λ _. c.args.self.now) c.args.self.now c.in_err-add_include.field-0.0
-          before.looked.contents split text c.if-is_include.ensures before.walk _ (rw items at c.in_err-add_include.ensures.walk);
-      looked = looked-then _ _ _ _ before.looked c.in_err-add_include.ensures.looked;
-    })
+    (include-stop _ c.args.deeper c.args.path.now c.args.source.now c.text-text.result.now c.args.words.now c.loop-word.word-index
+    (length c.paths-number.result.now) c.loop-word.self _ _ c.loop-word.invariant c.loop-word-test.true c.text-text.ensures
+    (λ _. c.add_include.new.self) _ c.if-is_include.ensures _ c.in_err-add_include.field-0.0 c.in_err-add_include.ensures)
+
+pub add_words-returns-in_err-add_plain : goal.add_words-returns-in_err-add_plain
+add_words-returns-in_err-add_plain g t c =
+    let p = err_from_is_err_and c.from_residual-in_err-add_plain.result c.from_residual-in_err-add_plain.ensures.1 in
+    rw (p.1, p.2)
+    (plain-stop _ c.args.deeper c.args.path.now c.args.source.now c.text-text.result.now c.args.words.now c.loop-word.word-index
+    (length c.paths-number.result.now) c.loop-word.self _ _ c.loop-word.invariant c.loop-word-test.true c.text-text.ensures
+    (λ _. c.add_plain.new.self) c.if-is_include.ensures _ c.in_err-add_plain.field-0.0 c.in_err-add_plain.ensures)
 
 pub add_words-loop-word-preserved : goal.add_words-loop-word-preserved
 add_words-loop-word-preserved g t c =
-    let file = c.args.file.now in
-    let before = c.loop-word.invariant in
-    let items = c.deref-word-items.ensures.value in
-    let text = rw items at c.text-text.ensures in
-    let within = rw items at c.loop-word-test.true in
-    let split = drop_more file.words.items c.loop-word.word-index (record { span = record { start = 0; end = 0 }; line = 0; column = 0 }) within in
     elim c.if-is_include.branch [
       | add_words-then-is_include+in_ok-add_include w ↦
           rw (w.self-is, w.tree-is)
-          record {
-            looked = looked-then _ _ _ _ before.looked w.in_ok-add_include.ensures.looked;
-            number = before.number;
-            walk =
-                step_included _ _ _ c.args.deeper file.path.now file.source.now c.text-text.result.now file.words.items c.loop-word.word-index _ c.args.self.now
-                c.loop-word.self w.add_include.new.self before.looked.contents split text w.if-is_include.ensures before.walk
-                (rw items at w.in_ok-add_include.ensures.walk);
-          }
+          (include-more _ c.args.deeper c.args.path.now c.args.source.now c.text-text.result.now c.args.words.now c.loop-word.word-index
+          (length c.paths-number.result.now) c.loop-word.self _ _ c.loop-word.invariant c.loop-word-test.true c.text-text.ensures
+          (λ _. w.add_include.new.self) _ w.if-is_include.ensures w.in_ok-add_include.ensures)
       | add_words-else-is_include+in_ok-add_plain w ↦
           rw (w.self-is, w.tree-is)
-          record {
-            looked = before.looked;
-            number = before.number;
-            walk =
-                step_plain _ (g.T.Tree.state c.loop-word.tree).contents _ c.args.deeper file.path.now file.source.now c.text-text.result.now file.words.items
-                c.loop-word.word-index _ c.args.self.now c.loop-word.self w.add_plain.new.self (length c.paths-number.result.now) before.number split
-                text w.if-is_include.ensures before.walk w.in_ok-add_plain.ensures.paths (rw items at w.in_ok-add_plain.ensures.value);
-          }
+          (plain-more _ c.args.deeper c.args.path.now c.args.source.now c.text-text.result.now c.args.words.now c.loop-word.word-index
+          (length c.paths-number.result.now) c.loop-word.self _ _ c.loop-word.invariant c.loop-word-test.true c.text-text.ensures
+          (λ _. w.add_plain.new.self) w.if-is_include.ensures w.in_ok-add_plain.ensures)
     ]
+
+pub add_words-returns : goal.add_words-returns
+add_words-returns g t c =
+    through-end (at_word c.args.deeper (walk c.args.deeper) c.args.path.now c.args.source.now (length c.paths-number.result.now)) _ c.args.words.now _ _ _ _ c.loop-word.invariant _ tt
+    c.loop-word-test.false refl

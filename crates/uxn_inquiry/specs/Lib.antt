@@ -1,0 +1,10 @@
+pub mod Question
+pub mod Inquiry
+pub mod Leads
+pub mod Inquires
+pub mod Along
+pub mod InquiryLaws
+pub mod LeadsLaws
+pub mod Laws
+pub mod Gives
+pub mod GivesLaws
