@@ -4,6 +4,7 @@ use Rattle.std.specs.Str.{bytes_eq}
 use Rattle.std.specs.List.{position_from}
 use Rattle.std.proofs.lemmas.List.{at_drop_more, at_drop_all, take_min, drop_min}
 use Rattle.std.proofs.lemmas.Bool.{and_parts, cases_lt, eqb-true}
+use Rattle.uxn_opcodes.specs.Table.{mode_of}
 use Rattle.tal_words.specs.Opcodes.{operation_names, moded_byte, byte_of_op, name_of_op}
 
 -- the search among the operations from one on
@@ -37,7 +38,7 @@ all_read_below-at (suc bound) byte h below =
     ]
 
 pub name_read : (byte : ℕ) → byte < 256 → byte_of_op (name_of_op byte) ≡ Some byte
-unfolding byte_of_op name_of_op
+unfolding byte_of_op name_of_op mode_of
 name_read byte below = reads-some (byte_of_op (name_of_op byte)) byte (all_read_below-at 256 byte refl below)
 
 pub position-end : (name : List ℕ) (code : ℕ) → 32 ≤ code → position_from (bytes_eq name) code (drop code operation_names) ≡ None

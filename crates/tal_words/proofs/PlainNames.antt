@@ -8,6 +8,7 @@ use Rattle.tal_words.specs.declared.form.Form.{Form}
 use Rattle.tal_words.specs.declared.form.Form.TheVariants.{Pad, Skip, Lit1, Lit2, Raw1, Raw2, Op, Text, LabelDef, SubDef, Refer, LambdaEnd, Ignored}
 use Rattle.tal_words.specs.Source.{is_blank, begins}
 use Rattle.tal_words.specs.Forms.{form}
+use Rattle.uxn_opcodes.specs.Table.{mode_of}
 use Rattle.tal_words.specs.Opcodes.{name_of_op, byte_of_op}
 use Rattle.tal_words.specs.Braces.{opens, closes}
 use Rattle.tal_words.specs.PlainTexts.{IsPlainWord}
@@ -83,7 +84,7 @@ named_below-at (suc bound) byte h below =
     ]
 
 name_known : (byte : ℕ) → byte < 256 → (is_plain_word (name_of_op byte) && is_opcode (form (name_of_op byte)) byte) ≡ true
-unfolding name_of_op form byte_of_op
+unfolding name_of_op form byte_of_op mode_of
 name_known byte below = named_below-at 256 byte refl below
 
 pub name_plain : (byte : ℕ) → byte < 256 → IsPlainWord (name_of_op byte)

@@ -1,16 +1,16 @@
 -- The names of the opcodes (Uxntal opcode reference; profile: JCI, JMI and JSI are words too).
-use Rattle.std.specs.Prelude.{ℕ, ◌+◌, ◌%◌, ◌/◌, Bool, true, not, ◌&&◌, ◌||◌, ◌==◌, if◌then◌else◌}
-use Rattle.std.specs.Prelude.{List, [], ◌∷◌, ◌++◌, take, drop, codes, slice_index_or, Option, Some, None}
+use Rattle.std.specs.Prelude.{ℕ, ◌+◌, ◌%◌, Bool, true, false, not, ◌&&◌, ◌||◌, ◌==◌, if◌then◌else◌}
+use Rattle.std.specs.Prelude.{List, [], ◌∷◌, ◌++◌, map, take, drop, codes, slice_index_or, Option, Some, None}
 use Rattle.std.specs.List.{list_any, position_from}
 use Rattle.std.specs.Str.{bytes_eq}
+use Rattle.uxn_opcodes.specs.declared.operation.Width.{Width}
+use Rattle.uxn_opcodes.specs.declared.operation.Width.TheVariants.{Byte, Short}
+use Rattle.uxn_opcodes.specs.declared.operation.Mode.{Mode}
+use Rattle.uxn_opcodes.specs.Table.{operation_rows, mode_of}
 
--- the operations, in order of the low five bits of their bytes
+-- the letters of the operations, in order of the low five bits of their bytes
 abbrev pub operation_names : List (List ℕ)
-operation_names =
-    codes "LIT" ∷ codes "INC" ∷ codes "POP" ∷ codes "NIP" ∷ codes "SWP" ∷ codes "ROT" ∷ codes "DUP" ∷ codes "OVR"
-    ∷ codes "EQU" ∷ codes "NEQ" ∷ codes "GTH" ∷ codes "LTH" ∷ codes "JMP" ∷ codes "JCN" ∷ codes "JSR" ∷ codes "STH"
-    ∷ codes "LDZ" ∷ codes "STZ" ∷ codes "LDR" ∷ codes "STR" ∷ codes "LDA" ∷ codes "STA" ∷ codes "DEI" ∷ codes "DEO"
-    ∷ codes "ADD" ∷ codes "SUB" ∷ codes "MUL" ∷ codes "DIV" ∷ codes "AND" ∷ codes "ORA" ∷ codes "EOR" ∷ codes "SFT" ∷ []
+operation_names = map (λ row. row.0) operation_rows
 
 -- the modes: `2` is short mode, `r` return mode and `k` keep mode
 abbrev pub mode_2 : ℕ
@@ -56,18 +56,26 @@ byte_of_op word =
     else if bytes_eq word (codes "JSI") then Some 96
     else moded_byte (position_from (bytes_eq (take 3 word)) 0 operation_names) (drop 3 word)
 
--- the modes of a byte, in the order 2, k, r
-abbrev pub shown_modes : Bool → ℕ → List ℕ
-shown_modes shows_keep byte =
-    (if byte / 32 % 2 == 1 then mode_2 ∷ [] else [])
-    ++ (if shows_keep && byte / 128 % 2 == 1 then mode_k ∷ [] else [])
-    ++ (if byte / 64 % 2 == 1 then mode_r ∷ [] else [])
+-- the letters of a mode, in the order 2, k, r
+abbrev pub is_short : Width → Bool
+is_short Byte = false
+is_short Short = true
 
--- the name of each of the 256 bytes: LIT never shows `k`
+abbrev pub mode_letters : Mode → List ℕ
+mode_letters mode =
+    (if is_short mode.width then mode_2 ∷ [] else [])
+    ++ (if mode.keep then mode_k ∷ [] else [])
+    ++ (if mode.returns then mode_r ∷ [] else [])
+
+-- the mode that shows in the name of a byte: LIT never shows `k`
+abbrev pub shown_mode : ℕ → Mode
+shown_mode byte = record (mode_of byte) { keep = not (byte % 32 == 0) && (mode_of byte).keep }
+
+-- the name of each of the 256 bytes: the letters of the row by which the machine runs it, and those of its mode
 unfoldable pub name_of_op : ℕ → List ℕ
 name_of_op byte =
     if byte == 0 then codes "BRK"
     else if byte == 32 then codes "JCI"
     else if byte == 64 then codes "JMI"
     else if byte == 96 then codes "JSI"
-    else slice_index_or operation_names (byte % 32) [] ++ shown_modes (not (byte % 32 == 0)) byte
+    else slice_index_or operation_names (byte % 32) [] ++ mode_letters (shown_mode byte)

@@ -4,9 +4,10 @@ ghost use Rattle.std.specs.Prelude.{◌≡◌, ◌%◌, ◌==◌, not, slice_ind
 ghost use Rattle.std.specs.List.{position_from};
 ghost use Rattle.std.specs.Str.{bytes_eq};
 ghost use Rattle.arrayvec.specs.ArrayVec.{array_vec_len};
-ghost use Rattle.tal_words.specs.Opcodes.{operation_names, has, is_mode, are_modes, moded_byte, byte_of_op, name_of_op, shown_modes};
+ghost use Rattle.tal_words.specs.Opcodes.{operation_names, has, is_mode, are_modes, moded_byte, byte_of_op, name_of_op, is_short, mode_letters, shown_mode};
 
 use arrayvec::ArrayVec;
+use uxn_opcodes::{Mode, Width};
 
 /// The operations, in order of the low five bits of their bytes.
 const OPERATION_NAMES: [[u8; 3]; 32] = [
@@ -123,14 +124,25 @@ pub fn op_name(code: u8) -> ArrayVec<u8, 6>
 
 /// The name of an operation with the modes of a byte.
 fn moded_op_name(code: u8) -> ArrayVec<u8, 6>
-    ensures { result.items ≡ slice_index_or operation_names (code % 32) [] ++ shown_modes (not (code % 32 == 0)) code }
+    ensures { result.items ≡ slice_index_or operation_names (code % 32) [] ++ mode_letters (shown_mode code) }
 {
     let operation = code % 32;
+    let mode = Mode::of(code);
     let mut name = letters(OPERATION_NAMES[operation as usize]);
-    push_if(&mut name, code / 0x20 % 2 == 1, b'2');
-    push_if(&mut name, operation != 0 && code / 0x80 % 2 == 1, b'k');
-    push_if(&mut name, code / 0x40 % 2 == 1, b'r');
+    push_if(&mut name, is_short(mode.width), b'2');
+    push_if(&mut name, operation != 0 && mode.keep, b'k');
+    push_if(&mut name, mode.returns, b'r');
     name
+}
+
+/// Whether words have two bytes.
+fn is_short(width: Width) -> bool
+    ensures { result ≡ is_short width }
+{
+    match width {
+        Width::Byte => false,
+        Width::Short => true,
+    }
 }
 
 /// The name of three letters.

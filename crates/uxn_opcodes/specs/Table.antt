@@ -2,7 +2,7 @@
 -- deepest operand first, and what it makes of these operands. `w` is the width that the mode chooses. A result
 -- is cut to the width that it is pushed at.
 use Rattle.std.specs.Prelude.{ℕ, ◌+◌, ◌-◌, ◌*◌, ◌/◌, ◌%◌, ◌^◌, ◌==◌, Bool, not, nat_lt}
-use Rattle.std.specs.Prelude.{if◌then◌else◌, List, [], ◌∷◌, Option, Some, None, slice_index_or, bit_and, bit_or, bit_xor}
+use Rattle.std.specs.Prelude.{if◌then◌else◌, List, [], ◌∷◌, map, codes, Option, Some, None, slice_index_or, bit_and, bit_or, bit_xor}
 use Rattle.uxn_stacks.specs.Cells.{Cells}
 use Rattle.uxn_opcodes.specs.declared.operation.Width.{Width}
 use Rattle.uxn_opcodes.specs.declared.operation.Width.TheVariants.{Byte, Short}
@@ -24,17 +24,20 @@ use Rattle.uxn_opcodes.specs.declared.operation.StoreOp.TheVariants.{Stz, Str, S
 use Rattle.uxn_opcodes.specs.Words.{size_of, word_below, pushed_all, dropped, relative, target}
 use Rattle.uxn_opcodes.specs.Words.{word_loaded, zero_word_loaded, memory_with_word, with_zero_word}
 
--- the operations in the order of their codes 00 to 1f; 00 has none
+-- the operations with their letters, in the order of their codes 00 to 1f; 00 has letters alone
+abbrev pub operation_rows : List (List ℕ × Option Op)
+operation_rows =
+    (codes "LIT", None) ∷ (codes "INC", Some Inc) ∷ (codes "POP", Some (Stack Pop)) ∷ (codes "NIP", Some (Stack Nip))
+    ∷ (codes "SWP", Some (Stack Swp)) ∷ (codes "ROT", Some (Stack Rot)) ∷ (codes "DUP", Some (Stack Dup)) ∷ (codes "OVR", Some (Stack Ovr))
+    ∷ (codes "EQU", Some (Compare Equ)) ∷ (codes "NEQ", Some (Compare Neq)) ∷ (codes "GTH", Some (Compare Gth)) ∷ (codes "LTH", Some (Compare Lth))
+    ∷ (codes "JMP", Some (Jump Jmp)) ∷ (codes "JCN", Some (Jump Jcn)) ∷ (codes "JSR", Some (Jump Jsr)) ∷ (codes "STH", Some Sth)
+    ∷ (codes "LDZ", Some (Load Ldz)) ∷ (codes "STZ", Some (Store Stz)) ∷ (codes "LDR", Some (Load Ldr)) ∷ (codes "STR", Some (Store Str))
+    ∷ (codes "LDA", Some (Load Lda)) ∷ (codes "STA", Some (Store Sta)) ∷ (codes "DEI", Some Dei) ∷ (codes "DEO", Some Deo)
+    ∷ (codes "ADD", Some (Arithmetic Add)) ∷ (codes "SUB", Some (Arithmetic Sub)) ∷ (codes "MUL", Some (Arithmetic Mul)) ∷ (codes "DIV", Some (Arithmetic Div))
+    ∷ (codes "AND", Some (Arithmetic And)) ∷ (codes "ORA", Some (Arithmetic Ora)) ∷ (codes "EOR", Some (Arithmetic Eor)) ∷ (codes "SFT", Some Sft) ∷ []
+
 abbrev pub operations : List (Option Op)
-operations =
-    None ∷ Some Inc ∷ Some (Stack Pop) ∷ Some (Stack Nip)
-    ∷ Some (Stack Swp) ∷ Some (Stack Rot) ∷ Some (Stack Dup) ∷ Some (Stack Ovr)
-    ∷ Some (Compare Equ) ∷ Some (Compare Neq) ∷ Some (Compare Gth) ∷ Some (Compare Lth)
-    ∷ Some (Jump Jmp) ∷ Some (Jump Jcn) ∷ Some (Jump Jsr) ∷ Some Sth
-    ∷ Some (Load Ldz) ∷ Some (Store Stz) ∷ Some (Load Ldr) ∷ Some (Store Str)
-    ∷ Some (Load Lda) ∷ Some (Store Sta) ∷ Some Dei ∷ Some Deo
-    ∷ Some (Arithmetic Add) ∷ Some (Arithmetic Sub) ∷ Some (Arithmetic Mul) ∷ Some (Arithmetic Div)
-    ∷ Some (Arithmetic And) ∷ Some (Arithmetic Ora) ∷ Some (Arithmetic Eor) ∷ Some Sft ∷ []
+operations = map (λ row. row.1) operation_rows
 
 -- the operation that the low five bits of an instruction choose
 unfoldable pub op_of : ℕ → Option Op

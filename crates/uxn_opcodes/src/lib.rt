@@ -37,7 +37,7 @@ mod operation;
 mod rows;
 mod words;
 
-use crate::operation::{Mode, Op, Width};
+pub use crate::operation::{Mode, Op, StoreOp, Width};
 use crate::rows::{Access, perform};
 use crate::words::{load, push, size};
 use std::alloc::{AllocError, Global};
@@ -47,12 +47,13 @@ use uxn_stacks::Ring;
 /// The machine without its ports.
 #[derive(Drop)]
 pub struct Core {
-    /// The bytes of all banks of memory.
-    pub memory: Memory,
-    /// The working stack.
+    /// The working stack. It comes first: the address of the machine is then that of its bytes too, and the loop of
+    /// instructions has a register more.
     pub working: Ring,
     /// The return stack.
     pub returns: Ring,
+    /// The bytes of all banks of memory.
+    pub memory: Memory,
     /// The address of the next instruction.
     pub at: u16,
 }
@@ -128,12 +129,12 @@ impl Core {
     }
 }
 
-/// The instruction byte.
+/// The instruction byte at an address.
 #[inline(always)]
-fn opcode(core: &Core) -> u8
-    ensures { result ≡ opcode_at core.now }
+fn opcode(core: &Core, at: u16) -> u8
+    ensures { result ≡ opcode_at (moved core.now at) }
 {
-    core.memory.get(core.at)
+    core.memory.get(at)
 }
 
 /// JMI: goes on from the address after the immediate by the immediate.
@@ -281,60 +282,68 @@ fn answer(core: &mut Core, mode: Mode, value: u16)
     }
 }
 
-/// Does the port access of an instruction.
+/// Does the port access of an instruction. The ports see the next address in `core.at`, and a write may change it.
 #[inline(always)]
 #[tactic(auto, unfolding(crate::specs::Instruction::FinishesAccess, crate::specs::Instruction::StopsInAccess))]
-fn finish<P: Ports>(core: &mut Core, ports: &mut P, access: Access) -> Result<(), Stop>
-    ensures ok { OnOk result (FinishesAccess P.rules access core.old ports.old core.new ports.new) }
-    ensures err { IfErr result (λ stop. StopsInAccess P.rules access core.old ports.old stop core.new ports.new) }
+fn finish<P: Ports>(
+    core: &mut Core,
+    at: &mut u16,
+    ports: &mut P,
+    access: Access,
+) -> Result<(), Stop>
+    ensures ok { OnOk result (FinishesAccess P.rules access (moved core.old at.old) ports.old (moved core.new at.new) ports.new) }
+    ensures err { IfErr result (λ stop. StopsInAccess P.rules access (moved core.old at.old) ports.old stop (moved core.new at.new) ports.new) }
     ensures ledger { Ledger (P.faults ports.old) (P.faults ports.new) (result_blame result) }
 {
     match access {
         Access::Nothing => Ok(()),
         Access::Read(port, mode) => {
+            core.at = *at;
             let value = read_word(core, ports, port, mode.width);
             answer(core, mode, value);
             Ok(())
         }
-        Access::Write(port, width, value) => write_word(core, ports, port, width, value),
+        Access::Write(port, width, value) => {
+            core.at = *at;
+            let done = write_word(core, ports, port, width, value);
+            *at = core.at;
+            done
+        }
     }
 }
 
 /// Runs the instruction of a code that is a constant, and so are its operation and its mode: all but its port access,
 /// which is told. BRK has none.
 #[tactic(auto, unfolding(crate::specs::Rule::begun, crate::specs::Rule::Begins))]
-fn run<const CODE: u8>(core: &mut Core) -> Option<Access>
-    requires { opcode_at core.old ≡ CODE }
-    ensures { Begins core.old result core.new }
+fn run<const CODE: u8>(core: &mut Core, at: &mut u16) -> Option<Access>
+    requires { opcode_at (moved core.old at.old) ≡ CODE }
+    ensures { Begins (moved core.old at.old) result (moved core.new at.new) }
 {
+    *at = at.wrapping_add(1);
     if CODE == 0 {
-        core.at = core.at.wrapping_add(1);
         return None;
     }
-    let mut at = core.at.wrapping_add(1);
-    let access = begin::<CODE>(core, &mut at);
-    core.at = at;
-    Some(access)
+    Some(begin::<CODE>(core, at))
 }
 
 /// Runs the instruction of a code: each byte has an arm of its own.
 macro_rules! run_code {
-    ($code:expr, $core:expr, $($byte:literal)*) => {
+    ($code:expr, $core:expr, $at:expr, $($byte:literal)*) => {
         match $code {
-            $($byte => run::<$byte>($core),)*
-            _ => run::<0xff>($core),
+            $($byte => run::<$byte>($core, $at),)*
+            _ => run::<0xff>($core, $at),
         }
     };
 }
 
-/// Runs the instruction of a code, all but its port access. No ports stand here, and each arm borrows one reference: the
-/// proof of so many arms is long, and the longer the more there is in each.
+/// Runs the instruction of a code, all but its port access. No ports stand here: the proof of so many arms is long, and
+/// the longer the more there is in each.
 #[inline(always)]
-fn run_any(core: &mut Core, code: u8) -> Option<Access>
-    requires { opcode_at core.old ≡ code }
-    ensures { Begins core.old result core.new }
+fn run_any(core: &mut Core, at: &mut u16, code: u8) -> Option<Access>
+    requires { opcode_at (moved core.old at.old) ≡ code }
+    ensures { Begins (moved core.old at.old) result (moved core.new at.new) }
 {
-    run_code!(code, core,
+    run_code!(code, core, at,
         0x00 0x01 0x02 0x03 0x04 0x05 0x06 0x07 0x08 0x09 0x0a 0x0b 0x0c 0x0d 0x0e 0x0f
         0x10 0x11 0x12 0x13 0x14 0x15 0x16 0x17 0x18 0x19 0x1a 0x1b 0x1c 0x1d 0x1e 0x1f
         0x20 0x21 0x22 0x23 0x24 0x25 0x26 0x27 0x28 0x29 0x2a 0x2b 0x2c 0x2d 0x2e 0x2f
@@ -354,19 +363,33 @@ fn run_any(core: &mut Core, code: u8) -> Option<Access>
     )
 }
 
+/// Runs the instruction at `at`, and puts the next address there: what `step` does with `core.at`. A loop that keeps `at`
+/// in a variable of its own waits for no store of it. `core.at` is what it was or the address after a port access.
+#[inline(always)]
+#[tactic(auto, unfolding(crate::specs::Instruction::Instruction, crate::specs::Rule::Begins))]
+pub fn step_from<P: Ports>(core: &mut Core, at: &mut u16, ports: &mut P) -> Result<Turn, Stop>
+    ensures instruction { Instruction P.rules (moved core.old at.old) ports.old result (moved core.new at.new) ports.new }
+    ensures broke { (result ≡ Ok Turn.Broke) ↔ (opcode_at (moved core.old at.old) ≡ 0) }
+    ensures ledger { Ledger (P.faults ports.old) (P.faults ports.new) (result_blame result) }
+{
+    let code = opcode(core, *at);
+    let Some(access) = run_any(core, at, code) else {
+        return Ok(Turn::Broke);
+    };
+    finish(core, at, ports, access)?;
+    Ok(Turn::Ran)
+}
+
 /// Runs the instruction at `core.at`. A stop comes exactly where a write to a port of this instruction gave it;
 /// a write that would follow is then not done. No memory is taken but what the ports take.
 #[inline(always)]
-#[tactic(auto, unfolding(crate::specs::Instruction::Instruction, crate::specs::Rule::Begins))]
 pub fn step<P: Ports>(core: &mut Core, ports: &mut P) -> Result<Turn, Stop>
     ensures instruction { Instruction P.rules core.old ports.old result core.new ports.new }
     ensures broke { (result ≡ Ok Turn.Broke) ↔ (opcode_at core.old ≡ 0) }
     ensures ledger { Ledger (P.faults ports.old) (P.faults ports.new) (result_blame result) }
 {
-    let code = opcode(core);
-    let Some(access) = run_any(core, code) else {
-        return Ok(Turn::Broke);
-    };
-    finish(core, ports, access)?;
-    Ok(Turn::Ran)
+    let mut at = core.at;
+    let done = step_from(core, &mut at, ports);
+    core.at = at;
+    done
 }
