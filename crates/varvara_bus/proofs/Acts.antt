@@ -9,8 +9,9 @@ use Rattle.uxn_io_traits.specs.FaultLaws.{counted-same}
 use Rattle.uxn_io_traits.specs.Faults.{FaultTally, Counted, Ledger, Nobody, TheTree, counts}
 use Rattle.uxn_io_traits.specs.Outside.{Change, files_by}
 use Rattle.uxn_io_traits.specs.State.{TreeState, SinkState, Outside, outside}
-use Rattle.uxn_io_traits.specs.Ended.{TreeEnded, Ended, AreOfTree, blame_of_sink}
-use Rattle.uxn_io_traits.specs.EndedLaws.{outside-of-tree}
+use Rattle.uxn_io_traits.specs.Ended.{TreeEnded, Ended, RefusesNone, AreOfTree, blame_of_sink}
+use Rattle.uxn_io_traits.specs.EndedLaws.{outside-of-tree, refuses-nothing}
+use Rattle.uxn_io_traits.specs.declared.trees.Tree as trees
 use Rattle.uxn_io_traits.specs.TakingLaws.{remains-all}
 use Rattle.file_ports.specs.declared.stop.FileStop.{FileStop}
 use Rattle.file_ports.specs.declared.stop.FileStop.TheVariants as causes
@@ -71,15 +72,20 @@ pub same-file : (number : FileNumber) (devices : Devices) (port byte : ℕ) → 
 same-file First devices port byte = refl
 same-file Second devices port byte = refl
 
+-- a tree that is as it was refused no file
+pub tree-refuses : {T : Type 0} (of_tree : trees.Ghosts T) (before now : T) → now ≡ before → RefusesNone (of_tree.state before) (of_tree.state now)
+tree-refuses of_tree before now is = rw is (refuses-nothing (of_tree.state before))
+
 module _ {T O E : Type 0} (meaning : BusModel T O E) where
   -- nothing but what the devices represent changed
   devices-same : (before : Bus T O E) (devices : MutBor Devices) → devices.ghost_name ≡ before.devices.ghost_name
       → devices.now.time.frames ≡ before.devices.now.time.frames → device_clock devices.now ≡ device_clock before.devices.now
       → devices.now.root ≡ before.devices.now.root
-      → SameBus (contents_on meaning.tree) before (record { devices = devices; tree = before.tree; out = before.out; err = before.err })
+      → SameBus meaning.tree before (record { devices = devices; tree = before.tree; out = before.out; err = before.err })
   devices-same before devices borrowed frames clock root = record {
     borrowed = record { devices = borrowed; tree = refl; out = refl; err = refl };
     files = record { stays = λ path outside there. there };
+    refusals = λ none. refuses-nothing _;
     frames = frames;
     clock = clock;
     root = root;
@@ -93,7 +99,7 @@ module _ {T O E : Type 0} (meaning : BusModel T O E) where
     pub tree : now.tree.now ≡ before.tree.now
     pub out : now.out.now ≡ before.out.now
     pub err : now.err.now ≡ before.err.now
-    pub same : SameBus (contents_on meaning.tree) before now
+    pub same : SameBus meaning.tree before now
 
   pub byte_stored : (before : Bus T O E) (devices : MutBor Devices) (port byte : ℕ) → devices.ghost_name ≡ before.devices.ghost_name
       → devices.now ≡ record before.devices.now { page = slice_set before.devices.now.page port byte }
@@ -124,10 +130,11 @@ module _ {T O E : Type 0} (meaning : BusModel T O E) where
 
   -- the same four are borrowed where one of the sinks took something
   sinks-same : (before : Bus T O E) (out : MutBor O) (err : MutBor E) → out.ghost_name ≡ before.out.ghost_name → err.ghost_name ≡ before.err.ghost_name
-      → SameBus (contents_on meaning.tree) before (record { devices = before.devices; tree = before.tree; out = out; err = err })
+      → SameBus meaning.tree before (record { devices = before.devices; tree = before.tree; out = out; err = err })
   sinks-same before out err borrowed_out borrowed_err = record {
     borrowed = record { devices = refl; tree = refl; out = borrowed_out; err = borrowed_err };
     files = record { stays = λ path outside there. there };
+    refusals = λ none. refuses-nothing _;
     frames = refl;
     clock = refl;
     root = refl;
@@ -214,7 +221,7 @@ module _ {T O E : Type 0} (meaning : BusModel T O E) where
       (byte : ℕ) (answer : Result (Unit {0}) Stop)
       → FileEnded number part before.devices.now core.memory (stopped_by_tree answer) (meaning.tree.state before.tree.now) (meaning.tree.state tree.now)
       → FileAnswers number part before.devices.now core.memory (meaning.tree.state before.tree.now).contents answer devices.now memory
-      → SameBus (contents_on meaning.tree) before (record { devices = devices; tree = tree; out = before.out; err = before.err })
+      → SameBus meaning.tree before (record { devices = devices; tree = tree; out = before.out; err = before.err })
       → ActEnds meaning before core (ActsOnFile number part) byte (record { devices = devices; tree = tree; out = before.out; err = before.err })
       (record core { memory = memory }) answer
   file-ends before devices tree core memory number part byte (Ok done) ended acted same = record {
@@ -291,7 +298,7 @@ module _ {T O E : Type 0} (meaning : BusModel T O E) where
           devices = comes-stored asks before middle now port byte stored (effect state old port byte).devices does.devices;
           makes = makes-both meaning before middle now [] (effect state old port byte).changes (stored-makes before middle port byte stored) does.makes;
         });
-    same = same-again (contents_on meaning.tree) before middle now stored.same acted.same;
+    same = same-again meaning.tree before middle now stored.same acted.same;
   }
 
   pub stopped_by_act : (before middle now : Bus T O E) (old new : Core) (port byte : ℕ) (action : Action) (answer : Result (Unit {0}) Stop)
@@ -314,5 +321,5 @@ module _ {T O E : Type 0} (meaning : BusModel T O E) where
           reads = sym is ∙ wants.reads;
           folder = rw (stored.files wants.number) at (rw stored.tree at wants.folder);
         };
-    same = same-again (contents_on meaning.tree) before middle now stored.same acted.same;
+    same = same-again meaning.tree before middle now stored.same acted.same;
   }

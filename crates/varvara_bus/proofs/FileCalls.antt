@@ -12,7 +12,7 @@ use Rattle.file_ports.specs.Device.{FileState, idle_at, Suits}
 use Rattle.file_ports.specs.Names.{path_named}
 use Rattle.file_ports.specs.RootPart.{LieIn}
 use Rattle.file_ports.specs.Actions.{FileAction, Name, Read, Write, Stat, Delete, FileOutcome, Observed, observed_file, acts, act, reads, stats, count_from}
-use Rattle.file_ports.specs.AnswersAction.{AnswersAction, outcome_by, changes_unknown, changes_by, ActedOrStopped}
+use Rattle.file_ports.specs.AnswersAction.{AnswersAction, FileStopped, MemoryLeft, outcome_by, changes_unknown, changes_by, device_left, ActedOrStopped}
 use Rattle.file_ports.specs.PartLaws.{below-files_by, outcome-same}
 use Rattle.file_ports.specs.ActLaws.{lie-prefix, lie-none, parent-kept, rootless, act-nowhere, changes-of, path-kept}
 use Rattle.uxn_io_traits.specs.CallLaws.{ended-as}
@@ -24,7 +24,7 @@ use Rattle.varvara_bus.specs.declared.ports.FileAct.{FileAct}
 use Rattle.varvara_bus.specs.declared.ports.FileNumber.{FileNumber}
 use Rattle.varvara_bus.specs.declared.ports.FileNumber.TheVariants.{First, Second}
 use Rattle.varvara_bus.specs.State.{DeviceState, DevicesRepresent, HasFiles, storing}
-use Rattle.varvara_bus.specs.FileActs.{file_base, file_in, with_file, file_action, file_outcome, PortLeft}
+use Rattle.varvara_bus.specs.FileActs.{PortLeft, file_base, file_in, with_file, file_action, file_outcome}
 use Rattle.varvara_bus.specs.Bus.{FilesStay, file_held}
 use Rattle.varvara_bus.specs.Laws.{stand-part, held-file}
 use Rattle.varvara_bus.specs.FileCalls.{action_requested, Performed, FileActed}
@@ -181,3 +181,20 @@ read-changes at length (Some nodes) device memory = by device.path
     by : (path : Option (List ℕ)) → [] ≡ (reads at (count_from at length) device memory (option_map (observed_file nodes) path)).changes
     by None = refl
     by (Some path) = refl
+
+-- a stop of a file device leaves its port so
+pub file-left : (request : Request) (number : FileNumber) (act : FileAct) (devices held : Devices) (state : DeviceState) (memory memory_now : List ℕ)
+    (contents : Option Nodes) (stop : FileStop) → action_requested request ≡ file_action act state.history (file_base number) → DevicesRepresent devices state
+    → DevicesRepresent held (with_file number (file_held number held) state)
+    → FileStopped (action_requested request) (file_held number devices) memory contents stop (file_held number held) memory_now
+    → PortLeft number act state memory contents held memory_now
+file-left request number act devices held state memory memory_now contents stop is stands stood stopped =
+    let there = held-file number devices state stands in record {
+      devices =
+          subst (λ device. DevicesRepresent held (with_file number device state))
+          (stopped.device ∙ ap (λ action. device_left action (file_held number devices)) is
+          ∙ ap (device_left (file_action act state.history (file_base number))) there) stood;
+      memory =
+          subst (λ device. MemoryLeft (file_action act state.history (file_base number)) device memory contents memory_now) there
+          (subst (λ action. MemoryLeft action (file_held number devices) memory contents memory_now) is stopped.memory);
+    }

@@ -3,6 +3,7 @@ use Rattle.std.specs.Prelude.{◌≡◌, ℕ, ◌==◌, Bool, true, false, List,
 use Rattle.std.specs.Prelude.{IfSome, IsSome, slice_index, if◌then◌else◌}
 use Rattle.uxn_io_traits.specs.Files.{Nodes, file_at}
 use Rattle.uxn_io_traits.specs.Faults.{Counts, Blame}
+use Rattle.uxn_io_traits.specs.Ended.{RefusesNone}
 use Rattle.uxn_io_traits.specs.Outside.{Change, changed_by, IsCutOff}
 use Rattle.uxn_io_traits.specs.State.{Outside, outside}
 use Rattle.uxn_io_traits.specs.Taking.{Remains, WasNotGuaranteed}
@@ -65,10 +66,16 @@ pub record WantsNames (action : Action) (devices : Devices) (contents : Option N
   pub reads : action ≡ ActsOnFile number Read
   pub folder : WantsFolder (file_held number devices) contents
 
--- what no write changes: what is borrowed, which files are outside the root part, the frames begun, the clock and the root
-pub record SameBus {T O E : Type 0} (contents_of_tree : T → Option Nodes) (before now : Bus T O E) : Type 0 where
+-- the known contents of a tree, by what its trait sees of it
+abbrev pub contents_on : {T : Type 0} → trees.Ghosts T → T → Option Nodes
+contents_on of_tree tree = (of_tree.state tree).contents
+
+-- what no write changes: what is borrowed, which files are outside the root part, that without a root no file is refused, the frames
+-- begun, the clock and the root
+pub record SameBus {T O E : Type 0} (of_tree : trees.Ghosts T) (before now : Bus T O E) : Type 0 where
   pub borrowed : SameBorrowed before now
-  pub files : FilesStay before.devices.now.root (contents_of_tree before.tree.now) (contents_of_tree now.tree.now)
+  pub files : FilesStay before.devices.now.root (contents_on of_tree before.tree.now) (contents_on of_tree now.tree.now)
+  pub refusals : before.devices.now.root ≡ None → RefusesNone (of_tree.state before.tree.now) (of_tree.state now.tree.now)
   pub frames : now.devices.now.time.frames ≡ before.devices.now.time.frames
   pub clock : device_clock now.devices.now ≡ device_clock before.devices.now
   pub root : now.devices.now.root ≡ before.devices.now.root
@@ -119,10 +126,6 @@ pub record BusModel (T O E : Type 0) : Type 1 where
 
 abbrev pub meaning_of : {T O E : Type 0} → trees.Ghosts T → sinks.Ghosts O → sinks.Ghosts E → BusModel T O E
 meaning_of of_tree of_out of_err = record { tree = of_tree; out = of_out; err = of_err }
-
--- the known contents of a tree, by what its trait sees of it
-abbrev pub contents_on : {T : Type 0} → trees.Ghosts T → T → Option Nodes
-contents_on of_tree tree = (of_tree.state tree).contents
 
 -- who is to blame for a stop, if it stopped
 abbrev pub blame_for : Result (Unit {0}) Stop → Option Blame
@@ -191,7 +194,7 @@ module _ {T O E : Type 0} (meaning : BusModel T O E) where
   pub record PortWrote (before : Bus T O E) (old : Core) (port byte : ℕ) (now : Bus T O E) (new : Core) : Type 0 where
     pub does : (state : DeviceState) → RepresentsTo (asks_tree (action_of port)) before state
         → Does (asks_tree (action_of port)) before now new (effect state old port byte)
-    pub same : SameBus (contents_on meaning.tree) before now
+    pub same : SameBus meaning.tree before now
 
   -- a write that stops has stored its byte and nothing else, and made a prefix of its changes; memory runs out only where there is a root
   pub record WriteStopped (before : Bus T O E) (old : Core) (port byte : ℕ) (stop : Stop) (now : Bus T O E) (new : Core) : Type 0 where
@@ -203,7 +206,7 @@ module _ {T O E : Type 0} (meaning : BusModel T O E) where
     pub stored : (other : ℕ) → held now other ≡ (if other == port then byte else held before other)
     pub memory : stop ≡ NoMemory → HasRoot before.devices.now
     pub names : stop ≡ NoMemory → WantsNames (action_of port) before.devices.now (meaning.tree.state before.tree.now).contents
-    pub same : SameBus (contents_on meaning.tree) before now
+    pub same : SameBus meaning.tree before now
 
   -- the rules of a bus's ports
   abbrev pub bus_rules : Rules (Bus T O E)
@@ -213,7 +216,7 @@ module _ {T O E : Type 0} (meaning : BusModel T O E) where
   pub record PortActed (before : Bus T O E) (old : Core) (action : Action) (byte : ℕ) (now : Bus T O E) (new : Core) : Type 0 where
     pub does : (state : DeviceState) → RepresentsTo (asks_tree action) before state
         → Does (asks_tree action) before now new (act action byte state old)
-    pub same : SameBus (contents_on meaning.tree) before now
+    pub same : SameBus meaning.tree before now
 
   -- what an action leaves that stops
   pub record ActStopped (before : Bus T O E) (old : Core) (action : Action) (byte : ℕ) (stop : Stop) (now : Bus T O E) (new : Core)
@@ -226,7 +229,7 @@ module _ {T O E : Type 0} (meaning : BusModel T O E) where
     pub page : now.devices.now.page ≡ before.devices.now.page
     pub memory : stop ≡ NoMemory → HasRoot before.devices.now
     pub names : stop ≡ NoMemory → WantsNames action before.devices.now (meaning.tree.state before.tree.now).contents
-    pub same : SameBus (contents_on meaning.tree) before now
+    pub same : SameBus meaning.tree before now
 
   -- it did what it does, or it stopped
   abbrev pub ActEnds : Bus T O E → Core → Action → ℕ → Bus T O E → Core → Result (Unit {0}) Stop → Type 0

@@ -12,6 +12,7 @@ use Rattle.varvara_bus.specs.declared.ports.Voice.{Voice}
 use Rattle.varvara_bus.specs.declared.ports.Voice.TheVariants.{First, Second, Third, Fourth}
 use Rattle.varvara_bus.specs.declared.ports.FileNumber.{FileNumber}
 use Rattle.varvara_bus.specs.declared.ports.FileNumber.TheVariants.{First as FirstFile, Second as SecondFile}
+use Rattle.varvara_bus.specs.declared.ports.FileAct.{FileAct}
 use Rattle.varvara_bus.specs.declared.ports.FileAct.TheVariants.{Stat, Delete, Name, Read, Write}
 use Rattle.file_ports.specs.Actions.{FileOutcome}
 use Rattle.input_ports.specs.Page.{short_stores}
@@ -60,10 +61,27 @@ action_in (row ∷ rows) port = if port == row.0 then row.1 else action_in rows 
 abbrev pub action_of : ℕ → Action
 action_of port = action_in actions port
 
+-- what an action may touch beside the screen, the voices and the pointers of the stacks: memory, the tree with the file devices, and
+-- the standard output
+pub record Footprint : Type 0 where
+  pub memory : Bool
+  pub tree : Bool
+  pub out : Bool
+
+abbrev pub fills_memory : FileAct → Bool
+fills_memory Stat = true
+fills_memory Read = true
+fills_memory _ = false
+
+abbrev pub footprint : Action → Footprint
+footprint Expands = record { memory = true; tree = false; out = false }
+footprint PutsOut = record { memory = false; tree = false; out = true }
+footprint (ActsOnFile number part) = record { memory = fills_memory part; tree = true; out = false }
+footprint _ = record { memory = false; tree = false; out = false }
+
 -- whether an action asks something of the tree: that of a file device
 abbrev pub asks_tree : Action → Bool
-asks_tree (ActsOnFile number part) = true
-asks_tree _ = false
+asks_tree action = (footprint action).tree
 
 -- the machine and its devices after something was done, and the changes that it made outside, in order
 pub record Effect : Type 0 where

@@ -9,6 +9,8 @@ use Rattle.std.specs.Option.{option_map}
 use Rattle.uxn_io_traits.specs.Outside.{Change, World, changed_by, files_by}
 use Rattle.uxn_io_traits.specs.ChangeLaws.{changed_by-append, cut-first, cut-later}
 use Rattle.uxn_io_traits.specs.ChangeLaws.{files-contents}
+use Rattle.uxn_io_traits.specs.EndedLaws.{refuses-nothing, refuses-then}
+use Rattle.uxn_io_traits.specs.declared.trees.Tree as trees
 use Rattle.uxn_io_traits.specs.TakingLaws.{remains-all, remains-both, not-guaranteed-first, not-guaranteed-later}
 use Rattle.uxn_opcodes.specs.declared.Core.{Core}
 use Rattle.uxn_opcodes.specs.declared.Stop.{Stop}
@@ -23,14 +25,11 @@ use Rattle.uxn_opcodes.specs.Instruction.{Written, WriteStops, writes_of, Finish
 use Rattle.uxn_opcodes.specs.Model.{Machine, Carries, RepresentsMachine, MachineStopsAt, after_instruction, access_done, written_by}
 use Rattle.uxn_opcodes.specs.Model.{writes_in, carried-ran, carried-broke, carried-stopped}
 use Rattle.varvara_bus.specs.declared.bus.Bus.{Bus}
-use Rattle.varvara_bus.specs.declared.ports.Action.{Action}
-use Rattle.varvara_bus.specs.declared.ports.Action.TheVariants.{Stores, Expands, SetsWorkingPointer, SetsReturnPointer}
-use Rattle.varvara_bus.specs.declared.ports.Action.TheVariants.{PutsDebugText, PutsOut, PutsErr}
-use Rattle.varvara_bus.specs.declared.ports.Action.TheVariants.{AsksWidth, AsksHeight, DrawsPixel, DrawsSprite, StartsNote, ActsOnFile}
-use Rattle.varvara_bus.specs.State.{DeviceState, HasFiles, storing}
-use Rattle.varvara_bus.specs.Effect.{action_of, asks_tree, act, effect}
+use Rattle.varvara_bus.specs.State.{DeviceState, HasFiles}
+use Rattle.varvara_bus.specs.Effect.{action_of, asks_tree, effect}
 use Rattle.varvara_bus.specs.Bus.{SameBus, BusRepresents, HasRoot, BusModel, outside_on, Makes, StopsShort, HasEffect, contents_on}
 use Rattle.varvara_bus.specs.Bus.{RepresentsTo, ComesTo, PortWrote, bus_rules}
+use Rattle.varvara_bus.specs.Footprints.{effect-keeps}
 use Rattle.varvara_bus.specs.Model.{Devised, varvara, instruction_effect}
 
 -- writes only add to the changes made so far
@@ -99,18 +98,18 @@ changes-then devices core first after port byte goes_on in_order =
     }
 
 -- the same over nothing, and over two steps
-pub same-itself : {T O E : Type 0} (contents_of_tree : T → Option Nodes) (bus : Bus T O E) → SameBus contents_of_tree bus bus
-same-itself contents_of_tree bus = record {
+pub same-itself : {T O E : Type 0} (of_tree : trees.Ghosts T) (bus : Bus T O E) → SameBus of_tree bus bus
+same-itself of_tree bus = record {
   borrowed = record { devices = refl; tree = refl; out = refl; err = refl };
   files = record { stays = λ path outside there. there };
+  refusals = λ none. refuses-nothing _;
   frames = refl;
   clock = refl;
   root = refl;
 }
 
-pub same-again : {T O E : Type 0} (contents_of_tree : T → Option Nodes) (a b c : Bus T O E) → SameBus contents_of_tree a b → SameBus contents_of_tree b c
-    → SameBus contents_of_tree a c
-same-again contents_of_tree a b c p q = record {
+pub same-again : {T O E : Type 0} (of_tree : trees.Ghosts T) (a b c : Bus T O E) → SameBus of_tree a b → SameBus of_tree b c → SameBus of_tree a c
+same-again of_tree a b c p q = record {
   borrowed = record {
     devices = q.borrowed.devices ∙ p.borrowed.devices;
     tree = q.borrowed.tree ∙ p.borrowed.tree;
@@ -119,6 +118,7 @@ same-again contents_of_tree a b c p q = record {
     err = q.borrowed.err ∙ p.borrowed.err;
   };
   files = record { stays = λ path outside there. (rw p.root at q.files).stays path outside (p.files.stays path outside there) };
+  refusals = λ none. refuses-then _ _ _ (p.refusals none) (q.refusals (p.root ∙ none));
   frames = q.frames ∙ p.frames;
   clock = q.clock ∙ p.clock;
   root = q.root ∙ p.root;
@@ -166,25 +166,6 @@ module _ {T O E : Type 0} (meaning : BusModel T O E) where
   stands-to true bus state stands = stands
   stands-to false bus state stands = stands.devices
 
-  -- what asks nothing of the tree leaves the root part of a state
-  files-left : (action : Action) (byte : ℕ) (state : DeviceState) (core : Core) (contents : Option Nodes) → asks_tree action ≡ false
-      → HasFiles contents state.root state.part state.parent
-      → HasFiles contents (act action byte state core).devices.root (act action byte state core).devices.part
-      (act action byte state core).devices.parent
-  files-left Stores byte state core contents none has = has
-  files-left Expands byte state core contents none has = has
-  files-left SetsWorkingPointer byte state core contents none has = has
-  files-left SetsReturnPointer byte state core contents none has = has
-  files-left PutsDebugText byte state core contents none has = has
-  files-left PutsOut byte state core contents none has = has
-  files-left PutsErr byte state core contents none has = has
-  files-left AsksWidth byte state core contents none has = has
-  files-left AsksHeight byte state core contents none has = has
-  files-left DrawsPixel byte state core contents none has = has
-  files-left DrawsSprite byte state core contents none has = has
-  files-left (StartsNote voice) byte state core contents none has = has
-  files-left (ActsOnFile number part) byte state core contents none has = cc
-
   comes-to : (asks : Bool) (before now : Bus T O E) (state : DeviceState) → ComesTo meaning asks before now state
       → (asks ≡ false → HasFiles (meaning.tree.state before.tree.now).contents state.root state.part state.parent)
       → BusRepresents (contents_on meaning.tree) now state
@@ -199,11 +180,11 @@ module _ {T O E : Type 0} (meaning : BusModel T O E) where
   wrote-effect before now core core_new port byte wrote state stands =
       let asks = asks_tree (action_of port) in
       let done = wrote.does state (stands-to asks before state stands) in
+      let keeps = effect-keeps state core port byte in
       record {
         core = done.core;
         devices = comes-to asks before now (effect state core port byte).devices done.devices
-            (λ none. files-left (action_of port) byte (storing ((port, byte) ∷ []) state) core
-            (meaning.tree.state before.tree.now).contents none stands.files);
+            (λ none. rw (keeps.root, keeps.part none, keeps.parent) stands.files);
         makes = done.makes;
       }
 
@@ -280,33 +261,33 @@ module _ {T O E : Type 0} (meaning : BusModel T O E) where
       (record { devices = devices; changes = [] }) stop core_new now (starts before devices stands) stopped)
 
   -- whatever became of an instruction, the same four are borrowed, and memory ran out only where there is a root
-  same-root : (before now : Bus T O E) → SameBus (contents_on meaning.tree) before now → HasRoot now.devices.now → HasRoot before.devices.now
+  same-root : (before now : Bus T O E) → SameBus meaning.tree before now → HasRoot now.devices.now → HasRoot before.devices.now
   same-root before now same has = rw same.root at has
 
-  unchanged : (before now : Bus T O E) → now ≡ before → SameBus (contents_on meaning.tree) before now
-  unchanged before now is = rw is (same-itself (contents_on meaning.tree) before)
+  unchanged : (before now : Bus T O E) → now ≡ before → SameBus meaning.tree before now
+  unchanged before now is = rw is (same-itself meaning.tree before)
 
   written-same : (writes : List (ℕ × ℕ)) (before : Bus T O E) (core : Core) (now : Bus T O E) (core_new : Core)
-      → Written (bus_rules meaning) writes before core now core_new → SameBus (contents_on meaning.tree) before now
+      → Written (bus_rules meaning) writes before core now core_new → SameBus meaning.tree before now
   written-same [] before core now core_new written = unchanged before now written.0
   written-same (write ∷ writes) before core now core_new written =
-      same-again (contents_on meaning.tree) before written.0 now written.1.1.0.same (written-same writes written.0 written.1.0 now core_new written.1.1.1)
+      same-again meaning.tree before written.0 now written.1.1.0.same (written-same writes written.0 written.1.0 now core_new written.1.1.1)
 
   stopped-same : (writes : List (ℕ × ℕ)) (before : Bus T O E) (core : Core) (stop : Stop) (now : Bus T O E) (core_new : Core)
       → WriteStops (bus_rules meaning) writes before core stop now core_new
-      → SameBus (contents_on meaning.tree) before now × (stop ≡ NoMemory → HasRoot before.devices.now)
+      → SameBus meaning.tree before now × (stop ≡ NoMemory → HasRoot before.devices.now)
   stopped-same [] before core stop now core_new stopped = absurd stopped
   stopped-same (write ∷ writes) before core stop now core_new stopped = elim stopped [
     | inl here ↦ (here.same, here.memory)
     | inr later ↦
         let rest = stopped-same writes later.0 later.1.0 stop now core_new later.1.1.1 in (
-          same-again (contents_on meaning.tree) before later.0 now later.1.1.0.same rest.0,
+          same-again meaning.tree before later.0 now later.1.1.0.same rest.0,
           λ wanting. same-root before later.0 later.1.1.0.same (rest.1 wanting),
         )
   ]
 
   finishes-same : (access : Access) (core core_new : Core) (before now : Bus T O E)
-      → FinishesAccess (bus_rules meaning) access core before core_new now → SameBus (contents_on meaning.tree) before now
+      → FinishesAccess (bus_rules meaning) access core before core_new now → SameBus meaning.tree before now
   unfolding FinishesAccess
   finishes-same Nothing core core_new before now done = unchanged before now done.1
   finishes-same (Read port mode) core core_new before now done = unchanged before now done.0
@@ -315,7 +296,7 @@ module _ {T O E : Type 0} (meaning : BusModel T O E) where
 
   stops-same : (access : Access) (core : Core) (stop : Stop) (core_new : Core) (before now : Bus T O E)
       → StopsInAccess (bus_rules meaning) access core before stop core_new now
-      → SameBus (contents_on meaning.tree) before now × (stop ≡ NoMemory → HasRoot before.devices.now)
+      → SameBus meaning.tree before now × (stop ≡ NoMemory → HasRoot before.devices.now)
   unfolding StopsInAccess
   stops-same Nothing core stop core_new before now stopped = absurd stopped
   stops-same (Read port mode) core stop core_new before now stopped = absurd stopped
@@ -323,7 +304,7 @@ module _ {T O E : Type 0} (meaning : BusModel T O E) where
       (writes_of width port value) before core stop now core_new stopped
 
   pub instruction-borrowed : (core core_new : Core) (before now : Bus T O E) (result : Result Turn Stop)
-      → Instruction (bus_rules meaning) core before result core_new now → SameBus (contents_on meaning.tree) before now
+      → Instruction (bus_rules meaning) core before result core_new now → SameBus meaning.tree before now
   unfolding Instruction
   instruction-borrowed core core_new before now (Ok Broke) done = unchanged before now done.2
   instruction-borrowed core core_new before now (Ok Ran) done = finishes-same (begun core).access (begun core).core core_new before now done.1

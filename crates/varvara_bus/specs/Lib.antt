@@ -4,10 +4,12 @@ pub mod Voices
 pub mod ReadsPort
 pub mod FileActs
 pub mod Effect
+pub mod Footprints
 pub mod Bus
 pub mod FileCalls
 pub mod Laws
 pub mod Model
+pub mod Writes
 pub mod InstructionLaws
 pub mod Folders
 pub mod Touching

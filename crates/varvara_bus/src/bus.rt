@@ -243,7 +243,7 @@ impl<'a, T: Tree, O: Sink, E: Sink> Bus<'a, T, O, E> {
         ensures devices { self.new.devices.now ≡ self.old.devices.now }
         ensures stands { OnOk result ((state : DeviceState) → BusRepresents (contents_on T.Tree) self.old state
             → BusRepresents (contents_on T.Tree) self.new (piece_appended path.now piece.now state)) }
-        ensures same { SameBus (contents_on T.Tree) self.old self.new }
+        ensures same { SameBus T.Tree self.old self.new }
     {
         append_all(self.tree, path, piece).map_err(|_| Stop::TreeFault)
     }

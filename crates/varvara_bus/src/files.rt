@@ -1,5 +1,5 @@
 //! The ports of the file devices.
-ghost use Rattle.std.specs.Prelude.{◌≡◌, ◌≤◌};
+ghost use Rattle.std.specs.Prelude.{◌≡◌, ◌≤◌, None};
 ghost use Rattle.uxn_io_traits.specs.Faults.{Counted};
 ghost use Rattle.uxn_io_traits.specs.Ended.{TreeEnded};
 ghost use Rattle.file_ports.specs.Device.{Suits};
@@ -66,6 +66,7 @@ fn perform<T: Tree>(
         (T.state tree.old) (T.state tree.new) }
     ensures acted { Performed (action_requested request) root device.old memory.old (T.state tree.old).contents result device.new memory.new }
     ensures suits { Suits root device.new }
+    ensures untouched { device.old.path ≡ None → tree.new ≡ tree.old }
 {
     match request {
         Request::Stat(at, length) => device.stat(tree, memory, at, length),
@@ -97,6 +98,7 @@ fn perform_on<T: Tree>(
     ensures frames { devices.new.time.frames ≡ devices.old.time.frames }
     ensures clock { device_clock devices.new ≡ device_clock devices.old }
     ensures root { devices.new.root ≡ devices.old.root }
+    ensures untouched { devices.old.root ≡ None → tree.new ≡ tree.old }
 {
     let root = devices.root;
     match number {
@@ -121,6 +123,7 @@ pub(crate) fn act_on_file<T: Tree>(
     ensures frames { devices.new.time.frames ≡ devices.old.time.frames }
     ensures clock { device_clock devices.new ≡ device_clock devices.old }
     ensures root { devices.new.root ≡ devices.old.root }
+    ensures untouched { devices.old.root ≡ None → tree.new ≡ tree.old }
 {
     let request = requested(devices, act, number.base());
     match perform_on(devices, tree, memory, number, request) {

@@ -3,6 +3,10 @@ use Rattle.std.proofs.Common.{◌≡◌, ℕ, ◌+◌, ◌≤◌, ◌⊎◌, Boo
 use Rattle.std.specs.Prelude.{Option, Some, None, IfSome, Result, Ok, Err, OnOk, IfErr}
 use Rattle.uxn_io_traits.specs.Files.{Nodes}
 use Rattle.uxn_io_traits.specs.Faults.{Ledger}
+use Rattle.uxn_io_traits.specs.State.{TreeState}
+use Rattle.uxn_io_traits.specs.Ended.{RefusesNone}
+use Rattle.uxn_io_traits.specs.EndedLaws.{refuses-nothing, refuses-then}
+use Rattle.uxn_io_traits.specs.declared.trees.Tree as trees
 use Rattle.uxn_opcodes.specs.declared.Core.{Core}
 use Rattle.uxn_opcodes.specs.declared.Stop.{Stop}
 use Rattle.uxn_opcodes.specs.Ports.{result_blame}
@@ -25,7 +29,7 @@ use Rattle.vector_loop.specs.TraceLaws.{followed_by-again, followed_by-at, stays
 use Rattle.vector_loop.proofs.Along.{blame-same, follows-nothing, follows-both_counts}
 use Rattle.vector_loop.proofs.Stopping.{stopped-first, stopped-later, stopped-append, falls-short-from}
 use Rattle.vector_loop.proofs.Counting.{grown-both_counts, grown-none, grown-within, room-left}
-use Rattle.vector_loop.proofs.Makings.{makes-nothing, files-kept, same_faults, no-memory, the-stop}
+use Rattle.vector_loop.proofs.Makings.{makes-nothing, files-kept, refuses-kept, same_faults, no-memory, the-stop}
 
 -- where the run is over nothing more is done, and else all
 over : (rest : State → Trace) (state : State) → is_over state ≡ true → unless_over rest state ≡ stays state
@@ -55,12 +59,17 @@ wanting-still refuses before now same wanting = rw same at wanting
 borrowed-both_counts : {T O E : Type 0} (a b c : Bus T O E) → SameBorrowed a b → SameBorrowed b c → SameBorrowed a c
 borrowed-both_counts a b c p q = search rules
 
-module _ {T O E W : Type 0} (contents_of_tree : T → Option Nodes) where
-  pub same-itself : (now : Runner T O E W) → SameRunner contents_of_tree now now
-  same-itself now = search rules
+-- nor was a file refused without a root in either
+refuses-both : (root root_then : Option (List ℕ)) (a b c : TreeState) → root_then ≡ root → (root ≡ None → RefusesNone a b)
+    → (root_then ≡ None → RefusesNone b c) → root ≡ None → RefusesNone a c
+refuses-both root root_then a b c same p q none = refuses-then a b c (p none) (q (same ∙ none))
 
-  same-both_counts : (a b c : Runner T O E W) → SameRunner contents_of_tree a b → SameRunner contents_of_tree b c → SameRunner contents_of_tree a c
-  same-both_counts a b c p q = search (rules, borrowed-both_counts, files-both_counts)
+module _ {T O E W : Type 0} (of_tree : trees.Ghosts T) where
+  pub same-itself : (now : Runner T O E W) → SameRunner of_tree now now
+  same-itself now = search (rules, refuses-nothing)
+
+  same-both_counts : (a b c : Runner T O E W) → SameRunner of_tree a b → SameRunner of_tree b c → SameRunner of_tree a c
+  same-both_counts a b c p q = search (rules, borrowed-both_counts, files-both_counts, refuses-both)
 
 module _ {T O E W H : Type 0} (models : Models T O E W H) where
   reaches-where : {X : Type 0} (a b : Running T O E W) (part other : State → Trace) (r : Result X Stop)
@@ -168,7 +177,7 @@ module _ {T O E W H : Type 0} (models : Models T O E W H) where
       → ((devices : DeviceState) → BusRepresents (contents_on models.meaning.tree) a.bus.now devices
       → running_state (running_of b) (prepare (running_state (running_of a) devices)).devices ≡ prepare (running_state (running_of a) devices))
       → Answers models a b (λ s. stays (prepare s)) m (Ok x)
-  answers-change a b prepare m x others_same bus others frames grown devices_now state_now = search (arith, rules, makes-nothing, ledger-kept, same_faults, files-kept)
+  answers-change a b prepare m x others_same bus others frames grown devices_now state_now = search (arith, rules, makes-nothing, ledger-kept, same_faults, files-kept, refuses-kept)
 
   -- what the devices represent changes, and nothing else
   pub answers-stored : {X : Type 0} (a b : Runner T O E W) (change : DeviceState → DeviceState) (x : X)
@@ -211,7 +220,7 @@ module _ {T O E W H : Type 0} (models : Models T O E W H) where
       → b.core.ghost_name ≡ a.core.ghost_name → b.bus.ghost_name ≡ a.bus.ghost_name → b.watcher.ghost_name ≡ a.watcher.ghost_name
       → b.budget ≡ a.budget → ReachesResult models (running_of a) (running_of b) part r
       → Ledger (bus_faults models.meaning a.bus.now) (bus_faults models.meaning b.bus.now) (result_blame r)
-      → HasGrown a.tally b.tally m.vectors m.events a.budget → SameBus (contents_on models.meaning.tree) a.bus.now b.bus.now
+      → HasGrown a.tally b.tally m.vectors m.events a.budget → SameBus models.meaning.tree a.bus.now b.bus.now
       → Answers models a b part m r
   answers-ran a b part m r core bus watcher budget reaches ledger grown same = search (arith, rules)
 

@@ -5,6 +5,9 @@ use Rattle.std.proofs.lemmas.List.{map-append}
 use Rattle.std.proofs.lemmas.List.Concat.{flat_map-cons}
 use Rattle.std.specs.Prelude.{Option, Result, Ok, Err, OnOk, OnErr}
 use Rattle.std.specs.List.{flat_map, range_with_len}
+use Rattle.uxn_io_traits.specs.Ended.{RefusesNone}
+use Rattle.uxn_io_traits.specs.EndedLaws.{refuses-nothing}
+use Rattle.uxn_io_traits.specs.declared.trees.Tree as trees
 use Rattle.uxn_io_traits.specs.Ended.{Ended, Done}
 use Rattle.uxn_io_traits.specs.EndedLaws.{done-nothing, ended-then, ended-first}
 use Rattle.uxn_io_traits.specs.State.{Outside}
@@ -20,7 +23,7 @@ use Rattle.screen_layers.specs.Pictures.{picture_row_of}
 use Rattle.varvara_bus.specs.declared.bus.Bus.{Bus}
 use Rattle.varvara_bus.specs.History.{colour_bytes}
 use Rattle.varvara_bus.specs.State.{DeviceState}
-use Rattle.varvara_bus.specs.Bus.{ChangesDevices, FilesStay, IsOutside, BusRepresents, BusModel, Makes, bus_faults, blame_for, SameBus, frames_begun, screen_of, outside_on, contents_on}
+use Rattle.varvara_bus.specs.Bus.{ChangesDevices, FilesStay, IsOutside, BusRepresents, BusModel, Makes, bus_faults, blame_for, SameBus, outside_on, contents_on}
 use Rattle.varvara_bus.specs.FileActs.{piece_appended}
 use Rattle.varvara_bus.specs.Laws.{appended-outside}
 use Rattle.uxn_io_traits.specs.FaultLaws.{ledger-same, ledger-then}
@@ -71,6 +74,11 @@ pub files-kept : {T O E : Type 0} (contents_of_tree : T → Option Nodes) (befor
     → FilesStay before.devices.now.root (contents_of_tree before.tree.now) (contents_of_tree now.tree.now)
 files-kept contents_of_tree before now changes = record { stays = λ path outside there. rw changes.tree there }
 
+-- nor was a file refused
+pub refuses-kept : {T O E : Type 0} (of_tree : trees.Ghosts T) (before now : Bus T O E) → ChangesDevices before now
+    → RefusesNone (of_tree.state before.tree.now) (of_tree.state now.tree.now)
+refuses-kept of_tree before now changes = rw changes.tree (refuses-nothing (of_tree.state before.tree.now))
+
 pub same_faults : {T O E : Type 0} (meaning : BusModel T O E) (a b : Bus T O E) → ChangesDevices a b → bus_faults meaning b ≡ bus_faults meaning a
 same_faults meaning a b others = rw (others.tree, others.out, others.err) refl
 
@@ -110,7 +118,7 @@ module _ {T O E : Type 0} (meaning : BusModel T O E) where
   pub appended : (a b : Bus T O E) (path bytes : List ℕ) (r : Result (Unit {0}) Stop)
       → Ended (to_file path bytes) (blame_for r) (outside_on meaning a) (outside_on meaning b)
       → OnOk r ((s : DeviceState) → BusRepresents (contents_on meaning.tree) a s → BusRepresents (contents_on meaning.tree) b s) → OnErr r (r ≡ Err TreeFault)
-      → OnErr r (0 < length bytes) → b.devices.now ≡ a.devices.now → SameBus (contents_on meaning.tree) a b
+      → OnErr r (0 < length bytes) → b.devices.now ≡ a.devices.now → SameBus meaning.tree a b
       → MadeOrCut meaning a b (λ s. to_file path bytes) r
   appended a b path bytes r ended kept fault some devices same = search (rules, some-put, ended-ledger)
 

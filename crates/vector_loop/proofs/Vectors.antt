@@ -80,7 +80,7 @@ module _ {T O E W H : Type 0} (models : Models T O E W H) where
     pub from : (devices : DeviceState) → BusRepresents (contents_on models.meaning.tree) before.bus devices
         → SoFar before (counted_to before core bus watcher (budget - left)) budget left devices
     pub runs : RunsWithin (bus_rules models.meaning) (budget - left) before.core before.bus core bus
-    pub same : SameBus (contents_on models.meaning.tree) before.bus bus
+    pub same : SameBus models.meaning.tree before.bus bus
     pub ledger : Ledger (bus_faults models.meaning before.bus) (bus_faults models.meaning bus) Nobody
     pub within : left ≤ budget
 
@@ -103,7 +103,7 @@ module _ {T O E W H : Type 0} (models : Models T O E W H) where
             subst P same
             (record { done = stays (running_state before devices); follows = follows-nothing models before devices stands; whole = refl; ends = refl });
         runs = runs-none (bus_rules models.meaning) (budget - budget) before.core before.bus (omega arith);
-        same = same-itself (contents_on models.meaning.tree) before.bus;
+        same = same-itself models.meaning.tree before.bus;
         ledger = ledger-same (bus_faults models.meaning before.bus);
         within = omega arith;
       }
@@ -136,7 +136,7 @@ module _ {T O E W H : Type 0} (models : Models T O E W H) where
               });
           runs = runs-more (bus_rules models.meaning) (budget - left) (budget - less) before.core core core_new before.bus bus bus_new
               (omega (arith, one, along.within)) along.runs ran;
-          same = same-again (contents_on models.meaning.tree) before.bus bus bus_new along.same
+          same = same-again models.meaning.tree before.bus bus bus_new along.same
               (instruction-borrowed models.meaning core core_new bus bus_new (Ok Ran) ran);
           ledger = ledger-then (bus_faults models.meaning before.bus) (bus_faults models.meaning bus) (bus_faults models.meaning bus_new) Nobody
               along.ledger counted;
@@ -172,7 +172,7 @@ module _ {T O E W H : Type 0} (models : Models T O E W H) where
               let so_far = along.from devices stands in sym (is so_far.done so_far.follows.core).ends ∙ so_far.ends;
           ledger = ledger-then (bus_faults models.meaning before.bus) (bus_faults models.meaning bus) (bus_faults models.meaning bus_new) Nobody
               along.ledger counted;
-          same = same-again (contents_on models.meaning.tree) before.bus bus bus_new along.same
+          same = same-again models.meaning.tree before.bus bus bus_new along.same
               (instruction-borrowed models.meaning core core_new bus bus_new (Ok Broken) ran);
         }
 
@@ -207,7 +207,7 @@ module _ {T O E W H : Type 0} (models : Models T O E W H) where
           ends = tt;
           ledger = ledger-then (bus_faults models.meaning before.bus) (bus_faults models.meaning bus) (bus_faults models.meaning bus_new)
               (result_blame {T = VectorEnd} (Err stop)) along.ledger (rw (blame-same VectorEnd X stop) counted);
-          same = same-again (contents_on models.meaning.tree) before.bus bus bus_new along.same
+          same = same-again models.meaning.tree before.bus bus bus_new along.same
               (instruction-borrowed models.meaning core core_new bus bus_new (Err stop) stopped);
         }
 

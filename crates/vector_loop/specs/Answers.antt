@@ -1,7 +1,9 @@
 -- What a part of a run answers: it was done, or it stopped.
-use Rattle.std.specs.Prelude.{◌≡◌, ℕ, ◌+◌, ◌-◌, ◌*◌, ◌^◌, ◌<◌, ◌≤◌, ◌⊎◌, Option, Result, Ok, Err, IfOk}
+use Rattle.std.specs.Prelude.{◌≡◌, ℕ, ◌+◌, ◌-◌, ◌*◌, ◌^◌, ◌<◌, ◌≤◌, ◌⊎◌, Option, None, Result, Ok, Err, IfOk}
 use Rattle.uxn_io_traits.specs.Files.{Nodes}
 use Rattle.uxn_io_traits.specs.Faults.{Ledger}
+use Rattle.uxn_io_traits.specs.Ended.{RefusesNone}
+use Rattle.uxn_io_traits.specs.declared.trees.Tree as trees
 use Rattle.uxn_opcodes.specs.declared.Core.{Core}
 use Rattle.uxn_opcodes.specs.declared.Stop.{Stop}
 use Rattle.uxn_opcodes.specs.declared.Stop.TheVariants.{NoMemory}
@@ -66,15 +68,17 @@ moment_in runner = record { instructions = runner.tally.instructions; address = 
 abbrev pub HasOutputs : {T O E W : Type 0} → (T → Option Nodes) → Outputs → Runner T O E W → Type 0
 HasOutputs contents_of_tree outputs runner = OutputsThere outputs runner.bus.now.devices.now.root (contents_of_tree runner.bus.now.tree.now)
 
--- what no part of a run changes: what is borrowed, the budget, the root, and which files are there outside the root part
-pub record SameRunner {T O E W : Type 0} (contents_of_tree : T → Option Nodes) (before now : Runner T O E W) : Type 0 where
+-- what no part of a run changes: what is borrowed, the budget, the root, which files are there outside the root part, and that without a
+-- root no file is refused
+pub record SameRunner {T O E W : Type 0} (of_tree : trees.Ghosts T) (before now : Runner T O E W) : Type 0 where
   pub core : now.core.ghost_name ≡ before.core.ghost_name
   pub bus : now.bus.ghost_name ≡ before.bus.ghost_name
   pub watcher : now.watcher.ghost_name ≡ before.watcher.ghost_name
   pub budget : now.budget ≡ before.budget
   pub borrowed : SameBorrowed before.bus.now now.bus.now
   pub root : now.bus.now.devices.now.root ≡ before.bus.now.devices.now.root
-  pub files : FilesStay before.bus.now.devices.now.root (contents_of_tree before.bus.now.tree.now) (contents_of_tree now.bus.now.tree.now)
+  pub files : FilesStay before.bus.now.devices.now.root (contents_on of_tree before.bus.now.tree.now) (contents_on of_tree now.bus.now.tree.now)
+  pub refusals : before.bus.now.devices.now.root ≡ None → RefusesNone (of_tree.state before.bus.now.tree.now) (of_tree.state now.bus.now.tree.now)
 
 module _ {T O E W H : Type 0} (models : Models T O E W H) where
   -- a part stopped within; memory ran out only to the watcher, or where there is a root
@@ -94,7 +98,7 @@ module _ {T O E W H : Type 0} (models : Models T O E W H) where
     pub ledger : Ledger (bus_faults models.meaning before.bus.now) (bus_faults models.meaning now.bus.now) (result_blame result)
     pub grown : HasGrown before.tally now.tally most.vectors most.events before.budget
     pub frames : frames_begun now.bus.now ≤ frames_begun before.bus.now + most.events
-    pub same : SameRunner (contents_on models.meaning.tree) before now
+    pub same : SameRunner models.meaning.tree before now
 
   -- what the instructions of a vector came to, of whose budget so much was left before the last one: all of it was done and it ended as it
   -- does, or it stopped; and so many are counted as ran whole
@@ -108,4 +112,4 @@ module _ {T O E W H : Type 0} (models : Models T O E W H) where
     pub ends : IfOk end (λ how. (devices : DeviceState) → BusRepresents (contents_on models.meaning.tree) before.bus devices
         → how ≡ ends_by budget (running_state before devices))
     pub ledger : Ledger (bus_faults models.meaning before.bus) (bus_faults models.meaning bus) (result_blame end)
-    pub same : SameBus (contents_on models.meaning.tree) before.bus bus
+    pub same : SameBus models.meaning.tree before.bus bus

@@ -23,4 +23,4 @@ pub record MadeOrCut {T O E : Type 0} (meaning : BusModel T O E) (before now : B
   pub fault : OnErr result (result ≡ Err TreeFault)
   pub some : OnErr result ((state : DeviceState) → BusRepresents (contents_on meaning.tree) before state → changes state ≢ [])
   pub ledger : Ledger (bus_faults meaning before) (bus_faults meaning now) (result_blame result)
-  pub same : SameBus (contents_on meaning.tree) before now
+  pub same : SameBus meaning.tree before now

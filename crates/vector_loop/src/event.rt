@@ -1,6 +1,7 @@
 //! Events.
-ghost use Rattle.std.specs.Prelude.{◌≡◌, ◌==◌, ◌+◌, ◌*◌, ◌^◌, ◌-◌, ◌<◌, ◌≤◌, ◌⊎◌, OnOk, IfErr};
+ghost use Rattle.std.specs.Prelude.{◌≡◌, ◌==◌, ◌+◌, ◌*◌, ◌^◌, ◌-◌, ◌<◌, ◌≤◌, ◌⊎◌, None, OnOk, IfErr};
 ghost use Rattle.play_script.specs.declared.script.Event.TheVariants as events;
+ghost use Rattle.uxn_io_traits.specs.Ended.{RefusesNone};
 ghost use Rattle.uxn_io_traits.specs.Faults.{Ledger};
 ghost use Rattle.uxn_opcodes.specs.Ports.{result_blame};
 ghost use Rattle.varvara_bus.specs.Bus.{BusRepresents, SameBorrowed, FilesStay, HasRoot, meaning_of, frames_begun, bus_faults, contents_on};
@@ -180,6 +181,7 @@ pub fn run_event<'a, T: Tree, O: Sink, E: Sink, W: Watcher>(
     ensures borrowed { SameBorrowed bus.old bus.new }
     ensures root { bus.new.devices.now.root ≡ bus.old.devices.now.root }
     ensures files { FilesStay bus.old.devices.now.root (T.state bus.old.tree.now).contents (T.state bus.new.tree.now).contents }
+    ensures refusals { bus.old.devices.now.root ≡ None → RefusesNone (T.state bus.old.tree.now) (T.state bus.new.tree.now) }
     ensures begun { frames_begun bus.new ≤ frames_begun bus.old + 1 }
 {
     let mut runner = Runner {

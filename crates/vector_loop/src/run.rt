@@ -1,5 +1,6 @@
 //! Whole runs.
-ghost use Rattle.std.specs.Prelude.{◌≡◌, ◌+◌, ◌≤◌, ◌⊎◌, length, OnOk, OnErr, IfOk, IfErr};
+ghost use Rattle.std.specs.Prelude.{◌≡◌, ◌+◌, ◌≤◌, ◌⊎◌, None, length, OnOk, OnErr, IfOk, IfErr};
+ghost use Rattle.uxn_io_traits.specs.Ended.{RefusesNone};
 ghost use Rattle.uxn_io_traits.specs.Faults.{Ledger};
 ghost use Rattle.uxn_opcodes.specs.Ports.{result_blame};
 ghost use Rattle.play_script.specs.Held.{bytes_in};
@@ -149,6 +150,9 @@ pub fn run_script<'a, T: Tree, O: Sink, E: Sink, W: Watcher>(
     ensures memory { IfErr result (λ stop. stop ≡ Stop.NoMemory → MayRefuse W.may_refuse ⊎ HasRoot bus.old.devices.now) }
     ensures borrowed { SameBorrowed bus.old bus.new }
     ensures files { OnOk result (FilesStay bus.old.devices.now.root (T.state bus.old.tree.now).contents (T.state bus.new.tree.now).contents) }
+
+    // Without a root no file is refused.
+    ensures refusals { bus.old.devices.now.root ≡ None → RefusesNone (T.state bus.old.tree.now) (T.state bus.new.tree.now) }
 {
     script.known();
     let tally = Tally {

@@ -15,7 +15,7 @@ use crate::runner::Runner;
 use crate::tally::{Tally, VectorEnd};
 use crate::watch::{Moment, Watcher};
 use uxn_io_traits::{Sink, Tree};
-use uxn_opcodes::{Core, Stop, Turn, step};
+use uxn_opcodes::{Core, Stop, Turn, step_from};
 use varvara_bus::Bus;
 
 /// How a run of instructions ended, and how much of its budget was left before its end: a BRK has not taken its own from it yet.
@@ -26,7 +26,7 @@ struct Ran {
 }
 
 /// Runs instructions from `core.at` on, up to and with the first BRK, or exactly `budget` of them. So much was counted before. The
-/// loop counts nothing else, since it is here that a run spends its time.
+/// loop counts nothing else and keeps the address in a variable, since it is here that a run spends its time.
 #[inline(never)]
 fn run_instructions<'a, T: Tree, O: Sink, E: Sink, W: Watcher>(
     core: &mut Core,
@@ -42,27 +42,31 @@ fn run_instructions<'a, T: Tree, O: Sink, E: Sink, W: Watcher>(
 {
     let start = tally.instructions;
     let mut left = budget;
+    let mut at = core.at;
     loop {
         let moment = Moment {
             instructions: start + (budget - left),
-            address: core.at,
+            address: at,
         };
-        let Ok(()) = watcher.before(core, bus, moment) else {
+        let Ok(()) = watcher.before_at(core, at, bus, moment) else {
+            core.at = at;
             return Ran {
                 end: Err(Stop::NoMemory),
                 left,
             };
         };
         // Written out: `?` leaves one goal more for each clause, over what was converted, in the dearest proof of the crate.
-        match step(core, bus) {
+        match step_from(core, &mut at, bus) {
             Ok(Turn::Ran) => {}
             Ok(Turn::Broke) => {
+                core.at = at;
                 return Ran {
                     end: Ok(VectorEnd::Broke),
                     left,
                 };
             }
             Err(stop) => {
+                core.at = at;
                 return Ran {
                     end: Err(stop),
                     left,
@@ -71,6 +75,7 @@ fn run_instructions<'a, T: Tree, O: Sink, E: Sink, W: Watcher>(
         }
         left -= 1;
         if left == 0 {
+            core.at = at;
             return Ran {
                 end: Ok(VectorEnd::Cut),
                 left: 0,
@@ -105,7 +110,7 @@ impl<'r, 'a, T: Tree, O: Sink, E: Sink, W: Watcher> Runner<'r, 'a, T, O, E, W> {
             → end ≡ vector_end self.old.budget at (running_state (running_of self.old) devices)) }
         ensures counted { CountsWhole (bus_rules (meaning_of T.Tree O.Sink E.Sink)) (MayRefuse W.may_refuse) self.old.budget
             (record self.old.core.now { at = at }) self.old.bus.now result self.new.core.now self.new.bus.now self.old.tally self.new.tally }
-        ensures same { SameBus (contents_on T.Tree) self.old.bus.now self.new.bus.now }
+        ensures same { SameBus T.Tree self.old.bus.now self.new.bus.now }
     {
         self.core.at = at;
         self.tally.vectors += 1;
@@ -152,7 +157,7 @@ pub fn run_vector<'a, T: Tree, O: Sink, E: Sink, W: Watcher>(
     ensures ledger { Ledger (bus_faults (meaning_of T.Tree O.Sink E.Sink) bus.old)
         (bus_faults (meaning_of T.Tree O.Sink E.Sink) bus.new) (result_blame result) }
     ensures memory { IfErr result (λ stop. stop ≡ Stop.NoMemory → MayRefuse W.may_refuse ⊎ HasRoot bus.old.devices.now) }
-    ensures same { SameBus (contents_on T.Tree) bus.old bus.new }
+    ensures same { SameBus T.Tree bus.old bus.new }
 {
     let mut runner = Runner {
         core,

@@ -18,6 +18,7 @@ pub struct Moment {
 pub trait Watcher {
     ghost use Rattle.std.specs.Prelude.{◌≡◌, OnOk, OnErr};
     ghost use Rattle.uxn_opcodes.specs.declared.Core.{Core};
+    ghost use Rattle.uxn_opcodes.specs.Rule.{moved};
     ghost use Rattle.vector_loop.specs.declared.watch.Moment.{Moment};
     ghost use Rattle.vector_loop.specs.Watch.{Page, IsPage};
 
@@ -41,6 +42,24 @@ pub trait Watcher {
         ensures ok { OnOk result ((page : Page) → IsPage (P.rules.reads ports.now core.now) (P.stored ports.now) page
             → held self.new ≡ shown (held self.old) core.now page moment) }
         ensures err { OnErr result (may_refuse (held self.old) (held self.new)) };
+
+    /// The same of a machine that goes on at another address than it has stored: the machine is then shown with this one.
+    #[inline(always)]
+    fn before_at<P: Ports>(
+        &mut self,
+        core: &mut Core,
+        at: u16,
+        ports: &P,
+        moment: Moment,
+    ) -> Result<(), AllocError>
+        ensures ok { OnOk result ((page : Page) → IsPage (P.rules.reads ports.now (moved core.old at)) (P.stored ports.now) page
+            → held self.new ≡ shown (held self.old) (moved core.old at) page moment) }
+        ensures err { OnErr result (may_refuse (held self.old) (held self.new)) }
+        ensures core { moved core.new at ≡ moved core.old at }
+    {
+        core.at = at;
+        self.before(core, ports, moment)
+    }
 
     /// Is shown the machine at the end of the run. Errors when out of memory.
     fn finish<P: Ports>(&mut self, core: &Core, ports: &P, moment: Moment) -> Result<(), AllocError>
@@ -67,6 +86,17 @@ impl Watcher for NoWatch {
     fn before<P: Ports>(
         &mut self,
         _core: &Core,
+        _ports: &P,
+        _moment: Moment,
+    ) -> Result<(), AllocError> {
+        Ok(())
+    }
+
+    #[inline(always)]
+    fn before_at<P: Ports>(
+        &mut self,
+        _core: &mut Core,
+        _at: u16,
         _ports: &P,
         _moment: Moment,
     ) -> Result<(), AllocError> {

@@ -1,8 +1,9 @@
-use Rattle.std.proofs.Common.{false, true}
+use Rattle.std.proofs.Common.{false, true, refl, rules}
+use Rattle.file_ports.specs.declared.stop.FileStop.TheVariants.{TreeFault}
 use Rattle.file_ports.specs.ActLaws.{changes-lie}
 use Rattle.varvara_bus.specs.Bus.{file_held}
 use Rattle.varvara_bus.specs.FileCalls.{action_requested}
-use Rattle.varvara_bus.proofs.FileCalls.{file-ended, file-acted, files-stay, held-suits}
+use Rattle.varvara_bus.proofs.FileCalls.{file-ended, file-acted, files-stay, held-suits, file-left}
 use Rattle.varvara_bus.proofs.files.act_on_file.Goals as goal
 
 pub returns-in-Ok-clause-tree : goal.returns-in-Ok-clause-tree
@@ -35,3 +36,18 @@ pub returns-in-Err-NoMemory-clause-tree : goal.returns-in-Err-NoMemory-clause-tr
 returns-in-Err-NoMemory-clause-tree g c state stands has =
     file-ended c.requested-request.result c.args.number c.args.act c.args.devices.now state c.args.memory.now false _ _
     (rw c.base.ensures.base at (c.requested-request.ensures.action state stands)) stands has (rw c.in-Err-NoMemory.field-0-is at c.in-Err-NoMemory.ensures.tree)
+
+pub returns-in-Err-TreeFault-clause-acted : goal.returns-in-Err-TreeFault-clause-acted
+returns-in-Err-TreeFault-clause-acted g c =
+    let stopped = c.in-Err-TreeFault.ensures.acted in
+    record {
+      cause = TreeFault;
+      is = refl;
+      left = λ state stands.
+          let action = rw c.base.ensures.base at (c.requested-request.ensures.action state stands) in
+          file-left c.requested-request.result c.args.number c.args.act c.args.devices.now c.perform_on.new.devices state c.args.memory.now _ _ _ action stands
+          (c.perform_on.ensures.stands state stands) stopped;
+      page = c.in-Err-TreeFault.ensures.page;
+      rooted = search rules;
+      wants = λ is. cc;
+    }

@@ -1,11 +1,12 @@
 use Rattle.std.proofs.Common.{◌≤◌}
+use Rattle.uxn_opcodes.specs.Rule.{moved}
 use Rattle.vector_loop.specs.Follows.{running, models_of}
 use Rattle.vector_loop.proofs.Vectors.{Along}
 use Rattle.vector_loop.proofs.vector.run_instructions.Given as goal
 
 abbrev pub invariant-loop-core : goal.invariant-loop-core
 invariant-loop-core g l = record {
-  along : Along (models_of g.T.Tree g.O.Sink g.E.Sink g.W.Watcher) (running l.fn.core l.fn.bus l.tally l.fn.watcher) l.core l.bus l.watcher
+  along : Along (models_of g.T.Tree g.O.Sink g.E.Sink g.W.Watcher) (running l.fn.core l.fn.bus l.tally l.fn.watcher) (moved l.core l.at) l.bus l.watcher
       l.budget l.left;
   some : 1 ≤ l.left;
 }

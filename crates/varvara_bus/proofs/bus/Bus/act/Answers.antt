@@ -2,7 +2,7 @@ use Rattle.std.proofs.Common.{[], ◌∷◌, refl}
 use Rattle.uxn_io_traits.specs.EndedLaws.{outside-of-out, outside-of-err}
 use Rattle.varvara_bus.specs.declared.ports.Action.TheVariants.{PutsDebugText, PutsOut, PutsErr}
 use Rattle.varvara_bus.specs.Effect.{debug_bytes, width_requested, height_requested, pixel_drawn, sprite_drawn, note_started}
-use Rattle.varvara_bus.proofs.Acts.{sink-ends, sink-ledger, devices_done, file-ends, file-ledger}
+use Rattle.varvara_bus.proofs.Acts.{sink-ends, sink-ledger, devices_done, file-ends, file-ledger, tree-refuses}
 use Rattle.varvara_bus.proofs.bus.Bus.act.Goals as goal
 
 pub returns-in-PutsDebugText-clause-acted : goal.returns-in-PutsDebugText-clause-acted
@@ -75,6 +75,7 @@ returns-in-ActsOnFile-clause-acted g c =
     (record {
       borrowed = record { devices = refl; tree = refl; out = refl; err = refl };
       files = c.act_on_file.ensures.stay;
+      refusals = λ none. tree-refuses g.T.Tree c.args.self.now.tree.now _ (c.act_on_file.ensures.untouched none);
       frames = c.act_on_file.ensures.frames;
       clock = c.act_on_file.ensures.clock;
       root = c.act_on_file.ensures.root;

@@ -24,6 +24,7 @@ pub returns-clause-same : goal.returns-clause-same
 returns-clause-same g c = record {
   borrowed = record { devices = refl; tree = refl; out = refl; err = refl };
   files = append-stays _ c.args.path.now c.args.piece.now _ _ _ c.append_all.ensures.ended;
+  refusals = λ none. record { exact = c.append_all.ensures.ended.counted.promise; none = c.append_all.ensures.refused };
   frames = refl;
   clock = refl;
   root = refl;
