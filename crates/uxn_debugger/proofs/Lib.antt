@@ -1,6 +1,7 @@
 pub mod Places
 pub mod Earlier
 pub mod Turns
+pub mod Forward
 pub mod LogLaw
 pub mod BitSets
 pub mod Tables

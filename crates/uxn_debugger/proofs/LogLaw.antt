@@ -1,22 +1,23 @@
 -- A debugger that is shown a run moment by moment keeps the log of the whole run.
 use Rattle.std.proofs.Common.{◌≡◌, ℕ, zero, suc, ◌+◌, ◌-◌, ◌<◌, ◌≤◌, Bool, true, false, cond, List, [], ◌∷◌, ◌++◌, length, take, drop, Option, Some, None, ◌⊎◌, inl, inr, refl, sym, ap, ◌∙◌, arith}
 use Rattle.std.specs.Prelude.{fold, min, max, nat_le}
-use Rattle.std.specs.List.{position_or_len}
+use Rattle.std.specs.List.{position_or_len, list_any}
 use Rattle.std.proofs.lemmas.Bool.{cases_Bool, false≢true, eqb-true, eqb-false}
 use Rattle.std.proofs.lemmas.Bool.Decides.{nat_tests}
 use Rattle.std.proofs.lemmas.List.{length-drop}
 use Rattle.tal_words.specs.declared.name.Label.{Label}
-use Rattle.uxn_undo.specs.Kept.{Kept, kept_at, number_held}
+use Rattle.uxn_undo.specs.Kept.{Kept, number_held}
 use Rattle.debug_commands.specs.declared.command.DebugCommand.{DebugCommand}
-use Rattle.debug_commands.specs.declared.command.DebugCommand.TheVariants.{Break, Delete, Run, Step, Back, Stacks, Mem, PortPage, Here}
+use Rattle.debug_commands.specs.declared.command.DebugCommand.TheVariants.{Run, Step, Back}
 use Rattle.uxn_debugger.specs.declared.place.Place.{Place}
 use Rattle.uxn_debugger.specs.declared.place.Place.TheVariants.{Before, End}
 use Rattle.uxn_debugger.specs.declared.place.Goal.{Goal}
 use Rattle.uxn_debugger.specs.declared.place.Goal.TheVariants.{FirstMoment, MomentAfter, BreakAddress, Nothing}
 use Rattle.uxn_debugger.specs.Printing.{MomentView, printed}
 use Rattle.uxn_debugger.specs.Log.{Shown, before, at_end, AddressSet, IsRegular, no_breaks, breaks_after, Stand, view_at, reach, index_after, stand_at, after_command, log_of}
-use Rattle.uxn_debugger.specs.Watching.{Watching, new_watching, observed_back, next_stop, back_after, unless_stopped, goal_of, obeyed, done, unless_it_goes, arrival, arrived, is_awaited, goal_later, keeping, with_kept, shown, ended, KeepsTheLog}
+use Rattle.uxn_debugger.specs.Watching.{Watching, is_back, new_watching, observed_back, next_stop, back_after, unless_stopped, goal_of, obeyed, done, unless_it_goes, arrival, arrived, is_awaited, goal_later, with_kept, shown, ended, KeepsTheLog}
 use Rattle.uxn_debugger.proofs.Obeying.{done-none, done-more}
+use Rattle.uxn_debugger.proofs.Forward.{log_without}
 use Rattle.uxn_debugger.proofs.Places.{within, drop_next, first_passes, first_fails}
 use Rattle.uxn_debugger.proofs.Earlier.{UndoLaws, undo_at, held_here, held_within, keeps, sees_back, now_before, now_at_end, comes_before, comes_at_end}
 use Rattle.uxn_debugger.proofs.Turns.{met_behind, IsFound, Finds, finds_before, finds_at_end}
@@ -35,6 +36,7 @@ module _ (labels : List Label) (moments : List Shown) (end : Shown) where
     goal = goal;
     breaks = breaks;
     log = log;
+    goes_back = true;
     undo = undo_at labels moments end i;
   }
 
@@ -74,11 +76,10 @@ module _ (labels : List Label) (moments : List Shown) (end : Shown) where
   after-is stand command = refl
 
   -- nothing is done where no command is left
-  nothing-later : (labels : List Label) (commands : List DebugCommand) (breaks : AddressSet) (log : List ℕ) (undo : List Kept) (left : List Shown)
-      → log_at_end (record { commands = commands; labels = labels; goal = Nothing; breaks = breaks; log = log; undo = undo }) left ≡ log
+  nothing-later : (held : Watching) (left : List Shown) → log_at_end (record held { goal = Nothing }) left ≡ held.log
   unfolding shown ended
-  nothing-later labels commands breaks log undo [] = refl
-  nothing-later labels commands breaks log undo (s ∷ left) = nothing-later labels commands breaks log (keeping (kept_at s.core s.page.stored) undo) left
+  nothing-later held [] = refl
+  nothing-later held (s ∷ left) = nothing-later (with_kept s held) left
 
   module _ (laws : UndoLaws) (regular : IsRegular moments end) where
     -- so many moments can be gone back
@@ -264,12 +265,7 @@ module _ (labels : List Label) (moments : List Shown) (end : Shown) where
           (finds_before labels moments end laws regular i breaks s left is back under)
       turn_before (Step count) rest waiting back goal breaks log under = turn_step count rest waiting back goal breaks log under
       turn_before (Back count) rest waiting back goal breaks log under = inl (stays_back i (Before s.moment) back count waiting goal breaks log le under refl)
-      turn_before (Break a) rest waiting back goal breaks log under = inl (record { none = refl; index = refl; under = under })
-      turn_before (Delete a) rest waiting back goal breaks log under = inl (record { none = refl; index = refl; under = under })
-      turn_before Stacks rest waiting back goal breaks log under = inl (record { none = refl; index = refl; under = under })
-      turn_before (Mem a n) rest waiting back goal breaks log under = inl (record { none = refl; index = refl; under = under })
-      turn_before PortPage rest waiting back goal breaks log under = inl (record { none = refl; index = refl; under = under })
-      turn_before Here rest waiting back goal breaks log under = inl (record { none = refl; index = refl; under = under })
+      turn_before command rest waiting back goal breaks log under = inl (record { none = refl; index = refl; under = under })
 
       sees_before : Sees i (before s)
       sees_before = sees_back labels moments end laws regular i s.core s.page.read (Before s.moment)
@@ -306,16 +302,12 @@ module _ (labels : List Label) (moments : List Shown) (end : Shown) where
       index-later Nothing breaks waits other = absurd waits
 
       still_waits : (goal : Goal) (breaks : AddressSet) (address : ℕ) → IsWaiting goal → is_awaited goal breaks address ≡ false → IsWaiting (goal_later goal)
-      still_waits FirstMoment breaks address waits other = tt
-      still_waits (MomentAfter n) breaks address waits other = tt
-      still_waits BreakAddress breaks address waits other = tt
       still_waits Nothing breaks address waits other = waits
+      still_waits _ breaks address waits other = tt
 
       met-later : (goal : Goal) (breaks : AddressSet) (log : List ℕ) (index : ℕ) → met (goal_later goal) breaks log index ≡ met goal breaks log index
-      met-later FirstMoment breaks log index = refl
       met-later (MomentAfter n) breaks log index = refl
-      met-later BreakAddress breaks log index = refl
-      met-later Nothing breaks log index = refl
+      met-later _ breaks log index = refl
 
       comes-awaited : (commands : List DebugCommand) (goal : Goal) (breaks : AddressSet) (log : List ℕ) → IsWaiting goal → is_awaited goal breaks s.moment.address ≡ true
           → log_at_end (holding i commands goal breaks log) (s ∷ left) ≡ log_from (met goal breaks log (met_at goal breaks i (s ∷ left))) commands
@@ -323,8 +315,8 @@ module _ (labels : List Label) (moments : List Shown) (end : Shown) where
           let none : i - 0 ≡ i = omega arith in
           let now = now_before labels moments end laws regular i s left is in
           ap (λ h. log_at_end h left) (shows-awaited commands goal breaks log awaited)
-          ∙ done-all finish i (before s) le sees_before turn_before (λ held. nothing-later held.labels [] held.breaks held.log (keeping (kept_at s.core s.page.stored) held.undo) left) commands commands 0 goal breaks (log ++ arrival goal labels (before s))
-          (omega arith)
+          ∙ done-all finish i (before s) le sees_before turn_before (λ held. nothing-later (with_kept s (record held { commands = [] })) left) commands commands 0 goal breaks
+          (log ++ arrival goal labels (before s)) (omega arith)
           ∙ ap (λ index. log_from (standing index i breaks (log ++ arrival goal labels (before s))) commands) none
           ∙ ap (λ view. log_from (standing i i breaks (log ++ arrival goal labels view)) commands) now
           ∙ sym (ap (λ index. log_from (met goal breaks log index) commands) (index-awaited goal breaks waits awaited))
@@ -375,12 +367,7 @@ module _ (labels : List Label) (moments : List Shown) (end : Shown) where
           inl (record { none = refl; index = step_at_end back count under; under = omega arith })
       turn_at_end (Back count) rest waiting back goal breaks log under =
           inl (stays_back i (End end.moment) back count waiting goal breaks log (omega arith) under refl)
-      turn_at_end (Break a) rest waiting back goal breaks log under = inl (record { none = refl; index = refl; under = under })
-      turn_at_end (Delete a) rest waiting back goal breaks log under = inl (record { none = refl; index = refl; under = under })
-      turn_at_end Stacks rest waiting back goal breaks log under = inl (record { none = refl; index = refl; under = under })
-      turn_at_end (Mem a n) rest waiting back goal breaks log under = inl (record { none = refl; index = refl; under = under })
-      turn_at_end PortPage rest waiting back goal breaks log under = inl (record { none = refl; index = refl; under = under })
-      turn_at_end Here rest waiting back goal breaks log under = inl (record { none = refl; index = refl; under = under })
+      turn_at_end command rest waiting back goal breaks log under = inl (record { none = refl; index = refl; under = under })
 
       sees_at_end : Sees i (at_end end)
       sees_at_end = sees_back labels moments end laws regular i end.core end.page.read (End end.moment)
@@ -396,10 +383,8 @@ module _ (labels : List Label) (moments : List Shown) (end : Shown) where
           → ended (holding i commands goal breaks log) end
           ≡ done (at_end end) 0 commands (holding i commands goal breaks (log ++ arrival goal labels (at_end end)))
       unfolding ended arrived
-      ends commands FirstMoment breaks log waits = refl
-      ends commands (MomentAfter n) breaks log waits = refl
-      ends commands BreakAddress breaks log waits = refl
       ends commands Nothing breaks log waits = absurd waits
+      ends commands _ breaks log waits = refl
 
       comes-end : Comes i []
       comes-end commands goal breaks log waits =
@@ -423,5 +408,12 @@ none_held (suc n) = refl
 pub keeps_the_log : UndoLaws → KeepsTheLog
 unfolding log_of
 keeps_the_log laws commands labels moments end regular =
-    ap (λ undo. (ended (fold shown (record (new_watching commands labels) { undo = undo }) moments) end).log) (none_held (number_held []))
-    ∙ comes labels moments end laws regular moments 0 refl (omega arith) commands FirstMoment no_breaks [] tt
+    let log : Bool → List Kept → List ℕ = λ goes_back undo. (ended (fold shown (record (new_watching commands labels) { goes_back = goes_back; undo = undo }) moments) end).log in
+    let kept : log true [] ≡ log_of labels moments end commands =
+    ap (log true) (none_held (number_held [])) ∙ comes labels moments end laws regular moments 0 refl (omega arith) commands FirstMoment no_breaks [] tt in
+    elim (cases_Bool (list_any is_back commands)) [
+      | inl some ↦ ap (λ goes_back. log goes_back []) some ∙ kept
+      | inr none ↦
+          ap (λ goes_back. log goes_back []) none
+          ∙ log_without moments end (record (new_watching commands labels) { goes_back = true }) none ∙ kept
+    ]

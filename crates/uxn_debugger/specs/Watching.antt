@@ -2,6 +2,7 @@
 use Rattle.std.specs.Prelude.{ℕ, zero, suc, ◌+◌, ◌-◌, ◌%◌, Bool, true, false, ◌==◌, nat_le}
 use Rattle.std.specs.Prelude.{if◌then◌else◌, List, [], ◌∷◌, ◌++◌, length, take}
 use Rattle.std.specs.Prelude.{Option, Some, None, ◌≡◌, drop, fold, unwrap_or, slice_get}
+use Rattle.std.specs.List.{list_any}
 use Rattle.uxn_opcodes.specs.declared.Core.{Core}
 use Rattle.tal_words.specs.declared.name.Label.{Label}
 use Rattle.vector_loop.specs.declared.watch.Moment.{Moment}
@@ -18,20 +19,33 @@ use Rattle.uxn_debugger.specs.Printing.{MomentView, moment_at, place_observed, p
 use Rattle.uxn_debugger.specs.Bits.{addresses_in}
 use Rattle.uxn_debugger.specs.Log.{AddressSet, no_breaks, breaks_after, Shown, before, at_end, IsRegular, log_of}
 
--- the commands that are left, the labels, what it waits for, the break addresses, the log so far, and the moments that are held, the
--- newest first
+-- the commands that are left, the labels, what it waits for, the break addresses, the log so far, whether moments are kept, and those
+-- that are held, the newest first
 pub record Watching : Type 0 where
   pub commands : List DebugCommand
   pub labels : List Label
   pub goal : Goal
   pub breaks : AddressSet
   pub log : List ℕ
+  pub goes_back : Bool
   pub undo : List Kept
 
--- nothing was shown yet
+-- a command that goes back to a moment that is kept
+abbrev pub is_back : DebugCommand → Bool
+is_back (Back count) = true
+is_back _ = false
+
+-- nothing was shown yet; moments are kept where some command goes back
 abbrev pub new_watching : List DebugCommand → List Label → Watching
-new_watching commands labels =
-    record { commands = commands; labels = labels; goal = FirstMoment; breaks = no_breaks; log = []; undo = [] }
+new_watching commands labels = record {
+  commands = commands;
+  labels = labels;
+  goal = FirstMoment;
+  breaks = no_breaks;
+  log = [];
+  goes_back = list_any is_back commands;
+  undo = [];
+}
 
 -- what is observed so many moments before the one that is shown, by what is kept of them
 abbrev pub observed_view : MomentView → List Kept → ℕ → Option Kept → MomentView
@@ -138,8 +152,11 @@ followed held moment =
 abbrev pub keeping : Kept → List Kept → List Kept
 keeping kept held = take (number_held (kept ∷ held)) (kept ∷ held)
 
+-- it is only where some command goes back
 abbrev pub with_kept : Shown → Watching → Watching
-with_kept moment held = record held { undo = keeping (kept_at moment.core moment.page.stored) held.undo }
+with_kept moment held = record held {
+  undo = if held.goes_back then keeping (kept_at moment.core moment.page.stored) held.undo else held.undo;
+}
 
 -- a moment is shown
 unfoldable pub shown : Watching → Shown → Watching
@@ -161,6 +178,7 @@ held_by debugger = record {
   goal = debugger.goal;
   breaks = addresses_in debugger.breaks.bits;
   log = debugger.log.items;
+  goes_back = debugger.goes_back;
   undo = debugger.undo;
 }
 

@@ -1,6 +1,7 @@
 //! The debugger: a watcher that does commands and keeps a log.
 
 ghost use Rattle.std.specs.Prelude.{◌≡◌, ◌≤◌, ℕ, List, [], length, if◌then◌else◌, IfOk, IfSome, OnOk};
+ghost use Rattle.std.specs.List.{list_any};
 ghost use Rattle.vector_loop.specs.Watch.{Page, IsPage};
 ghost use Rattle.uxn_debugger.specs.Printing.{view};
 ghost use Rattle.uxn_debugger.specs.Watching.{
@@ -14,6 +15,7 @@ ghost use Rattle.uxn_debugger.specs.Watching.{
   goal_of,
   held_by,
   is_awaited,
+  is_back,
   is_stop,
   new_watching,
   next_stop,
@@ -46,12 +48,13 @@ pub struct Debugger<'a> {
     goal: Goal,
     breaks: Breaks,
     log: Vec<u8>,
+    goes_back: bool,
     undo: Undo,
 }
 
 impl<'a> Debugger<'a> {
     /// A debugger that does these commands, with an empty log. It takes no memory. The labels are those that the log
-    /// names, and `undo` keeps the moments that commands go back to.
+    /// names, and `undo` keeps the moments that commands go back to, where some command is `back`.
     pub fn new(
         alloc: Global,
         commands: Vec<DebugCommand>,
@@ -61,6 +64,7 @@ impl<'a> Debugger<'a> {
         requires { undo ≡ [] }
         ensures { held_by result ≡ new_watching commands.items labels.now }
     {
+        let goes_back = has_back(commands.as_slice());
         Debugger {
             commands,
             next: 0,
@@ -68,6 +72,7 @@ impl<'a> Debugger<'a> {
             goal: Goal::FirstMoment,
             breaks: Breaks::new(),
             log: Vec::new(alloc),
+            goes_back,
             undo,
         }
     }
@@ -111,12 +116,15 @@ impl<'a> Debugger<'a> {
         self.arrive(core, ports, Place::Before(moment))
     }
 
-    // Keeps one more moment.
+    // Keeps one more moment, where some command goes back.
     #[inline(always)]
     fn keep<P: Ports>(&mut self, core: &Core, ports: &P)
         ensures { (page : Page) (moment : Moment) → IsPage (P.rules.reads ports.now core.now) (P.stored ports.now) page
             → held_by self.new ≡ with_kept (shown_of core.now page moment) (held_by self.old) }
     {
+        if !self.goes_back {
+            return;
+        }
         the_newest_moments_are_held();
         has_all_ports(ports.stored_page());
         self.undo.keep(core, ports);
@@ -268,6 +276,20 @@ impl<'a> Debugger<'a> {
         put_printed(&mut self.log, self.labels, &scene, ports, reach, command)?;
         Ok(there)
     }
+}
+
+// Whether a command goes back to a moment that is kept.
+fn is_back(command: DebugCommand) -> bool
+    ensures { result ≡ is_back command }
+{
+    matches!(command, DebugCommand::Back(_))
+}
+
+// Whether some command does.
+fn has_back(commands: &[DebugCommand]) -> bool
+    ensures { result ≡ list_any is_back commands.now }
+{
+    commands.iter().any(|command| is_back(*command))
 }
 
 // A page has a byte for each port.

@@ -1,23 +1,18 @@
 -- A bus over nothing outside: what it represents, and what an instruction over it leaves.
-use Rattle.std.proofs.Common.{◌≡◌, refl, ap, ◌∙◌, inl, inr, arith}
-use Rattle.std.specs.Prelude.{None, Ok, Err}
+use Rattle.uxn_line.proofs.Common.{◌≡◌, refl, ap, ◌∙◌, inl, inr, arith, None, Ok, Err, Core, Devices, DeviceState, instruction_effect, Rests}
+use Rattle.uxn_line.proofs.Common.{MachineHasDone}
 use Rattle.uxn_io_traits.specs.Faults.{Ledger}
 use Rattle.uxn_io_traits.specs.Nothing.{state_of_no_sink, state_of_no_tree}
 use Rattle.uxn_io_traits.specs.declared.nothing.NoSink.{NoSink}
 use Rattle.uxn_io_traits.specs.declared.nothing.NoTree.{NoTree}
-use Rattle.uxn_opcodes.specs.declared.Core.{Core}
 use Rattle.uxn_opcodes.specs.declared.Stop.{Stop}
 use Rattle.uxn_opcodes.specs.declared.Stop.TheVariants.{TreeFault, SinkFault, NoMemory}
 use Rattle.uxn_opcodes.specs.declared.Turn.{Turn}
 use Rattle.uxn_opcodes.specs.Ports.{result_blame}
 use Rattle.uxn_opcodes.specs.Instruction.{Instruction}
 use Rattle.varvara_bus.specs.declared.bus.Bus.{Bus}
-use Rattle.varvara_bus.specs.declared.devices.Devices.{Devices}
-use Rattle.varvara_bus.specs.State.{DeviceState}
 use Rattle.varvara_bus.specs.Bus.{BusRepresents, contents_on, BusModel, meaning_of, bus_rules, bus_faults}
-use Rattle.varvara_bus.specs.Model.{instruction_effect}
 use Rattle.varvara_bus.specs.InstructionLaws.{instruction-done, instruction-fault}
-use Rattle.uxn_line.specs.Machines.{Rests, MachineHasDone}
 
 -- what nothing tells, and what it takes
 abbrev pub nothing : BusModel NoTree NoSink NoSink

@@ -1,22 +1,21 @@
 -- What comes next to a machine behind another: the bytes of the ring, those that are still to be written, and the end.
-use Rattle.std.proofs.Common.{◌≡◌, ◌≢◌, ℕ, zero, suc, ◌+◌, ◌-◌, ◌≤◌, ◌↔◌, true, false, cond, List, [], ◌∷◌, ◌++◌, take, drop, map, length, Some, None, refl, sym, ap, subst, ◌∙◌, arith, append_assoc, length-append}
+use Rattle.uxn_line.proofs.Common.{◌≡◌, ◌≢◌, ℕ, zero, suc, ◌+◌, ◌-◌, ◌≤◌, ◌↔◌, true, false, cond, List, [], ◌∷◌, ◌++◌, take, drop, map, length, refl}
+use Rattle.uxn_line.proofs.Common.{sym, ap, ◌∙◌, arith, append_assoc, length-append, Option, Input, EndInput, PendingInput, OfEvent, is_over, Trace}
+use Rattle.uxn_line.proofs.Common.{ConsoleByte, pending_inputs_of, console_byte_of, counted_input, Place, place, PlaceHasEnded, holding, giving_by}
+use Rattle.uxn_line.proofs.Common.{next_place, no_outputs, turn, IsForConsole, put_in, LineJob, IsJob, AreOfConsole, first_place, rom_at, script_at}
+use Rattle.uxn_line.proofs.Common.{stream, after, next_pending, given_after}
+use Rattle.std.proofs.Common.{Some, None}
 use Rattle.std.proofs.Math.Seq.{drop-append_seam}
 use Rattle.std.proofs.lemmas.List.{length-take-le}
-use Rattle.std.specs.Prelude.{Option}
+use Rattle.std.specs.Prelude.{IsTrue}
+use Rattle.std.specs.List.{list_all}
+use Rattle.std.proofs.lemmas.Bool.{and_parts}
 use Rattle.play_script.specs.declared.script.Event.{Event}
-use Rattle.play_script.specs.declared.script.Event.TheVariants.{Input, EndInput, Frame, Device, Shot, Expect}
-use Rattle.vector_loop.specs.declared.pending_input.PendingInput.{PendingInput}
-use Rattle.vector_loop.specs.declared.pending_input.PendingInput.TheVariants.{OfEvent}
-use Rattle.vector_loop.specs.State.{is_over}
-use Rattle.vector_loop.specs.Trace.{Trace}
-use Rattle.vector_loop.specs.Run.{ConsoleByte, arguments_given}
-use Rattle.vector_loop.specs.PendingInputs.{of_argument, pending_inputs_of, console_byte_of, counted_input}
-use Rattle.vector_loop.specs.Places.{Place, place, PlaceHasEnded, holding, instruction_step, giving_by, next_place, step, after_steps}
-use Rattle.uxn_line.specs.Places.{no_outputs, turn, IsForConsole, put_in}
-use Rattle.uxn_line.specs.Streams.{LineJob, IsJob, IsOfConsole, AreOfConsole, first_place, rom_at, script_at, stream, after}
-use Rattle.uxn_line.specs.Members.{next_pending}
-use Rattle.uxn_line.specs.Standing.{given_after}
-use Rattle.uxn_line.proofs.Turned.{begins-pending_inputs}
+use Rattle.vector_loop.specs.Run.{arguments_given}
+use Rattle.vector_loop.specs.PendingInputs.{of_argument}
+use Rattle.vector_loop.specs.Places.{instruction_step, step, after_steps}
+use Rattle.uxn_line.specs.Streams.{is_of_console}
+use Rattle.uxn_line.proofs.Turned.{vector-gives}
 use Rattle.uxn_line.proofs.Turning.{script-is, follows}
 
 -- a prefix of a list, and the rest of it
@@ -26,7 +25,7 @@ record Parted (all left : List PendingInput) : Type 0 where
 
 giving-rest : (budget : ℕ) (pending_input : PendingInput) (byte : Option ConsoleByte) (done : Trace) (pending_inputs : List PendingInput)
     → (giving_by budget no_outputs pending_input byte done pending_inputs).pending_inputs ≡ pending_inputs
-giving-rest budget pending_input (Some byte) done pending_inputs = begins-pending_inputs budget (holding byte (counted_input pending_input done.last)) done pending_inputs
+giving-rest budget pending_input (Some byte) done pending_inputs = (vector-gives budget (holding byte (counted_input pending_input done.last)) done pending_inputs).0
 giving-rest budget pending_input None done pending_inputs = refl
 
 turn-parts : (budget left : ℕ) (done : Trace) (pending_inputs : List PendingInput) → Parted pending_inputs (next_place budget no_outputs left done pending_inputs).pending_inputs
@@ -58,18 +57,14 @@ AreForConsole : List PendingInput → Type 0
 AreForConsole [] = Unit {0}
 AreForConsole (pending_input ∷ pending_inputs) = IsForConsole pending_input × AreForConsole pending_inputs
 
-event-is : (event : Event) → IsOfConsole event → IsForConsole (OfEvent event)
-event-is (Input byte) is = refl
-event-is EndInput is = refl
-event-is Frame is = absurd is
-event-is (Device input) is = absurd is
-event-is Shot is = absurd is
-event-is (Expect port byte) is = absurd is
+event-is : (event : Event) → IsTrue (is_of_console event) → IsForConsole (OfEvent event)
+event-is event is = grind arith
 
 events-are : (events : List Event) → AreOfConsole events → AreForConsole (map OfEvent events)
 unfolding AreForConsole
 events-are [] are = tt
-events-are (event ∷ events) are = (event-is event are.0, events-are events are.1)
+events-are (event ∷ events) are =
+    let parts = and_parts (is_of_console event) (list_all is_of_console events) are in (event-is event parts.0, events-are events parts.1)
 
 pending_inputs-are : (bytes : List ConsoleByte) (events : List Event) → AreOfConsole events → AreForConsole (map of_argument bytes ++ map OfEvent events)
 unfolding AreForConsole
@@ -87,8 +82,7 @@ next-is-for job is machine count pending_input pending_inputs next =
     let script = script_at job machine in
     let parts = turns-parts job.budget (first_place job.budget (rom_at job machine) script) count in
     let all : pending_inputs_of script ≡ parts.prefix ++ pending_input ∷ pending_inputs = parts.parts ∙ ap (λ left. parts.prefix ++ left) next in
-    let P : List PendingInput → Type 0 = λ g. AreForConsole g in
-    first-is-for parts.prefix pending_input pending_inputs (subst P all (pending_inputs-are (arguments_given script.arguments) script.events (script-is job is machine)))
+    first-is-for parts.prefix pending_input pending_inputs (rw all at (pending_inputs-are (arguments_given script.arguments) script.events (script-is job is machine)))
 
 -- bytes, and then the end
 pub inputs : List ℕ → List PendingInput
@@ -112,23 +106,13 @@ rest-of-inputs (byte ∷ bytes) (pending_input ∷ prefix) left is few =
     rest-of-inputs bytes prefix left (ap (λ all. drop 1 all) is) (omega (arith, few))
 
 -- what is taken with one more
-take-one-more : (bytes : List ℕ) (count byte : ℕ) (more : List ℕ) → drop count bytes ≡ byte ∷ more → take (suc count) bytes ≡ take count bytes ++ byte ∷ []
-take-one-more [] zero byte more is = absurd (cc)
-take-one-more [] (suc count) byte more is = absurd (cc)
-take-one-more (first ∷ bytes) zero byte more is = let same : first ≡ byte = cc in ap (λ b. b ∷ []) same
-take-one-more (first ∷ bytes) (suc count) byte more is = ap (λ all. first ∷ all) (take-one-more bytes count byte more is)
-
-take-none-more : (bytes : List ℕ) (count : ℕ) → drop count bytes ≡ [] → take (suc count) bytes ≡ take count bytes
-take-none-more [] zero is = refl
-take-none-more [] (suc count) is = refl
-take-none-more (first ∷ bytes) zero is = absurd (cc)
-take-none-more (first ∷ bytes) (suc count) is = ap (λ all. first ∷ all) (take-none-more bytes count is)
-
 taken-one-more : (bytes : List ℕ) (count : ℕ) (ring rest : List ℕ) → drop count bytes ≡ ring ++ rest → (ring ≡ [] → rest ≡ [])
     → take count bytes ++ ring ≡ take (suc count) bytes ++ drop 1 ring
-taken-one-more bytes count [] rest is none = ap (λ all. all ++ []) (sym (take-none-more bytes count (is ∙ none refl)))
-taken-one-more bytes count (byte ∷ ring) rest is none =
-    sym (append_assoc (take count bytes) (byte ∷ []) ring) ∙ ap (λ all. all ++ ring) (sym (take-one-more bytes count byte (ring ++ rest) is))
+taken-one-more bytes zero [] rest is none = rw (is ∙ none refl) refl
+taken-one-more bytes zero (byte ∷ ring) rest is none = rw is refl
+taken-one-more [] (suc count) [] rest is none = refl
+taken-one-more [] (suc count) (byte ∷ ring) rest is none = absurd (cc)
+taken-one-more (first ∷ bytes) (suc count) ring rest is none = ap (λ all. first ∷ all) (taken-one-more bytes count ring rest is none)
 
 -- the first of what comes is the next pending input
 record FirstOf (ring : List ℕ) (all : List PendingInput) : Type 0 where

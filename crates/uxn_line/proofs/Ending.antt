@@ -1,33 +1,23 @@
 -- What a line has put is a prefix of the stream of its last machine.
-use Rattle.std.proofs.Common.{◌≡◌, ℕ, zero, suc, ◌+◌, ◌<◌, ◌↔◌, ◌||◌, inl, inr, Bool, true, false, List, [], ◌∷◌, ◌++◌, length, refl, sym, ap, subst, ◌∙◌, arith, append_assoc, length-append}
-use Rattle.std.specs.Prelude.{Some, Result, Ok, Err, IfOk, OnErr, is_err, slice_get}
+use Rattle.uxn_line.proofs.Common.{◌≡◌, ℕ, zero, suc, ◌+◌, ◌<◌, ◌↔◌, ◌||◌, inl, inr, Bool, true, false, List, [], ◌∷◌, ◌++◌, length, refl, sym, ap}
+use Rattle.uxn_line.proofs.Common.{subst, ◌∙◌, arith, append_assoc, length-append, Result, Ok, Err, IfOk, cases_eq, SinkEnded, sink-as-it-was}
+use Rattle.uxn_line.proofs.Common.{SinkState, Line, Ran, Gave, Waits, Held, PlaceHasEnded, put_in, LineJob, IsJob, stream, after, Turned}
+use Rattle.uxn_line.proofs.Common.{machine_place, LineRepresents, last_machine, written_in, IsWaiting, IsStill, Leads, WritesLast, IsUnderWay}
+use Rattle.uxn_line.proofs.Common.{LineReaches, work_left, WorksOn}
+use Rattle.circular_buffer.proofs.Places.{slice_get-some}
+use Rattle.std.specs.Prelude.{OnErr, is_err}
 use Rattle.std.proofs.lemmas.Bool.{true≢false}
 use Rattle.std.proofs.lemmas.List.{take-append-le}
-use Rattle.uxn_io_traits.specs.Ended.{SinkEnded}
-use Rattle.uxn_io_traits.specs.EndedLaws.{sink-as-it-was, sink-then}
-use Rattle.uxn_io_traits.specs.State.{SinkState}
+use Rattle.uxn_io_traits.specs.EndedLaws.{sink-then}
 use Rattle.uxn_io_traits.specs.Known.{extended}
 use Rattle.uxn_io_traits.specs.declared.sinks.Failed.{Failed}
-use Rattle.uxn_line.specs.declared.line.Line.{Line}
 use Rattle.uxn_line.specs.declared.line.Moved.{Moved}
-use Rattle.uxn_line.specs.declared.line.Moved.TheVariants.{Ran, Gave, Waits, Held, Ended}
-use Rattle.vector_loop.specs.Places.{PlaceHasEnded}
-use Rattle.uxn_line.specs.Places.{put_in}
+use Rattle.uxn_line.specs.declared.line.Moved.TheVariants.{Ended}
 use Rattle.uxn_line.specs.Machines.{handed_on}
-use Rattle.uxn_line.specs.Streams.{LineJob, IsJob, stream, after}
-use Rattle.uxn_line.specs.Standing.{Turned, machine_place, LineRepresents}
-use Rattle.uxn_line.specs.Moves.{last_machine, written_in, turned_by, is_move, IsWaiting, IsStill, Cause, Leads, Goes, WritesLast, Fails, TurnCame, IsUnderWay, StaysUnderWay, LineReaches, GoesOnWith, LineStops, Went}
-use Rattle.uxn_line.specs.Work.{work_left, WorksOn}
+use Rattle.uxn_line.specs.Moves.{turned_by, is_move, Cause, Goes, Fails, TurnCame, StaysUnderWay, GoesOnWith, LineStops, Went}
 use Rattle.uxn_line.proofs.MachineTurns.{run-put}
 use Rattle.uxn_line.proofs.Turning.{follows}
-use Rattle.uxn_line.proofs.Standings.{same-or-not}
 use Rattle.uxn_line.proofs.Running.{leads-nowhere}
-
--- a place within a list has an item
-pub some-there : {X : Type 0} (xs : List X) (place : ℕ) → place < length xs → (x : X) × (slice_get xs place ≡ Some x)
-some-there [] place within = absurd (omega (arith, within))
-some-there (x ∷ xs) zero within = (x, refl)
-some-there (x ∷ xs) (suc place) within = some-there xs place (omega (arith, within))
 
 -- what was written is a prefix of the stream
 pub stream-is : (job : LineJob) → IsJob job → (machine count : ℕ) → (rest : List ℕ) × (stream job machine ≡ put_in (after job machine count) ++ rest)
@@ -59,7 +49,7 @@ goes-on-with : (job : LineJob) (line : Line) (turned : Turned) (machine byte : �
 goes-on-with job line turned machine byte stands writes =
     let count = stands.machines in
     let last = writes.last in
-    let there = some-there line.members.items machine (omega (arith, last, count)) in
+    let there = slice_get-some line.members.items machine (omega (arith, last, count)) in
     let at = (stands.each machine there.0 there.1).stands.stands in
     let place = machine_place job turned machine in
     let vector = writes.vector in
@@ -109,11 +99,10 @@ stop-then a b c o p q first stopped = record {
 pub turn-went : (machine : ℕ) (a b : Line) (o p : SinkState) (result : Result Moved Failed) → TurnCame machine a b o p result → Went a b o p result
 turn-went machine a b o p (Ok moved) came = (turned_by moved machine, record { bytes = came.bytes; put = came.put; leads = came.came.leads })
 turn-went machine a b o p (Err failed) fails =
-    let P : Line → Type 0 = λ line. Leads (λ turned. turned) [] a line in
     record {
       to = λ turned. turned;
       here = o;
-      goes = record { bytes = []; put = sink-as-it-was o; leads = subst P (sym fails.same) (leads-nowhere a) };
+      goes = record { bytes = []; put = sink-as-it-was o; leads = rw fails.same (leads-nowhere a) };
       byte = fails.byte;
       next = λ job turned stands. goes-on-with job a turned machine fails.byte stands (fails.cause job turned stands);
       put = fails.put;
@@ -139,8 +128,7 @@ sink-first first more a b p =
 module _ (job : LineJob) (begun : SinkState) (a b : Line) (o p : SinkState) (way : IsUnderWay job begun a o) where
   pub put-more : (to : Turned → Turned) → Goes to a b o p → SinkEnded (written_in job (to way.turned)) false begun p
   put-more to goes =
-      let P : List ℕ → Type 0 = λ bytes. SinkEnded bytes false begun p in
-      subst P (sym (goes.leads job way.turned way.stands).1) (sink-then (written_in job way.turned) goes.bytes false begun o p way.put goes.put)
+      rw (goes.leads job way.turned way.stands).1 (sink-then (written_in job way.turned) goes.bytes false begun o p way.put goes.put)
 
   pub way-on : LineReaches a b o p → IsUnderWay job begun b p
   way-on reached = record {
@@ -155,8 +143,7 @@ way-stops job begun a b o p way stopped =
     let written = written_in job (stopped.to way.turned) in
     let next = stopped.next job way.turned way.stands in
     let byte = stopped.byte in
-    let P : List ℕ → Type 0 = λ bytes. SinkEnded bytes true begun p in
-    subst P (append_assoc written (byte ∷ []) next.0 ∙ sym next.1)
+    rw (append_assoc written (byte ∷ []) next.0 ∙ sym next.1) at
     (sink-first (written ++ byte ∷ []) next.0 begun p
     (sink-then written (byte ∷ []) true begun stopped.here p (put-more job begun a b o stopped.here way stopped.to stopped.goes) stopped.put))
 
@@ -199,7 +186,7 @@ module _ (machine : ℕ) (line line_now : Line) (out out_now : SinkState) where
       (λ e. absurd (cc), λ waits. absurd (omega (arith, vector, waiting-idle job line turned machine waits)))
 
   pub turn-same : (result : Result Moved Failed) → Comes result → IfOk result (λ moved. is_move moved ≡ false → line_now ≡ line)
-  turn-same (Ok moved) came = λ is. (let P : Bool → Type 0 = λ b. WorksOn b line line_now in subst P is came.came.works)
+  turn-same (Ok moved) came = λ is. (rw is at came.came.works)
   turn-same (Err failed) fails = tt
 
   pub turn-machines : (result : Result Moved Failed) → Comes result → length line_now.members.items ≡ length line.members.items
@@ -212,19 +199,15 @@ module _ (machine : ℕ) (line line_now : Line) (out out_now : SinkState) where
   turn-way (Err failed) fails job begun way =
       way-stops job begun line line_now out out_now way (turn-went machine line line_now out out_now (Err failed) fails)
 
-pub neither : (moved more : Bool) → (moved || more) ≡ false → (moved ≡ false) × (more ≡ false)
-neither true more is = absurd (cc)
-neither false more is = (refl, is)
-
 -- a machine that is still in a line where nothing was moved so far was so at the beginning
 pub still-since : (moved : Bool) (begun line : Line) (machine : ℕ) → moved ≡ false → WorksOn moved begun line → IsStill line machine → IsStill begun machine
 still-since true begun line machine is works still = absurd (cc)
-still-since false begun line machine is works still = (let P : Line → Type 0 = λ l. IsStill l machine in subst P works still)
+still-since false begun line machine is works still = (rw works at still)
 
 -- one machine more was given turns
 pub still-more : (begun : Line) (index : ℕ) → ((machine : ℕ) → machine < index → IsStill begun machine) → IsStill begun index
     → (machine : ℕ) → machine < index + 1 → IsStill begun machine
-still-more begun index before last machine within = elim (same-or-not machine index) [
-  | inl same ↦ (let P : ℕ → Type 0 = λ m. IsStill begun m in subst P (sym same) last)
+still-more begun index before last machine within = elim (cases_eq machine index) [
+  | inl same ↦ (rw same last)
   | inr apart ↦ before machine (omega (arith, within, apart))
 ]

@@ -1,40 +1,23 @@
 -- A machine of a line that was given what comes next, or waits for it.
-use Rattle.std.proofs.Common.{◌≡◌, ◌≢◌, ℕ, zero, suc, ◌-◌, ◌<◌, ◌≤◌, ◌↔◌, inl, inr, Bool, true, false, List, [], ◌∷◌, ◌++◌, take, drop, length, get_or, refl, sym, ap, subst, ◌∙◌, arith, append-nil}
-use Rattle.std.specs.Prelude.{Some, slice_get, slice_set}
-use Rattle.std.proofs.lemmas.List.{length-set}
-use Rattle.std.proofs.lemmas.Option.{slice_get_within, slice_get_read}
-use Rattle.circular_buffer.specs.Buffer.{Buffer}
-use Rattle.vector_loop.specs.State.{is_over}
-use Rattle.uxn_line.specs.declared.line.Line.{Line}
-use Rattle.uxn_line.specs.declared.line.Moved.TheVariants.{Gave, Waits}
-use Rattle.uxn_line.specs.declared.member.Member.{Member}
-use Rattle.vector_loop.specs.Places.{Place, PlaceHasEnded}
-use Rattle.uxn_line.specs.Places.{turn, IsForConsole, put_in}
-use Rattle.vector_loop.specs.PendingInputs.{pending_inputs_of}
-use Rattle.uxn_line.specs.Streams.{LineJob, script_at, stream, after}
-use Rattle.uxn_line.specs.Members.{MemberAt, member_has_ended, IsOpen, next_pending}
+use Rattle.uxn_line.proofs.Common.{◌≡◌, ◌≢◌, ℕ, zero, suc, ◌-◌, ◌<◌, ◌≤◌, ◌↔◌, inl, inr, Bool, true, false, List, [], ◌∷◌, ◌++◌, take, drop, length}
+use Rattle.uxn_line.proofs.Common.{get_or, refl, sym, ap, ◌∙◌, arith, append-nil, cases_Bool, slice_get-set_other, slice_get-set_same, Some}
+use Rattle.uxn_line.proofs.Common.{slice_get, length-set, slice_get_within, slice_get_read, is_over, Line, Gave, Waits, Member, Place}
+use Rattle.uxn_line.proofs.Common.{PlaceHasEnded, turn, IsForConsole, put_in, pending_inputs_of, LineJob, script_at, stream, MemberAt}
+use Rattle.uxn_line.proofs.Common.{member_has_ended, next_pending, OpenAt, Turned, one_more, machine_place, Between, InLine, LineRepresents}
+use Rattle.uxn_line.proofs.Common.{IsWaiting, ring_of, Came, work, work_left, PendingInput}
+use Rattle.uxn_line.specs.Members.{IsOpen}
 use Rattle.uxn_line.specs.MemberTurns.{WasGivenNext}
-use Rattle.uxn_line.specs.Standing.{Turned, one_more, machine_place, given_after, Between, InLine, LineRepresents}
-use Rattle.uxn_line.specs.Moves.{IsWaiting, ring_of, Came}
-use Rattle.uxn_line.specs.Work.{work, work_left}
-use Rattle.uxn_line.proofs.Turned.{give-pending_inputs, give-put}
-use Rattle.uxn_line.proofs.Working.{bools, idle-open, ring-within, set-less}
-use Rattle.uxn_line.proofs.Standings.{more-here, more-apart, place-apart, ended-is, not-ended, goes-on, set-here, set-apart, stands-more}
-use Rattle.uxn_line.proofs.Running.{found-is, with_member, room-stays, handed-nothing, put-behind, wrote-none, leads-nowhere}
+use Rattle.uxn_line.proofs.Turned.{turn-given}
+use Rattle.uxn_line.proofs.Working.{idle-open, set-less}
+use Rattle.uxn_line.proofs.Standings.{place-apart, ended-is, not-ended, stands-more}
+use Rattle.uxn_line.proofs.Running.{found-is, with_member, handed-nothing, own-more, put-behind, wrote-none, leads-nowhere}
 use Rattle.uxn_line.proofs.Coming.{Comes, comes}
 
 -- the member that was found where a machine is idle and not at its end
-pub record FoundOpen (line : Line) (machine : ℕ) (found : Member) : Type 0 where
-  pub there : slice_get line.members.items machine ≡ Some found
-  pub idle : found.machine.left ≡ 0
-  pub goes_on : member_has_ended found ≡ false
-
 pub found-open : (line : Line) (machine : ℕ) (found : Member) → IsOpen line machine → found ≡ get_or line.members.items machine found
-    → FoundOpen line machine found
+    → OpenAt line machine found
 found-open line machine found is read =
-    let same = found-is line.members.items machine found is.member read is.there in
-    let P : Member → Type 0 = λ m. FoundOpen line machine m in
-    subst P (sym same) (record { there = is.there; idle = is.idle; goes_on = is.goes_on })
+    rw (found-is line.members.items machine found is.0 read is.1.there) is.1
 
 -- where it stands
 pub record IdleAt (place : Place) : Type 0 where
@@ -52,42 +35,40 @@ idle-at member place at idle goes =
       some = λ none. (let all = at.given.1 none in let open_still = still.1 in cc);
     }
 
--- a line in which a machine was given something
-pub record GivesIn (job : LineJob) (turned : Turned) (line line_now : Line) (machine : ℕ) (member now : Member) : Type 0 where
-  pub there : slice_get line.members.items machine ≡ Some member
-  pub items : line_now.members.items ≡ slice_set line.members.items machine now
-  pub budget : line_now.budget ≡ line.budget
-  pub script : line_now.input_queue ≡ (machine_place job (one_more machine turned) 0).pending_inputs
+-- a line in which a machine was given something, with what is left of its script
+abbrev pub given_on : Line → ℕ → Member → List PendingInput → Line
+given_on line machine now rest = record (with_member line machine now) { input_queue = rest }
+
+pub record GivesIn (job : LineJob) (turned : Turned) (machine : ℕ) (now : Member) (rest : List PendingInput) : Type 0 where
+  pub script : rest ≡ (machine_place job (one_more machine turned) 0).pending_inputs
   pub own : InLine job (one_more machine turned) machine now
   pub put : put_in (turn job.budget (machine_place job turned machine)) ≡ put_in (machine_place job turned machine)
 
-pub give-stands : (job : LineJob) (line line_now : Line) (turned : Turned) (machine : ℕ) (member now : Member) → LineRepresents job line turned
-    → GivesIn job turned line line_now machine member now → LineRepresents job line_now (one_more machine turned)
-give-stands job line line_now turned machine member now stands gives =
+give-stands : (job : LineJob) (line : Line) (turned : Turned) (machine : ℕ) (member now : Member) (rest : List PendingInput) → LineRepresents job line turned
+    → slice_get line.members.items machine ≡ Some member → GivesIn job turned machine now rest
+    → LineRepresents job (given_on line machine now rest) (one_more machine turned)
+give-stands job line turned machine member now rest stands there gives =
     let items = line.members.items in
-    let at : (other : ℕ) → slice_get line_now.members.items other ≡ slice_get (slice_set items machine now) other
-    = λ other. ap (λ all. slice_get all other) gives.items in
-    stands-more job turned machine line line_now stands (record {
+    stands-more job turned machine line (given_on line machine now rest) stands (record {
       member = now;
-      here = at machine ∙ set-here items machine now (slice_get_within items machine member gives.there);
+      here = slice_get-set_same items machine now (slice_get_within items machine member there);
       own = gives.own;
       behind = λ next at_next.
-          let there = sym (set-apart items machine (suc machine) now (λ same. omega (arith, same))) ∙ sym (at (suc machine)) ∙ at_next in
-          let in_line = stands.each (suc machine) next there in
-          put-behind job turned machine [] next next (handed-nothing next in_line.within)
-          (gives.put ∙ sym (append-nil _)) in_line;
-      apart = λ other apart further. at other ∙ set-apart items machine other now apart;
-      count = ap length gives.items ∙ length-set items machine now;
-      budget = gives.budget;
+          let was = sym (slice_get-set_other items machine (suc machine) now (λ same. omega (arith, same))) ∙ at_next in
+          let in_line = stands.each (suc machine) next was in
+          put-behind job turned machine [] next next (handed-nothing next in_line.within) (gives.put ∙ sym (append-nil _)) in_line;
+      apart = λ other apart further. slice_get-set_other items machine other now apart;
+      count = length-set items machine now;
+      budget = refl;
       script = gives.script;
     })
 
 -- a turn of it is a giving, where it does not wait
-pub give-came : (line line_now : Line) (machine : ℕ) (member now : Member) → FoundOpen line machine member
-    → ((job : LineJob) (turned : Turned) → LineRepresents job line turned → GivesIn job turned line line_now machine member now)
+pub give-came : (line : Line) (machine : ℕ) (member now : Member) (rest : List PendingInput) → OpenAt line machine member
+    → ((job : LineJob) (turned : Turned) → LineRepresents job line turned → GivesIn job turned machine now rest)
     → ((job : LineJob) (turned : Turned) → LineRepresents job line turned → IsWaiting job line turned machine → ⊥)
-    → length line_now.members.items ≡ length line.members.items → work_left line_now < work_left line → Came machine Gave [] line line_now
-give-came line line_now machine member now found gives comes count less = record {
+    → work_left (given_on line machine now rest) < work_left line → Came machine Gave [] line (given_on line machine now rest)
+give-came line machine member now rest found gives comes less = record {
   cause = λ job turned stands.
       let at = (stands.each machine member found.there).stands in
       record {
@@ -97,11 +78,11 @@ give-came line line_now machine member now found gives comes count less = record
       };
   leads = λ job turned stands.
       let given = gives job turned stands in (
-        give-stands job line line_now turned machine member now stands given,
+        give-stands job line turned machine member now rest stands found.there given,
         wrote-none job turned machine given.put,
       );
   works = less;
-  machines = count;
+  machines = length-set line.members.items machine now;
 }
 
 -- what is left of the script where another machine than the first had a turn
@@ -123,41 +104,20 @@ pub next-own : (job : LineJob) (turned : Turned) (before : ℕ) (member now : Me
     → InLine job (one_more (suc before) turned) (suc before) now
 next-own job turned before member now given inline idle next =
     let place = machine_place job turned (suc before) in
-    let here = more-here (suc before) turned in
-    let there = more-apart (suc before) turned before (λ same. omega (arith, same)) in
     let at : MemberAt now (turn job.budget place) = given.stands place next.pending_inputs inline.stands next.are next.last idle.goes_on in
-    let pending_inputs = give-pending_inputs job.budget place (next_pending member.ring.items) next.pending_inputs idle.idle next.are idle.goes_on (ring-is-for member.ring.items) in
+    let pending_inputs = (turn-given job.budget place (next_pending member.ring.items) next.pending_inputs idle.idle next.are idle.goes_on (ring-is-for member.ring.items)).0 in
     let total = length (pending_inputs_of (script_at job (suc before))) in
     let count = ap (λ g. total - length g) pending_inputs ∙ next.given in
-    let room_ring : (member_has_ended now ≡ false → now.ring.items ≡ drop 1 member.ring.items) = λ goes. ap (λ (r : Buffer ℕ). r.items) (given.ring.kept goes) in
-    let P : ℕ → Type 0 = λ n. MemberAt now (after job (suc before) n) in
-    let Q : ℕ → Type 0 = λ n. Between job before n (one_more (suc before) turned (suc before)) now.ring.items in
-    let R : ℕ → Type 0 = λ n. Between job before (turned before) n now.ring.items in
-    let between : Between job before (turned before) (suc (turned (suc before))) now.ring.items = record {
-      dropped = λ ended. ap (λ (r : Buffer ℕ). r.items) (given.ring.dropped ((ended-is now (turn job.budget place) at).1 ended));
-      written = λ goes.
-          next.written
-          ∙ ap (λ k. take k (stream job before) ++ drop 1 member.ring.items) (sym count)
-          ∙ ap (λ r. take (given_after job (suc before) (suc (turned (suc before)))) (stream job before) ++ r)
-          (sym (room_ring (goes-on now (turn job.budget place) at goes)));
-    } in
-    record {
-      stands = subst P (sym here) at;
-      ring = subst Q (sym there) (subst R (sym here) between);
-      room = room-stays member now (drop 1 member.ring.items) given.ring ∙ inline.room;
-      within =
-          let kept = ring-within member now (drop 1 member.ring.items) given.ring in
-          let less = shorter member.ring.items in
-          omega (arith, kept, less, inline.within);
-    }
+    own-more job turned member now (drop 1 member.ring.items) given.ring (suc before) inline at (shorter member.ring.items)
+    (λ goes. next.written ∙ ap (λ k. take k (stream job before) ++ drop 1 member.ring.items) (sym count))
 
-pub next-came : (line : Line) (before : ℕ) (member now last : Member) → FoundOpen line (suc before) member → WasGivenNext line.budget member now
+pub next-came : (line : Line) (before : ℕ) (member now last : Member) → OpenAt line (suc before) member → WasGivenNext line.budget member now
     → slice_get line.members.items before ≡ Some last → (member.ring.items ≡ [] → member_has_ended last ≡ true)
     → ((left : ℕ) → work line.budget left now < work line.budget left member) → Came (suc before) Gave [] line (with_member line (suc before) now)
 next-came line before member now last found given there ended less =
     let over : (job : LineJob) (turned : Turned) → LineRepresents job line turned → member.ring.items ≡ [] → PlaceHasEnded (machine_place job turned before)
     = λ job turned stands none. (ended-is last (machine_place job turned before) (stands.each before last there).stands).0 (ended none) in
-    give-came line (with_member line (suc before) now) (suc before) member now found
+    give-came line (suc before) member now line.input_queue found
     (λ job turned stands.
     let place = machine_place job turned (suc before) in
     let inline = stands.each (suc before) member found.there in
@@ -166,21 +126,16 @@ next-came line before member now last found given there ended less =
     let between : Between job before (turned before) (turned (suc before)) member.ring.items = inline.ring in
     let next = comes job before (turned before) (turned (suc before)) member.ring.items stands.job_is
     (between.written (not-ended member place at found.goes_on)) idle.some (over job turned stands) in
-    let P : ℕ → Type 0 = λ b. WasGivenNext b member now in
     record {
-      there = found.there;
-      items = refl;
-      budget = refl;
       script = script-apart job line turned before stands;
-      own = next-own job turned before member now (subst P stands.budget given) inline idle next;
-      put = give-put job.budget place (next_pending member.ring.items) next.pending_inputs idle.idle next.are idle.goes_on (ring-is-for member.ring.items);
+      own = next-own job turned before member now (rw stands.budget at given) inline idle next;
+      put = (turn-given job.budget place (next_pending member.ring.items) next.pending_inputs idle.idle next.are idle.goes_on (ring-is-for member.ring.items)).1;
     })
     (λ job turned stands waits. waits.comes (over job turned stands (ap ring_of (sym found.there) ∙ waits.nothing)))
-    (length-set line.members.items (suc before) now)
     (set-less line.budget (length line.input_queue) line.members.items (suc before) member now found.there less)
 
 -- a machine waits whose ring is empty, where the run of the one before it goes on
-pub wait-came : (line : Line) (before : ℕ) (member last : Member) → FoundOpen line (suc before) member
+pub wait-came : (line : Line) (before : ℕ) (member last : Member) → OpenAt line (suc before) member
     → slice_get line.members.items before ≡ Some last → member.ring.items ≡ [] → member_has_ended last ≡ false → Came (suc before) Waits [] line line
 wait-came line before member last found there none goes = record {
   cause = λ job turned stands.
@@ -232,10 +187,9 @@ behind-gives line (suc before) last observed found now none_comes waits at goes 
     let one = first.there in
     let two = open_found.there in
     let same : observed ≡ found = cc in
-    let P : Member → Type 0 = λ m. (waits ≡ true) ↔ ((m.ring.items ≡ []) × (none_comes ≡ false)) in
-    let test = subst P same at.waits_is in
+    let test = rw same at at.waits_is in
     next-came line before found now last open_found given (last-there line before last found at.last_is open_found.there)
-    (λ none. elim (bools none_comes) [
+    (λ none. elim (cases_Bool none_comes) [
       | inl comes ↦ sym at.none_is ∙ comes
       | inr more ↦ absurd (let e = test.1 (none, more) in cc)
     ]) less

@@ -1,16 +1,12 @@
 -- Where no machine of a line moves, all their runs are over.
-use Rattle.std.proofs.Common.{◌≡◌, ℕ, zero, suc, ◌+◌, ◌-◌, ◌<◌, ◌⊎◌, inl, inr, false, List, [], ◌∷◌, ◌++◌, length, refl, sym, ap, subst, ◌∙◌, arith, append-nil}
-use Rattle.std.specs.Prelude.{Some, slice_get, slice_set}
-use Rattle.uxn_io_traits.specs.Ended.{SinkEnded}
-use Rattle.uxn_io_traits.specs.State.{SinkState}
-use Rattle.uxn_line.specs.declared.line.Line.{Line}
-use Rattle.uxn_line.specs.declared.member.Member.{Member}
+use Rattle.uxn_line.proofs.Common.{◌≡◌, ℕ, zero, suc, ◌+◌, ◌-◌, ◌<◌, inl, inr, false, List, ◌++◌, length, sym, ap, subst, ◌∙◌, arith, append-nil}
+use Rattle.uxn_line.proofs.Common.{Some, slice_get, slice_set, get_or_from_slice_get, SinkEnded, SinkState, Line, Member, PlaceHasEnded, put_in}
+use Rattle.uxn_line.proofs.Common.{LineJob, stream, exit_code_at, Turned, machine_place, LineRepresents, last_machine, written_in, IsWaiting}
+use Rattle.uxn_line.proofs.Common.{MachineIsHeld, IsStill, IsUnderWay, LineReaches}
+use Rattle.std.proofs.Common.{◌⊎◌}
+use Rattle.std.proofs.lemmas.List.{set-get_or}
+use Rattle.uxn_line.specs.Moves.{ring_before, IsOver, LineFinishes}
 use Rattle.uxn_line.proofs.Running.{with_member}
-use Rattle.vector_loop.specs.Places.{PlaceHasEnded}
-use Rattle.uxn_line.specs.Places.{put_in}
-use Rattle.uxn_line.specs.Streams.{LineJob, stream, exit_code_at}
-use Rattle.uxn_line.specs.Standing.{Turned, machine_place, LineRepresents}
-use Rattle.uxn_line.specs.Moves.{last_machine, written_in, ring_before, IsWaiting, MachineIsHeld, IsStill, IsUnderWay, LineReaches, IsOver, LineFinishes}
 use Rattle.uxn_line.proofs.Turning.{follows}
 use Rattle.uxn_line.proofs.Ending.{put-more, reach-then, stream-is}
 
@@ -93,20 +89,15 @@ rounds-finish first line line_now line_end begun out out_now code went round sam
 pub finish-put : (job : LineJob) (begun : SinkState) (a b : Line) (o p : SinkState) (code : ℕ) → IsUnderWay job begun a o → LineFinishes a b o p code
     → SinkEnded (stream job (last_machine job)) false begun p
 finish-put job begun a b o p code way done =
-    let P : List ℕ → Type 0 = λ bytes. SinkEnded bytes false begun p in
-    subst P (done.over job way.turned way.stands).whole (put-more job begun a b o p way done.to done.goes)
+    rw (done.over job way.turned way.stands).whole at (put-more job begun a b o p way done.to done.goes)
 
 -- the same member set at its place again
-pub same-set : {X : Type 0} (items : List X) (place : ℕ) (item : X) → slice_get items place ≡ Some item → slice_set items place item ≡ items
-same-set [] place item there = refl
-same-set (first ∷ items) zero item there = let same : first ≡ item = cc in ap (λ x. x ∷ items) (sym same)
-same-set (first ∷ items) (suc place) item there = ap (λ all. first ∷ all) (same-set items place item there)
-
 pub stands-again : (job : LineJob) (line : Line) (turned : Turned) (place : ℕ) (found now : Member) → slice_get line.members.items place ≡ Some found → now ≡ found
     → LineRepresents job line turned → LineRepresents job (with_member line place now) turned
 stands-again job line turned place found now there same stands =
     let items = line.members.items in
-    let is : slice_set items place now ≡ items = ap (λ m. slice_set items place m) same ∙ same-set items place found there in
+    let is : slice_set items place now ≡ items =
+    ap (λ m. slice_set items place m) (same ∙ sym (get_or_from_slice_get items place found found there)) ∙ set-get_or items place found in
     record {
       job_is = stands.job_is;
       some = stands.some;

@@ -1,9 +1,9 @@
+pub mod Common
 pub mod Turning
 pub mod Alone
 pub mod MachineTurns
 pub mod NewMachines
 pub mod Handing
-pub mod Writing
 pub mod Turned
 pub mod Working
 pub mod Rings
@@ -17,4 +17,3 @@ pub mod Beginning
 pub mod Ending
 pub mod Finished
 pub mod NewLines
-pub mod ConsoleEvents

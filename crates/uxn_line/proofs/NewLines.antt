@@ -1,18 +1,13 @@
 -- A new line represents no turns.
-use Rattle.std.proofs.Common.{◌≡◌, ◌≢◌, ℕ, zero, suc, ◌-◌, ◌<◌, ◌≤◌, ◌↔◌, ◌⊎◌, inl, inr, Bool, true, false, List, [], ◌∷◌, ◌++◌, take, get_or, length, pos, refl, sym, ap, subst, ◌∙◌, arith}
-use Rattle.std.specs.Prelude.{Some, Result, Ok, Err, IfOk, slice_get, slice_index_or}
+use Rattle.uxn_line.proofs.Common.{◌≡◌, ◌≢◌, ℕ, zero, suc, ◌-◌, ◌<◌, ◌↔◌, inl, inr, Bool, true, false, List, [], ◌∷◌, ◌++◌, take, get_or, length}
+use Rattle.uxn_line.proofs.Common.{refl, sym, ap, subst, ◌∙◌, arith, Some, Result, Ok, Err, IfOk, slice_get, false≢true, cases_eq, Buffer, buffer}
+use Rattle.uxn_line.proofs.Common.{ByteList, bytes_in, ScriptView, Clock, Member, pending_inputs_of, LineJob, script_at, rom_at, first_place, stream}
+use Rattle.uxn_line.proofs.Common.{MemberAt, none_turned, Between, RingBefore, InLine}
+use Rattle.std.proofs.Common.{pos}
+use Rattle.std.specs.Prelude.{slice_index_or}
 use Rattle.std.specs.declared.alloc.AllocError.{AllocError}
-use Rattle.std.proofs.lemmas.Bool.{false≢true}
-use Rattle.circular_buffer.specs.Buffer.{Buffer, buffer}
-use Rattle.uxn_io_traits.specs.ByteList.{ByteList}
-use Rattle.play_script.specs.Held.{bytes_in}
-use Rattle.play_script.specs.Scripts.{ScriptView}
-use Rattle.play_script.specs.declared.script.Clock.{Clock}
-use Rattle.uxn_line.specs.declared.member.Member.{Member}
-use Rattle.vector_loop.specs.PendingInputs.{pending_inputs_of}
-use Rattle.uxn_line.specs.Streams.{LineJob, script_at, rom_at, first_place, stream}
-use Rattle.uxn_line.specs.Members.{MemberAt}
-use Rattle.uxn_line.specs.Standing.{none_turned, Between, RingBefore, InLine}
+use Rattle.std.proofs.lemmas.List.{get_or-map}
+use Rattle.circular_buffer.proofs.Places.{slice_get-last, slice_get-push}
 use Rattle.uxn_line.proofs.Coming.{all-inputs, length-inputs}
 
 -- nothing was given yet
@@ -31,12 +26,11 @@ new-in-line : (job : LineJob) (machine : ℕ) (member : Member)
     → MemberAt member (first_place job.budget (rom_at job machine) (script_at job machine)) → member.ring ≡ buffer [] 256
     → InLine job none_turned machine member
 new-in-line job machine member at ring =
-    let P : Buffer ℕ → Type 0 = λ r. length r.items ≤ 256 in
     record {
       stands = at;
       ring = new-ring job machine member.ring.items (ap (λ (r : Buffer ℕ). r.items) ring);
       room = ap (λ (r : Buffer ℕ). r.capacity) ring;
-      within = subst P (sym ring) (omega arith);
+      within = rw ring (omega arith);
     }
 
 -- what is so of a machine that is new
@@ -54,13 +48,9 @@ pub new-first : (result : Result Member AllocError) (script : ScriptView) (budge
     → IfOk result (IsNewAt script budget rom machine)
 new-first (Err error) script budget machine rom texts clock nothing is_first same_texts same_clock given new ring = tt
 new-first (Ok member) script budget machine rom texts clock nothing is_first same_texts same_clock given new ring = λ job script_is budget_is rom_is.
-    let P : ℕ → Type 0 = λ m. InLine job none_turned m member in
     let at = new script (sym same_texts) (sym same_clock) given in
-    let Q : ScriptView → Type 0 = λ s. MemberAt member (first_place budget rom s) in
-    let R : ℕ → Type 0 = λ b. MemberAt member (first_place b rom job.script) in
-    let S : List ℕ → Type 0 = λ r. MemberAt member (first_place job.budget r job.script) in
-    subst P (sym is_first) (new-in-line job 0 member
-    (subst S (sym rom_is ∙ ap (rom_at job) is_first) (subst R (sym budget_is) (subst Q (sym script_is) at))) ring)
+    let rom_first : rom_at job 0 ≡ rom = ap (rom_at job) (sym is_first) ∙ rom_is in
+    rw is_first (new-in-line job 0 member (rw (script_is, budget_is, rom_first) at) ring)
 
 pub new-behind : (result : Result Member AllocError) (script : ScriptView) (budget machine : ℕ) (rom : List ℕ) (clock : Clock)
     → machine ≢ 0 → clock ≡ record { seconds = pos 0; offset = pos 0 }
@@ -80,29 +70,16 @@ new-behind (Ok member) script budget (suc before) rom clock behind same new ring
 -- the ROM at a place
 pub rom-there : (roms : List ByteList) (place : ℕ) (rom : ByteList) → place < length roms → rom ≡ get_or roms place rom
     → slice_index_or (bytes_in roms) place [] ≡ rom.list
-rom-there [] place rom within is = absurd (omega (arith, within))
-rom-there (first ∷ roms) zero rom within is = ap (λ (r : ByteList). r.list) (sym is)
-rom-there (first ∷ roms) (suc place) rom within is = rom-there roms place rom (omega (arith, within)) is
-
--- one more at the end of a list
-pub get-of-more : {X : Type 0} (items : List X) (item other : X) (place : ℕ) → slice_get (items ++ item ∷ []) place ≡ Some other
-    → (slice_get items place ≡ Some other) ⊎ ((place ≡ length items) × (item ≡ other))
-get-of-more [] item other zero is = inr (refl, cc)
-get-of-more [] item other (suc place) is = absurd (cc)
-get-of-more (first ∷ items) item other zero is = inl is
-get-of-more (first ∷ items) item other (suc place) is = elim (get-of-more items item other place is) [
-  | inl there ↦ inl there
-  | inr last ↦ inr (ap suc last.0, last.1)
-]
+rom-there roms place rom within is =
+    get_or-map (λ (r : ByteList). r.list) roms place rom [] within ∙ ap (λ (r : ByteList). r.list) (sym is)
 
 -- one machine more is in line
 pub member-more : (job : LineJob) (items : List Member) (member : Member) (count : ℕ) → length items ≡ count
     → ((machine : ℕ) (other : Member) → slice_get items machine ≡ Some other → InLine job none_turned machine other) → InLine job none_turned count member
     → (machine : ℕ) (other : Member) → slice_get (items ++ member ∷ []) machine ≡ Some other → InLine job none_turned machine other
-member-more job items member count size each last machine other there = elim (get-of-more items member other machine there) [
-  | inl before ↦ each machine other before
-  | inr here ↦
-      let P : ℕ → Type 0 = λ m. InLine job none_turned m other in
-      let Q : Member → Type 0 = λ m. InLine job none_turned count m in
-      subst P (sym (here.0 ∙ size)) (subst Q here.1 last)
+member-more job items member count size each last machine other there = elim (cases_eq machine (length items)) [
+  | inl here ↦
+      let same : member ≡ other = (let at = sym (slice_get-last items member machine here) ∙ there in cc) in
+      rw (here ∙ size, ← same) last
+  | inr apart ↦ each machine other (sym (slice_get-push items member machine apart) ∙ there)
 ]

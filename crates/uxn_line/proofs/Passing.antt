@@ -1,19 +1,12 @@
 -- A machine of a line that handed a byte on to the next one, or could not.
-use Rattle.std.proofs.Common.{◌≡◌, ◌≢◌, ℕ, suc, ◌+◌, ◌<◌, ◌≤◌, ◌↔◌, inl, inr, Bool, true, false, List, [], ◌∷◌, ◌++◌, length, get_or, refl, sym, ap, subst, ◌∙◌, arith, length-append, add-one}
-use Rattle.std.specs.Prelude.{Some, slice_get, slice_set}
-use Rattle.std.proofs.lemmas.List.{length-set}
-use Rattle.std.proofs.lemmas.Option.{slice_get_within, slice_get_read}
-use Rattle.circular_buffer.specs.Buffer.{buffer}
-use Rattle.uxn_line.specs.declared.line.Line.{Line}
-use Rattle.uxn_line.specs.declared.line.Moved.TheVariants.{Ran, Held}
-use Rattle.uxn_line.specs.declared.member.Member.{Member}
+use Rattle.uxn_line.proofs.Common.{◌≡◌, ◌≢◌, ℕ, suc, ◌+◌, ◌<◌, ◌≤◌, ◌↔◌, inl, inr, Bool, true, false, List, [], ◌∷◌, ◌++◌, length, get_or, refl, sym}
+use Rattle.uxn_line.proofs.Common.{ap, subst, ◌∙◌, arith, length-append, add-one, slice_get-set_other, slice_get-set_same, cases_Bool, Some}
+use Rattle.uxn_line.proofs.Common.{slice_get, slice_set, length-set, slice_get_within, slice_get_read, buffer, Line, Ran, Held, Member}
+use Rattle.uxn_line.proofs.Common.{member_has_ended, IsRunning, RunsAt, machine_place, ring_of, Came}
 use Rattle.uxn_line.specs.Machines.{handed_on}
-use Rattle.uxn_line.specs.Members.{member_has_ended, IsRunning}
-use Rattle.uxn_line.specs.Standing.{machine_place}
-use Rattle.uxn_line.specs.Moves.{ring_of, Came}
-use Rattle.uxn_line.proofs.Working.{bools, pair-less, taken-pays}
-use Rattle.uxn_line.proofs.Standings.{not-ended, goes-on, set-here, set-apart}
-use Rattle.uxn_line.proofs.Running.{found-is, RanFrom, Handed, RunsIn, with_member, Found, run-came, wrote-apart, leads-nowhere}
+use Rattle.uxn_line.proofs.Working.{pair-less, taken-pays}
+use Rattle.uxn_line.proofs.Standings.{not-ended, goes-on}
+use Rattle.uxn_line.proofs.Running.{found-is, RanFrom, Handed, RunsIn, with_member, run-came, wrote-apart, leads-nowhere}
 
 -- the next machine, as it is found, and what it is once it was handed a byte
 pub record Taken (byte : ℕ) (line : Line) (machine : ℕ) (next now : Member) : Type 0 where
@@ -31,9 +24,8 @@ read-behind items place found within read =
 taken-handed : (byte : ℕ) (line : Line) (machine : ℕ) (next now : Member) → Taken byte line machine next now → length next.ring.items ≤ 256
     → next.ring.capacity ≡ 256 → Handed (byte ∷ []) next now
 taken-handed byte line machine next now taken within room =
-    let P : Member → Type 0 = λ m. Handed (byte ∷ []) next m in
-    elim (bools (member_has_ended next)) [
-      | inl ended ↦ subst P (sym (taken.over ended)) (record {
+    elim (cases_Bool (member_has_ended next)) [
+      | inl ended ↦ rw (taken.over ended) (record {
         stands = λ place at. at;
         over = λ over. refl;
         kept = λ goes. absurd (cc);
@@ -43,7 +35,7 @@ taken-handed byte line machine next now taken within room =
       | inr goes ↦
           let longer = length-append next.ring.items (byte ∷ []) in
           let fits = taken.room goes in
-          subst P (sym (taken.kept goes)) (record {
+          rw (taken.kept goes) (record {
             stands = λ place at. record { stands = at.stands; given = at.given; stopped = at.stopped };
             over = λ over. absurd (cc);
             kept = λ goes. refl;
@@ -56,7 +48,7 @@ taken-handed byte line machine next now taken within room =
 abbrev pub passed : Line → ℕ → Member → Member → Line
 passed line machine next_now now = with_member (with_member line (suc machine) next_now) machine now
 
-pub pass-runs : (byte : ℕ) (line : Line) (machine : ℕ) (member now next next_now : Member) → Found (byte ∷ []) line machine member → RanFrom member now
+pub pass-runs : (byte : ℕ) (line : Line) (machine : ℕ) (member now next next_now : Member) → RunsAt (byte ∷ []) line machine member → RanFrom member now
     → Taken byte line machine next next_now → RunsIn line (passed line machine next_now now) machine member now
 pass-runs byte line machine member now next next_now found ran taken =
     let items = line.members.items in
@@ -64,11 +56,11 @@ pass-runs byte line machine member now next next_now found ran taken =
     let behind : suc machine ≢ machine = λ same. omega (arith, same) in
     record {
       at = found.there;
-      here = set-here middle machine now (slice_get_within middle machine member (set-apart items (suc machine) machine next_now (λ same. behind (sym same)) ∙ found.there));
-      apart = λ other apart further. set-apart middle machine other now apart ∙ set-apart items (suc machine) other next_now further;
+      here = slice_get-set_same middle machine now (slice_get_within middle machine member (slice_get-set_other items (suc machine) machine next_now (λ same. behind (sym same)) ∙ found.there));
+      apart = λ other apart further. slice_get-set_other middle machine other now apart ∙ slice_get-set_other items (suc machine) other next_now further;
       behind = λ last at_last.
-          let is = sym (set-here items (suc machine) next_now (slice_get_within items (suc machine) next taken.there))
-          ∙ sym (set-apart middle machine (suc machine) now behind) ∙ at_last in
+          let is = sym (slice_get-set_same items (suc machine) next_now (slice_get_within items (suc machine) next taken.there))
+          ∙ sym (slice_get-set_other middle machine (suc machine) now behind) ∙ at_last in
           let same : next_now ≡ last = cc in (
             next,
             taken.there,
@@ -83,7 +75,7 @@ pass-runs byte line machine member now next next_now found ran taken =
       ran = ran;
     }
 
-pub pass-came : (byte : ℕ) (line : Line) (machine : ℕ) (member now next next_now : Member) → Found (byte ∷ []) line machine member → RanFrom member now
+pub pass-came : (byte : ℕ) (line : Line) (machine : ℕ) (member now next next_now : Member) → RunsAt (byte ∷ []) line machine member → RanFrom member now
     → Taken byte line machine next next_now → Came machine Ran [] line (passed line machine next_now now)
 pass-came byte line machine member now next next_now found ran taken =
     let there = slice_get_within line.members.items (suc machine) next taken.there in
@@ -99,13 +91,11 @@ pass-came byte line machine member now next next_now found ran taken =
 
 -- the machine that is found again once the byte was handed on
 pub found-again : (byte : ℕ) (line : Line) (machine : ℕ) (next_now found : Member) → IsRunning (byte ∷ []) line machine
-    → found ≡ get_or (slice_set line.members.items (machine + 1) next_now) machine found → Found (byte ∷ []) line machine found
+    → found ≡ get_or (slice_set line.members.items (machine + 1) next_now) machine found → RunsAt (byte ∷ []) line machine found
 found-again byte line machine next_now found running read =
     let items = line.members.items in
-    let there = set-apart items (machine + 1) machine next_now (λ same. omega (arith, same)) ∙ running.there in
-    let same = found-is (slice_set items (machine + 1) next_now) machine found running.member read there in
-    let P : Member → Type 0 = λ m. Found (byte ∷ []) line machine m in
-    subst P (sym same) (record { there = running.there; some = running.vector; writes = running.writes })
+    let there = slice_get-set_other items (machine + 1) machine next_now (λ same. omega (arith, same)) ∙ running.1.there in
+    rw (found-is (slice_set items (machine + 1) next_now) machine found running.0 read there) running.1
 
 -- a machine whose byte has no room is held
 pub held-came : (byte : ℕ) (line : Line) (machine : ℕ) (next : Member) → IsRunning (byte ∷ []) line machine
@@ -115,15 +105,15 @@ held-came byte line machine next running there goes full =
     let within = slice_get_within line.members.items (suc machine) next there in
     record {
       cause = λ job turned stands.
-          let own = (stands.each machine running.member running.there).stands in
+          let own = (stands.each machine running.0 running.1.there).stands in
           let inline = stands.each (suc machine) next there in
           let count = stands.machines in
-          let some = running.vector in
+          let some = running.1.vector in
           let left = own.stands.left in
           let length_is : length next.ring.items ≡ 256 = omega (arith, full, inline.room, inline.within) in
           record {
             vector = omega (arith, some, left);
-            writes = λ none. (let e = sym (ap handed_on (sym own.stands.core) ∙ running.writes) ∙ none in cc);
+            writes = λ none. (let e = sym (ap handed_on (sym own.stands.core) ∙ running.1.writes) ∙ none in cc);
             there = omega (arith, within, count);
             goes_on = not-ended next (machine_place job turned (suc machine)) inline.stands goes;
             full = ap (λ o. length (ring_of o)) there ∙ length_is;
@@ -133,36 +123,22 @@ held-came byte line machine next running there goes full =
       machines = refl;
     }
 
--- what was found of the next machine, and that its ring is not full
-pub taken-of : (byte : ℕ) (line : Line) (machine : ℕ) (observed found now : Member) (full : Bool) → machine + 1 < length line.members.items
-    → observed ≡ get_or line.members.items (machine + 1) observed → found ≡ get_or line.members.items (machine + 1) found
-    → (member_has_ended observed ≡ false → (full ≡ true) ↔ (observed.ring.capacity ≤ length observed.ring.items)) → full ≡ false
-    → (member_has_ended found ≡ true → now ≡ found)
-    → (member_has_ended found ≡ false → now ≡ record found { ring = buffer (found.ring.items ++ byte ∷ []) found.ring.capacity })
-    → Taken byte line machine found now
-taken-of byte line machine observed found now full within read again test not_full over kept =
+-- the next machine, as it was looked at and as it is found, is one; and its ring is not full
+pub next-is : (line : Line) (machine : ℕ) (observed found : Member) → machine + 1 < length line.members.items
+    → observed ≡ get_or line.members.items (machine + 1) observed → found ≡ get_or line.members.items (machine + 1) found → observed ≡ found
+next-is line machine observed found within read again =
     let first = read-behind line.members.items machine observed within read in
     let second = read-behind line.members.items machine found within again in
-    let same : observed ≡ found = cc in
-    let P : Member → Type 0 = λ m. member_has_ended m ≡ false → (full ≡ true) ↔ (m.ring.capacity ≤ length m.ring.items) in
-    let at = subst P same test in
-    record {
-      there = second;
-      room = λ goes. (let h : (found.ring.capacity ≤ length found.ring.items) → ⊥ = λ past. (let e = (at goes).1 past in cc) in omega (arith, h));
-      over = over;
-      kept = kept;
-    }
+    cc
 
-pub room-left : (observed found : Member) (full : Bool) → observed ≡ found
-    → (member_has_ended observed ≡ false → (full ≡ true) ↔ (observed.ring.capacity ≤ length observed.ring.items)) → full ≡ false → member_has_ended found ≡ false
-    → length found.ring.items < found.ring.capacity
-room-left observed found full same test not_full =
-    let P : Member → Type 0 = λ m. member_has_ended m ≡ false → length m.ring.items < m.ring.capacity in
-    subst P same (λ goes. (let h : (observed.ring.capacity ≤ length observed.ring.items) → ⊥ = λ past. (let e = (test goes).1 past in cc) in omega (arith, h)))
+pub room-left : (member : Member) (full : Bool) → (member_has_ended member ≡ false → (full ≡ true) ↔ (member.ring.capacity ≤ length member.ring.items))
+    → full ≡ false → member_has_ended member ≡ false → length member.ring.items < member.ring.capacity
+room-left member full test not_full goes =
+    let h : (member.ring.capacity ≤ length member.ring.items) → ⊥ = λ past. (let e = (test goes).1 past in cc) in omega (arith, h)
 
 -- a machine with a full ring is not at its end
 pub full-goes : (member : Member) (full : Bool) → (member_has_ended member ≡ true → full ≡ false) → full ≡ true → member_has_ended member ≡ false
-full-goes member full over is = elim (bools (member_has_ended member)) [
+full-goes member full over is = elim (cases_Bool (member_has_ended member)) [
   | inl ended ↦ absurd (let e = over ended in cc)
   | inr goes ↦ goes
 ]

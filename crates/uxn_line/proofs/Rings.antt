@@ -1,6 +1,5 @@
 -- What a ring holds, and what comes next.
-use Rattle.std.proofs.Common.{◌≡◌, ◌+◌, List, [], ◌∷◌, drop, length, refl, sym, ap, ◌∙◌, arith}
-use Rattle.std.specs.Prelude.{Some, None, slice_get}
+use Rattle.uxn_line.proofs.Common.{◌≡◌, ◌+◌, List, [], ◌∷◌, drop, length, refl, sym, ap, ◌∙◌, arith, Some, None, slice_get}
 
 pub first-is : {X : Type 0} (items : List X) (item : X) → slice_get items 0 ≡ Some item → items ≡ item ∷ drop 1 items
 first-is [] item is = absurd (cc)

@@ -1,26 +1,16 @@
 -- A machine of a line that ran an instruction.
-use Rattle.std.proofs.Common.{◌≡◌, ◌≢◌, ℕ, zero, suc, ◌-◌, ◌<◌, ◌≤◌, inl, inr, true, false, List, [], ◌++◌, take, length, get_or, refl, sym, ap, subst, ◌∙◌, arith, append-nil}
-use Rattle.std.specs.Prelude.{Some, slice_get}
+use Rattle.uxn_line.proofs.Common.{◌≡◌, ◌≢◌, ℕ, zero, suc, ◌-◌, ◌<◌, ◌≤◌, inl, inr, true, false, List, [], ◌++◌, take, length, get_or, refl, sym, ap}
+use Rattle.uxn_line.proofs.Common.{subst, ◌∙◌, arith, append-nil, slice_get-set_other, slice_get-set_same, cases_Bool, cases_eq, Some, slice_get}
+use Rattle.uxn_line.proofs.Common.{length-set, get_or_from_slice_get, slice_get_within, Buffer, Line, Ran, Member, Place, PlaceHasEnded, turn, put_in}
+use Rattle.uxn_line.proofs.Common.{pending_inputs_of, LineJob, script_at, stream, MemberAt, member_has_ended, IsRunning, RunsAt, KeepsRing, Turned}
+use Rattle.uxn_line.proofs.Common.{one_more, machine_place, given_after, Between, RingBefore, InLine, LineRepresents, last_machine, written_in}
+use Rattle.uxn_line.proofs.Common.{MachineIsHeld, Leads, Came, work, work_left}
 use Rattle.std.specs.Vec.{with_item}
-use Rattle.std.proofs.lemmas.List.{length-set}
-use Rattle.std.proofs.lemmas.Option.{get_or_from_slice_get, slice_get_within}
-use Rattle.circular_buffer.specs.Buffer.{Buffer}
-use Rattle.uxn_line.specs.declared.line.Line.{Line}
-use Rattle.uxn_line.specs.declared.line.Moved.TheVariants.{Ran}
-use Rattle.uxn_line.specs.declared.member.Member.{Member}
-use Rattle.vector_loop.specs.Places.{Place, PlaceHasEnded}
-use Rattle.uxn_line.specs.Places.{turn, put_in}
 use Rattle.uxn_line.specs.Machines.{handed_on}
-use Rattle.vector_loop.specs.PendingInputs.{pending_inputs_of}
-use Rattle.uxn_line.specs.Streams.{LineJob, script_at, stream, after}
-use Rattle.uxn_line.specs.Members.{MemberAt, member_has_ended, IsRunning}
-use Rattle.uxn_line.specs.MemberTurns.{KeepsRing, HasRun}
-use Rattle.uxn_line.specs.Standing.{Turned, one_more, machine_place, given_after, Between, RingBefore, InLine, LineRepresents}
-use Rattle.uxn_line.specs.Moves.{last_machine, written_in, MachineIsHeld, Leads, Came}
-use Rattle.uxn_line.specs.Work.{work, work_left}
+use Rattle.uxn_line.specs.MemberTurns.{HasRun}
 use Rattle.uxn_line.proofs.Turned.{run-pending_inputs}
-use Rattle.uxn_line.proofs.Working.{bools, ring-within, set-less}
-use Rattle.uxn_line.proofs.Standings.{same-or-not, more-here, more-apart, place-more, place-apart, ended-is, goes-on, ring-grows, stands-more, set-here, set-apart}
+use Rattle.uxn_line.proofs.Working.{ring-within, set-less}
+use Rattle.uxn_line.proofs.Standings.{more-here, more-apart, place-more, place-apart, ended-is, goes-on, ring-grows, stands-more}
 
 -- the item that was found at a place
 pub found-is : {X : Type 0} (items : List X) (place : ℕ) (found item : X) → found ≡ get_or items place found → slice_get items place ≡ Some item
@@ -53,13 +43,13 @@ handed-nothing member within = record {
 -- a ring that is kept or emptied
 module _ (member now : Member) (items : List ℕ) (ring : KeepsRing member now items) where
   pub room-stays : now.ring.capacity ≡ member.ring.capacity
-  room-stays = elim (bools (member_has_ended now)) [
+  room-stays = elim (cases_Bool (member_has_ended now)) [
     | inl over ↦ ap (λ (r : Buffer ℕ). r.capacity) (ring.dropped over)
     | inr goes ↦ ap (λ (r : Buffer ℕ). r.capacity) (ring.kept goes)
   ]
 
   pub empty-stays : items ≡ [] → now.ring.items ≡ []
-  empty-stays none = elim (bools (member_has_ended now)) [
+  empty-stays none = elim (cases_Bool (member_has_ended now)) [
     | inl over ↦ ap (λ (r : Buffer ℕ). r.items) (ring.dropped over)
     | inr goes ↦ ap (λ (r : Buffer ℕ). r.items) (ring.kept goes) ∙ none
   ]
@@ -68,42 +58,53 @@ module _ (member now : Member) (items : List ℕ) (ring : KeepsRing member now i
 pub running-goes : (member : Member) (place : Place) → MemberAt member place → 0 < member.machine.left → PlaceHasEnded place → ⊥
 running-goes member place at some ended = let l = at.stands.left in omega (arith, l, some, ended.0)
 
-run-ring : (job : LineJob) (turned : Turned) (machine : ℕ) (member now : Member) → RanFrom member now → InLine job turned machine member
-    → MemberAt now (machine_place job (one_more machine turned) machine) → RingBefore job (one_more machine turned) machine now.ring.items
-run-ring job turned zero member now ran inline at = empty-stays member now member.ring.items ran.ran.ring inline.ring
-run-ring job turned (suc before) member now ran inline at =
+-- what is left in the ring of a machine that had one more turn, where its run goes on
+abbrev pub RingLeft : LineJob → Turned → ℕ → List ℕ → Type 0
+RingLeft job turned zero items = items ≡ []
+RingLeft job turned (suc before) items = (PlaceHasEnded (turn job.budget (machine_place job turned (suc before))) → ⊥)
+    → put_in (machine_place job turned before) ≡ take (given_after job (suc before) (suc (turned (suc before)))) (stream job before) ++ items
+
+-- so it is in line
+module _ (job : LineJob) (turned : Turned) (member now : Member) (items : List ℕ) (ring : KeepsRing member now items) where
+  ring-more : (machine : ℕ) → MemberAt now (turn job.budget (machine_place job turned machine)) → RingLeft job turned machine items
+      → RingBefore job (one_more machine turned) machine now.ring.items
+  ring-more zero at left = empty-stays member now items ring left
+  ring-more (suc before) at left =
+      let next = turn job.budget (machine_place job turned (suc before)) in
+      let grown : Between job before (turned before) (suc (turned (suc before))) now.ring.items = record {
+        dropped = λ ended. ap (λ (r : Buffer ℕ). r.items) (ring.dropped ((ended-is now next at).1 ended));
+        written = λ goes. left goes ∙ ap (λ (r : Buffer ℕ). take (given_after job (suc before) (suc (turned (suc before)))) (stream job before) ++ r.items)
+            (sym (ring.kept (goes-on now next at goes)));
+      } in
+      rw (more-apart (suc before) turned before (λ same. omega (arith, same))) (rw (more-here (suc before) turned) grown)
+
+  pub own-more : (machine : ℕ) → InLine job turned machine member → MemberAt now (turn job.budget (machine_place job turned machine))
+      → length items ≤ length member.ring.items → RingLeft job turned machine items → InLine job (one_more machine turned) machine now
+  own-more machine inline at fewer left =
+      record {
+        stands = rw (place-more job machine turned) at;
+        ring = ring-more machine at left;
+        room = room-stays member now items ring ∙ inline.room;
+        within = (let kept = ring-within member now items ring in omega (arith, kept, fewer, inline.within));
+      }
+
+-- a machine that ran
+run-left : (job : LineJob) (turned : Turned) (machine : ℕ) (member now : Member) → RanFrom member now → InLine job turned machine member
+    → RingLeft job turned machine member.ring.items
+run-left job turned zero member now ran inline = inline.ring
+run-left job turned (suc before) member now ran inline = λ goes.
     let place = machine_place job turned (suc before) in
     let between : Between job before (turned before) (turned (suc before)) member.ring.items = inline.ring in
-    let here = more-here (suc before) turned in
-    let there = more-apart (suc before) turned before (λ same. omega (arith, same)) in
-    let P : ℕ → Type 0 = λ n. Between job before n (one_more (suc before) turned (suc before)) now.ring.items in
-    let Q : ℕ → Type 0 = λ n. Between job before (turned before) n now.ring.items in
-    let R : ℕ → Type 0 = λ n. MemberAt now (after job (suc before) n) in
-    let at_next : MemberAt now (turn job.budget place) = subst R here at in
     let total = length (pending_inputs_of (script_at job (suc before))) in
-    let given = ap (λ g. total - length g) (run-pending_inputs job.budget member.machine place ran.some inline.stands.stands) in
-    let grown : Between job before (turned before) (suc (turned (suc before))) now.ring.items = record {
-      dropped = λ ended. ap (λ (r : Buffer ℕ). r.items) (ran.ran.ring.dropped ((ended-is now (turn job.budget place) at_next).1 ended));
-      written = λ goes.
-          between.written (running-goes member place inline.stands ran.some)
-          ∙ ap (λ n. take n (stream job before) ++ member.ring.items) (sym given)
-          ∙ ap (λ (r : Buffer ℕ). take (given_after job (suc before) (suc (turned (suc before)))) (stream job before) ++ r.items)
-          (sym (ran.ran.ring.kept (goes-on now (turn job.budget place) at_next goes)));
-    } in
-    subst P (sym there) (subst Q (sym here) grown)
+    between.written (running-goes member place inline.stands ran.some)
+    ∙ ap (λ g. take (total - length g) (stream job before) ++ member.ring.items)
+    (sym (run-pending_inputs job.budget member.machine place ran.some inline.stands.stands))
 
--- a machine that ran is in line after one more turn
 pub run-own : (job : LineJob) (turned : Turned) (machine : ℕ) (member now : Member) → RanFrom member now → InLine job turned machine member
     → InLine job (one_more machine turned) machine now
 run-own job turned machine member now ran inline =
-    let P : Place → Type 0 = λ p. MemberAt now p in
-    let at = subst P (sym (place-more job machine turned)) (ran.ran.stands job.budget (machine_place job turned machine) inline.stands) in
-    record {
-      stands = at;
-      ring = run-ring job turned machine member now ran inline at;
-      room = room-stays member now member.ring.items ran.ran.ring ∙ inline.room;
-      within = (let kept = ring-within member now member.ring.items ran.ran.ring in omega (arith, kept, inline.within));
-    }
+    own-more job turned member now member.ring.items ran.ran.ring machine inline
+    (ran.ran.stands job.budget (machine_place job turned machine) inline.stands) (omega arith) (run-left job turned machine member now ran inline)
 
 -- the next one is in line where it was handed the bytes that were written
 pub put-behind : (job : LineJob) (turned : Turned) (machine : ℕ) (bytes : List ℕ) (next now : Member) → Handed bytes next now
@@ -114,12 +115,9 @@ put-behind job turned machine bytes next now handed put inline =
     let there = more-apart machine turned (suc machine) (λ same. omega (arith, same)) in
     let place = machine_place job turned (suc machine) in
     let between : Between job machine (turned machine) (turned (suc machine)) next.ring.items = inline.ring in
-    let P : ℕ → Type 0 = λ n. MemberAt now (after job (suc machine) n) in
-    let Q : ℕ → Type 0 = λ n. Between job machine n (one_more machine turned (suc machine)) now.ring.items in
-    let R : ℕ → Type 0 = λ n. Between job machine (suc (turned machine)) n now.ring.items in
     record {
-      stands = subst P (sym there) (handed.stands place inline.stands);
-      ring = subst Q (sym here) (subst R (sym there)
+      stands = rw there (handed.stands place inline.stands);
+      ring = rw here (rw there
           (ring-grows job machine (turned machine) (suc (turned machine)) (turned (suc machine)) next.ring.items now.ring.items bytes
           (λ ended. handed.over ((ended-is next place inline.stands).1 ended) ∙ between.dropped ended)
           (λ goes. handed.kept (goes-on next place inline.stands goes)) put between));
@@ -132,8 +130,7 @@ pub wrote-here : (job : LineJob) (turned : Turned) (machine : ℕ) (bytes : List
     → put_in (turn job.budget (machine_place job turned machine)) ≡ put_in (machine_place job turned machine) ++ bytes
     → written_in job (one_more machine turned) ≡ written_in job turned ++ bytes
 wrote-here job turned machine bytes last put =
-    let P : ℕ → Type 0 = λ m. put_in (machine_place job (one_more machine turned) m) ≡ put_in (machine_place job turned m) ++ bytes in
-    subst P (sym last) (ap put_in (place-more job machine turned) ∙ put)
+    rw last (ap put_in (place-more job machine turned) ∙ put)
 
 pub wrote-apart : (job : LineJob) (turned : Turned) (machine : ℕ) → last_machine job ≢ machine
     → written_in job (one_more machine turned) ≡ written_in job turned ++ []
@@ -142,7 +139,7 @@ wrote-apart job turned machine apart = ap put_in (place-apart job machine turned
 pub wrote-none : (job : LineJob) (turned : Turned) (machine : ℕ)
     → put_in (turn job.budget (machine_place job turned machine)) ≡ put_in (machine_place job turned machine)
     → written_in job (one_more machine turned) ≡ written_in job turned ++ []
-wrote-none job turned machine same = elim (same-or-not (last_machine job) machine) [
+wrote-none job turned machine same = elim (cases_eq (last_machine job) machine) [
   | inl last ↦ wrote-here job turned machine [] last (same ∙ sym (append-nil _))
   | inr apart ↦ wrote-apart job turned machine apart
 ]
@@ -172,7 +169,7 @@ run-puts job line line_now turned machine member now stands runs =
 
 run-script : (job : LineJob) (line : Line) (turned : Turned) (machine : ℕ) (member : Member) → LineRepresents job line turned
     → MemberAt member (machine_place job turned machine) → 0 < member.machine.left → line.input_queue ≡ (machine_place job (one_more machine turned) 0).pending_inputs
-run-script job line turned machine member stands at some = elim (same-or-not 0 machine) [
+run-script job line turned machine member stands at some = elim (cases_eq 0 machine) [
   | inl first ↦
       let P : ℕ → Type 0 = λ m. (machine_place job (one_more machine turned) m).pending_inputs ≡ (machine_place job turned m).pending_inputs in
       stands.script ∙ sym (subst P (sym first) (ap (λ (p : Place). p.pending_inputs) (place-more job machine turned)
@@ -223,43 +220,39 @@ abbrev pub with_member : Line → ℕ → Member → Line
 with_member line machine now = record line { members = with_item line.members machine now }
 
 -- the member that was found where a machine runs
-pub record Found (bytes : List ℕ) (line : Line) (machine : ℕ) (found : Member) : Type 0 where
-  pub there : slice_get line.members.items machine ≡ Some found
-  pub some : 0 < found.machine.left
-  pub writes : handed_on found.machine.core ≡ bytes
-
 pub found-running : (bytes : List ℕ) (line : Line) (machine : ℕ) (found : Member) → IsRunning bytes line machine
-    → found ≡ get_or line.members.items machine found → Found bytes line machine found
+    → found ≡ get_or line.members.items machine found → RunsAt bytes line machine found
 found-running bytes line machine found running read =
-    let same = found-is line.members.items machine found running.member read running.there in
-    let P : Member → Type 0 = λ m. Found bytes line machine m in
-    subst P (sym same) (record { there = running.there; some = running.vector; writes = running.writes })
+    rw (found-is line.members.items machine found running.0 read running.1.there) running.1
 
--- a machine that writes nothing ran
-pub quiet-runs : (line : Line) (machine : ℕ) (member now : Member) → Found [] line machine member → RanFrom member now
-    → RunsIn line (with_member line machine now) machine member now
-quiet-runs line machine member now found ran =
+-- a machine ran, and no other was handed anything
+pub one-came : (line : Line) (machine : ℕ) (member now : Member) (bytes : List ℕ) → slice_get line.members.items machine ≡ Some member → RanFrom member now
+    → ((next : Member) → slice_get line.members.items (suc machine) ≡ Some next → length next.ring.items ≤ 256 → Handed (handed_on member.machine.core) next next)
+    → ((job : LineJob) (turned : Turned) → LineRepresents job line turned → MachineIsHeld job line turned machine → ⊥)
+    → ((job : LineJob) (turned : Turned) → LineRepresents job line turned
+    → put_in (turn job.budget (machine_place job turned machine)) ≡ put_in (machine_place job turned machine) ++ handed_on member.machine.core
+    → written_in job (one_more machine turned) ≡ written_in job turned ++ bytes)
+    → Came machine Ran bytes line (with_member line machine now)
+one-came line machine member now bytes there ran behind free wrote =
     let items = line.members.items in
-    record {
-      at = found.there;
-      here = set-here items machine now (slice_get_within items machine member found.there);
-      apart = λ other apart further. set-apart items machine other now apart;
-      behind = λ next at_next. (
-        next,
-        sym (set-apart items machine (suc machine) now (λ same. omega (arith, same))) ∙ at_next,
-        λ full room. (let Q : List ℕ → Type 0 = λ bytes. Handed bytes next next in subst Q (sym found.writes) (handed-nothing next full)),
-      );
+    run-came line (with_member line machine now) machine member now bytes (record {
+      at = there;
+      here = slice_get-set_same items machine now (slice_get_within items machine member there);
+      apart = λ other apart further. slice_get-set_other items machine other now apart;
+      behind = λ next at_next.
+          let was = sym (slice_get-set_other items machine (suc machine) now (λ same. omega (arith, same))) ∙ at_next in
+          (next, was, λ full room. behind next was full);
       count = length-set items machine now;
       budget = refl;
       script = refl;
       ran = ran;
-    }
+    }) free wrote (set-less line.budget (length line.input_queue) items machine member now there (ran.work line.budget))
 
-pub quiet-came : (line : Line) (machine : ℕ) (member now : Member) → Found [] line machine member → RanFrom member now
+-- one that writes nothing
+pub quiet-came : (line : Line) (machine : ℕ) (member now : Member) → RunsAt [] line machine member → RanFrom member now
     → Came machine Ran [] line (with_member line machine now)
 quiet-came line machine member now found ran =
-    run-came line (with_member line machine now) machine member now [] (quiet-runs line machine member now found ran)
+    one-came line machine member now [] found.there ran (λ next there full. rw found.writes (handed-nothing next full))
     (λ job turned stands held. held.writes (ap handed_on (sym (stands.each machine member found.there).stands.stands.core) ∙ found.writes))
     (λ job turned stands puts.
     wrote-none job turned machine (puts ∙ ap (λ bytes. put_in (machine_place job turned machine) ++ bytes) found.writes ∙ append-nil _))
-    (set-less line.budget (length line.input_queue) line.members.items machine member now found.there (ran.work line.budget))

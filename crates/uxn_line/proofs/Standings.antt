@@ -1,35 +1,9 @@
 -- A line in which one machine had a turn more represents one more of it.
-use Rattle.std.proofs.Common.{◌≡◌, ◌≢◌, ℕ, zero, suc, ◌==◌, ◌<◌, ◌&&◌, ◌||◌, ◌↔◌, ◌⊎◌, inl, inr, Bool, true, false, cond, List, [], ◌∷◌, ◌++◌, take, length, refl, sym, ap, subst, ◌∙◌, arith, append_assoc}
-use Rattle.std.specs.Prelude.{Some, slice_get, slice_set}
-use Rattle.std.proofs.lemmas.Bool.Decides.{nat_tests}
-use Rattle.uxn_line.specs.declared.line.Line.{Line}
-use Rattle.uxn_line.specs.declared.member.Member.{Member}
-use Rattle.vector_loop.specs.Places.{Place, PlaceHasEnded}
-use Rattle.uxn_line.specs.Places.{turn, put_in}
-use Rattle.uxn_line.specs.Streams.{LineJob, stream, after}
-use Rattle.uxn_line.specs.Members.{MemberAt, member_has_ended}
-use Rattle.uxn_line.specs.Standing.{Turned, one_more, machine_place, given_after, Between, InLine, LineRepresents}
-use Rattle.uxn_line.proofs.Working.{bools}
-
--- numbers that are equal or not
-pub same-or-not : (m n : ℕ) → (m ≡ n) ⊎ (m ≢ n)
-same-or-not m n = elim (bools (m == n)) [
-  | inl same ↦ inl (grind (arith, nat_tests, same))
-  | inr apart ↦ inr (λ same. grind (arith, nat_tests, apart, same))
-]
-
--- what stands at a place of a list in which one item was set
-pub set-here : {X : Type 0} (xs : List X) (place : ℕ) (x : X) → place < length xs → slice_get (slice_set xs place x) place ≡ Some x
-set-here [] place x within = absurd (omega (arith, within))
-set-here (first ∷ xs) zero x within = refl
-set-here (first ∷ xs) (suc place) x within = set-here xs place x (omega (arith, within))
-
-pub set-apart : {X : Type 0} (xs : List X) (place other : ℕ) (x : X) → other ≢ place → slice_get (slice_set xs place x) other ≡ slice_get xs other
-set-apart [] place other x apart = refl
-set-apart (first ∷ xs) zero zero x apart = absurd (apart refl)
-set-apart (first ∷ xs) zero (suc other) x apart = refl
-set-apart (first ∷ xs) (suc place) zero x apart = refl
-set-apart (first ∷ xs) (suc place) (suc other) x apart = set-apart xs place other x (λ same. apart (ap suc same))
+use Rattle.uxn_line.proofs.Common.{◌≡◌, ◌≢◌, ℕ, zero, suc, ◌==◌, ◌&&◌, ◌||◌, ◌↔◌, inl, inr, true, false, cond, List, [], ◌++◌, take, length, refl}
+use Rattle.uxn_line.proofs.Common.{sym, ap, ◌∙◌, arith, append_assoc, cases_Bool, cases_eq, Some, slice_get, nat_tests, Line, Member, Place}
+use Rattle.uxn_line.proofs.Common.{PlaceHasEnded, turn, put_in, LineJob, stream, after, MemberAt, member_has_ended, Turned, one_more, machine_place}
+use Rattle.uxn_line.proofs.Common.{given_after, Between, InLine, LineRepresents}
+use Rattle.std.proofs.lemmas.Bool.{or_cases, or_right}
 
 -- one more turn
 pub more-here : (machine : ℕ) (turned : Turned) → one_more machine turned machine ≡ suc (turned machine)
@@ -48,14 +22,10 @@ pub place-apart : (job : LineJob) (machine : ℕ) (turned : Turned) (other : ℕ
 place-apart job machine turned other apart = ap (after job other) (more-apart machine turned other apart)
 
 -- a machine is known to be at its end
-either : (stopped given : Bool) → (stopped || given) ≡ true → (stopped ≡ true) ⊎ (given ≡ true)
-either true given is = inl refl
-either false given is = inr is
-
 pub ended-is : (member : Member) (now : Place) → MemberAt member now → (member_has_ended member ≡ true) ↔ PlaceHasEnded now
 ended-is member now at = (
   λ ended.
-      let idle : member.machine.left ≡ 0 = elim (bools (member.machine.left == 0)) [
+      let idle : member.machine.left ≡ 0 = elim (cases_Bool (member.machine.left == 0)) [
         | inl none ↦ grind (arith, nat_tests, none)
         | inr some ↦ absurd (let e = sym ended ∙ ap (λ b. b && (member.stopped || member.all_given)) some in cc)
       ] in
@@ -63,7 +33,7 @@ ended-is member now at = (
       let none : (member.machine.left == 0) ≡ true = grind (arith, nat_tests, idle) in
       let both : (member.stopped || member.all_given) ≡ true = ap (λ b. b && (member.stopped || member.all_given)) (sym none) ∙ ended in (
         left,
-        elim (either member.stopped member.all_given both) [
+        elim (or_cases member.stopped member.all_given both) [
           | inl stopped ↦ inl (sym (at.stopped left) ∙ stopped)
           | inr given ↦ inr (at.given.0 given)
         ],
@@ -74,19 +44,15 @@ ended-is member now at = (
       ap (λ b. b && (member.stopped || member.all_given)) none
       ∙ elim over.1 [
         | inl stopped ↦ ap (λ b. b || member.all_given) (at.stopped over.0 ∙ stopped)
-        | inr given ↦ or-true member.stopped member.all_given (at.given.1 given)
+        | inr given ↦ or_right member.stopped member.all_given (at.given.1 given)
       ],
 )
-  where
-    or-true : (a b : Bool) → b ≡ true → (a || b) ≡ true
-    or-true true b is = refl
-    or-true false b is = is
 
 pub not-ended : (member : Member) (now : Place) → MemberAt member now → member_has_ended member ≡ false → PlaceHasEnded now → ⊥
 not-ended member now at goes ended = let e = (ended-is member now at).1 ended in cc
 
 pub goes-on : (member : Member) (now : Place) → MemberAt member now → (PlaceHasEnded now → ⊥) → member_has_ended member ≡ false
-goes-on member now at goes = elim (bools (member_has_ended member)) [
+goes-on member now at goes = elim (cases_Bool (member_has_ended member)) [
   | inl ended ↦ absurd (goes ((ended-is member now at).0 ended))
   | inr is ↦ is
 ]
@@ -95,15 +61,11 @@ goes-on member now at goes = elim (bools (member_has_ended member)) [
 pub in-line-same : (job : LineJob) (turned now : Turned) (machine : ℕ) (member : Member) → now machine ≡ turned machine
     → ((before : ℕ) → machine ≡ suc before → now before ≡ turned before) → InLine job turned machine member → InLine job now machine member
 in-line-same job turned now zero member same before inline =
-    let P : ℕ → Type 0 = λ n. MemberAt member (after job zero n) in
-    record { stands = subst P (sym same) inline.stands; ring = inline.ring; room = inline.room; within = inline.within }
+    record { stands = rw same inline.stands; ring = inline.ring; room = inline.room; within = inline.within }
 in-line-same job turned now (suc machine) member same before inline =
-    let P : ℕ → Type 0 = λ n. MemberAt member (after job (suc machine) n) in
-    let Q : ℕ → Type 0 = λ n. Between job machine n (turned (suc machine)) member.ring.items in
-    let R : ℕ → Type 0 = λ n. Between job machine (now machine) n member.ring.items in
     record {
-      stands = subst P (sym same) inline.stands;
-      ring = subst R (sym same) (subst Q (sym (before machine refl)) inline.ring);
+      stands = rw same inline.stands;
+      ring = rw same (rw (before machine refl) inline.ring);
       room = inline.room;
       within = inline.within;
     }
@@ -142,18 +104,15 @@ stands-more job turned machine line line_now stands more =
       budget = more.budget ∙ stands.budget;
       script = more.script;
       each = λ other member at.
-          elim (same-or-not other machine) [
+          elim (cases_eq other machine) [
             | inl same ↦
-                let P : ℕ → Type 0 = λ m. InLine job now m member in
                 let here = sym more.here ∙ ap (λ m. slice_get line_now.members.items m) (sym same) ∙ at in
                 let is : more.member ≡ member = cc in
-                let Q : Member → Type 0 = λ m. InLine job now machine m in
-                subst P (sym same) (subst Q is more.own)
+                rw same (rw is at more.own)
             | inr apart ↦
-                elim (same-or-not other (suc machine)) [
+                elim (cases_eq other (suc machine)) [
                   | inl next ↦
-                      let P : ℕ → Type 0 = λ m. InLine job now m member in
-                      subst P (sym next) (more.behind member (ap (λ m. slice_get line_now.members.items m) (sym next) ∙ at))
+                      rw next (more.behind member (ap (λ m. slice_get line_now.members.items m) (sym next) ∙ at))
                   | inr further ↦
                       in-line-same job turned now other member (more-apart machine turned other apart)
                       (λ before is. more-apart machine turned before (λ same. further (is ∙ ap suc same)))

@@ -1,12 +1,10 @@
 -- The turns of a machine, taken one after the other, are its run.
-use Rattle.std.proofs.Common.{◌≡◌, ℕ, zero, suc, List, [], ◌∷◌, ◌++◌, refl, ap, sym, ◌∙◌, map, append_assoc}
-use Rattle.uxn_io_traits.specs.Outside.{Change}
-use Rattle.play_script.specs.declared.script.Event.TheVariants.{Input, EndInput}
-use Rattle.vector_loop.specs.Trace.{Trace}
+use Rattle.uxn_line.proofs.Common.{◌≡◌, ℕ, zero, suc, List, [], ◌∷◌, ◌++◌, refl, ap, sym, ◌∙◌, map, append_assoc, Change, Input, EndInput, Trace}
+use Rattle.uxn_line.proofs.Common.{no_outputs, put_by, LineJob, AreOfConsole, IsJob, script_at, rom_at, stream, after}
 use Rattle.vector_loop.specs.Places.{run_left}
 use Rattle.vector_loop.specs.StepLaws.{ended-nothing, steps-are}
-use Rattle.uxn_line.specs.Places.{no_outputs, put_by_one, put_by}
-use Rattle.uxn_line.specs.Streams.{LineJob, AreOfConsole, IsJob, FollowsRun, new_machine, script_at, rom_at, run_of_machine, after}
+use Rattle.uxn_line.specs.Places.{put_by_one}
+use Rattle.uxn_line.specs.Streams.{FollowsRun, new_machine, run_of_machine}
 
 pub put_by-append : (first more : List Change) → put_by (first ++ more) ≡ put_by first ++ put_by more
 put_by-append [] more = refl
@@ -14,12 +12,12 @@ put_by-append (change ∷ first) more =
     ap (λ bytes. put_by_one change ++ bytes) (put_by-append first more) ∙ sym (append_assoc (put_by_one change) (put_by first) (put_by more))
 
 inputs-are : (bytes : List ℕ) → AreOfConsole (map (λ byte. Input byte) bytes ++ EndInput ∷ [])
-inputs-are [] = (tt, tt)
-inputs-are (byte ∷ bytes) = (tt, inputs-are bytes)
+inputs-are [] = refl
+inputs-are (byte ∷ bytes) = inputs-are bytes
 
 pub script-is : (job : LineJob) → IsJob job → (machine : ℕ) → AreOfConsole (script_at job machine).events
 script-is job is zero = is.events
-script-is job is (suc machine) = inputs-are _
+script-is job is (suc machine) = inputs-are (stream job machine)
 
 pub follows : (job : LineJob) → IsJob job → (machine count : ℕ) → FollowsRun (after job machine count) (run_of_machine job machine)
 follows job is machine count =

@@ -1,17 +1,10 @@
 -- Each move makes the work left of a line less.
-use Rattle.std.proofs.Common.{◌≡◌, ℕ, zero, suc, ◌+◌, ◌*◌, ◌==◌, ◌<◌, ◌≤◌, ◌&&◌, ◌||◌, ◌⊎◌, inl, inr, Bool, true, false, cond, List, [], ◌∷◌, ◌++◌, ◌∙◌, length, refl, sym, ap, subst, arith, length-append}
-use Rattle.std.specs.Prelude.{Some, slice_get, slice_set}
+use Rattle.uxn_line.proofs.Common.{◌≡◌, ℕ, zero, suc, ◌+◌, ◌==◌, ◌<◌, ◌≤◌, ◌&&◌, ◌||◌, inl, inr, Bool, true, false, cond, List, [], ◌∷◌, ◌++◌, ◌∙◌}
+use Rattle.uxn_line.proofs.Common.{length, refl, sym, ap, arith, length-append, cases_Bool, or_parts, Some, slice_get, slice_set, nat_tests, buffer}
+use Rattle.uxn_line.proofs.Common.{Member, member_has_ended, KeepsRing, work, works}
+use Rattle.std.proofs.Common.{◌*◌}
 use Rattle.std.proofs.Math.Nat.{mul-le-mul_right}
-use Rattle.std.proofs.lemmas.Bool.Decides.{nat_tests}
-use Rattle.circular_buffer.specs.Buffer.{Buffer, buffer}
-use Rattle.uxn_line.specs.declared.member.Member.{Member}
-use Rattle.uxn_line.specs.Members.{member_has_ended}
-use Rattle.uxn_line.specs.MemberTurns.{KeepsRing}
-use Rattle.uxn_line.specs.Work.{still_given, work, works}
-
-pub bools : (b : Bool) → (b ≡ true) ⊎ (b ≡ false)
-bools true = inl refl
-bools false = inr refl
+use Rattle.uxn_line.specs.Work.{still_given}
 
 -- the work of a machine whose run is not over
 going-on : (budget before : ℕ) (member : Member) → member_has_ended member ≡ false
@@ -39,19 +32,14 @@ pub idle-open : (member : Member) → member.machine.left ≡ 0 → member_has_e
 idle-open member idle goes_on =
     let zero_left : (member.machine.left == 0) ≡ true = grind (arith, nat_tests, idle) in
     let either : (member.stopped || member.all_given) ≡ false = ap (λ b. b && (member.stopped || member.all_given)) (sym zero_left) ∙ goes_on in
-    both member.stopped member.all_given either
-  where
-    both : (a b : Bool) → (a || b) ≡ false → (a ≡ false) × (b ≡ false)
-    both true b e = absurd (cc)
-    both false b e = (refl, e)
+    or_parts member.stopped member.all_given either
 
 -- the ring holds no more than this where it is kept so or emptied
 pub ring-within : (before now : Member) (items : List ℕ) → KeepsRing before now items → length now.ring.items ≤ length items
 ring-within before now items ring =
-    let P : Buffer ℕ → Type 0 = λ ring. length ring.items ≤ length items in
-    elim (bools (member_has_ended now)) [
-      | inl over ↦ subst P (sym (ring.dropped over)) (omega arith)
-      | inr goes ↦ subst P (sym (ring.kept goes)) (omega arith)
+    elim (cases_Bool (member_has_ended now)) [
+      | inl over ↦ rw (ring.dropped over) (omega arith)
+      | inr goes ↦ rw (ring.kept goes) (omega arith)
     ]
 
 abbrev pub until_all : Bool → ℕ
@@ -74,9 +62,7 @@ work-mono budget before before_now member now same left fewer =
     let product = mul-le-mul_right {m = still_given before_now now} {n = still_given before member} (budget + 1) fewer in
     let less : still_given before_now now * (budget + 1) + now.machine.left ≤ still_given before member * (budget + 1) + member.machine.left
     = omega (arith, product, left) in
-    let P : Bool → Type 0 = λ b. cond (member_has_ended now) 0 (still_given before_now now * (budget + 1) + now.machine.left)
-    ≤ cond b 0 (still_given before member * (budget + 1) + member.machine.left) in
-    subst P (sym same) (elim (member_has_ended now) as (λ b. cond b 0 (still_given before_now now * (budget + 1) + now.machine.left)
+    rw same (elim (member_has_ended now) as (λ b. cond b 0 (still_given before_now now * (budget + 1) + now.machine.left)
     ≤ cond b 0 (still_given before member * (budget + 1) + member.machine.left)) [ true ↦ omega arith | false ↦ less ])
 
 -- a byte that is handed on is paid for by the machine before
@@ -106,8 +92,7 @@ pub set-less : (budget before : ℕ) (members : List Member) (place : ℕ) (memb
 set-less budget before [] place member now there less = absurd (cc)
 set-less budget before (first ∷ members) zero member now there less =
     let same : first ≡ member = cc in
-    let P : Member → Type 0 = λ m. works budget before (now ∷ members) < works budget before (m ∷ members) in
-    subst P (sym same) (head-less budget before before member now members (less before))
+    rw same (head-less budget before before member now members (less before))
 set-less budget before (first ∷ members) (suc place) member now there less =
     let rest = set-less budget (work budget before first) members place member now there less in
     omega (arith, rest)
@@ -128,9 +113,7 @@ pair-less budget before (first ∷ second ∷ members) zero member now next next
     let own = pays (work budget before member) (work budget before now) (less before) in
     let rest = works-mono budget (work budget (work budget before member) next) (work budget (work budget before now) next_now) members own in
     let here = less before in
-    let P : Member → Type 0 = λ m. works budget before (now ∷ next_now ∷ members) < works budget before (m ∷ second ∷ members) in
-    let Q : Member → Type 0 = λ m. works budget before (now ∷ next_now ∷ members) < works budget before (member ∷ m ∷ members) in
-    subst P (sym same) (subst Q (sym same_next) (omega (arith, own, rest, here)))
+    rw same (rw same_next (omega (arith, own, rest, here)))
 pair-less budget before (first ∷ members) (suc place) member now next next_now there behind less pays =
     let rest = pair-less budget (work budget before first) members place member now next next_now there behind less pays in
     omega (arith, rest)
@@ -139,8 +122,7 @@ pub taken-pays : (budget byte : ℕ) (next now : Member) → (member_has_ended n
     → (member_has_ended next ≡ false → now ≡ record next { ring = buffer (next.ring.items ++ byte ∷ []) next.ring.capacity }) → Pays budget next now
 unfolding Pays
 taken-pays budget byte next now over kept left left_now less =
-    let P : Member → Type 0 = λ m. work budget left_now m ≤ work budget left next in
-    elim (bools (member_has_ended next)) [
-      | inl ended ↦ subst P (sym (over ended)) (work-mono budget left left_now next next refl refl (omega (arith, less)))
-      | inr goes ↦ subst P (sym (kept goes)) (handed-mono budget left left_now byte next less)
+    elim (cases_Bool (member_has_ended next)) [
+      | inl ended ↦ rw (over ended) (work-mono budget left left_now next next refl refl (omega (arith, less)))
+      | inr goes ↦ rw (kept goes) (handed-mono budget left left_now byte next less)
     ]

@@ -25,16 +25,20 @@ abbrev pub next_pending : List ℕ → PendingInput
 next_pending [] = OfEvent EndInput
 next_pending (byte ∷ bytes) = OfEvent (Input byte)
 
--- the machine at a place of a line is in a vector, and its next instruction writes these bytes to port 18
-pub record IsRunning (bytes : List ℕ) (line : Line) (machine : ℕ) : Type 0 where
-  pub member : Member
+-- a machine at a place of a line is in a vector, and its next instruction writes these bytes to port 18
+pub record RunsAt (bytes : List ℕ) (line : Line) (machine : ℕ) (member : Member) : Type 0 where
   pub there : slice_get line.members.items machine ≡ Some member
   pub vector : 0 < member.machine.left
   pub writes : handed_on member.machine.core ≡ bytes
 
--- the machine at a place is idle, and its run is not over
-pub record IsOpen (line : Line) (machine : ℕ) : Type 0 where
-  pub member : Member
+abbrev pub IsRunning : List ℕ → Line → ℕ → Type 0
+IsRunning bytes line machine = (member : Member) × RunsAt bytes line machine member
+
+-- it is idle, and its run is not over
+pub record OpenAt (line : Line) (machine : ℕ) (member : Member) : Type 0 where
   pub there : slice_get line.members.items machine ≡ Some member
   pub idle : member.machine.left ≡ 0
   pub goes_on : member_has_ended member ≡ false
+
+abbrev pub IsOpen : Line → ℕ → Type 0
+IsOpen line machine = (member : Member) × OpenAt line machine member

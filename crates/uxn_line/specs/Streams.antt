@@ -1,11 +1,12 @@
 -- The machines of a line, the run of each, and the stream of bytes that it hands on (profile).
 use Rattle.std.specs.Prelude.{◌≡◌, ℕ, zero, suc, ◌≤◌, List, [], ◌∷◌, ◌++◌, map, pos, None}
 use Rattle.std.specs.FinMap as nodes_map
-use Rattle.std.specs.Prelude.{slice_index_or, false}
+use Rattle.std.specs.Prelude.{slice_index_or, Bool, true, false, IsTrue}
+use Rattle.std.specs.List.{list_all}
 use Rattle.uxn_opcodes.specs.Rule.{new_core}
 use Rattle.play_script.specs.declared.script.Clock.{Clock}
 use Rattle.play_script.specs.declared.script.Event.{Event}
-use Rattle.play_script.specs.declared.script.Event.TheVariants.{Input, EndInput, Frame, Device, Shot, Expect}
+use Rattle.play_script.specs.declared.script.Event.TheVariants.{Input, EndInput}
 use Rattle.play_script.specs.declared.script.Version.TheVariants.{First}
 use Rattle.play_script.specs.Scripts.{ScriptView, script_with}
 use Rattle.system_port.specs.DebugText.{exit_code_of}
@@ -24,18 +25,14 @@ pub record LineJob : Type 0 where
   pub script : ScriptView
   pub budget : ℕ
 
--- an event of the console
-abbrev pub IsOfConsole : Event → Type 0
-IsOfConsole (Input byte) = Unit {0}
-IsOfConsole EndInput = Unit {0}
-IsOfConsole Frame = ⊥
-IsOfConsole (Device input) = ⊥
-IsOfConsole Shot = ⊥
-IsOfConsole (Expect port byte) = ⊥
+-- events of the console: bytes of input and ends of input
+abbrev pub is_of_console : Event → Bool
+is_of_console (Input byte) = true
+is_of_console EndInput = true
+is_of_console _ = false
 
 abbrev pub AreOfConsole : List Event → Type 0
-AreOfConsole [] = Unit {0}
-AreOfConsole (event ∷ events) = IsOfConsole event × AreOfConsole events
+AreOfConsole events = IsTrue (list_all is_of_console events)
 
 -- the clock of a script
 abbrev pub clock_by : Clock → BusClock

@@ -1,27 +1,20 @@
 //! Which scripts a line can be given.
-ghost use Rattle.std.specs.Prelude.{◌≡◌, ◌↔◌, true};
-ghost use Rattle.uxn_line.specs.Streams.{IsOfConsole, AreOfConsole};
+ghost use Rattle.std.specs.Prelude.{◌≡◌};
+ghost use Rattle.std.specs.List.{list_all};
+ghost use Rattle.uxn_line.specs.Streams.{is_of_console};
 
 use play_script::Event;
 
 /// Whether all events are of the console: inputs and ends of the input.
 pub fn are_of_console(events: &[Event]) -> bool
-    ensures { (result ≡ true) ↔ AreOfConsole events.now }
+    ensures { result ≡ list_all is_of_console events.now }
 {
-    for event in events {
-        if !is_of_console(event) {
-            return false;
-        }
-    }
-    true
+    events.iter().all(|event| is_of_console(event))
 }
 
 // Whether an event is of the console.
 fn is_of_console(event: &Event) -> bool
-    ensures { (result ≡ true) ↔ IsOfConsole event.now }
+    ensures { result ≡ is_of_console event.now }
 {
-    match event {
-        Event::Input(_) | Event::EndInput => true,
-        Event::Frame | Event::Device(_) | Event::Shot | Event::Expect(..) => false,
-    }
+    matches!(event, Event::Input(_) | Event::EndInput)
 }

@@ -1,14 +1,13 @@
 //! Which byte the coming instruction hands on to the next machine.
 ghost use Rattle.std.specs.Prelude.{◌≡◌, option_to_list};
-ghost use Rattle.uxn_stacks.specs.Cells.{byte_below};
 ghost use Rattle.uxn_opcodes.specs.declared.operation.Width.TheVariants.{Byte, Short};
 ghost use Rattle.uxn_opcodes.specs.Instruction.{writes_of};
 ghost use Rattle.uxn_opcodes.specs.Words.{word_below};
-ghost use Rattle.uxn_opcodes.specs.Table.{mode_of};
-ghost use Rattle.uxn_opcodes.specs.Rule.{sides_of};
+ghost use Rattle.uxn_opcodes.specs.Rule.{begun_by, past_opcode};
+ghost use Rattle.uxn_opcodes.specs.Model.{writes_in};
 ghost use Rattle.uxn_line.specs.Machines.{handed_in, handed_on};
 
-use uxn_opcodes::Core;
+use uxn_opcodes::{Core, Mode, Op, Width};
 use uxn_stacks::Ring;
 
 /// The port of the standard output.
@@ -17,44 +16,46 @@ const OUT: u8 = 0x18;
 /// The port before it: a short that is written there ends in the port of the standard output.
 const BEFORE_OUT: u8 = 0x17;
 
-/// The low five bits of the instructions that write a port.
-const WRITES: u8 = 0x17;
-
 /// The byte that the coming instruction writes to port 18, if it does.
+#[tactic(auto, unfolding(crate::specs::Machines::handed_on, uxn_opcodes::specs::Rule::begun))]
 pub fn next_byte(core: &Core) -> Option<u8>
     ensures { option_to_list result ≡ handed_on core.now }
 {
     let code = core.memory.get(core.at);
-    if code % 32 == WRITES {
-        written(this_ring(core, code), code)
-    } else {
-        None
+    if code == 0 {
+        return None;
     }
+    handed_by(Op::of(code), core, code)
 }
 
-/// The ring that an instruction takes its operands from.
-#[tactic(auto, unfolding(uxn_opcodes::specs::Table::mode_of))]
-fn this_ring(core: &Core, code: u8) -> &Ring
-    ensures { result.now ≡ (sides_of (mode_of code).returns core.now).this }
+/// The same by its operation.
+#[tactic(auto, unfolding(uxn_opcodes::specs::Rule::op_effect_of))]
+fn handed_by(op: Option<Op>, core: &Core, code: u8) -> Option<u8>
+    ensures { option_to_list result ≡ handed_in (writes_in (begun_by op code (past_opcode core.now)).access) }
 {
-    if code & 0x40 == 0 {
-        &core.working
-    } else {
-        &core.returns
+    match op {
+        Some(Op::Deo) => {
+            let mode = Mode::of(code);
+            let ring = if mode.returns {
+                &core.returns
+            } else {
+                &core.working
+            };
+            written(ring, mode.width)
+        }
+        _ => None,
     }
 }
 
 /// What an instruction that writes a port writes to port 18.
-#[tactic(auto, unfolding(uxn_opcodes::specs::Table::mode_of, uxn_opcodes::specs::Words::word_below))]
-fn written(ring: &Ring, code: u8) -> Option<u8>
-    ensures { let width = (mode_of code).width in
-        option_to_list result ≡ handed_in (writes_of width (byte_below ring.now 0) (word_below ring.now width 1)) }
+#[tactic(auto, unfolding(uxn_opcodes::specs::Words::word_below))]
+fn written(ring: &Ring, width: Width) -> Option<u8>
+    ensures { option_to_list result ≡ handed_in (writes_of width (word_below ring.now Byte 0) (word_below ring.now width 1)) }
 {
     let port = ring.peek1(0);
-    if code & 0x20 == 0 {
-        of_byte(port, ring.peek1(1))
-    } else {
-        of_short(port, ring.peek2(1))
+    match width {
+        Width::Byte => of_byte(port, ring.peek1(1)),
+        Width::Short => of_short(port, ring.peek2(1)),
     }
 }
 

@@ -1,16 +1,10 @@
 -- Going back gives the memory of the moment gone to.
-use Rattle.std.proofs.Common.{◌≡◌, ℕ, zero, suc, ◌+◌, ◌<◌, Bool, true, false, cond, List, [], ◌∷◌, length, take, Some, sym, ap, ◌∙◌, inl, inr, arith}
-use Rattle.std.specs.Prelude.{map, slice_get, slice_index}
-use Rattle.std.proofs.lemmas.Bool.{cases_Bool}
-use Rattle.std.proofs.lemmas.Bool.Decides.{nat_tests}
-use Rattle.std.proofs.lemmas.List.{take-take}
-use Rattle.std.proofs.lemmas.List.FromFn.{get_or-map-range_with_len}
-use Rattle.uxn_opcodes.specs.declared.Core.{Core}
-use Rattle.uxn_undo.specs.declared.span.Span.{Span}
-use Rattle.uxn_undo.specs.Spans.{address_after_span, distance_to, covers, span_bytes_at}
+use Rattle.uxn_undo.proofs.Common.{◌≡◌, ℕ, zero, suc, ◌+◌, ◌<◌, Bool, true, false, cond, List, [], ◌∷◌, length, take, Some, sym, ap, ◌∙◌, inl, inr}
+use Rattle.uxn_undo.proofs.Common.{arith, map, slice_get, slice_index, cases_Bool, nat_tests, take-take, get_or-map-range_with_len, Core, Span}
+use Rattle.uxn_undo.proofs.Common.{address_after_span, distance_to, covers, span_bytes_at, Kept, HoldsMoments, GivenMoments, DiffersWithin, Follow}
 use Rattle.uxn_undo.specs.Changes.{instruction_span}
-use Rattle.uxn_undo.specs.Kept.{Kept, HoldsMoments, byte_back}
-use Rattle.uxn_undo.specs.Laws.{GivenMoments, kept_of, DiffersWithin, Follow}
+use Rattle.uxn_undo.specs.Kept.{byte_back}
+use Rattle.uxn_undo.specs.Laws.{kept_of}
 
 -- an address that is covered is so far behind the first one as is said
 pub record IsPlace (span : Span) (at : ℕ) : Type 0 where

@@ -1,11 +1,9 @@
 -- What keeps one moment after another holds the newest of all of them.
-use Rattle.std.proofs.Common.{◌≡◌, ℕ, zero, suc, ◌<◌, ◌≤◌, List, [], ◌∷◌, length, take, refl, sym, ap, ◌∙◌, inl, inr, arith}
-use Rattle.std.specs.Prelude.{◌-◌, nat_le, sum_by}
-use Rattle.std.proofs.lemmas.Bool.{cases_lt, cases_Bool}
-use Rattle.std.proofs.lemmas.Bool.Decides.{nat_tests}
-use Rattle.std.proofs.lemmas.List.{take-take, length-take-le}
-use Rattle.std.proofs.lemmas.List.Sums.{sum_by-cons}
-use Rattle.uxn_undo.specs.Kept.{Kept, HoldsMoments, byte_count, most_moments, most_bytes, fitting_moments, number_held}
+use Rattle.uxn_undo.proofs.Common.{◌≡◌, ℕ, zero, suc, ◌<◌, ◌≤◌, List, [], ◌∷◌, length, take, refl, sym, ap, ◌∙◌, inl, inr, arith, sum_by, cases_lt}
+use Rattle.uxn_undo.proofs.Common.{cases_Bool, nat_tests, take-take, length-take-le, sum_by-cons, Kept, HoldsMoments, byte_count, most_moments}
+use Rattle.uxn_undo.proofs.Common.{most_bytes}
+use Rattle.std.specs.Prelude.{◌-◌, nat_le}
+use Rattle.uxn_undo.specs.Kept.{Fits, fitting_moments, number_held}
 use Rattle.uxn_undo.specs.Laws.{HoldingLaw}
 
 -- what is held of the older moments is as good as all of them, as far as it goes
@@ -15,17 +13,6 @@ same_prefix kept given held zero newest le = refl
 same_prefix kept given held (suc n) newest le =
     ap (λ (older : List Kept). kept ∷ older)
     (ap (λ (older : List Kept). take n older) newest ∙ take-take n (length held) given (omega arith))
-
-none : HoldsMoments [] []
-none = record {
-  number = record {
-    within = omega arith;
-    moments = omega arith;
-    bytes = omega arith;
-    greatest = λ more above within moments. absurd (omega arith);
-  };
-  newest = refl;
-}
 
 -- with more moments than these there is no room
 no_room : (given held now : List Kept) (kept : Kept) → HoldsMoments given held → HoldsMoments (kept ∷ held) now
@@ -57,12 +44,6 @@ one_more given held now kept before after =
     }
 
 -- as many are held as fit
-record Fits (left room : ℕ) (given : List Kept) (number : ℕ) : Type 0 where
-  within : number ≤ length given
-  moments : number ≤ left
-  bytes : sum_by byte_count (take number given) ≤ room
-  greatest : (more : ℕ) → number < more → more ≤ length given → more ≤ left → room < sum_by byte_count (take more given)
-
 one_more_fits : (left room : ℕ) (kept : Kept) (older : List Kept) (number : ℕ) → byte_count kept ≤ room → Fits left (room - byte_count kept) older number
     → (more : ℕ) → suc number < more → more ≤ suc (length older) → more ≤ suc left → room < sum_by byte_count (take more (kept ∷ older))
 one_more_fits left room kept older number small fits zero above within few = absurd (omega arith)
@@ -72,16 +53,12 @@ one_more_fits left room kept older number small fits (suc more) above within few
 
 one_fits : (left room : ℕ) (kept : Kept) (older : List Kept) (number : ℕ) → byte_count kept ≤ room → Fits left (room - byte_count kept) older number
     → Fits (suc left) room (kept ∷ older) (suc number)
-one_fits left room kept older number small fits =
-    let within : number ≤ length older = fits.within in
-    let moments : number ≤ left = fits.moments in
-    let bytes : sum_by byte_count (take number older) ≤ room - byte_count kept = fits.bytes in
-    record {
-      within = omega arith;
-      moments = omega arith;
-      bytes = omega (arith, sum_by-cons byte_count kept (take number older));
-      greatest = one_more_fits left room kept older number small fits;
-    }
+one_fits left room kept older number small fits = record {
+  within = omega (arith, fits.within);
+  moments = omega (arith, fits.moments);
+  bytes = omega (arith, fits.bytes, sum_by-cons byte_count kept (take number older));
+  greatest = one_more_fits left room kept older number small fits;
+}
 
 all_too_large : (room : ℕ) (kept : Kept) (older : List Kept) → room < byte_count kept → (more : ℕ) → 0 < more
     → room < sum_by byte_count (take more (kept ∷ older))
@@ -98,18 +75,8 @@ too_large left room kept older large = record {
 
 fits : (left room : ℕ) (given : List Kept) → Fits left room given (fitting_moments left room given)
 unfolding fitting_moments
-fits zero room given = record {
-  within = omega arith;
-  moments = omega arith;
-  bytes = omega arith;
-  greatest = λ more above within few. absurd (omega arith);
-}
-fits (suc left) room [] = record {
-  within = omega arith;
-  moments = omega arith;
-  bytes = omega arith;
-  greatest = λ more above within few. absurd (omega arith);
-}
+fits zero room given = search arith
+fits (suc left) room [] = search arith
 fits (suc left) room (kept ∷ older) =
     elim (cases_Bool (nat_le (byte_count kept) room)) [
       | inl is ↦
@@ -144,9 +111,10 @@ newest given =
     let all = fits most_moments most_bytes given in
     let size : length (take (number_held given) given) ≡ number_held given = length-take-le (number_held given) given all.within in
     record {
-      number = rw size (record { within = all.within; moments = all.moments; bytes = all.bytes; greatest = all.greatest });
+      number = rw size all;
       newest = rw size refl;
     }
 
 pub holding_law : HoldingLaw
-holding_law = record { none = none; one_more = one_more; number = number; newest = newest }
+unfolding fitting_moments
+holding_law = record { none = record { number = fits most_moments most_bytes []; newest = refl }; one_more = one_more; number = number; newest = newest }

@@ -1,45 +1,41 @@
 -- An instruction changes bank 0 only within the bytes that are kept for it.
-use Rattle.std.proofs.Common.{◌≡◌, ◌≢◌, ℕ, zero, suc, ◌+◌, ◌-◌, ◌*◌, ◌/◌, ◌%◌, ◌==◌, ◌<◌, ◌≤◌, ◌^◌, Bool, true, false, cond, List, [], length, drop, Option, Some, None, refl, sym, ap, subst, ◌∙◌, inl, inr, arith}
-use Rattle.std.specs.Prelude.{min, slice_index, replicate, nat_lt}
+use Rattle.uxn_undo.proofs.Common.{◌≡◌, ℕ, zero, suc, ◌+◌, ◌-◌, ◌/◌, ◌%◌, ◌==◌, ◌<◌, ◌≤◌, Bool, true, false, cond, List, [], length, drop, Some, None}
+use Rattle.uxn_undo.proofs.Common.{refl, sym, ap, ◌∙◌, inl, inr, arith, min, slice_index, cases_Bool, eqb-true, nat_tests, length-take, length-append}
+use Rattle.uxn_undo.proofs.Common.{get_or-map-range_with_len, Core, Cells, byte_below, Width, Byte, Short, mode_of, OpEffect, ruled, sides_of}
+use Rattle.uxn_undo.proofs.Common.{core_of, Span, span_in_bank, target_span, IsMachine, HoldsBytes}
+use Rattle.std.proofs.Common.{◌*◌, ◌||◌, ◌^◌, Option, subst}
+use Rattle.std.specs.Prelude.{replicate, nat_lt}
 use Rattle.std.specs.Option.{option_map}
-use Rattle.std.proofs.lemmas.Bool.{cases_Bool, eqb-true}
-use Rattle.std.proofs.lemmas.Bool.Decides.{nat_tests}
-use Rattle.std.proofs.lemmas.List.{length-take, length-append, length-replicate}
-use Rattle.std.proofs.lemmas.List.FromFn.{get_or-map-range_with_len}
+use Rattle.std.proofs.lemmas.List.{length-replicate}
 use Rattle.uxn_io_traits.specs.declared.trees.Kind.{Kind}
 use Rattle.uxn_io_traits.specs.declared.trees.Kind.TheVariants.{Missing, File, Folder}
-use Rattle.uxn_memory.specs.Bytes.{filled, copied_up, copied_down}
-use Rattle.uxn_opcodes.specs.declared.Core.{Core}
 use Rattle.file_ports.specs.declared.mode.Mode.{Mode}
 use Rattle.file_ports.specs.declared.mode.Mode.TheVariants.{Idle, ReadingFile, ReadingListing, Writing}
 use Rattle.file_ports.specs.Signs.{signs, hex_digits}
 use Rattle.file_ports.specs.Device.{FileState}
-use Rattle.file_ports.specs.Actions.{Observed, given, reading, reads, stats, quiet, count_from, observed_in}
+use Rattle.file_ports.specs.Actions.{Observed, given, reading, reads, stats, count_from, observed_in}
 use Rattle.file_ports.specs.Place.{last_place, bytes_on}
 use Rattle.system_port.specs.Expansion.{byte_in, short_in, record_at, expanded}
 use Rattle.varvara_bus.specs.History.{stored, stored_short}
 use Rattle.varvara_bus.specs.State.{DeviceState}
 use Rattle.varvara_bus.specs.Effect.{effect}
+use Rattle.varvara_bus.specs.Footprints.{effect-keeps, is_of_memory, spares-memory}
 use Rattle.varvara_bus.specs.Model.{Devised, varvara, instruction_effect}
-use Rattle.uxn_stacks.specs.Cells.{Cells, byte_below}
-use Rattle.uxn_opcodes.specs.declared.operation.Width.{Width}
-use Rattle.uxn_opcodes.specs.declared.operation.Width.TheVariants.{Byte, Short}
 use Rattle.uxn_opcodes.specs.declared.operation.Mode.{Mode as OpMode}
 use Rattle.uxn_opcodes.specs.declared.operation.Op.{Op}
 use Rattle.uxn_opcodes.specs.declared.operation.Op.TheVariants.{Inc, Sft, Arithmetic, Compare, Stack, Sth, Jump, Load, Store, Dei, Deo}
 use Rattle.uxn_opcodes.specs.declared.operation.StoreOp.TheVariants.{Stz, Str, Sta}
 use Rattle.uxn_opcodes.specs.Words.{size_of, word_below, relative, memory_with_word, with_zero_word}
-use Rattle.uxn_opcodes.specs.Table.{op_of, mode_of}
-use Rattle.uxn_opcodes.specs.Rule.{OpEffect, op_effect_of, ruled, sides_of, core_of, row_begun, begun_by, begun, opcode_at, past_opcode}
+use Rattle.uxn_opcodes.specs.Table.{op_of}
+use Rattle.uxn_opcodes.specs.Rule.{op_effect_of, row_begun, begun_by, begun, opcode_at, past_opcode}
 use Rattle.uxn_opcodes.specs.Instruction.{writes_of}
 use Rattle.uxn_opcodes.specs.Model.{word_read, written_by, access_done, after_instruction}
-use Rattle.uxn_undo.specs.declared.span.Span.{Span}
-use Rattle.uxn_undo.specs.Spans.{span_in_page, span_in_bank, no_span}
-use Rattle.uxn_undo.specs.Changes.{span_of_op, span_of_write, instruction_span, either_span, target_span, span_of_record, span_of_file, span_at_port}
-use Rattle.uxn_undo.specs.Row.{InstructionLaw, IsMachine, HoldsBytes, page_of}
-use Rattle.uxn_undo.proofs.Machines.{immediate-machine, row-memory, row-machine, side-memory, side-holds, byte-small, answered-machine, answered-memory}
-use Rattle.uxn_undo.proofs.Effects.{Spares, Quiet, quiet-effect}
-use Rattle.uxn_undo.proofs.Misses.{Changes, same-memory, one-set, two-set, fill-changes, fill-elsewhere, up-changes, up-elsewhere, down-changes, down-elsewhere, put-changes}
+use Rattle.uxn_undo.specs.Spans.{span_in_page, no_span}
+use Rattle.uxn_undo.specs.Changes.{span_of_op, span_of_write, instruction_span, either_span, span_of_record, span_of_file, span_at_port}
+use Rattle.uxn_undo.specs.Row.{InstructionLaw, page_of}
+use Rattle.uxn_undo.proofs.Machines.{immediate-machine, row-memory, row-machine, side-memory, side-holds, byte-small, side-pushed}
+use Rattle.uxn_undo.proofs.Misses.{Changes, same-memory, one-set, two-set, put-changes, BankChanges, target-changes}
+use Rattle.uxn_undo.proofs.Misses.{filled-changes, up-changes, all-down}
 
 -- the signs of a stat are as many as are requested
 length-digits : (count value : ℕ) → length (hex_digits count value) ≡ count
@@ -86,24 +82,15 @@ either_way true first second = first
 either_way false first second = second
 
 -- what is done to a bank, where it is there
-targeted : (bank count address : ℕ) (memory after : List ℕ) → (bank ≡ 0 → Changes (span_in_bank address count) memory after)
-    → ((span : Span) → 0 < bank → Changes span memory after) → Changes (target_span count bank address) memory (cond (nat_lt bank 16) after memory)
-targeted bank count address memory after here elsewhere =
-    elim (cases_Bool (bank == 0)) [
-      | inl is ↦
-          let zero : bank ≡ 0 = eqb-true bank 0 is in
-          let there : nat_lt bank 16 ≡ true = rw zero refl in
-          rw (is, there) (here zero)
-      | inr not ↦
-          let other : 0 < bank = grind (arith, nat_tests) in
-          rw not (either_way (nat_lt bank 16) (elsewhere no_span other) (same-memory no_span memory))
-    ]
+targeted : (bank count address : ℕ) (memory after : List ℕ) → BankChanges bank address count memory after
+    → Changes (target_span count bank address) memory (cond (nat_lt bank 16) after memory)
+targeted bank count address memory after changes =
+    either_way (nat_lt bank 16) (target-changes bank address count memory after changes) (same-memory (target_span count bank address) memory)
 
-copied-where : (there : Bool) (bank count address : ℕ) (memory after : List ℕ) → (bank ≡ 0 → Changes (span_in_bank address count) memory after)
-    → ((span : Span) → 0 < bank → Changes span memory after)
+copied-where : (there : Bool) (bank count address : ℕ) (memory after : List ℕ) → BankChanges bank address count memory after
     → Changes (cond there (target_span count bank address) no_span) memory (cond there (cond (nat_lt bank 16) after memory) memory)
-copied-where true bank count address memory after here elsewhere = targeted bank count address memory after here elsewhere
-copied-where false bank count address memory after here elsewhere = same-memory no_span memory
+copied-where true bank count address memory after changes = targeted bank count address memory after changes
+copied-where false bank count address memory after changes = same-memory no_span memory
 
 -- what a record does is within its target
 pub expanded-changes : (memory : List ℕ) (at : ℕ) → Changes (span_of_record memory at) memory (expanded memory at)
@@ -115,33 +102,18 @@ expanded-changes memory at =
     let to_bank = short_in memory at 7 in
     let to = short_in memory at 9 in
     elim (cases_Bool (byte_in memory at 0 == 0)) [
-      | inl fill ↦
-          rw fill (targeted bank count address memory (filled memory count bank address (byte_in memory at 7))
-          (λ zero. rw zero (fill-changes memory count address (byte_in memory at 7)))
-          (λ span other. fill-elsewhere span memory count bank address (byte_in memory at 7) other))
+      | inl fill ↦ rw fill (targeted bank count address memory _ (filled-changes count memory count bank address (byte_in memory at 7) (omega arith)))
       | inr not_fill ↦ rw not_fill (elim (cases_Bool (byte_in memory at 0 == 1)) [
-        | inl up ↦
-            rw up (copied-where (nat_lt bank 16) to_bank count to memory (copied_up memory count bank address to_bank to)
-            (λ zero. rw zero (up-changes memory count bank address to))
-            (λ span other. up-elsewhere span memory count bank address to_bank to other))
+        | inl up ↦ rw up (copied-where (nat_lt bank 16) to_bank count to memory _ (up-changes count memory count bank address to_bank to (omega arith)))
         | inr not_up ↦ rw not_up (elim (cases_Bool (byte_in memory at 0 == 2)) [
-          | inl down ↦
-              rw down (copied-where (nat_lt bank 16) to_bank count to memory (copied_down memory count bank address to_bank to)
-              (λ zero. rw zero (down-changes memory count bank address to))
-              (λ span other. down-elsewhere span memory count bank address to_bank to other))
+          | inl down ↦ rw down (copied-where (nat_lt bank 16) to_bank count to memory _ (all-down memory count bank address to_bank to))
           | inr unknown ↦ rw unknown (same-memory no_span memory)
         ])
       ])
     ]
 
--- a change within some addresses, which leaves the bytes of both stacks alone
-pub record Does (span : Span) (before after : Core) : Type 0 where
-  pub changes : Changes span before.memory after.memory
-  pub working : after.working.bytes ≡ before.working.bytes
-  pub returns : after.returns.bytes ≡ before.returns.bytes
-
 -- a port whose write changes memory, or another
-by_port : (P : ℕ → Type 0) (port : ℕ) → P 0x03 → P 0xa5 → P 0xad → P 0xb5 → P 0xbd → (Spares port → P port) → P port
+by_port : (P : ℕ → Type 0) (port : ℕ) → P 0x03 → P 0xa5 → P 0xad → P 0xb5 → P 0xbd → (is_of_memory port ≡ false → P port) → P port
 by_port P port three stat read other_stat other_read others =
     elim (cases_Bool (port == 0x03)) [
       | inl is ↦ subst P (sym (eqb-true port 0x03 is)) three
@@ -153,194 +125,133 @@ by_port P port three stat read other_stat other_read others =
             | inl is ↦ subst P (sym (eqb-true port 0xb5 is)) other_stat
             | inr not_other ↦ elim (cases_Bool (port == 0xbd)) [
               | inl is ↦ subst P (sym (eqb-true port 0xbd is)) other_read
-              | inr not_last ↦ others (record {
-                three = grind (arith, nat_tests);
-                stat = grind (arith, nat_tests);
-                read = grind (arith, nat_tests);
-                other_stat = grind (arith, nat_tests);
-                other_read = grind (arith, nat_tests);
-              })
+              | inr not_last ↦ others (rw (not_three, not_stat, not_read, not_other, not_last) refl)
             ]
           ]
         ]
       ]
     ]
 
--- one that changes none keeps no bytes
-span-spares : (memory page : List ℕ) (port address : ℕ) → Spares port → span_at_port memory page port address ≡ no_span
+-- one that changes none keeps no bytes, and its action leaves memory alone
+no-test : (a b c : Bool) (one two three : Span) → (a || b || c) ≡ false → cond a one (cond b two (cond c three no_span)) ≡ no_span
+no-test true b c one two three none = cc
+no-test false true c one two three none = cc
+no-test false false true one two three none = cc
+no-test false false false one two three none = refl
+
+span-spares : (memory page : List ℕ) (port address : ℕ) → is_of_memory port ≡ false → span_at_port memory page port address ≡ no_span
 unfolding span_at_port
-span-spares memory page port address spares =
-    let a : port ≢ 0x03 = spares.three in
-    let b : port ≢ 0xa5 = spares.stat in
-    let c : port ≢ 0xad = spares.read in
-    let d : port ≢ 0xb5 = spares.other_stat in
-    let e : port ≢ 0xbd = spares.other_read in
-    let three : (port == 0x03) ≡ false = grind (arith, nat_tests) in
-    let stat : (port == 0xa5) ≡ false = grind (arith, nat_tests) in
-    let read : (port == 0xad) ≡ false = grind (arith, nat_tests) in
-    let other_stat : (port == 0xb5) ≡ false = grind (arith, nat_tests) in
-    let other_read : (port == 0xbd) ≡ false = grind (arith, nat_tests) in
-    rw (three, stat, read, other_stat, other_read) refl
+span-spares memory page port address none = no-test (port == 0x03) (port == 0xa5 || port == 0xad) (port == 0xb5 || port == 0xbd) _ _ _ none
+
+memory-spares : (devices : DeviceState) (core : Core) (port byte : ℕ) → is_of_memory port ≡ false → (effect devices core port byte).core.memory ≡ core.memory
+memory-spares devices core port byte none = (effect-keeps devices core port byte).memory (spares-memory port none)
 
 page-at : (devices : DeviceState) (port : ℕ) → port < 256 → slice_index (page_of devices) port ≡ stored devices.history port
 page-at devices port small = get_or-map-range_with_len (stored devices.history) 0 256 port port 0 small (omega arith)
-
-quiet-does : (span : Span) (before after : Core) → Quiet before after → Does span before after
-quiet-does span before after quiet = record {
-  changes = rw quiet.memory (same-memory span before.memory);
-  working = quiet.working;
-  returns = quiet.returns;
-}
 
 abbrev observed_by : DeviceState → FileState → Option Observed
 observed_by devices device = option_map (observed_in devices.root devices.part devices.parent) device.path
 
 -- a byte written to a port
-abbrev WriteDoes : DeviceState → Core → ℕ → ℕ → Type 0
-WriteDoes devices core byte port =
-    Does (span_at_port core.memory (page_of devices) port (slice_index (page_of devices) ((port + 255) % 256) * 256 + byte)) core
-    (effect devices core port byte).core
+abbrev WriteChanges : DeviceState → Core → ℕ → ℕ → Type 0
+WriteChanges devices core byte port =
+    Changes (span_at_port core.memory (page_of devices) port (slice_index (page_of devices) ((port + 255) % 256) * 256 + byte)) core.memory
+    (effect devices core port byte).core.memory
 
-pub write-does : (devices : DeviceState) (core : Core) (port byte : ℕ) → 65536 ≤ length core.memory → WriteDoes devices core byte port
+write-changes : (devices : DeviceState) (core : Core) (port byte : ℕ) → 65536 ≤ length core.memory → WriteChanges devices core byte port
 unfolding effect span_at_port
-write-does devices core port byte size =
+write-changes devices core port byte size =
     let h = devices.history in
+    let one = devices.first_file in
+    let other = devices.second_file in
     let aa = page-at devices 0xaa (omega arith) in
     let ab = page-at devices 0xab (omega arith) in
     let ba = page-at devices 0xba (omega arith) in
     let bb = page-at devices 0xbb (omega arith) in
-    by_port (WriteDoes devices core byte) port
-    (record { changes = rw (page-at devices 0x02 (omega arith)) (expanded-changes core.memory (stored h 0x02 * 256 + byte)); working = refl; returns = refl })
-    (record {
-      changes = rw (page-at devices 0xa4 (omega arith), aa, ab)
-          (stats-change (stored h 0xa4 * 256 + byte) (stored_short h 0xaa) devices.first_file core.memory (observed_by devices devices.first_file) size);
-      working = refl;
-      returns = refl;
-    })
-    (record {
-      changes = rw (page-at devices 0xac (omega arith), aa, ab)
-          (reads-change (stored h 0xac * 256 + byte) (stored_short h 0xaa) devices.first_file core.memory (observed_by devices devices.first_file) size);
-      working = refl;
-      returns = refl;
-    })
-    (record {
-      changes = rw (page-at devices 0xb4 (omega arith), ba, bb)
-          (stats-change (stored h 0xb4 * 256 + byte) (stored_short h 0xba) devices.second_file core.memory (observed_by devices devices.second_file) size);
-      working = refl;
-      returns = refl;
-    })
-    (record {
-      changes = rw (page-at devices 0xbc (omega arith), ba, bb)
-          (reads-change (stored h 0xbc * 256 + byte) (stored_short h 0xba) devices.second_file core.memory (observed_by devices devices.second_file) size);
-      working = refl;
-      returns = refl;
-    })
-    (λ spares. quiet-does _ core (effect devices core port byte).core (quiet-effect devices core port byte spares))
+    by_port (WriteChanges devices core byte) port
+    (rw (page-at devices 0x02 (omega arith)) (expanded-changes core.memory (stored h 0x02 * 256 + byte)))
+    (rw (page-at devices 0xa4 (omega arith), aa, ab) (stats-change (stored h 0xa4 * 256 + byte) (stored_short h 0xaa) one core.memory (observed_by devices one) size))
+    (rw (page-at devices 0xac (omega arith), aa, ab) (reads-change (stored h 0xac * 256 + byte) (stored_short h 0xaa) one core.memory (observed_by devices one) size))
+    (rw (page-at devices 0xb4 (omega arith), ba, bb) (stats-change (stored h 0xb4 * 256 + byte) (stored_short h 0xba) other core.memory (observed_by devices other) size))
+    (rw (page-at devices 0xbc (omega arith), ba, bb) (reads-change (stored h 0xbc * 256 + byte) (stored_short h 0xba) other core.memory (observed_by devices other) size))
+    (λ none. rw (memory-spares devices core port byte none) (same-memory _ core.memory))
 
 -- a short written to a port and the next one: `port` is the second
-abbrev TwoDo : DeviceState → Core → ℕ → ℕ → ℕ → Type 0
-TwoDo devices core high low port =
-    Does (either_span
+abbrev TwoChange : DeviceState → Core → ℕ → ℕ → ℕ → Type 0
+TwoChange devices core high low port =
+    Changes (either_span
     (span_at_port core.memory (page_of devices) ((port + 255) % 256)
     (slice_index (page_of devices) (((port + 255) % 256 + 255) % 256) * 256 + high))
-    (span_at_port core.memory (page_of devices) port (high * 256 + low))) core
-    (effect (effect devices core ((port + 255) % 256) high).devices (effect devices core ((port + 255) % 256) high).core port low).core
+    (span_at_port core.memory (page_of devices) port (high * 256 + low))) core.memory
+    (effect (effect devices core ((port + 255) % 256) high).devices (effect devices core ((port + 255) % 256) high).core port low).core.memory
 
-either-first : (span : Span) (before after : Core) → Does span before after → Does (either_span span no_span) before after
-either-first span before after does =
+either-first : (span : Span) (before after : List ℕ) → Changes span before after → Changes (either_span span no_span) before after
+either-first span before after changes =
     elim (cases_Bool (span.count == 0)) [
       | inl none ↦
           let empty : span.count ≡ 0 = eqb-true span.count 0 none in
-          rw none (record {
-            changes = record {
-              within = λ at small out. does.changes.within at small (grind (arith, nat_tests));
-              size = does.changes.size;
-            };
-            working = does.working;
-            returns = does.returns;
-          })
-      | inr some ↦ rw some does
+          rw none (record { within = λ at small out. changes.within at small (grind (arith, nat_tests)); size = changes.size })
+      | inr some ↦ rw some changes
     ]
 
-then-quiet : (span : Span) (before middle after : Core) → Does span before middle → Quiet middle after → Does span before after
-then-quiet span before middle after does quiet = record {
-  changes = rw quiet.memory does.changes;
-  working = quiet.working ∙ does.working;
-  returns = quiet.returns ∙ does.returns;
-}
-
-two-spare : (devices : DeviceState) (core : Core) (port high low : ℕ) → 65536 ≤ length core.memory → Spares port → TwoDo devices core high low port
-two-spare devices core port high low size spares =
+two-spare : (devices : DeviceState) (core : Core) (port high low : ℕ) → 65536 ≤ length core.memory → is_of_memory port ≡ false
+    → TwoChange devices core high low port
+two-spare devices core port high low size none =
     let first = (port + 255) % 256 in
     let middle = effect devices core first high in
     let one = span_at_port core.memory (page_of devices) first (slice_index (page_of devices) ((first + 255) % 256) * 256 + high) in
-    rw (span-spares core.memory (page_of devices) port (high * 256 + low) spares)
-    (either-first one core (effect middle.devices middle.core port low).core
-    (then-quiet one core middle.core (effect middle.devices middle.core port low).core (write-does devices core first high size)
-    (quiet-effect middle.devices middle.core port low spares)))
+    rw (span-spares core.memory (page_of devices) port (high * 256 + low) none, memory-spares middle.devices middle.core port low none)
+    (either-first one core.memory middle.core.memory (write-changes devices core first high size))
 
-pub two-do : (devices : DeviceState) (core : Core) (port high low : ℕ) → 65536 ≤ length core.memory → TwoDo devices core high low port
+two-change : (devices : DeviceState) (core : Core) (port high low : ℕ) → 65536 ≤ length core.memory → TwoChange devices core high low port
 unfolding effect span_at_port
-two-do devices core port high low size =
+two-change devices core port high low size =
     let h = devices.history in
+    let one = devices.first_file in
+    let other = devices.second_file in
     let aa = page-at devices 0xaa (omega arith) in
     let ab = page-at devices 0xab (omega arith) in
     let ba = page-at devices 0xba (omega arith) in
     let bb = page-at devices 0xbb (omega arith) in
     let address = high * 256 + low in
-    by_port (TwoDo devices core high low) port
-    (record { changes = expanded-changes core.memory address; working = refl; returns = refl })
-    (record {
-      changes = rw (aa, ab) (stats-change address (stored_short h 0xaa) devices.first_file core.memory (observed_by devices devices.first_file) size);
-      working = refl;
-      returns = refl;
-    })
-    (record {
-      changes = rw (aa, ab) (reads-change address (stored_short h 0xaa) devices.first_file core.memory (observed_by devices devices.first_file) size);
-      working = refl;
-      returns = refl;
-    })
-    (record {
-      changes = rw (ba, bb) (stats-change address (stored_short h 0xba) devices.second_file core.memory (observed_by devices devices.second_file) size);
-      working = refl;
-      returns = refl;
-    })
-    (record {
-      changes = rw (ba, bb) (reads-change address (stored_short h 0xba) devices.second_file core.memory (observed_by devices devices.second_file) size);
-      working = refl;
-      returns = refl;
-    })
-    (λ spares. two-spare devices core port high low size spares)
+    by_port (TwoChange devices core high low) port
+    (expanded-changes core.memory address)
+    (rw (aa, ab) (stats-change address (stored_short h 0xaa) one core.memory (observed_by devices one) size))
+    (rw (aa, ab) (reads-change address (stored_short h 0xaa) one core.memory (observed_by devices one) size))
+    (rw (ba, bb) (stats-change address (stored_short h 0xba) other core.memory (observed_by devices other) size))
+    (rw (ba, bb) (reads-change address (stored_short h 0xba) other core.memory (observed_by devices other) size))
+    (λ none. two-spare devices core port high low size none)
 
 -- what an instruction leaves
 record Leaves (span : Span) (memory : List ℕ) (after : Core) : Type 0 where
   changes : Changes span memory after.memory
   machine : IsMachine after
 
-does-leaves : (span : Span) (before after : Core) → IsMachine before → Does span before after → Leaves span before.memory after
-does-leaves span before after is does = record {
-  changes = does.changes;
-  machine = record {
-    memory = let size = does.changes.size in let whole = is.memory in omega arith;
-    working = λ place. rw does.working (is.working place);
-    returns = λ place. rw does.returns (is.returns place);
-  };
-}
-
 -- a word written to a port
 abbrev after_write : DeviceState → Core → Width → ℕ → ℕ → Core
 after_write devices core width port value =
     (written_by varvara (writes_of width port value) (record { core = core; ports = record { devices = devices; changes = [] } })).core
 
+write-machine : (devices : DeviceState) (core : Core) (port byte : ℕ) → IsMachine core → IsMachine (effect devices core port byte).core
+write-machine devices core port byte is =
+    let keeps = effect-keeps devices core port byte in
+    let size = (write-changes devices core port byte is.memory).size in
+    let whole = is.memory in
+    record { memory = omega arith; working = λ place. rw keeps.working (is.working place); returns = λ place. rw keeps.returns (is.returns place) }
+
 write-leaves : (devices : DeviceState) (core : Core) (width : Width) (port value : ℕ) → IsMachine core → port < 256
     → Leaves (span_of_write core.memory (page_of devices) width port value) core.memory (after_write devices core width port value)
 write-leaves devices core Byte port value is small =
-    does-leaves _ core (after_write devices core Byte port value) is (write-does devices core port (value % 256) is.memory)
+    record { changes = write-changes devices core port (value % 256) is.memory; machine = write-machine devices core port (value % 256) is }
 write-leaves devices core Short port value is small =
     let back : ((port + 1) % 256 + 255) % 256 ≡ port = omega arith in
     let whole : value / 256 * 256 + value % 256 ≡ value = omega arith in
-    let two = two-do devices core ((port + 1) % 256) (value / 256) (value % 256) is.memory in
-    does-leaves _ core (after_write devices core Short port value) is (rw (back, whole) at two)
+    let two = two-change devices core ((port + 1) % 256) (value / 256) (value % 256) is.memory in
+    let first = effect devices core port (value / 256) in
+    record {
+      changes = rw (back, whole) at two;
+      machine = write-machine first.devices first.core ((port + 1) % 256) (value % 256) (write-machine devices core port (value / 256) is);
+    }
 
 -- a row that leaves memory alone, and one that stores
 store-leaves : (mode : OpMode) (core : Core) (op_effect : OpEffect) (span : Span) → IsMachine core
@@ -419,10 +330,9 @@ row-leaves Dei mode core devices is =
     let s = sides_of mode.returns core in
     let begun = plain-leaves mode core (op_effect_of Dei mode s) no_span is refl in
     let after = core_of mode.returns (ruled mode s (op_effect_of Dei mode s)) in
-    record {
-      changes = rw (answered-memory mode.returns after mode.width (word_read varvara mode.width (no_changes devices) after (word_below s.this Byte 0))) begun.changes;
-      machine = answered-machine mode.returns after mode.width _ begun.machine;
-    }
+    let read = word_read varvara mode.width (no_changes devices) after (word_below s.this Byte 0) in
+    let done = side-pushed mode.returns after mode.width read (sides_of mode.returns after).at begun.machine in
+    record { changes = rw done.memory begun.changes; machine = done.machine }
 row-leaves Deo mode core devices is =
     let s = sides_of mode.returns core in
     let begun = plain-leaves mode core (op_effect_of Deo mode s) no_span is refl in

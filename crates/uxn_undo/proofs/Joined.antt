@@ -1,16 +1,15 @@
 -- Two stacks that hold the same moments.
-use Rattle.std.proofs.Common.{◌≡◌, ℕ, zero, suc, ◌+◌, ◌-◌, ◌<◌, ◌≤◌, Bool, true, false, cond, List, [], ◌∷◌, ◌++◌, length, take, drop, Some, None, refl, sym, ap, ◌∙◌, arith}
-use Rattle.std.specs.Prelude.{get_or, map, slice_get, slice_index, sum_by, option_map}
-use Rattle.std.specs.List.{range_with_len}
-use Rattle.std.proofs.lemmas.Bool.Decides.{nat_tests}
-use Rattle.std.proofs.lemmas.List.{take-take, drop-take, take_at, drop_at, take_all, drop-drop, drop_more, get_or-take, get_or-drop, length-take, length-take-le, length-append}
-use Rattle.std.proofs.lemmas.List.Sums.{sum_by-cons, sum_by_more, sum_by_more_le}
-use Rattle.std.proofs.lemmas.List.FromFn.{length-map-range_with_len}
-use Rattle.std.proofs.lemmas.Option.{get_or_from_slice_get, slice_get-get_or}
-use Rattle.uxn_undo.specs.Spans.{covers, distance_to}
-use Rattle.uxn_undo.specs.Kept.{Kept, byte_count, byte_back}
-use Rattle.circular_buffer.specs.Buffer.{Buffer, buffer}
-use Rattle.uxn_undo.specs.Rings.{RingEntry, with_bytes, entry_count, joined_entries, AreRings}
+use Rattle.uxn_undo.proofs.Common.{◌≡◌, ℕ, zero, suc, ◌+◌, ◌-◌, ◌<◌, ◌≤◌, Bool, true, false, cond, List, [], ◌∷◌, ◌++◌, length, take, drop, Some}
+use Rattle.uxn_undo.proofs.Common.{None, refl, sym, ap, ◌∙◌, arith, Option, map, slice_get, slice_index, sum_by, option_map, range_with_len}
+use Rattle.uxn_undo.proofs.Common.{nat_tests, take-take, get_or-take, get_or-drop, length-take, length-take-le, length-append, sum_by-cons}
+use Rattle.uxn_undo.proofs.Common.{length-map-range_with_len, covers, distance_to, Kept, byte_count, Buffer, buffer, RingEntry, with_bytes}
+use Rattle.uxn_undo.proofs.Common.{entry_count, AreRings}
+use Rattle.std.specs.Prelude.{get_or}
+use Rattle.std.proofs.lemmas.List.{drop-take, take_at, drop_at, take_all, drop-drop, drop_more}
+use Rattle.std.proofs.lemmas.List.Sums.{sum_by_more, sum_by_more_le}
+use Rattle.std.proofs.lemmas.Option.{get_or_from_slice_get, slice_get-get_or, slice_get_within}
+use Rattle.uxn_undo.specs.Kept.{byte_back}
+use Rattle.uxn_undo.specs.Rings.{joined_entries}
 
 pub length-joined_entries : (records : List RingEntry) (bytes : List ℕ) → length (joined_entries records bytes) ≡ length records
 unfolding joined_entries
@@ -47,12 +46,6 @@ joined_entries-take (suc n) (newest ∷ older) bytes =
     ∙ ap (λ (z : List ℕ). with_bytes newest (take count bytes) ∷ joined_entries (take n older) z) (drop-take count rest bytes)
     ∙ ap (λ (z : List Kept). with_bytes newest (take count bytes) ∷ z) (joined_entries-take n older (drop count bytes))
 
--- what is found is within
-within : {A : Type 0} (xs : List A) (i : ℕ) (x : A) → slice_get xs i ≡ Some x → i < length xs
-within [] i x is = cc
-within (y ∷ ys) zero x is = omega arith
-within (y ∷ ys) (suc i) x is = let less : i < length ys = within ys i x is in omega arith
-
 -- where the last record ends
 last_ends : (records : List RingEntry) (last : RingEntry) (i : ℕ) → length records ≡ suc i → slice_get records i ≡ Some last
     → sum_by entry_count (take i records) + entry_count last ≡ sum_by entry_count records
@@ -71,7 +64,7 @@ pub forgotten : (records : List RingEntry) (bytes : List ℕ) (last : RingEntry)
     → slice_get records (length records - 1) ≡ Some last → Forgotten records bytes last
 forgotten records bytes last filled is =
     let i = length records - 1 in
-    let less : i < length records = within records i last is in
+    let less : i < length records = slice_get_within records i last is in
     let ends : sum_by entry_count (take i records) + entry_count last ≡ sum_by entry_count records = last_ends records last i (omega arith) is in
     let size : length bytes - entry_count last ≡ sum_by entry_count (take i records) = omega arith in
     record {
@@ -110,7 +103,7 @@ next_back records bytes back i begin at byte next r less is found =
     let k = back - (i + 1) in
     let one : back - i ≡ suc k = omega arith in
     let rest : drop i records ≡ r ∷ drop (i + 1) records =
-    drop_more records i r (within records i r is) ∙ ap (λ first. first ∷ drop (i + 1) records) (get_or_from_slice_get records i r r is) in
+    drop_more records i r (slice_get_within records i r is) ∙ ap (λ first. first ∷ drop (i + 1) records) (get_or_from_slice_get records i r r is) in
     let kept = take (entry_count r) (drop begin bytes) in
     let same : cond (covers r.span at) (slice_index kept (distance_to r.span at)) byte ≡ next =
     kept_byte bytes r begin at byte (covers r.span at) refl ∙ sym found in
@@ -168,32 +161,24 @@ pub in_bytes : (records : List RingEntry) (bytes : List ℕ) (i begin at distanc
 in_bytes records bytes i begin at distance r filled is begins found =
     let here : get_or records i r ≡ r = get_or_from_slice_get records i r r is in
     let more : sum_by entry_count (take i records) + entry_count (get_or records i r) ≤ sum_by entry_count records =
-    sum_by_more_le entry_count records i r (within records i r is) in
+    sum_by_more_le entry_count records i r (slice_get_within records i r is) in
     let parts = (rw here at more) in
     in_span r at distance (covers r.span at) refl found begin (length bytes) (omega (arith, parts))
 
-found_in : (bytes : List ℕ) (begin distance far byte next : ℕ) (is : Bool) → Some distance ≡ cond is (Some far) None
-    → next ≡ slice_index bytes (begin + distance) → next ≡ cond is (slice_index bytes (begin + far)) byte
-found_in bytes begin distance far byte next false found is = cc
-found_in bytes begin distance far byte next true found is = let same : distance ≡ far = cc in rw (← same) is
-
 -- the byte that is found, or the one that is not
-pub found_byte : (bytes : List ℕ) (r : RingEntry) (begin at distance byte next : ℕ) → Some distance ≡ cond (covers r.span at) (Some (distance_to r.span at)) None
-    → next ≡ slice_index bytes (begin + distance) → next ≡ cond (covers r.span at) (slice_index bytes (begin + distance_to r.span at)) byte
-found_byte bytes r begin at distance byte next found is = found_in bytes begin distance (distance_to r.span at) byte next (covers r.span at) found is
+abbrev byte_at : List ℕ → ℕ → ℕ → Option ℕ → ℕ
+byte_at bytes begin byte None = byte
+byte_at bytes begin byte (Some distance) = slice_index bytes (begin + distance)
 
-none_in : (kept far byte next : ℕ) (is : Bool) → None ≡ cond is (Some far) None → next ≡ byte → next ≡ cond is kept byte
-none_in kept far byte next false none is = is
-none_in kept far byte next true none is = cc
-
-pub no_byte : (bytes : List ℕ) (r : RingEntry) (begin at byte next : ℕ) → None ≡ cond (covers r.span at) (Some (distance_to r.span at)) None
-    → next ≡ byte → next ≡ cond (covers r.span at) (slice_index bytes (begin + distance_to r.span at)) byte
-no_byte bytes r begin at byte next none is = none_in (slice_index bytes (begin + distance_to r.span at)) (distance_to r.span at) byte next (covers r.span at) none is
+pub byte_found : (bytes : List ℕ) (begin byte next far : ℕ) (found : Option ℕ) (is : Bool) → found ≡ cond is (Some far) None
+    → next ≡ byte_at bytes begin byte found → next ≡ cond is (slice_index bytes (begin + far)) byte
+byte_found bytes begin byte next far found true e at = at ∙ ap (byte_at bytes begin byte) e
+byte_found bytes begin byte next far found false e at = at ∙ ap (byte_at bytes begin byte) e
 
 pub begins_next : (records : List RingEntry) (i : ℕ) (r : RingEntry) → slice_get records i ≡ Some r
     → sum_by entry_count (take (i + 1) records) ≡ sum_by entry_count (take i records) + entry_count r
 begins_next records i r is =
-    sum_by_more entry_count records i r (within records i r is)
+    sum_by_more entry_count records i r (slice_get_within records i r is)
     ∙ ap (λ r. sum_by entry_count (take i records) + entry_count r) (get_or_from_slice_get records i r r is)
 
 pub all_back : (n : ℕ) (held : List Kept) (at byte : ℕ) → n ≡ 0 → byte_back (take n held) at byte ≡ byte

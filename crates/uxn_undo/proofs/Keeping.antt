@@ -1,13 +1,8 @@
 -- One moment more is kept.
-use Rattle.std.proofs.Common.{◌≡◌, ℕ, zero, suc, ◌+◌, ◌<◌, ◌≤◌, List, ◌∷◌, ◌++◌, length, take, sym, ap, ◌∙◌, arith}
-use Rattle.std.specs.Prelude.{sum_by}
-use Rattle.std.proofs.lemmas.List.{length-take, length-append}
-use Rattle.std.proofs.lemmas.List.FromFn.{length-map-range_with_len}
-use Rattle.std.proofs.lemmas.List.Sums.{sum_by-cons}
-use Rattle.circular_buffer.specs.Buffer.{Buffer, buffer}
-use Rattle.uxn_undo.specs.Spans.{span_bytes_at}
-use Rattle.uxn_undo.specs.Kept.{Kept, byte_count, most_moments, most_bytes, HoldsMoments}
-use Rattle.uxn_undo.specs.Rings.{RingEntry, with_bytes, entry_count, joined_entries, AreRings}
+use Rattle.uxn_undo.proofs.Common.{◌≡◌, ℕ, zero, suc, ◌+◌, ◌<◌, ◌≤◌, List, ◌∷◌, ◌++◌, length, take, sym, ap, ◌∙◌, arith, sum_by, length-take}
+use Rattle.uxn_undo.proofs.Common.{length-append, length-map-range_with_len, sum_by-cons, Buffer, buffer, span_bytes_at, Kept, byte_count}
+use Rattle.uxn_undo.proofs.Common.{most_moments, most_bytes, HoldsMoments, RingEntry, with_bytes, entry_count, AreRings}
+use Rattle.uxn_undo.specs.Rings.{joined_entries}
 use Rattle.uxn_undo.specs.Room.{MakesRoom}
 use Rattle.uxn_undo.proofs.Joined.{length-held, bytes-held, joined_entries-push}
 

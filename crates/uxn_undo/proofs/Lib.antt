@@ -1,11 +1,10 @@
+pub mod Common
 pub mod Holding
 pub mod GoingBack
 pub mod Joined
 pub mod Slots
-pub mod Operations
 pub mod Keeping
 pub mod Misses
 pub mod Machines
-pub mod Effects
 pub mod Instructions
 pub mod Runs

@@ -1,15 +1,13 @@
 -- An instruction up to its port access leaves a machine.
-use Rattle.std.proofs.Common.{◌≡◌, ℕ, zero, suc, ◌+◌, ◌/◌, ◌%◌, ◌==◌, ◌<◌, ◌≤◌, Bool, true, false, cond, List, [], ◌∷◌, length, refl, arith}
-use Rattle.std.specs.Prelude.{slice_index, slice_set}
-use Rattle.uxn_stacks.specs.Cells.{Cells, byte_below, lowered}
-use Rattle.uxn_opcodes.specs.declared.Core.{Core}
-use Rattle.uxn_opcodes.specs.declared.operation.Width.{Width}
-use Rattle.uxn_opcodes.specs.declared.operation.Width.TheVariants.{Byte, Short}
+use Rattle.uxn_undo.proofs.Common.{◌≡◌, ℕ, zero, suc, ◌+◌, ◌/◌, ◌%◌, ◌==◌, ◌<◌, ◌≤◌, Bool, true, false, cond, List, [], ◌∷◌, length, refl, arith}
+use Rattle.uxn_undo.proofs.Common.{slice_index, slice_set, Cells, byte_below, Core, Width, Byte, Short, sides_of, core_of, OpEffect, ruled, mode_of}
+use Rattle.uxn_undo.proofs.Common.{HoldsBytes, IsMachine}
+use Rattle.std.proofs.Common.{rules}
+use Rattle.uxn_stacks.specs.Cells.{lowered}
 use Rattle.uxn_opcodes.specs.declared.operation.Mode.{Mode}
 use Rattle.uxn_opcodes.specs.Words.{pushed, pushed_all, dropped, word_below}
-use Rattle.uxn_opcodes.specs.Rule.{sides_of, core_of, OpEffect, ruled, immediate, jumped, jumped_if, called, literal}
-use Rattle.uxn_opcodes.specs.Table.{Pushes, mode_of}
-use Rattle.uxn_undo.specs.Row.{HoldsBytes, IsMachine}
+use Rattle.uxn_opcodes.specs.Rule.{immediate, jumped, jumped_if, called, literal}
+use Rattle.uxn_opcodes.specs.Table.{Pushes}
 
 -- a byte that is set
 set-holds : (bytes : List ℕ) (place value : ℕ) → value < 256 → ((k : ℕ) → slice_index bytes k < 256)
@@ -68,55 +66,29 @@ pub side-holds : (returns : Bool) (core : Core) → IsMachine core → HoldsByte
 side-holds true core is = is.returns
 side-holds false core is = is.working
 
--- what was read is pushed
-side-pushed : (returns : Bool) (core : Core) (width : Width) (value : ℕ) (at : ℕ) → IsMachine core
-    → IsMachine (core_of returns (record (sides_of returns core) { this = pushed (sides_of returns core).this width value; at = at }))
-side-pushed true core width value at is =
-    record { memory = is.memory; working = is.working; returns = pushed-holds core.returns width value is.returns }
-side-pushed false core width value at is =
-    record { memory = is.memory; working = pushed-holds core.working width value is.working; returns = is.returns }
-
-pub answered-machine : (returns : Bool) (core : Core) (width : Width) (value : ℕ) → IsMachine core
-    → IsMachine (core_of returns (record (sides_of returns core) { this = pushed (sides_of returns core).this width value }))
-answered-machine true core width value is =
-    record { memory = is.memory; working = is.working; returns = pushed-holds core.returns width value is.returns }
-answered-machine false core width value is =
-    record { memory = is.memory; working = pushed-holds core.working width value is.working; returns = is.returns }
-
-pub answered-memory : (returns : Bool) (core : Core) (width : Width) (value : ℕ)
-    → (core_of returns (record (sides_of returns core) { this = pushed (sides_of returns core).this width value })).memory ≡ core.memory
-answered-memory true core width value = refl
-answered-memory false core width value = refl
-
-side-memory-pushed : (returns : Bool) (core : Core) (width : Width) (value : ℕ) (at : ℕ)
-    → (core_of returns (record (sides_of returns core) { this = pushed (sides_of returns core).this width value; at = at })).memory ≡ core.memory
-side-memory-pushed true core width value at = refl
-side-memory-pushed false core width value at = refl
-
 -- a machine with the same memory
 pub record SameMemory (before after : Core) : Type 0 where
   pub memory : after.memory ≡ before.memory
   pub machine : IsMachine after
 
-taken_or_not : (b : Bool) (core : Core) → IsMachine core
-    → SameMemory core (cond b (record core { working = lowered core.working 1; at = (core.at + 2) % 65536 }) (record (jumped core) { working = lowered core.working 1 }))
-taken_or_not true core is = record { memory = refl; machine = record { memory = is.memory; working = is.working; returns = is.returns } }
-taken_or_not false core is = record { memory = refl; machine = record { memory = is.memory; working = is.working; returns = is.returns } }
+-- what was read is pushed
+pub side-pushed : (returns : Bool) (core : Core) (width : Width) (value at : ℕ) → IsMachine core
+    → SameMemory core (core_of returns (record (sides_of returns core) { this = pushed (sides_of returns core).this width value; at = at }))
+side-pushed true core width value at is = let holds = pushed-holds core.returns width value is.returns in search rules
+side-pushed false core width value at is = let holds = pushed-holds core.working width value is.working in search rules
 
 -- the instructions with an immediate
 by_code : (first second third : Bool) (code : ℕ) (core : Core) → IsMachine core
     → SameMemory core (cond first (jumped_if core) (cond second (jumped core) (cond third (called core) (literal (mode_of code) core))))
-by_code true second third code core is = taken_or_not (byte_below core.working 0 == 0) core is
-by_code false true third code core is = record { memory = refl; machine = record { memory = is.memory; working = is.working; returns = is.returns } }
+by_code true second third code core is =
+    elim (byte_below core.working 0 == 0) as (λ b. SameMemory core (cond b (record core { working = lowered core.working 1; at = (core.at + 2) % 65536 })
+    (record (jumped core) { working = lowered core.working 1 }))) [ true ↦ search rules | false ↦ search rules ]
+by_code false true third code core is = search rules
 by_code false false true code core is = record {
   memory = refl;
   machine = record { memory = is.memory; working = is.working; returns = pushed-holds core.returns Short _ is.returns };
 }
-by_code false false false code core is =
-    let mode = mode_of code in record {
-      memory = side-memory-pushed mode.returns core mode.width _ _;
-      machine = side-pushed mode.returns core mode.width _ _ is;
-    }
+by_code false false false code core is = side-pushed (mode_of code).returns core (mode_of code).width _ _ is
 
 pub immediate-machine : (code : ℕ) (core : Core) → IsMachine core → SameMemory core (immediate code core)
 immediate-machine code core is = by_code (code == 0x20) (code == 0x40) (code == 0x60) code core is

@@ -1,13 +1,11 @@
 -- What a change of memory leaves alone.
-use Rattle.std.proofs.Common.{◌≡◌, ◌≢◌, ◌⊎◌, ℕ, zero, suc, ◌+◌, ◌-◌, ◌%◌, ◌<◌, ◌≤◌, Bool, true, false, true≢false, List, [], ◌++◌, length, take, drop, refl, sym, ap, ◌∙◌, inl, inr, arith}
-use Rattle.std.specs.Prelude.{slice_index, slice_set, min}
-use Rattle.std.proofs.lemmas.Bool.{cases_lt}
-use Rattle.std.proofs.lemmas.Bool.Decides.{nat_tests}
-use Rattle.std.proofs.lemmas.List.{get_or-set_other, length-set, get_or-take, get_or_append_left, get_or-append_right, get_or-drop, length-append, length-take-le, length-drop, take-append-drop, append-nil, nil_from_length}
+use Rattle.uxn_undo.proofs.Common.{◌≡◌, ◌≢◌, ℕ, zero, suc, ◌+◌, ◌-◌, ◌%◌, ◌==◌, ◌<◌, ◌≤◌, Bool, true, false, List, [], ◌++◌, length, take, drop, refl}
+use Rattle.uxn_undo.proofs.Common.{sym, ap, ◌∙◌, inl, inr, arith, slice_index, slice_set, min, cases_Bool, cases_lt, eqb-true, nat_tests, get_or-take}
+use Rattle.uxn_undo.proofs.Common.{get_or-drop, length-append, length-take-le, Span, target_span, address_after_span, covers, span_in_bank}
+use Rattle.uxn_undo.proofs.Common.{DiffersWithin}
+use Rattle.std.proofs.Common.{◌⊎◌, true≢false}
+use Rattle.std.proofs.lemmas.List.{get_or-set_other, length-set, get_or_append_left, get_or-append_right, length-drop, take-append-drop, append-nil, nil_from_length}
 use Rattle.uxn_memory.specs.Bytes.{bank_place, copied, filled, copied_up, copied_down, with_bytes}
-use Rattle.uxn_undo.specs.declared.span.Span.{Span}
-use Rattle.uxn_undo.specs.Spans.{address_after_span, covers, span_in_bank}
-use Rattle.uxn_undo.specs.Laws.{DiffersWithin}
 
 -- an address that is not covered is none of them
 misses_in : (page : Bool) (first count at k : ℕ) → covers (record { first = first; count = count; in_zero_page = page }) at ≡ false → k < count
@@ -55,98 +53,70 @@ two-set span memory place next high low two is then = record {
 abbrev Apart : ℕ → ℕ → ℕ → ℕ → Type 0
 Apart at bank first count = (k : ℕ) → k < count → at ≢ bank_place bank (first + k)
 
-fewer : (at bank first count : ℕ) → Apart at bank first (suc count) → Apart at bank first count
-fewer at bank first count apart k less = apart k (omega arith)
+-- memory changes at no other address, and keeps its size
+pub record BankChanges (bank first count : ℕ) (before after : List ℕ) : Type 0 where
+  pub size : length after ≡ length before
+  pub same : (at : ℕ) → Apart at bank first count → slice_index after at ≡ slice_index before at
 
-filled-apart : (memory : List ℕ) (count bank first value at : ℕ) → Apart at bank first count
-    → slice_index (filled memory count bank first value) at ≡ slice_index memory at
+-- one of them more is set
+bank-set : (bank first count k value : ℕ) (before after : List ℕ) → k < count → BankChanges bank first count before after
+    → BankChanges bank first count before (slice_set after (bank_place bank (first + k)) value)
+bank-set bank first count k value before after within changes = record {
+  size = length-set after (bank_place bank (first + k)) value ∙ changes.size;
+  same = λ at apart. get_or-set_other after (bank_place bank (first + k)) at value 0 (apart k within) ∙ changes.same at apart;
+}
+
+pub filled-changes : (n : ℕ) (memory : List ℕ) (count bank first value : ℕ) → count ≤ n → BankChanges bank first n memory (filled memory count bank first value)
 unfolding filled
-filled-apart memory zero bank first value at apart = refl
-filled-apart memory (suc count) bank first value at apart =
-    get_or-set_other (filled memory count bank first value) (bank_place bank (first + count)) at value 0 (apart count (omega arith))
-    ∙ filled-apart memory count bank first value at (fewer at bank first count apart)
+filled-changes n memory zero bank first value within = record { size = refl; same = λ at apart. refl }
+filled-changes n memory (suc count) bank first value within =
+    bank-set bank first n count value memory (filled memory count bank first value) (omega arith)
+    (filled-changes n memory count bank first value (omega arith))
 
-copied_up-apart : (memory : List ℕ) (count from_bank from bank first at : ℕ) → Apart at bank first count
-    → slice_index (copied_up memory count from_bank from bank first) at ≡ slice_index memory at
+pub up-changes : (n : ℕ) (memory : List ℕ) (count from_bank from bank first : ℕ) → count ≤ n
+    → BankChanges bank first n memory (copied_up memory count from_bank from bank first)
 unfolding copied_up
-copied_up-apart memory zero from_bank from bank first at apart = refl
-copied_up-apart memory (suc count) from_bank from bank first at apart =
-    get_or-set_other (copied_up memory count from_bank from bank first) (bank_place bank (first + count)) at _ 0 (apart count (omega arith))
-    ∙ copied_up-apart memory count from_bank from bank first at (fewer at bank first count apart)
+up-changes n memory zero from_bank from bank first within = record { size = refl; same = λ at apart. refl }
+up-changes n memory (suc count) from_bank from bank first within =
+    bank-set bank first n count _ memory (copied_up memory count from_bank from bank first) (omega arith)
+    (up-changes n memory count from_bank from bank first (omega arith))
 
-copied_down-apart : (memory : List ℕ) (count from_bank from bank first at : ℕ) → Apart at bank first count
-    → slice_index (copied_down memory count from_bank from bank first) at ≡ slice_index memory at
+down-changes : (n : ℕ) (before memory : List ℕ) (count from_bank from bank first : ℕ) → count ≤ n → BankChanges bank first n before memory
+    → BankChanges bank first n before (copied_down memory count from_bank from bank first)
 unfolding copied_down
-copied_down-apart memory zero from_bank from bank first at apart = refl
-copied_down-apart memory (suc count) from_bank from bank first at apart =
-    copied_down-apart (copied memory from_bank (from + count) bank (first + count)) count from_bank from bank first at (fewer at bank first count apart)
-    ∙ get_or-set_other memory (bank_place bank (first + count)) at _ 0 (apart count (omega arith))
+down-changes n before memory zero from_bank from bank first within changes = changes
+down-changes n before memory (suc count) from_bank from bank first within changes =
+    down-changes n before (copied memory from_bank (from + count) bank (first + count)) count from_bank from bank first (omega arith)
+    (bank-set bank first n count _ before memory (omega arith) changes)
 
-length-filled : (memory : List ℕ) (count bank first value : ℕ) → length (filled memory count bank first value) ≡ length memory
-unfolding filled
-length-filled memory zero bank first value = refl
-length-filled memory (suc count) bank first value =
-    length-set (filled memory count bank first value) (bank_place bank (first + count)) value ∙ length-filled memory count bank first value
-
-length-copied_up : (memory : List ℕ) (count from_bank from bank first : ℕ) → length (copied_up memory count from_bank from bank first) ≡ length memory
-unfolding copied_up
-length-copied_up memory zero from_bank from bank first = refl
-length-copied_up memory (suc count) from_bank from bank first =
-    length-set (copied_up memory count from_bank from bank first) (bank_place bank (first + count)) _
-    ∙ length-copied_up memory count from_bank from bank first
-
-length-copied_down : (memory : List ℕ) (count from_bank from bank first : ℕ) → length (copied_down memory count from_bank from bank first) ≡ length memory
-unfolding copied_down
-length-copied_down memory zero from_bank from bank first = refl
-length-copied_down memory (suc count) from_bank from bank first =
-    length-copied_down (copied memory from_bank (from + count) bank (first + count)) count from_bank from bank first
-    ∙ length-set memory (bank_place bank (first + count)) _
+pub all-down : (memory : List ℕ) (count from_bank from bank first : ℕ) → BankChanges bank first count memory (copied_down memory count from_bank from bank first)
+all-down memory count from_bank from bank first =
+    down-changes count memory memory count from_bank from bank first (omega arith) (record { size = refl; same = λ at apart. refl })
 
 place-zero : (at : ℕ) → bank_place 0 at ≡ at % 65536
 place-zero at = omega arith
 
 -- the addresses of bank 0 that a run covers, and those of another bank
-pub apart-covered : (at first count : ℕ) → covers (span_in_bank first count) at ≡ false → Apart at 0 first count
+apart-covered : (at first count : ℕ) → covers (span_in_bank first count) at ≡ false → Apart at 0 first count
 apart-covered at first count out k less e = misses (span_in_bank first count) at k out less (e ∙ place-zero (first + k))
 
-pub apart-bank : (at bank first count : ℕ) → at < 65536 → 0 < bank → Apart at bank first count
+apart-bank : (at bank first count : ℕ) → at < 65536 → 0 < bank → Apart at bank first count
 apart-bank at bank first count small other k less e = absurd (omega arith)
 
-pub fill-changes : (memory : List ℕ) (count first value : ℕ) → Changes (span_in_bank first count) memory (filled memory count 0 first value)
-fill-changes memory count first value = record {
-  within = λ at small out. sym (filled-apart memory count 0 first value at (apart-covered at first count out));
-  size = omega (arith, length-filled memory count 0 first value);
-}
-
-pub fill-elsewhere : (span : Span) (memory : List ℕ) (count bank first value : ℕ) → 0 < bank → Changes span memory (filled memory count bank first value)
-fill-elsewhere span memory count bank first value other = record {
-  within = λ at small out. sym (filled-apart memory count bank first value at (apart-bank at bank first count small other));
-  size = omega (arith, length-filled memory count bank first value);
-}
-
-pub up-changes : (memory : List ℕ) (count from_bank from first : ℕ) → Changes (span_in_bank first count) memory (copied_up memory count from_bank from 0 first)
-up-changes memory count from_bank from first = record {
-  within = λ at small out. sym (copied_up-apart memory count from_bank from 0 first at (apart-covered at first count out));
-  size = omega (arith, length-copied_up memory count from_bank from 0 first);
-}
-
-pub up-elsewhere : (span : Span) (memory : List ℕ) (count from_bank from bank first : ℕ) → 0 < bank → Changes span memory (copied_up memory count from_bank from bank first)
-up-elsewhere span memory count from_bank from bank first other = record {
-  within = λ at small out. sym (copied_up-apart memory count from_bank from bank first at (apart-bank at bank first count small other));
-  size = omega (arith, length-copied_up memory count from_bank from bank first);
-}
-
-pub down-changes : (memory : List ℕ) (count from_bank from first : ℕ) → Changes (span_in_bank first count) memory (copied_down memory count from_bank from 0 first)
-down-changes memory count from_bank from first = record {
-  within = λ at small out. sym (copied_down-apart memory count from_bank from 0 first at (apart-covered at first count out));
-  size = omega (arith, length-copied_down memory count from_bank from 0 first);
-}
-
-pub down-elsewhere : (span : Span) (memory : List ℕ) (count from_bank from bank first : ℕ) → 0 < bank → Changes span memory (copied_down memory count from_bank from bank first)
-down-elsewhere span memory count from_bank from bank first other = record {
-  within = λ at small out. sym (copied_down-apart memory count from_bank from bank first at (apart-bank at bank first count small other));
-  size = omega (arith, length-copied_down memory count from_bank from bank first);
-}
+-- that is within the addresses of a target, if it is in bank 0
+pub target-changes : (bank first count : ℕ) (before after : List ℕ) → BankChanges bank first count before after
+    → Changes (target_span count bank first) before after
+target-changes bank first count before after changes =
+    elim (cases_Bool (bank == 0)) [
+      | inl is ↦ rw is (record {
+        within = λ at small out. sym (changes.same at (rw (eqb-true bank 0 is) (apart-covered at first count out)));
+        size = omega (arith, changes.size);
+      })
+      | inr not ↦ rw not (record {
+        within = λ at small out. sym (changes.same at (apart-bank at bank first count small (grind (arith, nat_tests))));
+        size = omega (arith, changes.size);
+      })
+    ]
 
 -- bytes put at a place leave the others
 put-outside : (memory : List ℕ) (first at : ℕ) (bytes : List ℕ) → first + length bytes ≤ length memory → (at < first) ⊎ (first + length bytes ≤ at)

@@ -1,16 +1,12 @@
 -- The rows of the moments that are held stay where they are when the next one is put.
-use Rattle.std.proofs.Common.{◌≡◌, ◌≢◌, ℕ, zero, suc, ◌+◌, ◌-◌, ◌%◌, ◌<◌, ◌≤◌, ◌==◌, cond, List, [], ◌∷◌, length, take, Some, None, refl, sym, ap, ◌∙◌, arith}
-use Rattle.std.specs.Prelude.{map, slice_get, slice_index, slice_index_or, sum_by, Option, option_map}
-use Rattle.std.proofs.lemmas.Bool.Decides.{nat_tests}
-use Rattle.std.proofs.lemmas.List.{length-map, length-take, take-map}
-use Rattle.std.proofs.lemmas.List.Sums.{sum_by-cons}
+use Rattle.uxn_undo.proofs.Common.{◌≡◌, ◌≢◌, ℕ, zero, suc, ◌+◌, ◌-◌, ◌%◌, ◌<◌, ◌≤◌, ◌==◌, cond, List, [], ◌∷◌, length, take, Some, None, refl, sym}
+use Rattle.uxn_undo.proofs.Common.{ap, ◌∙◌, arith, map, slice_get, slice_index_or, sum_by, Option, option_map, nat_tests, length-map, length-take}
+use Rattle.uxn_undo.proofs.Common.{sum_by-cons, Row, Record, Kept, RingEntry, entry_count, slot_entry, entry_in_rows, row_in, no_row}
+use Rattle.std.proofs.lemmas.List.{take-map}
 use Rattle.std.proofs.lemmas.Option.{slice_get-map}
-use Rattle.uxn_undo.specs.declared.row.Row.{Row}
-use Rattle.uxn_undo.specs.declared.undo.Record.{Record}
-use Rattle.uxn_undo.specs.Kept.{Kept}
-use Rattle.uxn_undo.specs.Rings.{RingEntry, entry_count, joined_entries}
+use Rattle.uxn_undo.specs.Rings.{joined_entries}
+use Rattle.uxn_undo.specs.Slots.{slot_before, InOrder, AreSlots}
 use Rattle.uxn_undo.proofs.Joined.{length-held}
-use Rattle.uxn_undo.specs.Slots.{slot_entry, entry_in_rows, row_in, no_row, slot_before, InOrder, AreSlots}
 
 -- fewer records
 pub in_order-take : (n size next : ℕ) (records : List Record) → InOrder size next records → InOrder size next (take n records)
@@ -42,18 +38,12 @@ same_entries size slot next gap (newest ∷ older) before now same small here fe
     ap (λ row. slot_entry newest row ∷ map (entry_in_rows now) older) (same newest.slot no_row order.1 other)
     ∙ ap (λ (z : List RingEntry). entry_in_rows before newest ∷ z) rest
 
--- the last record with its row
-pub last_entry : (rows : List Row) (records : List Record) (last : Record) → slice_get records (length records - 1) ≡ Some last
-    → slice_get (map (entry_in_rows rows) records) (length (map (entry_in_rows rows) records) - 1) ≡ Some (entry_in_rows rows last)
+-- the last record with its row, if there is one
+pub last_entry : (rows : List Row) (records : List Record) (last : Option Record) → last ≡ slice_get records (length records - 1)
+    → slice_get (map (entry_in_rows rows) records) (length (map (entry_in_rows rows) records) - 1) ≡ option_map (entry_in_rows rows) last
 last_entry rows records last is =
     ap (λ n. slice_get (map (entry_in_rows rows) records) (n - 1)) (length-map records (entry_in_rows rows))
-    ∙ slice_get-map (entry_in_rows rows) records (length records - 1) ∙ ap (λ z. option_map (entry_in_rows rows) z) is
-
-pub no_last_entry : (rows : List Row) (records : List Record) → slice_get records (length records - 1) ≡ None
-    → slice_get (map (entry_in_rows rows) records) (length (map (entry_in_rows rows) records) - 1) ≡ None
-no_last_entry rows records is =
-    ap (λ n. slice_get (map (entry_in_rows rows) records) (n - 1)) (length-map records (entry_in_rows rows))
-    ∙ slice_get-map (entry_in_rows rows) records (length records - 1) ∙ ap (λ z. option_map (entry_in_rows rows) z) is
+    ∙ slice_get-map (entry_in_rows rows) records (length records - 1) ∙ ap (λ z. option_map (entry_in_rows rows) z) (sym is)
 
 pub fewer_slots : (n size room next : ℕ) (records : List Record) → 0 < n → AreSlots size room next records → AreSlots size room next (take n records)
 fewer_slots n size room next records some slots = record {
@@ -93,19 +83,11 @@ slot_within size next (newest ∷ older) zero r order is =
     rw (← here) order.1
 slot_within size next (newest ∷ older) (suc i) r order is = slot_within size (slot_before next) older i r order.3 is
 
--- the parts of a row
-pub working_of : (kept : Option Kept) (row : Row) → option_map (λ k. row_in k) kept ≡ Some row → option_map (λ k. k.working) kept ≡ Some row.working
-working_of (Some k) row is = let same : row_in k ≡ row = cc in ap (λ (z : Row). Some z.working) same
-working_of None row is = cc
-
-pub returns_of : (kept : Option Kept) (row : Row) → option_map (λ k. row_in k) kept ≡ Some row → option_map (λ k. k.returns) kept ≡ Some row.returns
-returns_of (Some k) row is = let same : row_in k ≡ row = cc in ap (λ (z : Row). Some z.returns) same
-returns_of None row is = cc
-
-pub stored_of : (kept : Option Kept) (row : Row) (port : ℕ) → option_map (λ k. row_in k) kept ≡ Some row
-    → option_map (λ k. slice_index k.stored port) kept ≡ Some (slice_index row.stored port)
-stored_of (Some k) row port is = let same : row_in k ≡ row = cc in ap (λ (z : Row). Some (slice_index z.stored port)) same
-stored_of None row port is = cc
+-- a part of a row
+pub part_of : {X : Type 0} (part : Row → X) (kept : Option Kept) (row : Row) → option_map (λ k. row_in k) kept ≡ Some row
+    → option_map (λ k. part (row_in k)) kept ≡ Some (part row)
+part_of part (Some k) row is = let same : row_in k ≡ row = cc in ap (λ (z : Row). Some (part z)) same
+part_of part None row is = cc
 
 -- one record more, whose row was put into the next slot
 pub put_entries : (size slot : ℕ) (newest : Record) (row : Row) (records : List Record) (before now : List Row) → SameBut size slot before now

@@ -37,13 +37,12 @@ most_moments = 65536
 abbrev pub most_bytes : ℕ
 most_bytes = 16777216
 
--- of these moments so many of the newest are kept: the greatest number that there is room for
-pub record MomentIsHeld (given : List Kept) (number : ℕ) : Type 0 where
+-- so many of the newest of these moments fit where there is room for so many and so many bytes: the greatest number that does
+pub record Fits (moments_left room : ℕ) (given : List Kept) (number : ℕ) : Type 0 where
   pub within : number ≤ length given
-  pub moments : number ≤ most_moments
-  pub bytes : sum_by byte_count (take number given) ≤ most_bytes
-  pub greatest : (more : ℕ) → number < more → more ≤ length given → more ≤ most_moments
-      → most_bytes < sum_by byte_count (take more given)
+  pub moments : number ≤ moments_left
+  pub bytes : sum_by byte_count (take number given) ≤ room
+  pub greatest : (more : ℕ) → number < more → more ≤ length given → more ≤ moments_left → room < sum_by byte_count (take more given)
 
 -- that number: moments are held from the newest on, until one more is one too many, or its bytes are
 unfoldable pub fitting_moments : ℕ → ℕ → List Kept → ℕ
@@ -56,7 +55,7 @@ number_held given = fitting_moments most_moments most_bytes given
 
 -- the newest of the given moments are held, as many as there is room for
 pub record HoldsMoments (given held : List Kept) : Type 0 where
-  pub number : MomentIsHeld given (length held)
+  pub number : Fits most_moments most_bytes given (length held)
   pub newest : held ≡ take (length held) given
 
 -- the byte at an address before a moment's instruction, where it is this byte after it

@@ -1,17 +1,15 @@
 //! Which bytes of bank 0 the coming instruction may change.
 
-ghost use Rattle.std.specs.Prelude.{◌≡◌, ◌<◌, ◌==◌, if◌then◌else◌};
+ghost use Rattle.std.specs.Prelude.{◌≡◌, ◌<◌, ◌+◌, ◌%◌, ◌==◌, if◌then◌else◌};
 ghost use Rattle.uxn_opcodes.specs.declared.operation.Width.TheVariants.{Byte, Short};
-ghost use Rattle.uxn_stacks.specs.Cells.{byte_below};
 ghost use Rattle.uxn_opcodes.specs.Words.{relative, size_of, word_below};
-ghost use Rattle.uxn_opcodes.specs.Table.{mode_of};
-ghost use Rattle.uxn_opcodes.specs.Rule.{sides_of};
 ghost use Rattle.system_port.specs.Expansion.{byte_in, short_in};
 ghost use Rattle.uxn_undo.specs.Changes.{
   short_stored,
   span_at_port,
   instruction_span,
   span_of_file,
+  span_of_op,
   span_of_record,
   span_of_write,
   target_span,
@@ -19,45 +17,49 @@ ghost use Rattle.uxn_undo.specs.Changes.{
 
 use crate::span::Span;
 use uxn_memory::Memory;
-use uxn_opcodes::Core;
+use uxn_opcodes::{Core, Mode, Op, StoreOp, Width};
 use uxn_stacks::Ring;
 
 // What the coming instruction may change, with the bytes that are stored in the ports.
+#[tactic(auto, unfolding(crate::specs::Changes::instruction_span))]
 pub(crate) fn instruction_span(core: &Core, page: &[u8; 256]) -> Span
     ensures { result ≡ instruction_span core.now page.now }
 {
     let code = core.memory.get(core.at);
-    let ring = this_ring(core, code);
-    match code % 32 {
-        0x11 => Span::in_page(ring.peek1(0), word_size(code)),
-        0x13 => Span::in_bank(
+    let mode = Mode::of(code);
+    let ring = if mode.returns {
+        &core.returns
+    } else {
+        &core.working
+    };
+    span_of_op(Op::of(code), mode.width, core, ring, page)
+}
+
+// The same by its operation, which takes its operands from this stack.
+#[tactic(auto, unfolding(uxn_opcodes::specs::Words::word_below))]
+fn span_of_op(op: Option<Op>, width: Width, core: &Core, ring: &Ring, page: &[u8; 256]) -> Span
+    ensures { result ≡ span_of_op op width core.now.memory ((core.now.at + 1) % 65536) ring.now page.now }
+{
+    match op {
+        Some(Op::Store(StoreOp::Stz)) => Span::in_page(ring.peek1(0), size_of(width)),
+        Some(Op::Store(StoreOp::Str)) => Span::in_bank(
             relative(core.at.wrapping_add(1), ring.peek1(0)),
-            word_size(code),
+            size_of(width),
         ),
-        0x15 => Span::in_bank(ring.peek2(0), word_size(code)),
-        0x17 => span_of_output(&core.memory, page, ring, code),
+        Some(Op::Store(StoreOp::Sta)) => Span::in_bank(ring.peek2(0), size_of(width)),
+        Some(Op::Deo) => span_of_output(&core.memory, page, ring, width),
         _ => Span::none(),
     }
 }
 
-// The stack that an instruction takes its operands from.
-#[tactic(auto, unfolding(uxn_opcodes::specs::Table::mode_of))]
-fn this_ring(core: &Core, code: u8) -> &Ring
-    ensures { result.now ≡ (sides_of (mode_of code).returns core.now).this }
+// How many bytes a word has.
+fn size_of(width: Width) -> u16
+    ensures { result ≡ size_of width }
 {
-    if code & 0x40 == 0 {
-        &core.working
-    } else {
-        &core.returns
+    match width {
+        Width::Byte => 1,
+        Width::Short => 2,
     }
-}
-
-// How many bytes the words of an instruction have.
-#[tactic(auto, unfolding(uxn_opcodes::specs::Table::mode_of))]
-fn word_size(code: u8) -> u16
-    ensures { result ≡ size_of (mode_of code).width }
-{
-    if code & 0x20 == 0 { 1 } else { 2 }
 }
 
 // The address at a signed byte from another.
@@ -74,16 +76,14 @@ fn relative(at: u16, offset: u8) -> u16
 }
 
 // What an instruction that writes a port may change.
-#[tactic(auto, unfolding(uxn_opcodes::specs::Table::mode_of, uxn_opcodes::specs::Words::word_below))]
-fn span_of_output(memory: &Memory, page: &[u8; 256], ring: &Ring, code: u8) -> Span
-    ensures { let width = (mode_of code).width in
-        result ≡ span_of_write memory.now page.now width (byte_below ring.now 0) (word_below ring.now width 1) }
+#[tactic(auto, unfolding(uxn_opcodes::specs::Words::word_below))]
+fn span_of_output(memory: &Memory, page: &[u8; 256], ring: &Ring, width: Width) -> Span
+    ensures { result ≡ span_of_write memory.now page.now width (word_below ring.now Byte 0) (word_below ring.now width 1) }
 {
     let port = ring.peek1(0);
-    if code & 0x20 == 0 {
-        span_of_byte(memory, page, port, ring.peek1(1))
-    } else {
-        span_of_short(memory, page, port, ring.peek2(1))
+    match width {
+        Width::Byte => span_of_byte(memory, page, port, ring.peek1(1)),
+        Width::Short => span_of_short(memory, page, port, ring.peek2(1)),
     }
 }
 

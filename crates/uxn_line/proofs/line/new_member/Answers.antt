@@ -1,4 +1,4 @@
-use Rattle.std.proofs.Common.{refl}
+use Rattle.uxn_line.proofs.Common.{refl}
 use Rattle.uxn_line.proofs.NewLines.{new-first, new-behind}
 use Rattle.uxn_line.proofs.line.new_member.Goals as goal
 

@@ -1,4 +1,4 @@
-use Rattle.std.proofs.Common.{rules}
+use Rattle.uxn_line.proofs.Common.{rules}
 use Rattle.varvara_bus.specs.InstructionLaws.{instruction-borrowed}
 use Rattle.uxn_line.proofs.Alone.{nothing, instruction-alone, stops-never}
 use Rattle.uxn_line.proofs.machine.run_instruction.Goals as goal

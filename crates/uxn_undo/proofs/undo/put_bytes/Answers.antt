@@ -1,8 +1,5 @@
-use Rattle.std.proofs.Common.{◌≡◌, ℕ, ◌+◌, ◌-◌, ◌∷◌, ◌++◌, take, List, ap, ◌∙◌, arith}
-use Rattle.std.specs.Prelude.{map, slice_index}
-use Rattle.std.specs.List.{range_with_len}
-use Rattle.circular_buffer.specs.Buffer.{Buffer, buffer}
-use Rattle.uxn_undo.specs.Spans.{address_after_span}
+use Rattle.uxn_undo.proofs.Common.{◌≡◌, ℕ, ◌+◌, ◌-◌, ◌∷◌, ◌++◌, take, List, ap, ◌∙◌, arith, map, slice_index, range_with_len, Buffer, buffer}
+use Rattle.uxn_undo.proofs.Common.{address_after_span}
 use Rattle.uxn_undo.proofs.Joined.{put_one}
 use Rattle.uxn_undo.proofs.undo.put_bytes.Goals as goal
 

@@ -1,8 +1,4 @@
-use Rattle.std.proofs.Common.{◌≡◌, ◌-◌, ◌≤◌, ◌++◌}
-use Rattle.std.specs.Prelude.{map, slice_index}
-use Rattle.std.specs.List.{range_with_len}
-use Rattle.uxn_undo.specs.Spans.{address_after_span}
-use Rattle.circular_buffer.specs.Buffer.{buffer}
+use Rattle.uxn_undo.proofs.Common.{◌≡◌, ◌-◌, ◌≤◌, ◌++◌, map, slice_index, range_with_len, address_after_span, buffer}
 use Rattle.uxn_undo.proofs.undo.put_bytes.Given as goal
 
 abbrev pub invariant-loop-less : goal.invariant-loop-less

@@ -1,9 +1,4 @@
-use Rattle.std.proofs.Common.{◌≡◌, ◌-◌, length, refl, ap, ◌∙◌, arith}
-use Rattle.std.proofs.lemmas.Option.{slice_get_read}
-use Rattle.uxn_line.specs.declared.machine.Machine.{Machine}
-use Rattle.uxn_line.specs.Streams.{exit_code_at}
-use Rattle.uxn_line.specs.Moves.{last_machine}
-use Rattle.uxn_line.specs.Standing.{machine_place}
+use Rattle.uxn_line.proofs.Common.{◌≡◌, ◌-◌, length, refl, ap, ◌∙◌, arith, slice_get_read, Machine, exit_code_at, last_machine, machine_place}
 use Rattle.uxn_line.proofs.Finished.{stands-again}
 use Rattle.uxn_line.proofs.line.Line.exit_code.Goals as goal
 

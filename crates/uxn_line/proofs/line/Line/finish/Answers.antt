@@ -1,5 +1,4 @@
-use Rattle.std.proofs.Common.{◌≡◌, rules}
-use Rattle.std.specs.Prelude.{Err}
+use Rattle.uxn_line.proofs.Common.{◌≡◌, rules, Err}
 use Rattle.uxn_line.proofs.Ending.{reach-none, reach-then, stop-then, way-stops}
 use Rattle.uxn_line.proofs.Finished.{rounds-finish, finish-put}
 use Rattle.uxn_line.proofs.line.Line.finish.Goals as goal

@@ -1,5 +1,4 @@
-use Rattle.uxn_line.specs.Moves.{LineReaches}
-use Rattle.uxn_line.specs.Work.{work_left}
+use Rattle.uxn_line.proofs.Common.{LineReaches, work_left}
 use Rattle.uxn_line.proofs.line.Line.finish.Given as goal
 
 abbrev pub invariant-rounds : goal.invariant-rounds

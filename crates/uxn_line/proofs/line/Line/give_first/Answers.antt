@@ -1,17 +1,15 @@
-use Rattle.std.proofs.Common.{List, drop, refl, ap, sym, ◌∙◌}
-use Rattle.vector_loop.specs.declared.pending_input.PendingInput.{PendingInput}
-use Rattle.uxn_line.specs.Streams.{LineJob}
-use Rattle.uxn_line.specs.Standing.{Turned, LineRepresents}
+use Rattle.uxn_line.proofs.Common.{List, drop, refl, ap, sym, ◌∙◌, PendingInput, LineJob, Turned, LineRepresents}
 use Rattle.uxn_line.proofs.Feeding.{found-open, idle-at}
-use Rattle.uxn_line.proofs.Beginning.{no-pending_input, first-came}
+use Rattle.uxn_line.proofs.Rings.{none-is}
+use Rattle.uxn_line.proofs.Beginning.{first-came}
 use Rattle.uxn_line.proofs.line.Line.give_first.Goals as goal
 
 pub returns-in_default : goal.returns-in_default
 returns-in_default c =
     let line = c.args.self.now in
-    let none = no-pending_input line.input_queue (sym c.take.ensures.value ∙ c.in_default.is) in
+    let none = none-is line.input_queue (sym c.take.ensures.value ∙ c.in_default.is) in
     let never : (job : LineJob) (turned : Turned) → LineRepresents job line turned → ⊥ = λ job turned stands.
-    (idle-at c.requires.member _ (stands.each 0 c.requires.member c.requires.there).stands c.requires.idle c.requires.goes_on).some (sym stands.script ∙ none) in
+    (idle-at c.requires.0 _ (stands.each 0 c.requires.0 c.requires.1.there).stands c.requires.1.idle c.requires.1.goes_on).some (sym stands.script ∙ none) in
     record {
       cause = λ job turned stands. absurd (never job turned stands);
       leads = λ job turned stands. absurd (never job turned stands);

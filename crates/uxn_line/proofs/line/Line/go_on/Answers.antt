@@ -1,7 +1,4 @@
-use Rattle.std.proofs.Common.{◌≡◌, rules, length, refl, sym, ap, subst, ◌∙◌}
-use Rattle.std.specs.Prelude.{Ok, Err}
-use Rattle.uxn_line.specs.declared.line.Line.{Line}
-use Rattle.uxn_line.specs.Work.{WorksOn}
+use Rattle.uxn_line.proofs.Common.{◌≡◌, rules, length, refl, sym, ap, ◌∙◌, Ok, Err, Line}
 use Rattle.uxn_line.proofs.Ending.{turn-went, reach-none, reach-then, stop-then, works-more, still-since, move-still}
 use Rattle.uxn_line.proofs.line.Line.go_on.Goals as goal
 
@@ -35,10 +32,9 @@ returns g c =
     let is = sym c.is_move.ensures ∙ c.if-is_move.false in
     let came = c.in_ok-turn_at.ensures in
     let same = rw is at came.came.works in
-    let P : Line → Type 0 = λ line. WorksOn c.turns.moved c.args.self.now line in
     record {
       went = reach-then _ _ _ _ _ _ c.turns.invariant.went (turn-went c.args.index _ _ _ _ (Ok c.in_ok-turn_at.field-0) came);
-      works = subst P (sym same) c.turns.invariant.works;
+      works = rw same c.turns.invariant.works;
       still = λ e. still-since c.turns.moved _ c.turns.self c.args.index e c.turns.invariant.works (move-still c.turns.self c.args.index _ is came.came.cause);
       machines = came.came.machines ∙ c.turns.invariant.machines;
     }

@@ -1,6 +1,4 @@
-use Rattle.std.proofs.Common.{◌≡◌, length}
-use Rattle.uxn_line.specs.Moves.{LineReaches}
-use Rattle.uxn_line.specs.Work.{work_left, WorksOn}
+use Rattle.uxn_line.proofs.Common.{◌≡◌, length, LineReaches, work_left, WorksOn}
 use Rattle.uxn_line.proofs.line.Line.go_on.Given as goal
 
 abbrev pub invariant-turns : goal.invariant-turns

@@ -1,20 +1,16 @@
-use Rattle.std.proofs.Common.{ℕ, [], sym, subst, add-one}
-use Rattle.uxn_line.specs.declared.line.Moved.TheVariants.{Ran}
-use Rattle.uxn_line.specs.Moves.{Came}
-use Rattle.uxn_line.proofs.Running.{RanFrom, with_member}
-use Rattle.uxn_line.proofs.Passing.{taken-of, read-behind, found-again, pass-came, held-came, full-goes, room-left}
+use Rattle.uxn_line.proofs.Common.{add-one}
+use Rattle.uxn_line.proofs.Running.{RanFrom}
+use Rattle.uxn_line.proofs.Passing.{Taken, next-is, read-behind, found-again, pass-came, held-came, full-goes, room-left}
 use Rattle.uxn_line.proofs.line.Line.hand_on.Goals as goal
 
 pub take-requires : goal.take-requires
 take-requires c =
-    let line = c.args.self.now in
-    let first = read-behind line.members.items c.args.index c.index.result.now c.requires.there c.index.ensures in
-    let second = read-behind line.members.items c.args.index c.index_mut.result.now c.requires.there c.index_mut.ensures.value in
-    room-left c.index.result.now c.index_mut.result.now c.is_full.result (cc) c.is_full.ensures.full c.if-is_full.false
+    let same = next-is c.args.self.now c.args.index c.index.result.now c.index_mut.result.now c.requires.there c.index.ensures c.index_mut.ensures.value in
+    room-left c.index_mut.result.now c.is_full.result (rw same at c.is_full.ensures.full) c.if-is_full.false
 
 pub run-requires : goal.run-requires
 run-requires c =
-    (found-again c.args.byte c.args.self.now c.args.index c.take.new.self c.index_mut-2.result.now c.requires.running c.index_mut-2.ensures.value).some
+    (found-again c.args.byte c.args.self.now c.args.index c.take.new.self c.index_mut-2.result.now c.requires.running c.index_mut-2.ensures.value).vector
 
 pub returns-then-is_full : goal.returns-then-is_full
 returns-then-is_full c =
@@ -28,8 +24,13 @@ returns c =
     let at = c.args.index in
     let member = c.index_mut-2.result.now in
     let found = found-again c.args.byte line at c.take.new.self member c.requires.running c.index_mut-2.ensures.value in
-    let taken = taken-of c.args.byte line at c.index.result.now c.index_mut.result.now c.take.new.self c.is_full.result c.requires.there c.index.ensures
-    c.index_mut.ensures.value c.is_full.ensures.full c.if-is_full.false c.take.ensures.over c.take.ensures.kept in
-    let ran : RanFrom member c.run.new.self = record { some = found.some; ran = c.run.ensures.ran; work = c.run.ensures.work } in
-    let P : ℕ → Type 0 = λ n. Came at Ran [] line (with_member (with_member line n c.take.new.self) at c.run.new.self) in
-    subst P (sym (add-one at)) (pass-came c.args.byte line at member c.run.new.self c.index_mut.result.now c.take.new.self found ran taken)
+    let next = c.index_mut.result.now in
+    let same = next-is line at c.index.result.now next c.requires.there c.index.ensures c.index_mut.ensures.value in
+    let taken : Taken c.args.byte line at next c.take.new.self = record {
+      there = read-behind line.members.items at next c.requires.there c.index_mut.ensures.value;
+      room = room-left next c.is_full.result (rw same at c.is_full.ensures.full) c.if-is_full.false;
+      over = c.take.ensures.over;
+      kept = c.take.ensures.kept;
+    } in
+    let ran : RanFrom member c.run.new.self = record { some = found.vector; ran = c.run.ensures.ran; work = c.run.ensures.work } in
+    rw (add-one at) (pass-came c.args.byte line at member c.run.new.self next c.take.new.self found ran taken)

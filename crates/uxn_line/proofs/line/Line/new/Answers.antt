@@ -1,10 +1,6 @@
-use Rattle.std.proofs.Common.{◌+◌, [], ◌∷◌, length, refl, sym, ap, ◌∙◌, arith, length-append}
-use Rattle.std.specs.Prelude.{slice_get}
+use Rattle.uxn_line.proofs.Common.{◌+◌, [], ◌∷◌, length, refl, sym, ap, ◌∙◌, arith, length-append, slice_get, ByteList, sink-as-it-was, Line}
+use Rattle.uxn_line.proofs.Common.{none_turned, LineRepresents, line_job}
 use Rattle.std.proofs.lemmas.List.{length-map}
-use Rattle.uxn_io_traits.specs.ByteList.{ByteList}
-use Rattle.uxn_io_traits.specs.EndedLaws.{sink-as-it-was}
-use Rattle.uxn_line.specs.declared.line.Line.{Line}
-use Rattle.uxn_line.specs.Standing.{none_turned, LineRepresents, line_job}
 use Rattle.uxn_line.proofs.NewLines.{rom-there, member-more}
 use Rattle.uxn_line.proofs.line.Line.new.Goals as goal
 

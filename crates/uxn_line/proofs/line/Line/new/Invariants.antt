@@ -1,7 +1,4 @@
-use Rattle.std.proofs.Common.{◌≡◌, ℕ, length}
-use Rattle.std.specs.Prelude.{Some, slice_get}
-use Rattle.uxn_line.specs.declared.member.Member.{Member}
-use Rattle.uxn_line.specs.Standing.{InLine, none_turned, line_job}
+use Rattle.uxn_line.proofs.Common.{◌≡◌, ℕ, length, Some, slice_get, Member, InLine, none_turned, line_job}
 use Rattle.uxn_line.proofs.line.Line.new.Given as goal
 
 abbrev pub invariant-loop-index : goal.invariant-loop-index

@@ -1,6 +1,5 @@
-use Rattle.std.proofs.Common.{◌≡◌, rules, refl, ◌∙◌, arith}
-use Rattle.std.specs.Prelude.{Err}
-use Rattle.uxn_line.proofs.Ending.{reach-none, reach-then, stop-then, works-then, neither, still-since, still-more}
+use Rattle.uxn_line.proofs.Common.{◌≡◌, rules, refl, ◌∙◌, arith, or_parts, Err}
+use Rattle.uxn_line.proofs.Ending.{reach-none, reach-then, stop-then, works-then, still-since, still-more}
 use Rattle.uxn_line.proofs.line.Line.round.Goals as goal
 
 pub returns-in_err-moved-clause-went : goal.returns-in_err-moved-clause-went
@@ -24,7 +23,7 @@ loop-index-preserved g c =
       went = reach-then _ _ _ _ _ _ now.went c.in_ok-moved.ensures.went;
       works = works-then c.loop-index.moved more _ _ _ now.works c.in_ok-moved.ensures.works;
       still = λ e.
-          let both = neither c.loop-index.moved more e in
+          let both = or_parts c.loop-index.moved more e in
           still-more c.args.self.now c.loop-index.index (now.still both.0)
           (still-since c.loop-index.moved _ c.loop-index.self _ both.0 now.works (c.in_ok-moved.ensures.still both.1));
       machines = c.in_ok-moved.ensures.machines ∙ now.machines;

@@ -1,6 +1,4 @@
-use Rattle.std.proofs.Common.{◌≡◌, ℕ, ◌<◌, false, length}
-use Rattle.uxn_line.specs.Moves.{LineReaches, IsStill}
-use Rattle.uxn_line.specs.Work.{WorksOn}
+use Rattle.uxn_line.proofs.Common.{◌≡◌, ℕ, ◌<◌, false, length, LineReaches, IsStill, WorksOn}
 use Rattle.uxn_line.proofs.line.Line.round.Given as goal
 
 abbrev pub invariant-loop-index : goal.invariant-loop-index

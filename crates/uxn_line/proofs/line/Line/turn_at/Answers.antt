@@ -1,8 +1,5 @@
-use Rattle.std.proofs.Common.{[], length, refl, sym, ap, ◌∙◌, arith}
+use Rattle.uxn_line.proofs.Common.{[], length, refl, sym, ap, ◌∙◌, arith, slice_get_read, sink-as-it-was, machine_place}
 use Rattle.std.specs.Prelude.{option_to_list}
-use Rattle.std.proofs.lemmas.Option.{slice_get_read}
-use Rattle.uxn_io_traits.specs.EndedLaws.{sink-as-it-was}
-use Rattle.uxn_line.specs.Standing.{machine_place}
 use Rattle.uxn_line.proofs.Standings.{ended-is}
 use Rattle.uxn_line.proofs.Running.{leads-nowhere}
 use Rattle.uxn_line.proofs.line.Line.turn_at.Goals as goal
@@ -27,36 +24,39 @@ returns-then-is_over g c =
 
 pub give_at-requires : goal.give_at-requires
 give_at-requires g c =
-    let items = c.args.self.now.members.items in
-    record {
-      member = c.index-member.result.now;
-      there = slice_get_read items (length items) c.args.index c.index-member.result.now refl c.requires c.index-member.ensures;
-      idle = c.if-member-eq0.true;
-      goes_on = sym c.is_over.ensures.value ∙ c.if-is_over.false;
-    }
+    let items = c.args.self.now.members.items in (
+      c.index-member.result.now,
+      record {
+        there = slice_get_read items (length items) c.args.index c.index-member.result.now refl c.requires c.index-member.ensures;
+        idle = c.if-member-eq0.true;
+        goes_on = sym c.is_over.ensures.value ∙ c.if-is_over.false;
+      },
+    )
 
 pub returns-then-member-eq0 : goal.returns-then-member-eq0
 returns-then-member-eq0 g c = record { bytes = []; put = sink-as-it-was _; came = c.give_at.ensures }
 
 pub run_of_machine-requires : goal.run_of_machine-requires
 run_of_machine-requires g c =
-    let items = c.args.self.now.members.items in
-    record {
-      member = c.index-member.result.now;
-      there = slice_get_read items (length items) c.args.index c.index-member.result.now refl c.requires c.index-member.ensures;
-      vector = omega (arith, c.if-member-eq0.false);
-      writes = sym c.next_byte.ensures ∙ ap option_to_list c.in-None.is;
-    }
+    let items = c.args.self.now.members.items in (
+      c.index-member.result.now,
+      record {
+        there = slice_get_read items (length items) c.args.index c.index-member.result.now refl c.requires c.index-member.ensures;
+        vector = omega (arith, c.if-member-eq0.false);
+        writes = sym c.next_byte.ensures ∙ ap option_to_list c.in-None.is;
+      },
+    )
 
 pub write_at-requires : goal.write_at-requires
 write_at-requires g c =
-    let items = c.args.self.now.members.items in
-    record {
-      member = c.index-member.result.now;
-      there = slice_get_read items (length items) c.args.index c.index-member.result.now refl c.requires c.index-member.ensures;
-      vector = omega (arith, c.if-member-eq0.false);
-      writes = sym c.next_byte.ensures ∙ ap option_to_list c.in-Some.is;
-    }
+    let items = c.args.self.now.members.items in (
+      c.index-member.result.now,
+      record {
+        there = slice_get_read items (length items) c.args.index c.index-member.result.now refl c.requires c.index-member.ensures;
+        vector = omega (arith, c.if-member-eq0.false);
+        writes = sym c.next_byte.ensures ∙ ap option_to_list c.in-Some.is;
+      },
+    )
 
 pub returns-in-None : goal.returns-in-None
 returns-in-None g c = record { bytes = []; put = sink-as-it-was _; came = c.run_of_machine.ensures }

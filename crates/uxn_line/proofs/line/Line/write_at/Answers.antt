@@ -1,7 +1,4 @@
-use Rattle.std.proofs.Common.{◌≡◌, ◌∷◌, [], refl, rules, arith}
-use Rattle.std.specs.Prelude.{Err}
-use Rattle.std.proofs.lemmas.Option.{slice_get_within}
-use Rattle.uxn_io_traits.specs.EndedLaws.{sink-as-it-was}
+use Rattle.uxn_line.proofs.Common.{◌≡◌, ◌∷◌, [], refl, rules, arith, Err, slice_get_within, sink-as-it-was}
 use Rattle.uxn_line.proofs.Running.{found-running}
 use Rattle.uxn_line.proofs.Putting.{put-came, writes-last}
 use Rattle.uxn_line.proofs.line.Line.write_at.Goals as goal
@@ -22,7 +19,7 @@ returns-in_err-console_write g c =
     })
 
 pub run-requires : goal.run-requires
-run-requires g c = (found-running (c.args.byte ∷ []) c.args.self.now c.args.index c.index_mut.result.now c.requires c.index_mut.ensures.value).some
+run-requires g c = (found-running (c.args.byte ∷ []) c.args.self.now c.args.index c.index_mut.result.now c.requires c.index_mut.ensures.value).vector
 
 pub returns-then-index-len : goal.returns-then-index-len
 returns-then-index-len g c =
@@ -35,14 +32,14 @@ returns-then-index-len g c =
       put = write.standard refl;
       came =
           put-came c.args.byte line c.args.index member c.run.new.self found
-          (record { some = found.some; ran = c.run.ensures.ran; work = c.run.ensures.work })
+          (record { some = found.vector; ran = c.run.ensures.ran; work = c.run.ensures.work })
           (omega (arith, c.if-index-len.true, c.len.ensures, line.members.ok.0));
     }
 
 pub hand_on-requires-clause-there : goal.hand_on-requires-clause-there
 hand_on-requires-clause-there g c =
     let line = c.args.self.now in
-    let within = slice_get_within line.members.items c.args.index c.requires.member c.requires.there in
+    let within = slice_get_within line.members.items c.args.index c.requires.0 c.requires.1.there in
     omega (arith, within, c.if-index-len.false, c.len.ensures, line.members.ok.0)
 
 pub returns : goal.returns

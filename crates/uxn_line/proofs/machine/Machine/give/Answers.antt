@@ -1,6 +1,5 @@
-use Rattle.std.proofs.Common.{sym, ap, ◌∙◌, arith}
-use Rattle.std.specs.Prelude.{is_some}
-use Rattle.uxn_line.proofs.MachineTurns.{given-begins, given-stays}
+use Rattle.uxn_line.proofs.Common.{sym, ap, ◌∙◌, arith, is_some}
+use Rattle.uxn_line.proofs.MachineTurns.{given-begins}
 use Rattle.uxn_line.proofs.machine.Machine.give.Goals as goal
 
 pub returns-in_default-clause-stands : goal.returns-in_default-clause-stands
@@ -10,14 +9,14 @@ returns-in_default-clause-stands c now pending_inputs stands pending_inputs_are 
 
 pub returns-then-address-ne0-clause-stands : goal.returns-then-address-ne0-clause-stands
 returns-then-address-ne0-clause-stands c now pending_inputs stands pending_inputs_are for_console goes_on =
-    given-begins c.args.budget c.args.self.now now c.args.pending_input pending_inputs c.in-Some.byte c.in-Some.kind
+    (given-begins c.args.budget c.args.self.now now c.args.pending_input pending_inputs (c.in-Some.byte, c.in-Some.kind)
     (record { stands = stands; idle = c.requires; pending_inputs_are = pending_inputs_are; bytes_are = sym c.console_byte.ensures ∙ c.in-Some.is; goes_on = goes_on })
     c.hold-address.new.devices c.hold-address.result (c.hold-address.ensures.devices now.done.last.devices stands.devices)
-    (c.hold-address.ensures.vector now.done.last.devices stands.devices) (λ e. omega (arith, e, c.if-address-ne0.true))
+    (c.hold-address.ensures.vector now.done.last.devices stands.devices)).0 (λ e. omega (arith, e, c.if-address-ne0.true))
 
 pub returns-else-address-ne0-clause-stands : goal.returns-else-address-ne0-clause-stands
 returns-else-address-ne0-clause-stands c now pending_inputs stands pending_inputs_are for_console goes_on =
-    given-stays c.args.budget c.args.self.now now c.args.pending_input pending_inputs c.in-Some.byte c.in-Some.kind
+    (given-begins c.args.budget c.args.self.now now c.args.pending_input pending_inputs (c.in-Some.byte, c.in-Some.kind)
     (record { stands = stands; idle = c.requires; pending_inputs_are = pending_inputs_are; bytes_are = sym c.console_byte.ensures ∙ c.in-Some.is; goes_on = goes_on })
     c.hold-address.new.devices c.hold-address.result (c.hold-address.ensures.devices now.done.last.devices stands.devices)
-    (c.hold-address.ensures.vector now.done.last.devices stands.devices) (omega (arith, c.if-address-ne0.false))
+    (c.hold-address.ensures.vector now.done.last.devices stands.devices)).1 (omega (arith, c.if-address-ne0.false)) c.requires

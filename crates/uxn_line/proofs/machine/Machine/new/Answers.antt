@@ -1,9 +1,5 @@
-use Rattle.std.proofs.Common.{false, sym, ap, ◌∙◌}
-use Rattle.std.specs.Prelude.{None}
+use Rattle.uxn_line.proofs.Common.{false, sym, ap, ◌∙◌, None, bytes_in, new_state, clock_by}
 use Rattle.std.specs.FinMap as nodes_map
-use Rattle.play_script.specs.Held.{bytes_in}
-use Rattle.varvara_bus.specs.State.{new_state}
-use Rattle.uxn_line.specs.Streams.{clock_by}
 use Rattle.uxn_line.proofs.NewMachines.{new-rests, new-stands}
 use Rattle.uxn_line.proofs.machine.Machine.new.Goals as goal
 

@@ -1,4 +1,4 @@
-use Rattle.std.proofs.Common.{rules, ◌≡◌, sym, ◌∙◌}
+use Rattle.uxn_line.proofs.Common.{rules, ◌≡◌, sym, ◌∙◌}
 use Rattle.uxn_opcodes.specs.declared.Turn.TheVariants.{Ran, Broke}
 use Rattle.uxn_line.proofs.MachineTurns.{run-stands, run-put, broke-left, ran-left}
 use Rattle.uxn_line.proofs.machine.Machine.run.Goals.{in-Ran, in-Broke}

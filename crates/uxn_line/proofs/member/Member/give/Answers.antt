@@ -1,12 +1,11 @@
-use Rattle.std.proofs.Common.{sym, ◌∙◌, arith}
-use Rattle.uxn_line.specs.Places.{turn}
-use Rattle.uxn_line.proofs.Turned.{give-pending_inputs}
+use Rattle.uxn_line.proofs.Common.{sym, ◌∙◌, arith, turn}
+use Rattle.uxn_line.proofs.Turned.{turn-given}
 use Rattle.uxn_line.proofs.member.Member.give.Goals as goal
 
 pub returns : goal.returns
 returns c = record {
   stands = λ now pending_inputs member are for_console last goes_on.
-      let is = give-pending_inputs c.args.budget now c.args.pending_input pending_inputs (sym member.stands.left ∙ c.requires) are goes_on for_console in
+      let is = (turn-given c.args.budget now c.args.pending_input pending_inputs (sym member.stands.left ∙ c.requires) are goes_on for_console).0 in
       c.settle.ensures.stands (turn c.args.budget now) (c.give.ensures.stands now pending_inputs member.stands are for_console goes_on)
       (λ all. is ∙ last.0 all, λ none. last.1 (sym is ∙ none));
   ring = record { kept = c.settle.ensures.ring.kept; dropped = c.settle.ensures.ring.dropped };

@@ -1,7 +1,4 @@
-use Rattle.std.proofs.Common.{◌≡◌, ℕ, true, false, [], ◌∷◌, drop, length, refl, sym, ap, ◌∙◌, arith}
-use Rattle.std.proofs.lemmas.Bool.{false≢true}
-use Rattle.circular_buffer.specs.Buffer.{Buffer, buffer}
-use Rattle.uxn_line.specs.Members.{next_pending}
+use Rattle.uxn_line.proofs.Common.{◌≡◌, ℕ, true, false, [], ◌∷◌, drop, length, refl, sym, ap, ◌∙◌, arith, false≢true, Buffer, buffer, next_pending}
 use Rattle.uxn_line.proofs.Rings.{first-is, none-is, first-longer}
 use Rattle.uxn_line.proofs.Working.{ring-within, next-less}
 use Rattle.uxn_line.proofs.member.Member.give_next.Goals as goal

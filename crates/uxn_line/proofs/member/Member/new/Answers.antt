@@ -1,4 +1,4 @@
-use Rattle.std.proofs.Common.{arith}
+use Rattle.uxn_line.proofs.Common.{arith}
 use Rattle.uxn_line.proofs.member.Member.new.Goals as goal
 
 pub returns-clause-stands : goal.returns-clause-stands

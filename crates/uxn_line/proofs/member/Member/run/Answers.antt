@@ -1,5 +1,4 @@
-use Rattle.std.proofs.Common.{sym, ◌∙◌}
-use Rattle.uxn_line.specs.Places.{turn}
+use Rattle.uxn_line.proofs.Common.{sym, ◌∙◌, turn}
 use Rattle.uxn_line.proofs.Turned.{run-pending_inputs}
 use Rattle.uxn_line.proofs.member.Member.run.Goals as goal
 

@@ -1,6 +1,4 @@
-use Rattle.std.proofs.Common.{◌-◌, refl, arith}
-use Rattle.std.specs.Prelude.{map}
-use Rattle.uxn_undo.specs.Slots.{entry_in_rows}
+use Rattle.uxn_undo.proofs.Common.{◌-◌, refl, arith, map, entry_in_rows}
 use Rattle.uxn_undo.proofs.Joined.{at_joined}
 use Rattle.uxn_undo.proofs.Slots.{length-records, entry_at}
 use Rattle.uxn_undo.proofs.undo.Undo.address.Goals as goal

@@ -1,10 +1,9 @@
-use Rattle.std.proofs.Common.{◌≡◌, ◌-◌, ◌+◌, take, drop, sym, ap, ◌∙◌, arith}
+use Rattle.uxn_undo.proofs.Common.{◌≡◌, ◌-◌, ◌+◌, take, drop, Some, None, sym, ap, ◌∙◌, arith, entry_count, covers, distance_to, map, slice_index}
+use Rattle.uxn_undo.proofs.Common.{entry_in_rows}
 use Rattle.uxn_undo.specs.Kept.{byte_back}
-use Rattle.uxn_undo.specs.Rings.{joined_entries, entry_count}
-use Rattle.uxn_undo.specs.Spans.{covers, distance_to}
-use Rattle.std.specs.Prelude.{map, slice_index, if◌then◌else◌}
-use Rattle.uxn_undo.proofs.Joined.{in_bytes, begins_next, next_back, found_byte, no_byte, all_back}
-use Rattle.uxn_undo.specs.Slots.{entry_in_rows}
+use Rattle.uxn_undo.specs.Rings.{joined_entries}
+use Rattle.std.specs.Prelude.{if◌then◌else◌}
+use Rattle.uxn_undo.proofs.Joined.{in_bytes, begins_next, next_back, byte_found, all_back}
 use Rattle.uxn_undo.proofs.Slots.{length-records, entry_at}
 use Rattle.uxn_undo.proofs.undo.Undo.byte.Goals as goal
 use Rattle.uxn_undo.proofs.undo.Undo.byte.Goals.{in-Some, in_default}
@@ -30,9 +29,9 @@ loop-index-preserved c =
     let next : c.match-distance_to.byte ≡ (if covers r.span c.args.at then slice_index bytes (c.loop-index.begin + distance_to r.span c.args.at) else c.loop-index.byte) =
     elim c.match-distance_to.branch [
       | in-Some w ↦
-          found_byte bytes r c.loop-index.begin c.args.at w.in-Some.distance c.loop-index.byte c.match-distance_to.byte w.in-Some.ensures
+          byte_found bytes c.loop-index.begin c.loop-index.byte c.match-distance_to.byte (distance_to r.span c.args.at) (Some w.in-Some.distance) (covers r.span c.args.at) w.in-Some.ensures
           (w.byte-is ∙ w.byte_in-byte.ensures ∙ ap (λ n. slice_index bytes (c.loop-index.begin + n)) w.from.ensures)
-      | in_default w ↦ no_byte bytes r c.loop-index.begin c.args.at c.loop-index.byte c.match-distance_to.byte w.in_default.ensures w.byte-is
+      | in_default w ↦ byte_found bytes c.loop-index.begin c.loop-index.byte c.match-distance_to.byte (distance_to r.span c.args.at) None (covers r.span c.args.at) w.in_default.ensures w.byte-is
     ] in
     record {
       begins =

@@ -1,8 +1,6 @@
-use Rattle.std.proofs.Common.{◌≡◌, ◌-◌, take, drop}
-use Rattle.std.specs.Prelude.{map, sum_by, slice_index}
+use Rattle.uxn_undo.proofs.Common.{◌≡◌, ◌-◌, take, drop, map, sum_by, slice_index, entry_count, entry_in_rows}
 use Rattle.uxn_undo.specs.Kept.{byte_back}
-use Rattle.uxn_undo.specs.Rings.{joined_entries, entry_count}
-use Rattle.uxn_undo.specs.Slots.{entry_in_rows}
+use Rattle.uxn_undo.specs.Rings.{joined_entries}
 use Rattle.uxn_undo.proofs.undo.Undo.byte.Given as goal
 
 abbrev pub invariant-loop-index : goal.invariant-loop-index

@@ -1,11 +1,5 @@
-use Rattle.std.proofs.Common.{◌≡◌, length, sym, ◌∙◌, arith}
-use Rattle.std.specs.Prelude.{map, sum_by}
+use Rattle.uxn_undo.proofs.Common.{◌≡◌, length, sym, ◌∙◌, arith, map, sum_by, nat_tests, vec_len, buffer, byte_count, entry_in_rows}
 use Rattle.std.proofs.lemmas.Bool.{le-leb}
-use Rattle.std.proofs.lemmas.Bool.Decides.{nat_tests}
-use Rattle.std.specs.Vec.{vec_len}
-use Rattle.circular_buffer.specs.Buffer.{buffer}
-use Rattle.uxn_undo.specs.Kept.{byte_count}
-use Rattle.uxn_undo.specs.Slots.{entry_in_rows}
 use Rattle.uxn_undo.proofs.Joined.{bytes-held}
 use Rattle.uxn_undo.proofs.Slots.{alone-small, length-records}
 use Rattle.uxn_undo.proofs.undo.Undo.has_room.Goals as goal

@@ -1,7 +1,4 @@
-use Rattle.std.proofs.Common.{sym, ◌∙◌}
-use Rattle.std.specs.Prelude.{map}
-use Rattle.std.proofs.lemmas.List.{length-map}
-use Rattle.uxn_undo.specs.Slots.{entry_in_rows}
+use Rattle.uxn_undo.proofs.Common.{sym, ◌∙◌, map, length-map, entry_in_rows}
 use Rattle.uxn_undo.proofs.Joined.{length-joined_entries}
 use Rattle.uxn_undo.proofs.undo.Undo.held.Goals as goal
 

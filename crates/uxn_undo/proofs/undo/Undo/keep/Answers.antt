@@ -1,10 +1,6 @@
-use Rattle.std.proofs.Common.{◌+◌, ◌%◌, ◌<◌, length, refl, arith}
+use Rattle.uxn_undo.proofs.Common.{◌+◌, ◌%◌, ◌<◌, length, refl, arith, map, buffer, vec_len, vec_capacity, Record, entry_in_rows, slot_entry, no_row}
 use Rattle.std.proofs.lemmas.Bool.{false≢true}
-use Rattle.std.specs.Prelude.{map}
-use Rattle.circular_buffer.specs.Buffer.{buffer}
-use Rattle.std.specs.Vec.{vec_len, vec_capacity}
-use Rattle.uxn_undo.specs.declared.undo.Record.{Record}
-use Rattle.uxn_undo.specs.Slots.{entry_in_rows, slot_entry, slot_row, no_row}
+use Rattle.uxn_undo.specs.Slots.{slot_row}
 use Rattle.uxn_undo.proofs.Joined.{bytes-held}
 use Rattle.uxn_undo.proofs.Keeping.{keeps}
 use Rattle.uxn_undo.proofs.Slots.{length-records, put_entries, put_slots}

@@ -1,6 +1,4 @@
-use Rattle.std.proofs.Common.{◌≡◌, ℕ, ◌+◌, ◌<◌, ◌≤◌, length, take}
-use Rattle.std.specs.Prelude.{sum_by}
-use Rattle.uxn_undo.specs.Kept.{byte_count, most_moments, most_bytes}
+use Rattle.uxn_undo.proofs.Common.{◌≡◌, ℕ, ◌+◌, ◌<◌, ◌≤◌, length, take, sum_by, byte_count, most_moments, most_bytes}
 use Rattle.uxn_undo.proofs.undo.Undo.make_room.Given as goal
 
 abbrev pub invariant-loop-self : goal.invariant-loop-self

@@ -1,9 +1,6 @@
-use Rattle.std.proofs.Common.{◌≡◌, ◌-◌, ◌<◌, List, length, Some, refl, sym, ap, ◌∙◌, arith}
-use Rattle.std.specs.Prelude.{map, slice_index_or}
-use Rattle.std.specs.Vec.{vec_len}
+use Rattle.uxn_undo.proofs.Common.{◌≡◌, ◌-◌, ◌<◌, List, length, Some, refl, sym, ap, ◌∙◌, arith, map, slice_index_or, vec_len, Row, entry_in_rows}
+use Rattle.uxn_undo.proofs.Common.{row_in, no_row}
 use Rattle.std.proofs.lemmas.List.{get_or_default}
-use Rattle.uxn_undo.specs.declared.row.Row.{Row}
-use Rattle.uxn_undo.specs.Slots.{entry_in_rows, row_in, no_row}
 use Rattle.uxn_undo.proofs.Joined.{at_joined}
 use Rattle.uxn_undo.proofs.Slots.{length-records, entry_at, slot_within}
 use Rattle.uxn_undo.proofs.undo.Undo.row.Goals as goal

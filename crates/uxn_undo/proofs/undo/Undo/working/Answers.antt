@@ -1,7 +1,6 @@
-use Rattle.std.proofs.Common.{◌-◌}
-use Rattle.std.specs.Prelude.{slice_get}
-use Rattle.uxn_undo.proofs.Slots.{working_of}
+use Rattle.uxn_undo.proofs.Common.{◌-◌, slice_get}
+use Rattle.uxn_undo.proofs.Slots.{part_of}
 use Rattle.uxn_undo.proofs.undo.Undo.working.Goals as goal
 
 pub returns : goal.returns
-returns c = working_of (slice_get c.args.self.now (c.args.back - 1)) c.row.result.now c.row.ensures
+returns c = part_of (λ row. row.working) (slice_get c.args.self.now (c.args.back - 1)) c.row.result.now c.row.ensures
